@@ -1,0 +1,103 @@
+//! Readings of the first form: functions over arithmetic types, and objects that calls of them initialize.
+
+use crate::base::Base;
+use crate::listed::Listed;
+use crate::place::Place;
+use crate::stop::{NumberList, Reason};
+
+/// The bytes of a name.
+pub type Word = Listed<u8>;
+
+pub type BaseList = Listed<Base>;
+
+pub type ArgumentList = Listed<Argument>;
+
+pub type DeclarationList = Listed<Declaration>;
+
+pub type ItemList = Listed<Item>;
+
+pub type OutcomeList = Listed<Outcome>;
+
+pub type CallList = Listed<Call>;
+
+/// What the user chooses for a run.
+#[derive(Clone, Copy, Debug, PartialEq, Eq)]
+pub struct Options {
+    /// How deep instances of templates may nest.
+    pub depth: u32,
+}
+
+/// What a name was declared as.
+#[derive(Debug, Drop)]
+pub enum Declared {
+    Function { result: Base, parameters: BaseList },
+    Object { of: Base },
+}
+
+/// A declaration of a name. Its number is its place among the declarations of the unit, from 0.
+#[derive(Debug, Drop)]
+pub struct Declaration {
+    pub place: Place,
+    pub word: Word,
+    pub what: Declared,
+}
+
+/// A literal, and the casts that are written around it, the outermost first.
+#[derive(Debug, Drop)]
+pub struct Argument {
+    pub casts: BaseList,
+    /// The type of the literal.
+    pub of: Base,
+    pub spelling: Word,
+}
+
+/// A call, and the casts that are written around it, the outermost first.
+#[derive(Debug, Drop)]
+pub struct Initializer {
+    pub casts: BaseList,
+    /// The called name.
+    pub word: Word,
+    /// The number of the declaration that the call names.
+    pub chosen: u32,
+    /// The result of that function.
+    pub of: Base,
+    /// The types of its parameters, to which the arguments are converted.
+    pub parameters: BaseList,
+    pub arguments: ArgumentList,
+}
+
+/// What one declaration of the unit says besides its name and type.
+#[derive(Debug, Drop)]
+pub enum Item {
+    Function,
+    Object(Initializer),
+}
+
+/// Whether a candidate is viable, and if not, why.
+#[derive(Clone, Copy, Debug, PartialEq, Eq)]
+pub enum Outcome {
+    Viable,
+    NotViable(Reason),
+}
+
+/// A call as it was decided.
+#[derive(Debug, Drop)]
+pub struct Call {
+    /// The place of the called name.
+    pub place: Place,
+    /// The numbers of the candidates, in the order of their declarations.
+    pub candidates: NumberList,
+    /// The outcome of each candidate.
+    pub outcomes: OutcomeList,
+    /// The number of the declaration that was chosen.
+    pub chosen: u32,
+}
+
+/// A unit as it was read: each declaration and, beside it, its item; and each call, in order.
+#[derive(Debug, Drop)]
+pub struct Reading {
+    pub options: Options,
+    pub declarations: DeclarationList,
+    pub items: ItemList,
+    pub calls: CallList,
+}

@@ -1,0 +1,28 @@
+//! The vocabulary of the front end, and in `specs/` what its answers mean.
+//!
+//! The types here are plain data that several crates name. The definitions beside them say, in the terms of ISO/IEC
+//! 14882:1998, what a token list, a reading, a choice among functions and a plain form are; every contract of the
+//! crates above cites them.
+#![tactic(auto)]
+
+mod base;
+mod first;
+pub mod keyword;
+pub mod limits;
+mod listed;
+mod place;
+pub mod punct;
+mod sequence;
+mod stop;
+mod token;
+
+pub use base::Base;
+pub use first::{
+    Argument, ArgumentList, BaseList, Call, CallList, Declaration, DeclarationList, Declared,
+    Initializer, Item, ItemList, Options, Outcome, OutcomeList, Reading, Word,
+};
+pub use listed::Listed;
+pub use place::Place;
+pub use sequence::{Order, Rank, Second, StandardSequence};
+pub use stop::{Evidence, EvidenceList, Fault, LimitKind, NumberList, Reason, Shown, Stop, Text};
+pub use token::{Token, TokenKind, TokenReason};
