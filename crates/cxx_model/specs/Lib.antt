@@ -1,3 +1,12 @@
 pub mod Lexemes
 pub mod Spelling
 pub mod Tokens
+pub mod Standard
+pub mod StandardOrder
+pub mod Better
+pub mod Stops
+pub mod Names
+pub mod Written
+pub mod First
+pub mod Outcome
+pub mod Reports

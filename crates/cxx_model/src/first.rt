@@ -30,8 +30,10 @@ pub struct Options {
 /// What a name was declared as.
 #[derive(Debug, Drop)]
 pub enum Declared {
-    Function { result: Base, parameters: BaseList },
-    Object { of: Base },
+    /// A function, by its result and the types of its parameters.
+    Function(Base, BaseList),
+    /// An object, by its type.
+    Object(Base),
 }
 
 /// A declaration of a name. Its number is its place among the declarations of the unit, from 0.
