@@ -10,3 +10,4 @@ pub mod Written
 pub mod First
 pub mod Outcome
 pub mod Reports
+pub mod ReadsBack
