@@ -1,10 +1,9 @@
 -- What reads and writes do to told bytes over a whole loop.
-use Rattle.std.proofs.Common.{◌≡◌, ℕ, ◌+◌, ◌-◌, ◌<◌, ◌≤◌, List, [], ◌++◌, Some, None, refl, sym, ap, ◌∙◌, subst, append-nil, length, take, drop, arith, min, length-append, length-drop}
+use Rattle.std.proofs.Common.{◌≡◌, ℕ, ◌+◌, ◌-◌, ◌<◌, ◌≤◌, List, [], ◌++◌, Some, None, sym, ap, ◌∙◌, subst, length, take, drop, arith, min, length-append, length-drop}
 use Rattle.std.proofs.KnownBytes.{Appends-trans, Consumes-trans}
 use Rattle.std.proofs.Math.Seq.{take-add, take-append_seam}
-use Rattle.std.proofs.lemmas.Grind.{common_steps}
 use Rattle.std.proofs.lemmas.List.{length-take-le, take_rest, take-append-drop, drop-drop, drop_all}
-use Rattle.std.specs.Io.KnownBytes.{Appends, Consumes, IsAtEnd}
+use Rattle.std.specs.Io.KnownBytes.{Appends, Consumes}
 use Rattle.std.specs.Prelude.{slice_range, Option}
 use Rattle.cxx_edge.specs.Sink.{AppendsPart}
 use Rattle.cxx_edge.specs.Source.{GivesMore, IsLonger}

@@ -1,5 +1,5 @@
 -- What a clause sees of a source and a sink in memory.
-use Rattle.std.specs.Prelude.{◌≡◌, ℕ, ◌+◌, ◌-◌, ◌<◌, ◌==◌, ◌||◌, Bool, List, [], length, min}
+use Rattle.std.specs.Prelude.{ℕ, ◌-◌, ◌==◌, ◌||◌, Bool, List, [], length, min}
 use Rattle.std.specs.List.{list_any}
 use Rattle.cxx_edge.specs.Count.{one_more}
 
