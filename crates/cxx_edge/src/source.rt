@@ -33,8 +33,8 @@ pub trait Source {
         ensures cause { HasCause (faults self.old) (faults self.new) result };
 }
 
-/// Reads all bytes to the end, unless there are more than `limit`. It makes no more room than it
-/// has bytes for, and none before the first byte.
+/// Reads all bytes to the end, unless there are more than `limit`. It asks for memory as the bytes
+/// come, and for none before the first of them.
 pub fn read_all<S: Source>(
     alloc: Global,
     source: &mut S,
