@@ -20,6 +20,15 @@ impl From<AllocError> for OutOfMemory {
     }
 }
 
+fn copy_of<T: Copy>(alloc: Global, items: &[T]) -> Result<Vec<T>, OutOfMemory>
+    ensures items { IfOk result (λ copy. copy.items ≡ items.now) }
+    ensures empty { length items.now ≡ 0 → IsOk result }
+{
+    let mut copy = Vec::with_capacity(alloc, items.len())?;
+    copy.extend_from_slice(items)?;
+    Ok(copy)
+}
+
 // The calls that were made, and those that fail.
 #[derive(Drop)]
 struct Calls {
@@ -30,10 +39,11 @@ struct Calls {
 
 impl Calls {
     fn new(alloc: Global, failing: &[u64]) -> Result<Calls, OutOfMemory>
-        ensures { IfOk result (λ c. (c.failing.items ≡ failing.now) × (c.made ≡ 0) × (c.faults ≡ 0)) }
+        ensures fresh { IfOk result (λ c. (c.failing.items ≡ failing.now) × (c.made ≡ 0) × (c.faults ≡ 0)) }
+        ensures empty { length failing.now ≡ 0 → IsOk result }
     {
         Ok(Calls {
-            failing: failing.to_vec(alloc)?,
+            failing: copy_of(alloc, failing)?,
             made: 0,
             faults: 0,
         })
@@ -93,10 +103,11 @@ impl MemorySource {
         failing: &[u64],
     ) -> Result<MemorySource, OutOfMemory>
         requires { 1 ≤ piece }
-        ensures { IfOk result (λ s. s ≡ fresh_source bytes.now piece failing.now) }
+        ensures fresh { IfOk result (λ s. s ≡ fresh_source bytes.now piece failing.now) }
+        ensures empty { length bytes.now ≡ 0 → length failing.now ≡ 0 → IsOk result }
     {
         Ok(MemorySource {
-            bytes: bytes.to_vec(alloc)?,
+            bytes: copy_of(alloc, bytes)?,
             at: 0,
             piece,
             calls: Calls::new(alloc, failing)?,
@@ -165,7 +176,8 @@ impl MemorySink {
         failing: &[u64],
     ) -> Result<MemorySink, OutOfMemory>
         requires { 1 ≤ piece }
-        ensures { IfOk result (λ s. s ≡ fresh_sink room piece failing.now) }
+        ensures fresh { IfOk result (λ s. s ≡ fresh_sink room piece failing.now) }
+        ensures empty { room ≡ 0 → length failing.now ≡ 0 → IsOk result }
     {
         Ok(MemorySink {
             bytes: Vec::with_capacity(alloc, room)?,
