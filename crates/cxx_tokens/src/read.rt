@@ -1,0 +1,4 @@
+ghost use Rattle.std.specs.Prelude.{◌≡◌};
+/// 
+pub fn tokens() {}
+pub fn one_token_list() {}
