@@ -6,6 +6,7 @@ ghost use Rattle.cxx_model.specs.Lexemes as spec;
 use cxx_model::{Place, Token, TokenKind};
 
 /// The rest of a text, with the byte and the place at which it begins.
+#[derive(Drop)]
 pub struct Reader<'a> {
     pub rest: &'a [u8],
     pub at: u32,
