@@ -1,1 +1,4 @@
+pub mod Fronts
 mod Rows
+pub mod Spellings
+pub mod Readings
