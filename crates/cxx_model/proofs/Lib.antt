@@ -1,1 +1,4 @@
+pub mod Fronts
+pub mod Spellings
+pub mod Readings
 mod Rows
