@@ -2,3 +2,5 @@ pub mod Tables
 pub mod Shapes
 pub mod Ends
 pub mod ReadLines
+pub mod Names
+pub mod FirstWords
