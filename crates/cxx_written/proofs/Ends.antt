@@ -4,7 +4,7 @@ use Rattle.std.proofs.lemmas.Bool.{and_parts, and_left, and_right, or_parts, or_
 use Rattle.std.proofs.lemmas.Bool.Decides.{nat_tests}
 use Rattle.std.proofs.lemmas.Slice.Eq.{bytes_eq-Decides}
 use Rattle.std.specs.Char.{is_ascii_digit}
-use Rattle.std.specs.List.{list_all, list_any}
+use Rattle.std.specs.List.{list_all, list_any, AllByRecursion}
 use Rattle.std.specs.Prelude.{codes}
 use Rattle.cxx_model.specs.declared.token.TokenKind.{TokenKind}
 use Rattle.cxx_model.specs.declared.token.TokenKind.TheVariants.{Name, Keyword, Punct, Integer, Character, End}
@@ -12,10 +12,10 @@ use Rattle.cxx_model.specs.declared.punct.TheConstants as punct
 use Rattle.cxx_model.specs.Continuing.{starts, is_quote, number_goes_on, last_of, BeginsOperator}
 use Rattle.cxx_model.specs.Spelling.{Good, is_white, is_word, begins_word, begins_number, is_number_rest, is_sign, is_exponent, is_decimal, is_plain, word_kind, number_kind, is_wide_quote, number_in, keywords, operators, digraphs, operator, spelling_of}
 use Rattle.cxx_model.specs.Tokens.{Piece, IsLongest}
-use Rattle.cxx_model.specs.Written.{Written}
+use Rattle.cxx_model.specs.Written.{Written, has_gap}
 use Rattle.cxx_model.proofs.Spellings.{word_longest, number_front, character_front, operator_front}
-use Rattle.cxx_written.specs.Ends.{ends_punct_before, ends_before, word_ends_before}
-use Rattle.cxx_written.specs.Line.{MayStandBefore, IsWord}
+use Rattle.cxx_written.specs.Ends.{ends_punct_before, ends_before, word_ends_before, ends_before_spelling, is_apart, are_apart}
+use Rattle.cxx_written.specs.Line.{MayStandBefore, IsSpelled, IsWord, MayTouch, MayPrecede, IsLine}
 use Rattle.cxx_written.proofs.Shapes.{Spells, Shape, wordy, number, quoted, operated, shape, word_kind_is, number_kind_is, character_is, Built, built_open, built_close, built_comma, built_semicolon, built_equals, built_less, built_greater, operator_is}
 use Rattle.cxx_written.proofs.Tables.{begins_with_two, none_begins}
 
@@ -165,11 +165,12 @@ ends_wordy b w kind c begins all is = ⊎_elim name keyword (word_kind_is (b ∷
     name : kind ≡ Name → EndsBefore (b ∷ w) kind c
     name e = subst (λ k. word_kind (b ∷ w) ≡ Good k → EndsBefore (b ∷ w) k c) (sym e)
         (λ is h. let parts = and_parts (not (is_word c)) (not (is_quote c && bytes_eq (b ∷ w) (codes "L"))) h in
-            word_ends b w Name c begins all is (not_false _ parts.0) (not_false _ parts.1)) is
+        word_ends b w Name c begins all is (not_false _ parts.0) (not_false _ parts.1)) is
+
     keyword : (n : ℕ) × (kind ≡ Keyword n) × (number_in keywords (b ∷ w) ≡ Some n) → EndsBefore (b ∷ w) kind c
     keyword k = subst (λ x. word_kind (b ∷ w) ≡ Good x → EndsBefore (b ∷ w) x c) (sym k.1)
         (λ is h. word_ends b w (Keyword k.0) c begins all is (not_false _ h)
-            (and_right (is_quote c) _ (keyword_is_longer (b ∷ w) k.0 k.2 (bytes_eq (b ∷ w) (codes "L")) refl))) is
+        (and_right (is_quote c) _ (keyword_is_longer (b ∷ w) k.0 k.2 (bytes_eq (b ∷ w) (codes "L")) refl))) is
 
 ends_shape : (b : ℕ) (w : List ℕ) (kind : TokenKind) (c : ℕ) → Shape b w kind → EndsBefore (b ∷ w) kind c
 ends_shape b w kind c (wordy begins all is) = ends_wordy b w kind c begins all is
@@ -255,3 +256,26 @@ is_word_from word e = record {
     by [] kind e = absurd (no_empty kind e)
     by (b ∷ w) kind e = is_no_end b w kind (shape b w kind e)
 
+-- ---- lines by their neighbours
+
+touch_if : (word : Written) → Spells word.spelling word.kind → (spelling : List ℕ) → ends_before_spelling word spelling ≡ true → MayTouch word spelling
+touch_if word e [] h = tt
+touch_if word e (b ∷ spelling) h = may_stand_before word e b h
+
+precede_if : (word : Written) → Spells word.spelling word.kind → (others : List Written) → is_apart word others ≡ true → MayPrecede word others
+precede_if word e [] h = tt
+precede_if word e (next ∷ others) h = λ gap.
+    touch_if word e next.spelling
+    (⊎_elim (λ spaced. absurd (both_ways (has_gap word next) gap spaced)) (λ ends. ends) (or_cases (has_gap word next) (ends_before_spelling word next.spelling) h))
+
+pub line_if_apart : (words : List Written) → AllByRecursion IsSpelled words → are_apart words ≡ true → IsLine words
+line_if_apart [] all h = tt
+line_if_apart (word ∷ others) all h =
+    let parts = and_parts (is_apart word others) (are_apart others) h in
+    (is_word_from word all.0.spelled, precede_if word all.0.spelled others parts.0, line_if_apart others all.1 parts.1)
+
+pub spelled_ends_before : (word : Written) (b : ℕ) → IsSpelled word → word_ends_before word b ≡ true → MayStandBefore word b
+spelled_ends_before word b is h = may_stand_before word is.spelled b h
+
+pub spelled_is_word : (word : Written) → IsSpelled word → IsWord word
+spelled_is_word word is = is_word_from word is.spelled

@@ -17,12 +17,15 @@ use Rattle.cxx_model.specs.declared.punct.TheConstants as punct
 use Rattle.cxx_model.specs.declared.token.TokenKind.{TokenKind}
 use Rattle.cxx_model.specs.declared.token.TokenKind.TheVariants.{Name, Keyword, Punct, Integer, Character, Text, End}
 use Rattle.cxx_model.specs.Continuing.{is_quote}
-use Rattle.cxx_model.specs.First.Words.{keyword_word, char_word, short_word, long_word, signed_word, unsigned_word, double_word, spell_base, others_separated, separated, spell_casts, kind_of_literal, literal_word, spell_argument, spell_call, spell_initializer, spell_item, spell_declared, line_words}
+use Rattle.cxx_model.specs.First.Words.{keyword_word, char_word, short_word, long_word, signed_word, unsigned_word, double_word, spell_base, others_separated, separated, spell_casts, kind_of_literal, literal_word, spell_argument, spell_call, spell_initializer, spell_item, spell_declared, line_words, lines}
 use Rattle.cxx_model.specs.Spelling.{Good, is_word, keywords, alternatives, operators, digraphs, word_kind, operator, spelling_of}
+use Rattle.cxx_model.specs.Tokens.{tokens_of}
 use Rattle.cxx_model.specs.Written.{Written, open_word, close_word, comma_word, semicolon_word, equals_word, less_word, greater_word, static_cast_word, name_word, is_tight_before, is_tight_after, has_gap}
 use Rattle.cxx_written.specs.Ends.{ends_punct_before, ends_before}
 use Rattle.cxx_written.specs.Line.{MayStandBefore, IsWord, MayTouch, MayPrecede, IsLine, IsName}
-use Rattle.cxx_written.specs.Printable.{IsLiteral, IsPrintableItem, IsPrintable}
+use Rattle.cxx_written.specs.Printable.{IsLiteral, IsPrintableItem, IsPrintable, ArePrintable}
+use Rattle.cxx_written.specs.ReadsAs.{ReadsAs, text_of}
+use Rattle.cxx_written.proofs.ReadLines.{words_are_tokens}
 use Rattle.cxx_written.proofs.Ends.{may_stand_before, is_word_from}
 use Rattle.cxx_written.proofs.Shapes.{Spells}
 
@@ -318,9 +321,17 @@ tail_item (item.Object init) says rest tail = tail_equals _ (tail_casts init.cas
 pub tail_declared : (declared : Declared) (word : List ℕ) (what : Item) → IsName word → IsPrintableItem what → (rest : List Written) → IsTail rest → IsTail (spell_declared declared word what rest)
 tail_declared (Function result parameters) word what name says rest tail =
     tail_base result _ (tail_name word _ name (tail_open _
-        (tail_separated (λ of. Unit {0}) spell_base (λ of any rest tail. tail_base of rest tail) parameters (each_base parameters) _ (tail_close _ (tail_semicolon rest tail)))))
+    (tail_separated (λ of. Unit {0}) spell_base (λ of any rest tail. tail_base of rest tail) parameters (each_base parameters) _ (tail_close _ (tail_semicolon rest tail)))))
 tail_declared (Object of) word what name says rest tail = tail_base of _ (tail_name word _ name (tail_item what says _ (tail_semicolon rest tail)))
 
 pub printed_is_line : (declaration : Declaration) (what : Item) → IsPrintable declaration what → IsLine (line_words declaration what)
 unfolding line_words
 printed_is_line declaration what printable = (tail_declared declaration.what declaration.word what printable.word printable.says [] tail_end).line
+
+pub printed_are_lines : (declarations : List Declaration) (items : List Item) → ArePrintable declarations items → AllByRecursion IsLine (lines declarations items)
+printed_are_lines [] items all = tt
+printed_are_lines (declaration ∷ declarations) [] all = tt
+printed_are_lines (declaration ∷ declarations) (what ∷ items) all = (printed_is_line declaration what all.0, printed_are_lines declarations items all.1)
+
+pub printed_are_tokens : (declarations : List Declaration) (items : List Item) → ArePrintable declarations items → ReadsAs (tokens_of (text_of (lines declarations items))) (text_of (lines declarations items)) (lines declarations items)
+printed_are_tokens declarations items all = words_are_tokens (lines declarations items) (printed_are_lines declarations items all)

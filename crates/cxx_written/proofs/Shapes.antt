@@ -52,15 +52,15 @@ shape b rest kind e =
     ⊎_elim
     (λ h. absurd (no_blank rest kind h.1))
     (λ h. ⊎_elim
-        (λ k. shape_word b rest kind k.0 k.1)
-        (λ k. ⊎_elim
-            (λ l. shape_number b rest kind l.0 l.1)
-            (λ l. ⊎_elim
-                (λ q. quoted (eqb-true b 39 q.0) q.1)
-                (λ q. operated q.1)
-                (pick (b == 39) _ _ _ l.1))
-            (pick (begins_number b rest) _ _ _ k.1))
-        (pick (begins_word b) _ _ _ h.1))
+    (λ k. shape_word b rest kind k.0 k.1)
+    (λ k. ⊎_elim
+    (λ l. shape_number b rest kind l.0 l.1)
+    (λ l. ⊎_elim
+    (λ q. quoted (eqb-true b 39 q.0) q.1)
+    (λ q. operated q.1)
+    (pick (b == 39) _ _ _ l.1))
+    (pick (begins_number b rest) _ _ _ k.1))
+    (pick (begins_word b) _ _ _ h.1))
     (pick (is_white b) _ _ _ e)
 
 -- ---- the kinds of each shape
@@ -126,14 +126,14 @@ unfolding operators IsBuilt
 built_at n e =
     one_of _ _ _
     (one_of _ _ _
-        (one_of _ _ _
-            (one_of _ _ _
-                (one_of _ _ _
-                    (one_of _ _ _ (built_there punct.LEFT_PARENTHESIS built_open n) (built_there punct.RIGHT_PARENTHESIS built_close n))
-                    (built_there punct.COMMA built_comma n))
-                (built_there punct.SEMICOLON built_semicolon n))
-            (built_there punct.EQUALS built_equals n))
-        (built_there punct.LESS built_less n))
+    (one_of _ _ _
+    (one_of _ _ _
+    (one_of _ _ _
+    (one_of _ _ _ (built_there punct.LEFT_PARENTHESIS built_open n) (built_there punct.RIGHT_PARENTHESIS built_close n))
+    (built_there punct.COMMA built_comma n))
+    (built_there punct.SEMICOLON built_semicolon n))
+    (built_there punct.EQUALS built_equals n))
+    (built_there punct.LESS built_less n))
     (built_there punct.GREATER built_greater n)
     e
 

@@ -1,12 +1,12 @@
 -- Which bytes may stand directly behind a word of the first form.
-use Rattle.std.specs.Prelude.{ℕ, Bool, true, false, not, ◌&&◌, ◌||◌, if◌then◌else◌, ◌==◌, List, codes}
+use Rattle.std.specs.Prelude.{ℕ, Bool, true, false, not, ◌&&◌, ◌||◌, if◌then◌else◌, ◌==◌, List, [], ◌∷◌, codes}
 use Rattle.std.specs.Str.{bytes_eq}
 use Rattle.cxx_model.specs.declared.punct.TheConstants as punct
 use Rattle.cxx_model.specs.declared.token.TokenKind.{TokenKind}
 use Rattle.cxx_model.specs.declared.token.TokenKind.TheVariants.{Name, Keyword, Punct, Integer, Character, Text, End}
 use Rattle.cxx_model.specs.Continuing.{is_quote}
 use Rattle.cxx_model.specs.Spelling.{is_word}
-use Rattle.cxx_model.specs.Written.{Written}
+use Rattle.cxx_model.specs.Written.{Written, has_gap}
 
 -- `=` before anything but `=`; `<` before none of `<` `=` `:` `%`; `>` before neither `>` nor `=`
 abbrev pub ends_punct_before : ℕ → ℕ → Bool
@@ -29,3 +29,19 @@ ends_before End text b = false
 
 abbrev pub word_ends_before : Written → ℕ → Bool
 word_ends_before word b = ends_before word.kind word.spelling b
+
+-- ---- neighbours
+
+-- the word ends before this spelling
+abbrev pub ends_before_spelling : Written → List ℕ → Bool
+ends_before_spelling word [] = true
+ends_before_spelling word (b ∷ spelling) = word_ends_before word b
+
+-- a gap is printed between the word and the next, or the word ends before the next
+abbrev pub is_apart : Written → List Written → Bool
+is_apart word [] = true
+is_apart word (next ∷ others) = has_gap word next || ends_before_spelling word next.spelling
+
+abbrev pub are_apart : List Written → Bool
+are_apart [] = true
+are_apart (word ∷ others) = is_apart word others && are_apart others

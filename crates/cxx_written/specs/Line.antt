@@ -9,6 +9,10 @@ use Rattle.cxx_model.specs.Written.{Written, has_gap}
 pub record MayStandBefore (word : Written) (b : ℕ) : Type 0 where
   pub longest : (rest : List ℕ) → IsLongest (word.spelling ++ b ∷ rest) (record { len = length word.spelling; spells = Good word.kind })
 
+-- it is spelled as what it is
+pub record IsSpelled (word : Written) : Type 0 where
+  pub spelled : spelling_of word.spelling ≡ Some (Good word.kind)
+
 -- It is spelled as what it is, is not the end of the unit, and may stand before a space and before a newline.
 pub record IsWord (word : Written) : Type 0 where
   pub spelled : spelling_of word.spelling ≡ Some (Good word.kind)

@@ -1,5 +1,5 @@
 -- What can be printed and read back word by word.
-use Rattle.std.specs.Prelude.{◌≡◌, ℕ, List, Some}
+use Rattle.std.specs.Prelude.{◌≡◌, ℕ, List, [], ◌∷◌, Some}
 use Rattle.std.specs.List.{AllByRecursion}
 use Rattle.cxx_model.specs.declared.first.Argument.{Argument}
 use Rattle.cxx_model.specs.declared.first.Declaration.{Declaration}
@@ -21,3 +21,9 @@ IsPrintableItem (item.Object init) = IsName init.word × AllByRecursion IsLitera
 pub record IsPrintable (declaration : Declaration) (what : Item) : Type 0 where
   pub word : IsName declaration.word
   pub says : IsPrintableItem what
+
+-- each declaration with what it says besides, as lines are made of them
+abbrev pub ArePrintable : List Declaration → List Item → Type 0
+ArePrintable [] items = Unit {0}
+ArePrintable (declaration ∷ declarations) [] = Unit {0}
+ArePrintable (declaration ∷ declarations) (what ∷ items) = IsPrintable declaration what × ArePrintable declarations items

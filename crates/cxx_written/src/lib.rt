@@ -4,6 +4,14 @@
 //! states and the check proves.
 #![tactic(auto)]
 
-ghost use Rattle.std.specs.Prelude.{◌≡◌, ℕ};
+mod printed_lines;
+mod printed_names;
 
-pub fn nothing() ensures { (n : ℕ) → n ≡ n } {}
+pub use printed_lines::{
+    apart_words_are_a_line, each_spelled_word_is_a_word, printed_lines_are_lines,
+    printed_text_is_tokens, word_ends_before_a_byte, words_are_tokens,
+};
+pub use printed_names::{
+    printed_name_gives_its_number, printed_name_gives_its_stem, printed_name_is_a_name,
+    printed_name_is_no_letter, printed_name_is_printed_over, printed_name_keeps_its_stem,
+};
