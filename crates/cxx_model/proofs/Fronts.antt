@@ -33,7 +33,7 @@ spelled_if : (c : Bool) (x y : Option Spelled) → IsSpelled x → IsSpelled y �
 spelled_if true x y h k = h
 spelled_if false x y h k = k
 
-operator_alone : (n : Option ℕ) (is_digraph : Bool) → IsSpelled (operator_by n is_digraph [])
+pub operator_alone : (n : Option ℕ) (is_digraph : Bool) → IsSpelled (operator_by n is_digraph [])
 operator_alone (Some n) is_digraph = spelled_if _ _ _ (_, refl) (_, refl)
 operator_alone None true = (_, refl)
 operator_alone None false = (_, refl)

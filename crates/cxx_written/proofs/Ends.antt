@@ -1,5 +1,5 @@
 -- Each word of the first form before the bytes that end it.
-use Rattle.std.proofs.Common.{◌≡◌, ◌≤◌, ◌<◌, ℕ, zero, suc, Bool, true, false, cond, ◌⊎◌, inl, inr, ⊎_elim, not, ◌&&◌, ◌||◌, ◌==◌, List, [], ◌∷◌, ◌++◌, length, take, Option, Some, None, refl, sym, ap, ◌∙◌, subst, arith, bytes_eq, eqb-true}
+use Rattle.std.proofs.Common.{◌≡◌, ◌≤◌, ◌<◌, ℕ, zero, suc, Bool, true, false, ⊎_elim, not, ◌&&◌, ◌||◌, ◌==◌, List, [], ◌∷◌, ◌++◌, length, take, Some, None, refl, sym, subst, arith, bytes_eq, eqb-true}
 use Rattle.std.proofs.lemmas.Bool.{and_parts, and_left, and_right, or_parts, or_cases, both_ways}
 use Rattle.std.proofs.lemmas.Bool.Decides.{nat_tests}
 use Rattle.std.proofs.lemmas.Slice.Eq.{bytes_eq-Decides}
@@ -9,9 +9,9 @@ use Rattle.std.specs.Prelude.{codes}
 use Rattle.cxx_model.specs.declared.token.TokenKind.{TokenKind}
 use Rattle.cxx_model.specs.declared.token.TokenKind.TheVariants.{Name, Keyword, Punct, Integer, Character, End}
 use Rattle.cxx_model.specs.declared.punct.TheConstants as punct
-use Rattle.cxx_model.specs.Continuing.{starts, is_quote, number_goes_on, last_of, BeginsOperator}
+use Rattle.cxx_model.specs.Continuing.{is_quote, number_goes_on, last_of, BeginsOperator}
 use Rattle.cxx_model.specs.Spelling.{Good, is_white, is_word, begins_word, begins_number, is_number_rest, is_sign, is_exponent, is_decimal, is_plain, word_kind, number_kind, is_wide_quote, number_in, keywords, operators, digraphs, operator, spelling_of}
-use Rattle.cxx_model.specs.Tokens.{Piece, IsLongest}
+use Rattle.cxx_model.specs.Tokens.{IsLongest}
 use Rattle.cxx_model.specs.Written.{Written, has_gap}
 use Rattle.cxx_model.proofs.Spellings.{word_longest, number_front, character_front, operator_front}
 use Rattle.cxx_written.specs.Ends.{ends_punct_before, ends_before, word_ends_before, ends_before_spelling, is_apart, are_apart}

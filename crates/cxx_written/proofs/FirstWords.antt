@@ -1,6 +1,6 @@
 -- The words of a declaration may be printed in one line.
-use Rattle.std.proofs.Common.{◌≡◌, ℕ, zero, suc, Bool, true, false, cond, ◌⊎◌, ⊎_elim, not, ◌&&◌, ◌||◌, ◌==◌, List, [], ◌∷◌, ◌++◌, Option, Some, None, refl, sym, ap, ◌∙◌, subst, arith, eqb-true, bytes_eq}
-use Rattle.std.proofs.lemmas.Bool.{and_parts, and_left, and_right, or_parts, or_cases, both_ways}
+use Rattle.std.proofs.Common.{◌≡◌, ℕ, Bool, true, false, cond, ⊎_elim, not, ◌&&◌, ◌||◌, ◌==◌, List, [], ◌∷◌, refl, sym, ap, eqb-true}
+use Rattle.std.proofs.lemmas.Bool.{and_parts, or_cases, both_ways}
 use Rattle.std.specs.List.{AllByRecursion}
 use Rattle.std.specs.Prelude.{codes}
 use Rattle.cxx_model.specs.declared.base.Base.{Base}
@@ -17,12 +17,12 @@ use Rattle.cxx_model.specs.declared.punct.TheConstants as punct
 use Rattle.cxx_model.specs.declared.token.TokenKind.{TokenKind}
 use Rattle.cxx_model.specs.declared.token.TokenKind.TheVariants.{Name, Keyword, Punct, Integer, Character, Text, End}
 use Rattle.cxx_model.specs.Continuing.{is_quote}
-use Rattle.cxx_model.specs.First.Words.{keyword_word, char_word, short_word, long_word, signed_word, unsigned_word, double_word, spell_base, others_separated, separated, spell_casts, kind_of_literal, literal_word, spell_argument, spell_call, spell_initializer, spell_item, spell_declared, line_words, lines}
-use Rattle.cxx_model.specs.Spelling.{Good, is_word, keywords, alternatives, operators, digraphs, word_kind, operator, spelling_of}
+use Rattle.cxx_model.specs.First.Words.{keyword_word, spell_base, others_separated, separated, spell_casts, kind_of_literal, literal_word, spell_argument, spell_call, spell_item, spell_declared, line_words, lines}
+use Rattle.cxx_model.specs.Spelling.{is_word, keywords, alternatives, operators, digraphs, word_kind, operator, spelling_of}
 use Rattle.cxx_model.specs.Tokens.{tokens_of}
-use Rattle.cxx_model.specs.Written.{Written, open_word, close_word, comma_word, semicolon_word, equals_word, less_word, greater_word, static_cast_word, name_word, is_tight_before, is_tight_after, has_gap}
+use Rattle.cxx_model.specs.Written.{Written, open_word, close_word, comma_word, semicolon_word, equals_word, less_word, greater_word, name_word, is_tight_before, is_tight_after, has_gap}
 use Rattle.cxx_written.specs.Ends.{ends_punct_before, ends_before}
-use Rattle.cxx_written.specs.Line.{MayStandBefore, IsWord, MayTouch, MayPrecede, IsLine, IsName}
+use Rattle.cxx_written.specs.Line.{IsWord, MayTouch, MayPrecede, IsLine, IsName}
 use Rattle.cxx_written.specs.Printable.{IsLiteral, IsPrintableItem, IsPrintable, ArePrintable}
 use Rattle.cxx_written.specs.ReadsAs.{ReadsAs, text_of}
 use Rattle.cxx_written.proofs.ReadLines.{words_are_tokens}

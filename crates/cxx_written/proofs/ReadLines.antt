@@ -1,7 +1,6 @@
 -- The tokens of lines of words are the words.
-use Rattle.std.proofs.Common.{◌≡◌, ℕ, zero, suc, ◌+◌, ◌-◌, Bool, true, false, List, [], ◌∷◌, ◌++◌, length, take, drop, Option, Some, None, Result, Ok, Err, refl, sym, ap, ◌∙◌, subst, arith, append_assoc, drop-drop, flat_map}
+use Rattle.std.proofs.Common.{◌≡◌, ℕ, zero, suc, ◌+◌, ◌-◌, Bool, true, false, List, [], ◌∷◌, ◌++◌, length, take, drop, Some, Ok, Err, refl, sym, ap, ◌∙◌, subst, arith, append_assoc, drop-drop}
 use Rattle.std.proofs.Math.Seq.{take-append_seam, drop-append_seam}
-use Rattle.std.proofs.lemmas.List.{drop_all}
 use Rattle.std.specs.List.{AllByRecursion}
 use Rattle.std.specs.Prelude.{codes, if◌then◌else◌}
 use Rattle.cxx_model.specs.declared.token.Token.{Token}
@@ -9,13 +8,13 @@ use Rattle.cxx_model.specs.declared.place.Place.{Place}
 use Rattle.cxx_model.specs.declared.token.TokenKind.TheVariants.{End}
 use Rattle.cxx_model.specs.declared.limits.TheConstants as limits
 use Rattle.cxx_model.specs.First.Words.{joined}
-use Rattle.cxx_model.specs.Lexemes.{first_place, past, spelling_in, lexeme_of, lexemes}
+use Rattle.cxx_model.specs.Lexemes.{first_place, past, spelling_in, lexeme_of}
 use Rattle.cxx_model.specs.Spelling.{Good, Blank, spelling_of}
-use Rattle.cxx_model.specs.Tokens.{Piece, IsLongest, Unread, BadAt, PastTokens, put, ended, tokens_from, tokens_of}
+use Rattle.cxx_model.specs.Tokens.{IsLongest, BadAt, PastTokens, put, ended, tokens_from, tokens_of}
 use Rattle.cxx_model.specs.Written.{Written, written, has_gap, gap, line_of}
 use Rattle.cxx_model.proofs.Spellings.{blank_front}
 use Rattle.cxx_model.proofs.Readings.{Answer, tokens_at, token_at, at_blank, at_token, reads_end, reads_full}
-use Rattle.cxx_written.specs.Line.{MayStandBefore, IsWord, MayTouch, MayPrecede, IsLine}
+use Rattle.cxx_written.specs.Line.{IsWord, MayTouch, MayPrecede, IsLine}
 use Rattle.cxx_written.specs.ReadsAs.{ReadsAsWords, ReadsAs, end_word, text_of}
 
 -- ---- one token in front

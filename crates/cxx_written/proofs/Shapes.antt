@@ -1,13 +1,13 @@
 -- What a text that spells a token looks like.
-use Rattle.std.proofs.Common.{◌≡◌, ℕ, zero, suc, Bool, true, false, cond, ◌⊎◌, inl, inr, ⊎_elim, not, ◌&&◌, ◌||◌, ◌==◌, List, [], ◌∷◌, ◌++◌, length, Option, Some, None, refl, sym, ap, ◌∙◌, subst, arith, is_some, get_or, bytes_eq, position, eqb-true, nat_le}
+use Rattle.std.proofs.Common.{◌≡◌, ℕ, Bool, true, false, cond, ◌⊎◌, inl, inr, ⊎_elim, ◌&&◌, ◌||◌, ◌==◌, List, [], ◌∷◌, Option, Some, None, refl, sym, ap, subst, is_some, get_or, eqb-true, nat_le}
 use Rattle.std.proofs.lemmas.Bool.{and_parts, or_cases}
 use Rattle.std.specs.List.{list_all}
-use Rattle.std.specs.Prelude.{codes, if◌then◌else◌}
+use Rattle.std.specs.Prelude.{codes}
 use Rattle.cxx_model.specs.declared.token.TokenKind.{TokenKind}
 use Rattle.cxx_model.specs.declared.token.TokenKind.TheVariants.{Name, Keyword, Punct, Integer, Character}
 use Rattle.cxx_model.specs.declared.token.TokenReason.TheVariants.{NotBuilt}
 use Rattle.cxx_model.specs.declared.punct.TheConstants as punct
-use Rattle.cxx_model.specs.Spelling.{Spelled, Blank, Good, Ill, is_white, is_word, begins_word, begins_number, is_number_rest, is_decimal, decimal_value, most_long, word_by, word_kind, number_kind, is_wide_quote, is_plain, character, alone, number_in, keywords, alternatives, operators, digraphs, is_built, operator_by, operator, spelling_of}
+use Rattle.cxx_model.specs.Spelling.{Blank, Good, Ill, is_white, is_word, begins_word, begins_number, is_number_rest, is_decimal, decimal_value, most_long, word_by, word_kind, number_kind, is_wide_quote, is_plain, character, alone, number_in, keywords, alternatives, operators, digraphs, is_built, operator_by, operator, spelling_of}
 use Rattle.cxx_written.proofs.Tables.{in_table}
 
 abbrev pub Spells : List ℕ → TokenKind → Type 0

@@ -1,6 +1,6 @@
 -- When a text is not in a table of spellings.
-use Rattle.std.proofs.Common.{◌≡◌, ℕ, zero, suc, ◌≤◌, ◌<◌, Bool, true, false, cond, ◌&&◌, ◌||◌, ◌==◌, List, [], ◌∷◌, length, Option, Some, None, refl, sym, ap, ◌∙◌, arith, le-ltb, nat_lt, bytes_eq, get_or}
-use Rattle.std.proofs.lemmas.Bool.{and_parts, and_left, and_right, or_parts, or_from, both_ways}
+use Rattle.std.proofs.Common.{◌≡◌, ℕ, Bool, true, false, cond, ◌&&◌, ◌==◌, List, [], ◌∷◌, length, Some, None, refl, ap, ◌∙◌, arith, le-ltb, nat_lt, bytes_eq, get_or}
+use Rattle.std.proofs.lemmas.Bool.{and_left, and_right, or_parts, or_from, both_ways}
 use Rattle.std.proofs.lemmas.Slice.Eq.{bytes_eq-Decides}
 use Rattle.std.proofs.lemmas.List.Quantifiers.{position-Some}
 use Rattle.std.specs.List.{list_any, position_or_len}

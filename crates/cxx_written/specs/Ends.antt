@@ -8,7 +8,8 @@ use Rattle.cxx_model.specs.Continuing.{is_quote}
 use Rattle.cxx_model.specs.Spelling.{is_word}
 use Rattle.cxx_model.specs.Written.{Written, has_gap}
 
--- `=` before anything but `=`; `<` before none of `<` `=` `:` `%`; `>` before neither `>` nor `=`
+-- `=` ends before anything but `=`; `<` before what is none of `<` `=` `:` `%`; `>` before what is neither `>` nor `=`;
+-- and ( ) , ; before anything
 abbrev pub ends_punct_before : ℕ → ℕ → Bool
 ends_punct_before n b =
     if n == punct.EQUALS then not (b == 61) else (
@@ -16,8 +17,8 @@ ends_punct_before n b =
     if n == punct.GREATER then not (b == 62 || b == 61) else
     true))
 
--- A name ends before what is no word byte, `L` not before a quote; a number ends before a dot neither; and a character
--- before any byte.
+-- A name or a keyword ends before any byte that is no letter, digit or `_`, and the name `L` not before a quote, with
+-- which it begins a wide literal; a number not before a dot either; a character literal before any byte.
 abbrev pub ends_before : TokenKind → List ℕ → ℕ → Bool
 ends_before Name text b = not (is_word b) && not (is_quote b && bytes_eq text (codes "L"))
 ends_before (Keyword n) text b = not (is_word b)

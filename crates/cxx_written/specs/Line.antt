@@ -1,5 +1,5 @@
 -- Words that stand in the lines of a printed text, each where it is read as it is written.
-use Rattle.std.specs.Prelude.{◌≡◌, ◌≢◌, ℕ, false, List, [], ◌∷◌, ◌++◌, length, Option, Some}
+use Rattle.std.specs.Prelude.{◌≡◌, ◌≢◌, ℕ, false, List, [], ◌∷◌, ◌++◌, length, Some}
 use Rattle.cxx_model.specs.declared.token.TokenKind.TheVariants.{Name, End}
 use Rattle.cxx_model.specs.Spelling.{Good, spelling_of}
 use Rattle.cxx_model.specs.Tokens.{IsLongest}

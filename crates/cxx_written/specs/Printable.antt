@@ -1,5 +1,5 @@
 -- What can be printed and read back word by word.
-use Rattle.std.specs.Prelude.{◌≡◌, ℕ, List, [], ◌∷◌, Some}
+use Rattle.std.specs.Prelude.{◌≡◌, List, [], ◌∷◌, Some}
 use Rattle.std.specs.List.{AllByRecursion}
 use Rattle.cxx_model.specs.declared.first.Argument.{Argument}
 use Rattle.cxx_model.specs.declared.first.Declaration.{Declaration}
