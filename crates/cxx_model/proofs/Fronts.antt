@@ -15,9 +15,9 @@ within_is (suc n) text len spells h low high =
     ⊎_elim
     (λ (lt : len < suc n). ap (λ o. or_shorter (suc n) o (longest_within n text)) (h.longest (suc n) lt high) ∙ within_is n text len spells h (omega arith) (omega arith))
     (λ (ge : suc n ≤ len).
-        let e : len ≡ suc n = omega arith in
-        let spelled : spelling_of (take (suc n) text) ≡ Some spells = rw e at h.spelled in
-        ap (λ o. or_shorter (suc n) o (longest_within n text)) spelled ∙ ap (λ k. Some (record { len = k; spells = spells })) (sym e))
+    let e : len ≡ suc n = omega arith in
+    let spelled : spelling_of (take (suc n) text) ≡ Some spells = rw e at h.spelled in
+    ap (λ o. or_shorter (suc n) o (longest_within n text)) spelled ∙ ap (λ k. Some (record { len = k; spells = spells })) (sym e))
     (cases_lt len (suc n))
 
 pub front_is : (text : List ℕ) (len : ℕ) (spells : Spelled) → IsLongest text (record { len = len; spells = spells }) → front text ≡ Some (record { len = len; spells = spells })

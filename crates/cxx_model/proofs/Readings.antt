@@ -144,12 +144,12 @@ means zero bytes at room low high =
 means (suc fuel) bytes at room low high =
     ⊎_elim
     (λ (more : at < length bytes).
-        let begun = begins (drop at bytes) (omega (arith, length-drop at bytes)) in
-        means_piece bytes at room begun.0.len begun.0.spells begun.1
-        (λ left. means fuel bytes (at + begun.0.len) left (omega (arith, begun.1.within, length-drop at bytes)) (omega (arith, begun.1.some))))
+    let begun = begins (drop at bytes) (omega (arith, length-drop at bytes)) in
+    means_piece bytes at room begun.0.len begun.0.spells begun.1
+    (λ left. means fuel bytes (at + begun.0.len) left (omega (arith, begun.1.within, length-drop at bytes)) (omega (arith, begun.1.some))))
     (λ (done : length bytes ≤ at).
-        let e : length bytes ≡ at = omega arith in
-        subst (λ a. Means bytes at room a) (sym (at_last bytes at room e)) (means_end bytes at room e))
+    let e : length bytes ≡ at = omega arith in
+    subst (λ a. Means bytes at room a) (sym (at_last bytes at room e)) (means_end bytes at room e))
     (cases_lt at (length bytes))
 
 -- ---- the whole text

@@ -287,7 +287,7 @@ operator_front b w tail spells begins is none =
     longest_from b w tail spells
     (ap (λ t. spelling_of (b ∷ t)) (sym seam) ∙ spells_operator_front b (w ++ tail) (length w) begins ∙ ap (operator b) seam ∙ is)
     (λ m low high. spells_operator_front b (w ++ tail) m begins ∙
-        ⊎_elim
-        (λ (long : 2 < m). no_long_operator b (w ++ tail) m long high)
-        (λ (short : m ≤ 2). none m low short high)
-        (cases_lt 2 m))
+    ⊎_elim
+    (λ (long : 2 < m). no_long_operator b (w ++ tail) m long high)
+    (λ (short : m ≤ 2). none m low short high)
+    (cases_lt 2 m))
