@@ -1,0 +1,2 @@
+-- Laws of the first form.
+pub mod Taken
