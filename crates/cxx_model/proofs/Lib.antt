@@ -1,2 +1,5 @@
 pub mod Answers
 pub mod FirstForm
+pub mod Fronts
+pub mod Spellings
+pub mod Readings

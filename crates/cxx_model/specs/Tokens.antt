@@ -89,3 +89,11 @@ pub data IsBadPlace (bytes : List ℕ) (place : Place) (reason : TokenReason) : 
   bad_here : (at len : ℕ) → IsLongest (drop at bytes) (record { len = len; spells = Ill reason }) → place ≡ past (take at bytes) first_place → IsBadPlace bytes place reason at 0
   bad_after_blank : (at len count : ℕ) → IsLongest (drop at bytes) (record { len = len; spells = Blank }) → IsBadPlace bytes place reason (at + len) count → IsBadPlace bytes place reason at count
   bad_after_token : (at len count : ℕ) (kind : TokenKind) → IsLongest (drop at bytes) (record { len = len; spells = Good kind }) → IsBadPlace bytes place reason (at + len) count → IsBadPlace bytes place reason at (suc count)
+
+-- From the byte `at` on the text is white space and so many tokens, and one more begins before any bad place; the end
+-- is a token too.
+pub data IsPastTokens (bytes : List ℕ) : ℕ → ℕ → Type 0 where
+  past_at_end : (at : ℕ) → length bytes ≡ at → IsPastTokens bytes at 0
+  past_at_token : (at len : ℕ) (kind : TokenKind) → IsLongest (drop at bytes) (record { len = len; spells = Good kind }) → IsPastTokens bytes at 0
+  past_after_blank : (at len count : ℕ) → IsLongest (drop at bytes) (record { len = len; spells = Blank }) → IsPastTokens bytes (at + len) count → IsPastTokens bytes at count
+  past_after_token : (at len count : ℕ) (kind : TokenKind) → IsLongest (drop at bytes) (record { len = len; spells = Good kind }) → IsPastTokens bytes (at + len) count → IsPastTokens bytes at (suc count)
