@@ -9,12 +9,12 @@ ghost use Rattle.cxx_decl.specs.Views.{left, lexeme, misplaced_fault, cast_opene
 use crate::call::call_of;
 use crate::cursor::{Cursor, is_keyword, is_punct};
 use crate::fault::undeclared;
-use crate::literal::literal_type;
 use crate::scope::is_declared;
 use cxx_model::{
     Argument, ArgumentList, Base, BaseList, Call, Declaration, Fault, Initializer, LimitKind, Stop,
     TokenKind, Word, keyword, limits, punct,
 };
+use cxx_tokens::literal_type;
 use std::alloc::{AllocError, Global};
 
 fn is_literal(kind: TokenKind) -> bool

@@ -10,7 +10,6 @@ mod cursor;
 mod declaration;
 mod expression;
 mod fault;
-mod literal;
 mod scope;
 mod standard;
 mod viable;
