@@ -1,5 +1,5 @@
 -- What a production that was read took, step by step.
-use Rattle.std.proofs.Common.{◌≡◌, ℕ, zero, suc, ◌+◌, ◌<◌, Bool, true, false, cond, List, [], ◌∷◌, ◌++◌, length, Option, Some, None, Result, Ok, Err, refl, sym, ap, subst, ◌∙◌, ◌⊎◌, inl, inr, arith, length-append}
+use Rattle.std.proofs.Common.{◌≡◌, ℕ, zero, suc, ◌+◌, ◌<◌, Bool, true, false, cond, not, ◌&&◌, List, [], ◌∷◌, ◌++◌, length, Option, Some, None, Result, Ok, Err, refl, sym, ap, subst, ◌∙◌, ◌⊎◌, inl, inr, arith, length-append}
 use Rattle.cxx_model.specs.declared.base.Base.{Base}
 use Rattle.cxx_model.specs.declared.first.Argument.{Argument}
 use Rattle.cxx_model.specs.declared.first.Call.{Call}
@@ -11,11 +11,135 @@ use Rattle.cxx_model.specs.declared.first.Reading.{Reading}
 use Rattle.cxx_model.specs.declared.keyword.TheConstants as keyword
 use Rattle.cxx_model.specs.declared.punct.TheConstants as punct
 use Rattle.cxx_model.specs.declared.stop.LimitKind.TheVariants.{Facts}
-use Rattle.cxx_model.specs.Lexemes.{Lexeme, kind_of, place_of}
-use Rattle.cxx_model.specs.Stops.{Answer, Reads, Stopped, Limited, ◌>>=◌, not_built_at}
-use Rattle.cxx_model.specs.First.Candidates.{call_of}
-use Rattle.cxx_model.specs.First.Reading.{is_punct, is_keyword, behind, punct_at, type_at, name_at, list_at, begins_type, begins_argument, arguments_opened, misplaced, cast_at, call_at, cast_initializer, begins_call, initializer_by, initializer_opened, initializer_at, has_clash, added, declare, with_function, with_object, function_at, object_at, item_at}
+use Rattle.cxx_model.specs.Lexemes.{Lexeme, kind_of, place_of, spelling_ahead}
+use Rattle.cxx_model.specs.Spelling.{literal_type}
+use Rattle.cxx_model.specs.Stops.{Answer, Reads, Stopped, Limited, ◌>>=◌, not_built_at, undeclared_at}
+use Rattle.cxx_model.specs.First.Candidates.{call_of, is_declared}
+use Rattle.cxx_model.specs.First.Reading.{is_punct, is_keyword, is_name, is_literal, type_of_kind, type_by, name_by, literal_by, literal_at, argument_by, cast_argument, behind, punct_at, type_at, name_at, list_at, begins_type, begins_argument, arguments_opened, misplaced, cast_at, call_at, cast_initializer, begins_call, initializer_by, initializer_opened, initializer_at, has_clash, added, declare, with_function, with_object, function_at, object_at, item_at}
 use Rattle.cxx_model.proofs.Answers.{done, done_is, stopped, bind_ok, unless_ok, if_ok, either_is}
+
+-- ---- single tokens
+
+pub punct_taken : (n : ℕ) (ahead rest : List Lexeme) → punct_at n ahead ≡ Ok rest → (is_punct n (kind_of ahead) ≡ true) × (rest ≡ behind ahead)
+unfolding punct_at
+punct_taken n ahead rest e =
+    let t = if_ok (is_punct n (kind_of ahead)) (not_built_at (place_of ahead)) (Ok (behind ahead)) rest e in
+    (t.0, done_is _ _ (sym t.1))
+
+type_by_taken : (o : Option Base) (ahead : List Lexeme) (x : Base × List Lexeme) → type_by o ahead ≡ Ok x → (o ≡ Some x.0) × (x.1 ≡ behind ahead)
+type_by_taken (Some b) ahead x e =
+    let is : x ≡ (b, behind ahead) = done_is _ _ (sym e) in
+    (ap (λ (y : Base × List Lexeme). Some y.0) (sym is), ap (λ (y : Base × List Lexeme). y.1) is)
+type_by_taken None ahead x e = absurd cc
+
+pub type_taken : (ahead : List Lexeme) (x : Base × List Lexeme) → type_at ahead ≡ Ok x → (type_of_kind (kind_of ahead) ≡ Some x.0) × (x.1 ≡ behind ahead)
+unfolding type_at
+type_taken ahead x e = type_by_taken (type_of_kind (kind_of ahead)) ahead x e
+
+name_by_taken : (b : Bool) (ahead : List Lexeme) (x : Lexeme × List Lexeme) → name_by b ahead ≡ Ok x → (b ≡ true) × (ahead ≡ x.0 ∷ x.1)
+name_by_taken true (token ∷ ahead) x e =
+    let is : x ≡ (token, ahead) = done_is _ _ (sym e) in
+    (refl, ap (λ (y : Lexeme × List Lexeme). y.0 ∷ y.1) (sym is))
+name_by_taken true [] x e = absurd cc
+name_by_taken false ahead x e = absurd cc
+
+pub name_taken : (ahead : List Lexeme) (x : Lexeme × List Lexeme) → name_at ahead ≡ Ok x → (is_name (kind_of ahead) ≡ true) × (ahead ≡ x.0 ∷ x.1)
+unfolding name_at
+name_taken ahead x e = name_by_taken (is_name (kind_of ahead)) ahead x e
+
+-- ---- expressions
+
+-- no form was read
+pub misplaced_stops : {A : Type 0} (declarations : List Declaration) (ahead : List Lexeme) (x : A) → misplaced declarations ahead ≡ done x → ⊥
+unfolding misplaced
+misplaced_stops declarations ahead x e = by (is_name (kind_of ahead) && not (is_punct punct.LEFT_PARENTHESIS (kind_of (behind ahead))) && not (is_declared declarations (spelling_ahead ahead))) (undeclared_at (place_of ahead) (spelling_ahead ahead)) (not_built_at (place_of ahead)) e
+  where
+    by : (b : Bool) (why other : Stopped) → cond b (stopped why) (stopped other) ≡ done x → ⊥
+    by true why other e = absurd cc
+    by false why other e = absurd cc
+
+literal_by_taken : (o : Option Base) (ahead : List Lexeme) (x : Argument × List Lexeme) → literal_by o ahead ≡ Ok x → (o ≡ Some x.0.of) × (x.0 ≡ record { casts = []; of = x.0.of; spelling = spelling_ahead ahead }) × (x.1 ≡ behind ahead)
+literal_by_taken (Some b) ahead x e =
+    let is : x ≡ (record { casts = []; of = b; spelling = spelling_ahead ahead }, behind ahead) = done_is _ _ (sym e) in
+    (ap (λ (y : Argument × List Lexeme). Some y.0.of) (sym is), ap (λ (y : Argument × List Lexeme). y.0) is ∙ ap (λ (y : Argument × List Lexeme). record { casts = []; of = y.0.of; spelling = spelling_ahead ahead }) (sym is), ap (λ (y : Argument × List Lexeme). y.1) is)
+literal_by_taken None ahead x e = absurd cc
+
+pub literal_taken : (ahead : List Lexeme) (x : Argument × List Lexeme) → literal_at ahead ≡ Ok x → (literal_type (spelling_ahead ahead) ≡ Some x.0.of) × (x.0 ≡ record { casts = []; of = x.0.of; spelling = spelling_ahead ahead }) × (x.1 ≡ behind ahead)
+unfolding literal_at
+literal_taken ahead x e = literal_by_taken (literal_type (spelling_ahead ahead)) ahead x e
+
+pub record CastTaken {A : Type 0} (wrap : Base → A → A) (inside : List Lexeme → Reads A) (ahead : List Lexeme) (after : A × List Lexeme) : Type 0 where
+  pub less : List Lexeme
+  pub target : Base × List Lexeme
+  pub greater : List Lexeme
+  pub opened : List Lexeme
+  pub operand : A × List Lexeme
+  pub less_is : punct_at punct.LESS (behind ahead) ≡ Ok less
+  pub types : type_at less ≡ Ok target
+  pub greater_is : punct_at punct.GREATER target.1 ≡ Ok greater
+  pub opens : punct_at punct.LEFT_PARENTHESIS greater ≡ Ok opened
+  pub operates : inside opened ≡ Ok operand
+  pub closes : punct_at punct.RIGHT_PARENTHESIS operand.1 ≡ Ok after.1
+  pub made : after.0 ≡ wrap target.0 operand.0
+
+pub cast_taken : {A : Type 0} (wrap : Base → A → A) (inside : List Lexeme → Reads A) (ahead : List Lexeme) (after : A × List Lexeme) → cast_at wrap inside ahead ≡ Ok after → CastTaken wrap inside ahead after
+unfolding cast_at
+cast_taken {A = A} wrap inside ahead after e =
+    let last = λ (target : Base) (operand : A × List Lexeme). punct_at punct.RIGHT_PARENTHESIS operand.1 >>= λ closed. done (wrap target operand.0, closed) in
+    let a = bind_ok (punct_at punct.LESS (behind ahead)) (λ less. type_at less >>= λ target. punct_at punct.GREATER target.1 >>= λ greater. punct_at punct.LEFT_PARENTHESIS greater >>= λ opened. inside opened >>= λ operand. last target.0 operand) after e in
+    let b = bind_ok (type_at a.0) (λ target. punct_at punct.GREATER target.1 >>= λ greater. punct_at punct.LEFT_PARENTHESIS greater >>= λ opened. inside opened >>= λ operand. last target.0 operand) after a.2 in
+    let c = bind_ok (punct_at punct.GREATER b.0.1) (λ greater. punct_at punct.LEFT_PARENTHESIS greater >>= λ opened. inside opened >>= λ operand. last b.0.0 operand) after b.2 in
+    let d = bind_ok (punct_at punct.LEFT_PARENTHESIS c.0) (λ opened. inside opened >>= λ operand. last b.0.0 operand) after c.2 in
+    let f = bind_ok (inside d.0) (λ operand. last b.0.0 operand) after d.2 in
+    let g = bind_ok (punct_at punct.RIGHT_PARENTHESIS f.0.1) (λ closed. done (wrap b.0.0 f.0.0, closed)) after f.2 in
+    let is : after ≡ (wrap b.0.0 f.0.0, g.0) = done_is _ _ (sym g.2) in
+    record { less = a.0; target = b.0; greater = c.0; opened = d.0; operand = f.0; less_is = a.1; types = b.1; greater_is = c.1; opens = d.1; operates = f.1; closes = g.1 ∙ ap (λ (x : A × List Lexeme). done x.1) (sym is); made = ap (λ (x : A × List Lexeme). x.0) is }
+
+pub argument_taken : (declarations : List Declaration) (inside : List Lexeme → Reads Argument) (ahead : List Lexeme) (after : Argument × List Lexeme) → argument_by declarations inside ahead ≡ Ok after
+    → ((is_literal (kind_of ahead) ≡ true) × (literal_at ahead ≡ Ok after)) ⊎ ((is_keyword keyword.STATIC_CAST (kind_of ahead) ≡ true) × (cast_at cast_argument inside ahead ≡ Ok after))
+unfolding argument_by
+argument_taken declarations inside ahead after e =
+    elim (either_is (is_literal (kind_of ahead)) (literal_at ahead) (cond (is_keyword keyword.STATIC_CAST (kind_of ahead)) (cast_at cast_argument inside ahead) (misplaced declarations ahead)) (Ok after) e) [
+      | inl literal ↦ inl literal
+      | inr other ↦ elim (either_is (is_keyword keyword.STATIC_CAST (kind_of ahead)) (cast_at cast_argument inside ahead) (misplaced declarations ahead) (Ok after) other.1) [
+          | inl cast ↦ inr cast
+          | inr none ↦ absurd (misplaced_stops declarations ahead after none.1)
+        ]
+    ]
+
+pub record CallTaken (declarations : List Declaration) (room : ℕ) (ahead : List Lexeme) (after : (Initializer × Call) × List Lexeme) : Type 0 where
+  pub name : Lexeme × List Lexeme
+  pub opened : List Lexeme
+  pub arguments : List Argument × List Lexeme
+  pub names : name_at ahead ≡ Ok name
+  pub opens : punct_at punct.LEFT_PARENTHESIS name.1 ≡ Ok opened
+  pub lists : arguments_opened declarations room opened ≡ Ok arguments
+  pub closes : punct_at punct.RIGHT_PARENTHESIS arguments.1 ≡ Ok after.1
+  pub means : call_of declarations name.0.place name.0.spelling arguments.0 ≡ Ok after.0
+
+pub call_taken : (declarations : List Declaration) (room : ℕ) (ahead : List Lexeme) (after : (Initializer × Call) × List Lexeme) → call_at declarations room ahead ≡ Ok after → CallTaken declarations room ahead after
+unfolding call_at
+call_taken declarations room ahead after e =
+    let last = λ (name : Lexeme) (arguments : List Argument × List Lexeme). punct_at punct.RIGHT_PARENTHESIS arguments.1 >>= λ closed. call_of declarations name.place name.spelling arguments.0 >>= λ call. done (call, closed) in
+    let a = bind_ok (name_at ahead) (λ name. punct_at punct.LEFT_PARENTHESIS name.1 >>= λ opened. arguments_opened declarations room opened >>= λ arguments. last name.0 arguments) after e in
+    let b = bind_ok (punct_at punct.LEFT_PARENTHESIS a.0.1) (λ opened. arguments_opened declarations room opened >>= λ arguments. last a.0.0 arguments) after a.2 in
+    let c = bind_ok (arguments_opened declarations room b.0) (λ arguments. last a.0.0 arguments) after b.2 in
+    let d = bind_ok (punct_at punct.RIGHT_PARENTHESIS c.0.1) (λ closed. call_of declarations a.0.0.place a.0.0.spelling c.0.0 >>= λ call. done (call, closed)) after c.2 in
+    let f = bind_ok (call_of declarations a.0.0.place a.0.0.spelling c.0.0) (λ call. done (call, d.0)) after d.2 in
+    let is : after ≡ (f.0, d.0) = done_is _ _ (sym f.2) in
+    record { name = a.0; opened = b.0; arguments = c.0; names = a.1; opens = b.1; lists = c.1; closes = d.1 ∙ ap (λ (x : (Initializer × Call) × List Lexeme). done x.1) (sym is); means = f.1 ∙ ap (λ (x : (Initializer × Call) × List Lexeme). done x.0) (sym is) }
+
+pub initializer_taken : (declarations : List Declaration) (inside : List Lexeme → Reads (Initializer × Call)) (room : ℕ) (ahead : List Lexeme) (after : (Initializer × Call) × List Lexeme) → initializer_by declarations inside room ahead ≡ Ok after
+    → ((begins_call ahead ≡ true) × (call_at declarations room ahead ≡ Ok after)) ⊎ ((is_keyword keyword.STATIC_CAST (kind_of ahead) ≡ true) × (cast_at cast_initializer inside ahead ≡ Ok after))
+unfolding initializer_by
+initializer_taken declarations inside room ahead after e =
+    elim (either_is (begins_call ahead) (call_at declarations room ahead) (cond (is_keyword keyword.STATIC_CAST (kind_of ahead)) (cast_at cast_initializer inside ahead) (misplaced declarations ahead)) (Ok after) e) [
+      | inl call ↦ inl call
+      | inr other ↦ elim (either_is (is_keyword keyword.STATIC_CAST (kind_of ahead)) (cast_at cast_initializer inside ahead) (misplaced declarations ahead) (Ok after) other.1) [
+          | inl cast ↦ inr cast
+          | inr none ↦ absurd (misplaced_stops declarations ahead after none.1)
+        ]
+    ]
 
 -- ---- declarations
 
