@@ -1,3 +1,6 @@
+pub mod Answers
+pub mod Champion
+pub mod FirstForm
 pub mod Fronts
 mod Rows
 pub mod Spellings
