@@ -1,0 +1,296 @@
+-- The contract of a run follows from what is due and where it was told.
+use Rattle.std.proofs.Common.{◌≡◌, rules, ◌≢◌, ◌⊎◌, inl, inr, ◌∙◌, ℕ, suc, ◌+◌, ◌<◌, ◌≤◌, Bool, true, false, cond, List, [], length, replicate, nat_lt, ◌∷◌, arith, refl, sym, ap, subst}
+use Rattle.std.proofs.lemmas.Bool.{lt-ltb}
+use Rattle.std.proofs.lemmas.Bool.Decides.{nat_tests}
+use Rattle.std.proofs.lemmas.List.{length-replicate}
+use Rattle.std.specs.Prelude.{◌==◌, Option, Result, Some, None, IfSome, codes, Ok, Err}
+use Rattle.cxx_edge.specs.Source.{IsLonger}
+use Rattle.cxx_model.specs.declared.first.Options.{Options}
+use Rattle.cxx_model.specs.declared.first.Reading.{Reading}
+use Rattle.cxx_model.specs.declared.limits.TheConstants as limits
+use Rattle.cxx_model.specs.declared.stop.Fault.{Fault}
+use Rattle.cxx_model.specs.declared.stop.LimitKind.{LimitKind}
+use Rattle.cxx_model.specs.declared.stop.LimitKind.TheVariants.{Bytes, Output}
+use Rattle.cxx_model.specs.First.Bound.{EachCallIsBest}
+use Rattle.cxx_model.specs.First.Plain.{plain}
+use Rattle.cxx_model.specs.declared.token.Token.{Token}
+use Rattle.cxx_model.specs.First.Reading.{reading_of}
+use Rattle.cxx_model.specs.Lexemes.{Lexeme, lexemes}
+use Rattle.cxx_model.specs.Outcome.{UnitDue, Writes, Reports, Names, UnitOutcome, Whole, Broken, PastLimit, outcome_of, read_outcome, tokens_outcome, due_of, due_for}
+use Rattle.cxx_model.specs.Stops.{Answer as Reads, Faulty, Limited}
+use Rattle.cxx_model.specs.Tokens.{Unread, BadAt, PastTokens, tokens_of}
+use Rattle.cxx_model.specs.Reports.{report, limit_report}
+use Rattle.cxx_command.specs.declared.answers.Answer.{Answer}
+use Rattle.cxx_command.specs.declared.answers.Answer.TheVariants as answer
+use Rattle.cxx_command.specs.Answers.{IsInputAnswer, IsRunAnswer, DeliversAnswer}
+use Rattle.cxx_command.specs.Run.{default_options, due, IsUnderstood, Tells, AgreesWith, Due, ForUnit, NotUnderstood, CannotRead, NoMemory, status_of_unit, status_of, IsToldTo, IsTold, Delivers, IsUnitDue, IsDue, IsExcused, IsWritten, IsAnswer}
+use Rattle.cxx_command.specs.Streams.{Change, HasFailed, IsUntouched, TookAll, TookPart}
+
+-- ---- an input past the limit
+
+pub long_due : (input : List ℕ) → limits.MOST_BYTES < length input → due input ≡ Names Bytes
+unfolding due_for outcome_of
+long_due input long = rw (lt-ltb limits.MOST_BYTES (length input) long) refl
+
+some_longer : (n : ℕ) → (xs : List ℕ) × (n < length xs)
+some_longer n = (replicate (suc n) 0, omega (arith, length-replicate {A = ℕ} (suc n) 0))
+
+-- a source that gave too much has some such input
+pub long_input : (left : Option (List ℕ)) → IsLonger left limits.MOST_BYTES → (input : List ℕ) × AgreesWith left input × (limits.MOST_BYTES < length input)
+long_input None longer = let found = some_longer limits.MOST_BYTES in (found.0, tt, found.1)
+long_input (Some left) longer = (left, refl, longer)
+
+pub past_bytes : {S : Type 0} (source : Change S) → IsLonger source.told_old limits.MOST_BYTES → IsInputAnswer source (answer.PassesLimit Bytes)
+past_bytes source longer =
+    let found = long_input source.told_old longer in
+    record { input = found.0; agrees = found.1; is = long_due found.0 found.2 }
+
+-- ---- the one input that a source tells
+
+same_input : (told : Option (List ℕ)) (input other : List ℕ) → told ≡ Some input → AgreesWith told other → other ≡ input
+same_input None input other tells agrees = absurd (cc)
+same_input (Some left) input other tells agrees = sym agrees ∙ (cc)
+
+unit_is : {told : Option (List ℕ)} {unit : UnitDue} (input : List ℕ) → told ≡ Some input → IsUnitDue told unit → due input ≡ unit
+unit_is {told} {unit} input tells found = subst (λ (x : List ℕ). due x ≡ unit) (same_input told input found.input tells found.agrees) found.is
+
+-- ---- a text that is written is the plain form of a whole unit
+
+written_if : (b : Bool) (text : List ℕ) (limit : UnitDue) (reading : Reading) → cond b limit (Writes (plain reading)) ≡ Writes text → (limit ≡ Writes text → ⊥) → plain reading ≡ text
+written_if true text limit reading is differs = absurd (differs is)
+written_if false text limit reading is differs = cc
+
+writes_whole : (o : UnitOutcome) (text : List ℕ) → due_of o ≡ Writes text → (reading : Reading) × (o ≡ Whole reading) × (plain reading ≡ text)
+writes_whole (Whole reading) text is = (reading, refl, written_if _ text _ reading is (λ (e : Names Output ≡ Writes text). absurd (cc)))
+writes_whole (Broken fault) text is = absurd (cc)
+writes_whole (PastLimit limit) text is = absurd (cc)
+
+whole_of : (input text : List ℕ) → due input ≡ Writes text → (reading : Reading) × (outcome_of default_options input ≡ Whole reading) × (plain reading ≡ text)
+unfolding due_for
+whole_of input text is = writes_whole (outcome_of default_options input) text is
+
+-- ---- a whole unit was read
+
+read_whole : (answer : Reads Reading) (reading : Reading) → read_outcome answer ≡ Whole reading → answer ≡ Ok reading
+read_whole (Ok found) reading is = cc
+read_whole (Err (Faulty fault)) reading is = absurd (cc)
+read_whole (Err (Limited limit)) reading is = absurd (cc)
+
+tokens_whole : (options : Options) (bytes : List ℕ) (tokens : Result (List Token) Unread) (reading : Reading) → tokens_outcome options bytes tokens ≡ Whole reading
+    → (list : List Token) × (reading_of options (lexemes bytes list) ≡ Ok reading)
+tokens_whole options bytes (Ok list) reading is = (list, read_whole (reading_of options (lexemes bytes list)) reading is)
+tokens_whole options bytes (Err (BadAt place reason)) reading is = absurd (cc)
+tokens_whole options bytes (Err PastTokens) reading is = absurd (cc)
+
+unless_long : (long : Bool) (options : Options) (bytes : List ℕ) (tokens : Result (List Token) Unread) (reading : Reading) → cond long (PastLimit Bytes) (tokens_outcome options bytes tokens) ≡ Whole reading
+    → (list : List Token) × (reading_of options (lexemes bytes list) ≡ Ok reading)
+unless_long true options bytes tokens reading is = absurd (cc)
+unless_long false options bytes tokens reading is = tokens_whole options bytes tokens reading is
+
+whole_read : (options : Options) (bytes : List ℕ) (reading : Reading) → outcome_of options bytes ≡ Whole reading → (list : List Token) × (reading_of options (lexemes bytes list) ≡ Ok reading)
+unfolding outcome_of
+whole_read options bytes reading is = unless_long (nat_lt limits.MOST_BYTES (length bytes)) options bytes (tokens_of bytes) reading is
+
+-- ---- what is known of every unit
+
+pub record Laws : Type 0 where
+  pub best : (options : Options) (tokens : List Lexeme) (reading : Reading) → reading_of options tokens ≡ Ok reading → EachCallIsBest reading
+
+written_of : {K E : Type 0} (laws : Laws) (input text : List ℕ) (out : Change K) (err : Change E) → due input ≡ Writes text → TookAll out text → IsUntouched err → (reading : Reading) × IsWritten input reading out err
+written_of laws input text out err is took quiet =
+    let found = whole_of input text is in
+    let read = whole_read default_options input found.0 found.1 in (
+      found.0,
+      record {
+        outcome = found.1;
+        written = subst (λ (t : List ℕ). TookAll out t) (sym found.2) took;
+        quiet = quiet;
+        best = laws.best default_options (lexemes input read.0) found.0 read.1;
+      },
+    )
+
+-- ---- what was told, by the status
+
+-- the status is the one that was to be said, or 4
+said_or_failed : {K : Type 0} (sink : Change K) (text : List ℕ) (said status : ℕ) → IsToldTo sink text said status → (status ≡ said) ⊎ ((status ≡ 4) × HasFailed sink)
+said_or_failed sink text said status (inl told) = inl told.0
+said_or_failed sink text said status (inr told) = inr (told.0, told.1)
+
+took_all : {K : Type 0} (sink : Change K) (text : List ℕ) (said status : ℕ) → IsToldTo sink text said status → status ≢ 4 → TookAll sink text
+took_all sink text said status (inl told) differs = told.1
+took_all sink text said status (inr told) differs = absurd (differs told.0)
+
+took_part : {K : Type 0} (sink : Change K) (text : List ℕ) (said status : ℕ) → IsToldTo sink text said status → said ≢ 4 → status ≡ 4 → HasFailed sink × TookPart sink text
+took_part sink text said status (inl told) differs is = absurd (differs (sym told.0 ∙ is))
+took_part sink text said status (inr told) differs is = (told.1, told.2)
+
+-- a status that was not to be said is 4
+no_other : {K : Type 0} (sink : Change K) (text : List ℕ) (said status other : ℕ) → IsToldTo sink text said status → status ≡ other → said ≢ other → 4 ≢ other → ⊥
+no_other sink text said status other (inl told) is differs four = differs (sym told.0 ∙ is)
+no_other sink text said status other (inr told) is differs four = four (sym told.0 ∙ is)
+
+works : {K : Type 0} (sink : Change K) (text : List ℕ) (said status : ℕ) → IsToldTo sink text said status → ¬ (HasFailed sink) → (status ≡ said) × TookAll sink text
+works sink text said status (inl told) sound = told
+works sink text said status (inr told) sound = absurd (sound told.1)
+
+pub no_words : {X : Type 0} (words : List X) → (length words == 0) ≡ true → words ≡ []
+no_words [] is = refl
+no_words (word ∷ words) is = absurd (grind (arith, nat_tests))
+
+-- ---- each case
+
+writes_same : {text other : List ℕ} → Writes text ≡ Writes other → text ≡ other
+writes_same is = cc
+
+case_writes : {X S K E : Type 0} (laws : Laws) (words : List X) (source : Change S) (out : Change K) (err : Change E) (status : ℕ) (text : List ℕ) → IsDue words source (ForUnit (Writes text)) → Delivers (ForUnit (Writes text)) out err status → IsAnswer words source out err status
+case_writes laws words source out err status text is told = record {
+  what = ForUnit (Writes text);
+  is_due = is;
+  delivered = told;
+  complete = λ input other tells understood writes sound_source sound_out sound_err.
+      let same : text ≡ other = writes_same (sym (unit_is input tells is.1) ∙ writes) in
+      let done = works out text 0 status told.0 sound_out in
+      inl (done.0, subst (λ (t : List ℕ). TookAll out t) same done.1, told.1);
+  whole = λ input tells zero. written_of laws input text out err (unit_is input tells is.1) (took_all out text 0 status told.0 (λ e. absurd (omega arith))) told.1;
+  broken = λ input tells one. absurd (no_other out text 0 status 1 told.0 one (λ e. omega arith) (λ e. omega arith));
+  limited = λ input tells is_5. absurd (no_other out text 0 status 5 told.0 is_5 (λ e. omega arith) (λ e. omega arith));
+  by_input = λ input tells understood. elim (said_or_failed out text 0 status told.0) [
+    | inl said ↦ inl (said ∙ sym (ap status_of_unit (unit_is input tells is.1)))
+    | inr failed ↦ inr (inr (inl (failed.0, inl failed.1)))
+  ];
+  not_understood = λ two. absurd (no_other out text 0 status 2 told.0 two (λ e. omega arith) (λ e. omega arith));
+  not_understood_back = λ unclear. absurd (unclear is.0);
+  unread = λ unclear. absurd (unclear is.0);
+  cannot_read = λ three. absurd (no_other out text 0 status 3 told.0 three (λ e. omega arith) (λ e. omega arith));
+  cannot_write = λ four. inl (took_part out text 0 status told.0 (λ e. omega arith) four).0;
+  part = λ four. let some = took_part out text 0 status told.0 (λ e. omega arith) four in (text, inl (some.0, some.1, told.1));
+  out_untouched = λ zero four. elim (said_or_failed out text 0 status told.0) [ inl said ↦ absurd (zero said) | inr failed ↦ absurd (four failed.0) ];
+  err_untouched = λ zero. told.1;
+}
+
+case_reports : {X S K E : Type 0} (words : List X) (source : Change S) (out : Change K) (err : Change E) (status : ℕ) (fault : Fault) → IsDue words source (ForUnit (Reports fault)) → Delivers (ForUnit (Reports fault)) out err status → IsAnswer words source out err status
+case_reports words source out err status fault is told = record {
+  what = ForUnit (Reports fault);
+  is_due = is;
+  delivered = told;
+  complete = λ input other tells understood writes sound_source sound_out sound_err. absurd (cc (unit_is input tells is.1, writes));
+  whole = λ input tells is_0. absurd (no_other err (report fault) 1 status 0 told.0 is_0 (λ e. omega arith) (λ e. omega arith));
+  broken = λ input tells is_1. (fault, unit_is input tells is.1, took_all err (report fault) 1 status told.0 (λ e. absurd (omega arith)));
+  limited = λ input tells is_5. absurd (no_other err (report fault) 1 status 5 told.0 is_5 (λ e. omega arith) (λ e. omega arith));
+  by_input = λ input tells understood. elim (said_or_failed err (report fault) 1 status told.0) [
+    | inl said ↦ inl (said ∙ sym (ap status_of_unit (unit_is input tells is.1)))
+    | inr failed ↦ inr (inr (inl (failed.0, inr failed.1)))
+  ];
+  not_understood = λ is_2. absurd (no_other err (report fault) 1 status 2 told.0 is_2 (λ e. omega arith) (λ e. omega arith));
+  not_understood_back = λ unclear. absurd (unclear is.0);
+  unread = λ unclear. absurd (unclear is.0);
+  cannot_read = λ is_3. absurd (no_other err (report fault) 1 status 3 told.0 is_3 (λ e. omega arith) (λ e. omega arith));
+  cannot_write = λ four. inr (took_part err (report fault) 1 status told.0 (λ e. omega arith) four).0;
+  part = λ four. let some = took_part err (report fault) 1 status told.0 (λ e. omega arith) four in ((report fault), inr (some.0, some.1, told.1));
+  out_untouched = λ zero four. told.1;
+  err_untouched = λ is_0. absurd (no_other err (report fault) 1 status 0 told.0 is_0 (λ e. omega arith) (λ e. omega arith));
+}
+
+case_names : {X S K E : Type 0} (words : List X) (source : Change S) (out : Change K) (err : Change E) (status : ℕ) (limit : LimitKind) → IsDue words source (ForUnit (Names limit)) → Delivers (ForUnit (Names limit)) out err status → IsAnswer words source out err status
+case_names words source out err status limit is told = record {
+  what = ForUnit (Names limit);
+  is_due = is;
+  delivered = told;
+  complete = λ input other tells understood writes sound_source sound_out sound_err. absurd (cc (unit_is input tells is.1, writes));
+  whole = λ input tells is_0. absurd (no_other err (limit_report limit) 5 status 0 told.0 is_0 (λ e. omega arith) (λ e. omega arith));
+  broken = λ input tells is_1. absurd (no_other err (limit_report limit) 5 status 1 told.0 is_1 (λ e. omega arith) (λ e. omega arith));
+  limited = λ input tells is_5. (limit, unit_is input tells is.1, took_all err (limit_report limit) 5 status told.0 (λ e. absurd (omega arith)));
+  by_input = λ input tells understood. elim (said_or_failed err (limit_report limit) 5 status told.0) [
+    | inl said ↦ inl (said ∙ sym (ap status_of_unit (unit_is input tells is.1)))
+    | inr failed ↦ inr (inr (inl (failed.0, inr failed.1)))
+  ];
+  not_understood = λ is_2. absurd (no_other err (limit_report limit) 5 status 2 told.0 is_2 (λ e. omega arith) (λ e. omega arith));
+  not_understood_back = λ unclear. absurd (unclear is.0);
+  unread = λ unclear. absurd (unclear is.0);
+  cannot_read = λ is_3. absurd (no_other err (limit_report limit) 5 status 3 told.0 is_3 (λ e. omega arith) (λ e. omega arith));
+  cannot_write = λ four. inr (took_part err (limit_report limit) 5 status told.0 (λ e. omega arith) four).0;
+  part = λ four. let some = took_part err (limit_report limit) 5 status told.0 (λ e. omega arith) four in ((limit_report limit), inr (some.0, some.1, told.1));
+  out_untouched = λ zero four. told.1;
+  err_untouched = λ is_0. absurd (no_other err (limit_report limit) 5 status 0 told.0 is_0 (λ e. omega arith) (λ e. omega arith));
+}
+
+case_not_understood : {X S K E : Type 0} (words : List X) (source : Change S) (out : Change K) (err : Change E) (status : ℕ) → IsDue words source (NotUnderstood) → Delivers (NotUnderstood) out err status → IsAnswer words source out err status
+case_not_understood words source out err status is told = record {
+  what = NotUnderstood;
+  is_due = is;
+  delivered = told;
+  complete = λ input other tells understood writes sound_source sound_out sound_err. absurd (is.0 understood);
+  whole = λ input tells is_0. absurd (no_other err (codes "words not understood\n") 2 status 0 told.0 is_0 (λ e. omega arith) (λ e. omega arith));
+  broken = λ input tells is_1. absurd (no_other err (codes "words not understood\n") 2 status 1 told.0 is_1 (λ e. omega arith) (λ e. omega arith));
+  limited = λ input tells is_5. absurd (no_other err (codes "words not understood\n") 2 status 5 told.0 is_5 (λ e. omega arith) (λ e. omega arith));
+  by_input = λ input tells understood. absurd (is.0 understood);
+  not_understood = λ is_2. is.0;
+  not_understood_back = λ unclear. elim (said_or_failed err (codes "words not understood\n") 2 status told.0) [ inl said ↦ inl said | inr failed ↦ inr failed.0 ];
+  unread = λ unclear. is.1;
+  cannot_read = λ is_3. absurd (no_other err (codes "words not understood\n") 2 status 3 told.0 is_3 (λ e. omega arith) (λ e. omega arith));
+  cannot_write = λ four. inr (took_part err (codes "words not understood\n") 2 status told.0 (λ e. omega arith) four).0;
+  part = λ four. let some = took_part err (codes "words not understood\n") 2 status told.0 (λ e. omega arith) four in ((codes "words not understood\n"), inr (some.0, some.1, told.1));
+  out_untouched = λ zero four. told.1;
+  err_untouched = λ is_0. absurd (no_other err (codes "words not understood\n") 2 status 0 told.0 is_0 (λ e. omega arith) (λ e. omega arith));
+}
+
+case_cannot_read : {X S K E : Type 0} (words : List X) (source : Change S) (out : Change K) (err : Change E) (status : ℕ) → IsDue words source (CannotRead) → Delivers (CannotRead) out err status → IsAnswer words source out err status
+case_cannot_read words source out err status is told = record {
+  what = CannotRead;
+  is_due = is;
+  delivered = told;
+  complete = λ input other tells understood writes sound_source sound_out sound_err. absurd (sound_source is.1);
+  whole = λ input tells is_0. absurd (no_other err (codes "cannot read\n") 3 status 0 told.0 is_0 (λ e. omega arith) (λ e. omega arith));
+  broken = λ input tells is_1. absurd (no_other err (codes "cannot read\n") 3 status 1 told.0 is_1 (λ e. omega arith) (λ e. omega arith));
+  limited = λ input tells is_5. absurd (no_other err (codes "cannot read\n") 3 status 5 told.0 is_5 (λ e. omega arith) (λ e. omega arith));
+  by_input = λ input tells understood. elim (said_or_failed err (codes "cannot read\n") 3 status told.0) [
+    | inl said ↦ inr (inl (said, is.1))
+    | inr failed ↦ inr (inr (inl (failed.0, inr failed.1)))
+  ];
+  not_understood = λ is_2. absurd (no_other err (codes "cannot read\n") 3 status 2 told.0 is_2 (λ e. omega arith) (λ e. omega arith));
+  not_understood_back = λ unclear. absurd (unclear is.0);
+  unread = λ unclear. absurd (unclear is.0);
+  cannot_read = λ is_3. is;
+  cannot_write = λ four. inr (took_part err (codes "cannot read\n") 3 status told.0 (λ e. omega arith) four).0;
+  part = λ four. let some = took_part err (codes "cannot read\n") 3 status told.0 (λ e. omega arith) four in ((codes "cannot read\n"), inr (some.0, some.1, told.1));
+  out_untouched = λ zero four. told.1;
+  err_untouched = λ is_0. absurd (no_other err (codes "cannot read\n") 3 status 0 told.0 is_0 (λ e. omega arith) (λ e. omega arith));
+}
+
+case_no_memory : {X S K E : Type 0} (words : List X) (source : Change S) (out : Change K) (err : Change E) (status : ℕ) → IsDue words source (NoMemory) → Delivers (NoMemory) out err status → IsAnswer words source out err status
+case_no_memory words source out err status is told = record {
+  what = NoMemory;
+  is_due = is;
+  delivered = told;
+  complete = λ input other tells understood writes sound_source sound_out sound_err. inr (works err (codes "out of memory\n") 6 status told.0 sound_err).0;
+  whole = λ input tells is_0. absurd (no_other err (codes "out of memory\n") 6 status 0 told.0 is_0 (λ e. omega arith) (λ e. omega arith));
+  broken = λ input tells is_1. absurd (no_other err (codes "out of memory\n") 6 status 1 told.0 is_1 (λ e. omega arith) (λ e. omega arith));
+  limited = λ input tells is_5. absurd (no_other err (codes "out of memory\n") 6 status 5 told.0 is_5 (λ e. omega arith) (λ e. omega arith));
+  by_input = λ input tells understood. elim (said_or_failed err (codes "out of memory\n") 6 status told.0) [
+    | inl said ↦ inr (inr (inr said))
+    | inr failed ↦ inr (inr (inl (failed.0, inr failed.1)))
+  ];
+  not_understood = λ is_2. absurd (no_other err (codes "out of memory\n") 6 status 2 told.0 is_2 (λ e. omega arith) (λ e. omega arith));
+  not_understood_back = λ unclear. absurd (unclear is);
+  unread = λ unclear. absurd (unclear is);
+  cannot_read = λ is_3. absurd (no_other err (codes "out of memory\n") 6 status 3 told.0 is_3 (λ e. omega arith) (λ e. omega arith));
+  cannot_write = λ four. inr (took_part err (codes "out of memory\n") 6 status told.0 (λ e. omega arith) four).0;
+  part = λ four. let some = took_part err (codes "out of memory\n") 6 status told.0 (λ e. omega arith) four in ((codes "out of memory\n"), inr (some.0, some.1, told.1));
+  out_untouched = λ zero four. told.1;
+  err_untouched = λ is_0. absurd (no_other err (codes "out of memory\n") 6 status 0 told.0 is_0 (λ e. omega arith) (λ e. omega arith));
+}
+
+-- ---- from the answer
+
+as_unit : {S : Type 0} (source : Change S) (given : Answer) (unit : UnitDue) (found : IsInputAnswer source given) → due found.input ≡ unit → IsUnitDue source.told_old unit
+as_unit source given unit found is = record { input = found.input; agrees = found.agrees; is = is }
+
+pub answered : {X S K E : Type 0} (laws : Laws) (words : List X) (source : Change S) (out : Change K) (err : Change E) (status : ℕ) (given : Answer) → IsRunAnswer words source given → DeliversAnswer given out err status → IsAnswer words source out err status
+answered laws words source out err status (answer.Writes text) is told = case_writes laws words source out err status text.items (is.0, as_unit source (answer.Writes text) (Writes text.items) is.1 is.1.is) told
+answered laws words source out err status (answer.Reports text) is told =
+    let found = is.1.is in
+    case_reports words source out err status found.0 (is.0, as_unit source (answer.Reports text) (Reports found.0) is.1 found.1) (subst (λ (t : List ℕ). IsTold err out t 1 status) found.2 told)
+answered laws words source out err status (answer.PassesLimit limit) is told = case_names words source out err status limit (is.0, as_unit source (answer.PassesLimit limit) (Names limit) is.1 is.1.is) told
+answered laws words source out err status answer.NotUnderstood is told = case_not_understood words source out err status is told
+answered laws words source out err status answer.CannotRead is told = case_cannot_read words source out err status is told
+answered laws words source out err status answer.NoMemory is told = case_no_memory words source out err status is told

@@ -1,0 +1,49 @@
+-- What the parts of a run answer before anything is written.
+use Rattle.std.specs.Prelude.{◌≡◌, ℕ, List, [], codes}
+use Rattle.cxx_model.specs.declared.place.Place.{Place}
+use Rattle.cxx_model.specs.declared.stop.Fault.{Fault}
+use Rattle.cxx_model.specs.Outcome.{UnitDue, Writes, Reports, Names}
+use Rattle.cxx_model.specs.Reports.{report, limit_report}
+use Rattle.cxx_command.specs.declared.answers.Answer.{Answer}
+use Rattle.cxx_command.specs.declared.answers.Answer.TheVariants as answer
+use Rattle.cxx_command.specs.Run.{due, IsUnderstood, AgreesWith, IsTold}
+use Rattle.cxx_command.specs.Streams.{Change, HasFailed, IsUntouched}
+
+-- ---- what is told
+
+abbrev pub DeliversAnswer : {K E : Type 0} → Answer → Change K → Change E → ℕ → Type 0
+DeliversAnswer (answer.Writes text) out err status = IsTold out err text.items 0 status
+DeliversAnswer (answer.Reports text) out err status = IsTold err out text.items 1 status
+DeliversAnswer (answer.PassesLimit limit) out err status = IsTold err out (limit_report limit) 5 status
+DeliversAnswer answer.NotUnderstood out err status = IsTold err out (codes "words not understood\n") 2 status
+DeliversAnswer answer.CannotRead out err status = IsTold err out (codes "cannot read\n") 3 status
+DeliversAnswer answer.NoMemory out err status = IsTold err out (codes "out of memory\n") 6 status
+
+-- ---- why
+
+-- the fault of a form that is not built
+abbrev pub not_built_fault : Place → Fault
+not_built_fault place = record { place = place; text = codes "not built"; evidence = [] }
+
+-- the answer is this unit's due, unless there is no memory
+abbrev pub IsUnitAnswer : UnitDue → Answer → Type 0
+IsUnitAnswer unit (answer.Writes text) = unit ≡ Writes text.items
+IsUnitAnswer unit (answer.Reports text) = (fault : Fault) × (unit ≡ Reports fault) × (text.items ≡ report fault)
+IsUnitAnswer unit (answer.PassesLimit limit) = unit ≡ Names limit
+IsUnitAnswer unit answer.NotUnderstood = ⊥
+IsUnitAnswer unit answer.CannotRead = ⊥
+IsUnitAnswer unit answer.NoMemory = Unit {0}
+
+-- the answer is that of some input that agrees with what the source tells
+pub record IsInputAnswer {S : Type 0} (source : Change S) (given : Answer) : Type 0 where
+  pub input : List ℕ
+  pub agrees : AgreesWith source.told_old input
+  pub is : IsUnitAnswer (due input) given
+
+abbrev pub IsRunAnswer : {X S : Type 0} → List X → Change S → Answer → Type 0
+IsRunAnswer words source (answer.Writes text) = IsUnderstood words × IsInputAnswer source (answer.Writes text)
+IsRunAnswer words source (answer.Reports text) = IsUnderstood words × IsInputAnswer source (answer.Reports text)
+IsRunAnswer words source (answer.PassesLimit limit) = IsUnderstood words × IsInputAnswer source (answer.PassesLimit limit)
+IsRunAnswer words source answer.NotUnderstood = ¬ (IsUnderstood words) × IsUntouched source
+IsRunAnswer words source answer.CannotRead = IsUnderstood words × HasFailed source
+IsRunAnswer words source answer.NoMemory = IsUnderstood words

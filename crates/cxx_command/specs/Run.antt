@@ -1,0 +1,124 @@
+-- What a run owes, and what its status says.
+use Rattle.std.specs.Prelude.{◌≡◌, ◌≢◌, ◌⊎◌, ℕ, List, [], Option, Some, None, ⊤, Bool, codes}
+use Rattle.cxx_model.specs.declared.first.Options.{Options}
+use Rattle.cxx_model.specs.declared.first.Reading.{Reading}
+use Rattle.cxx_model.specs.declared.stop.Fault.{Fault}
+use Rattle.cxx_model.specs.declared.stop.LimitKind.{LimitKind}
+use Rattle.cxx_model.specs.First.Bound.{EachCallIsBest}
+use Rattle.cxx_model.specs.First.Plain.{plain}
+use Rattle.cxx_model.specs.Outcome.{UnitDue, Writes, Reports, Names, UnitOutcome, Whole, outcome_of, due_for}
+use Rattle.cxx_model.specs.Reports.{report, limit_report}
+use Rattle.cxx_command.specs.Streams.{Change, HasFailed, IsUntouched, TookAll, TookPart}
+
+-- no words choose the options: the depth of instances is 64
+abbrev pub default_options : Options
+default_options = record { depth = 64 }
+
+-- what a run owes for the bytes of a unit
+abbrev pub due : List ℕ → UnitDue
+due input = due_for default_options input
+
+-- only an empty list of words is understood
+abbrev pub IsUnderstood : {X : Type 0} → List X → Type 0
+IsUnderstood words = words ≡ []
+
+-- the source tells what it has left, and that is this input
+abbrev pub Tells : {S : Type 0} → Change S → List ℕ → Type 0
+Tells source input = source.told_old ≡ Some input
+
+-- this input is what the source tells, where it tells
+abbrev pub AgreesWith : Option (List ℕ) → List ℕ → Type 0
+AgreesWith None input = ⊤
+AgreesWith (Some left) input = left ≡ input
+
+-- ---- what is said, and where
+
+pub data Due : Type 0 where
+  ForUnit : UnitDue → Due
+  NotUnderstood : Due
+  CannotRead : Due
+  NoMemory : Due
+
+abbrev pub status_of_unit : UnitDue → ℕ
+status_of_unit (Writes text) = 0
+status_of_unit (Reports fault) = 1
+status_of_unit (Names limit) = 5
+
+abbrev pub status_of : Due → ℕ
+status_of (ForUnit unit) = status_of_unit unit
+status_of NotUnderstood = 2
+status_of CannotRead = 3
+status_of NoMemory = 6
+
+-- All of the text was appended, or that sink failed: then a part was, and the status is 4.
+abbrev pub IsToldTo : {K : Type 0} → Change K → List ℕ → ℕ → ℕ → Type 0
+IsToldTo sink text said status = ((status ≡ said) × TookAll sink text) ⊎ ((status ≡ 4) × HasFailed sink × TookPart sink text)
+
+-- The text goes to one sink, and the other is as it was.
+abbrev pub IsTold : {K E : Type 0} → Change K → Change E → List ℕ → ℕ → ℕ → Type 0
+IsTold sink other text said status = IsToldTo sink text said status × IsUntouched other
+
+abbrev pub Delivers : {K E : Type 0} → Due → Change K → Change E → ℕ → Type 0
+Delivers (ForUnit (Writes text)) out err status = IsTold out err text 0 status
+Delivers (ForUnit (Reports fault)) out err status = IsTold err out (report fault) 1 status
+Delivers (ForUnit (Names limit)) out err status = IsTold err out (limit_report limit) 5 status
+Delivers NotUnderstood out err status = IsTold err out (codes "words not understood\n") 2 status
+Delivers CannotRead out err status = IsTold err out (codes "cannot read\n") 3 status
+Delivers NoMemory out err status = IsTold err out (codes "out of memory\n") 6 status
+
+-- ---- why it is due
+
+-- for some input that agrees with what the source tells, this is the unit's due
+pub record IsUnitDue (told : Option (List ℕ)) (unit : UnitDue) : Type 0 where
+  pub input : List ℕ
+  pub agrees : AgreesWith told input
+  pub is : due input ≡ unit
+
+abbrev pub IsDue : {X S : Type 0} → List X → Change S → Due → Type 0
+IsDue words source (ForUnit unit) = IsUnderstood words × IsUnitDue source.told_old unit
+IsDue words source NotUnderstood = ¬ (IsUnderstood words) × IsUntouched source
+IsDue words source CannotRead = IsUnderstood words × HasFailed source
+IsDue words source NoMemory = IsUnderstood words
+
+-- a status that stands in place of the unit's: the source could not be read, a sink failed, or there was no memory
+abbrev pub IsExcused : {S K E : Type 0} → Change S → Change K → Change E → ℕ → Type 0
+IsExcused source out err status = ((status ≡ 3) × HasFailed source) ⊎ ((status ≡ 4) × (HasFailed out ⊎ HasFailed err)) ⊎ (status ≡ 6)
+
+-- ---- the whole contract of a run
+
+-- the input is this whole unit, and its plain form was written
+pub record IsWritten {K E : Type 0} (input : List ℕ) (reading : Reading) (out : Change K) (err : Change E) : Type 0 where
+  pub outcome : outcome_of default_options input ≡ Whole reading
+  pub written : TookAll out (plain reading)
+  pub quiet : IsUntouched err
+  pub best : EachCallIsBest reading
+
+pub record IsAnswer {X S K E : Type 0} (words : List X) (source : Change S) (out : Change K) (err : Change E) (status : ℕ) : Type 0 where
+  -- What is due is delivered. The rest follows from this, and says it status by status.
+  pub what : Due
+  pub is_due : IsDue words source what
+  pub delivered : Delivers what out err status
+  -- 0: where the words are understood, the source tells its bytes, nothing fails and the unit is whole, exactly the
+  -- plain form is appended to `out`, and nothing to `err`
+  pub complete : (input text : List ℕ) → Tells source input → IsUnderstood words → due input ≡ Writes text
+      → ¬ (HasFailed source) → ¬ (HasFailed out) → ¬ (HasFailed err) → ((status ≡ 0) × TookAll out text × IsUntouched err) ⊎ (status ≡ 6)
+  -- 0: only then; the unit is whole, and each of its calls names the viable function that is better than every other
+  pub whole : (input : List ℕ) → Tells source input → status ≡ 0 → (reading : Reading) × IsWritten input reading out err
+  -- 1: exactly where the unit is broken, with the report of its first fault
+  pub broken : (input : List ℕ) → Tells source input → status ≡ 1 → (fault : Fault) × (due input ≡ Reports fault) × TookAll err (report fault)
+  -- 5: exactly where a limit is passed, with its name
+  pub limited : (input : List ℕ) → Tells source input → status ≡ 5 → (limit : LimitKind) × (due input ≡ Names limit) × TookAll err (limit_report limit)
+  -- 1 and 5 come where they are due, unless 3, 4 or 6 stands in their place; so does 0
+  pub by_input : (input : List ℕ) → Tells source input → IsUnderstood words → (status ≡ status_of_unit (due input)) ⊎ IsExcused source out err status
+  -- 2: exactly where the words are not understood, unless a sink failed; the source is then as before
+  pub not_understood : status ≡ 2 → ¬ (IsUnderstood words)
+  pub not_understood_back : ¬ (IsUnderstood words) → (status ≡ 2) ⊎ (status ≡ 4)
+  pub unread : ¬ (IsUnderstood words) → IsUntouched source
+  -- 3 only where the source failed, 4 only where a sink did
+  pub cannot_read : status ≡ 3 → IsUnderstood words × HasFailed source
+  pub cannot_write : status ≡ 4 → HasFailed out ⊎ HasFailed err
+  -- 4 leaves a part of a text in the sink that failed, and the other sink as it was
+  pub part : status ≡ 4 → (text : List ℕ) × ((HasFailed out × TookPart out text × IsUntouched err) ⊎ (HasFailed err × TookPart err text × IsUntouched out))
+  -- the other statuses leave `out` as it was, and 0 leaves `err` as it was
+  pub out_untouched : status ≢ 0 → status ≢ 4 → IsUntouched out
+  pub err_untouched : status ≡ 0 → IsUntouched err

@@ -1,0 +1,33 @@
+//! The top call: words, a unit from a source, its plain form or a report to a sink, and a status.
+#![tactic(auto)]
+
+ghost use Rattle.cxx_command.specs.Streams.{change};
+ghost use Rattle.cxx_command.specs.Run.{IsAnswer};
+
+mod answers;
+mod delivery;
+mod unit;
+
+use cxx_edge::{Sink, Source};
+use std::alloc::Global;
+
+/// Does all that the program does, and gives its status: 0 where the plain form of the unit was written to `out`; else
+/// a text on `err` says why: 1 the unit is broken, 2 the words are not understood, 3 the source cannot be read, 5 a
+/// limit is passed, 6 there is no memory. 4 says that a sink failed, in place of every other status. `words` does not
+/// hold the program's name.
+pub fn run<S: Source, K: Sink, E: Sink>(
+    alloc: Global,
+    words: &[String],
+    source: &mut S,
+    out: &mut K,
+    err: &mut E,
+) -> u8
+    ensures { IsAnswer words.now (change S.left S.faults source.old source.new)
+        (change K.taken K.faults out.old out.new) (change E.taken E.faults err.old err.new) result }
+{
+    let answer = answers::read_and_answer(alloc, words, source);
+    delivery::deliver(&answer, out, err)
+}
+
+#[cfg(test)]
+mod tests;
