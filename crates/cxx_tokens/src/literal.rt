@@ -1,4 +1,6 @@
-ghost use Rattle.std.specs.Prelude.{◌≡◌};
+//! The types of literals (2.13.1, 2.13.2).
+
+ghost use Rattle.std.specs.Prelude.{◌≡◌, nat_le, if◌then◌else◌};
 ghost use Rattle.cxx_model.specs.Spelling as spec;
 
 use crate::front::spelling_of;
@@ -8,6 +10,18 @@ use cxx_model::{Base, TokenKind};
 
 const MOST_INT: u64 = 2_147_483_647;
 
+/// The first of `int` and `long` that holds a decimal literal.
+fn integer_type(spelling: &[u8]) -> Base
+    ensures { result
+        ≡ (if nat_le (spec.decimal_value spelling.now) spec.most_int then Base.Int else Base.Long) }
+{
+    if decimal_value(spelling) <= MOST_INT {
+        Base::Int
+    } else {
+        Base::Long
+    }
+}
+
 /// The type of an integer or character literal by its spelling: `char`, or for a decimal literal the first of `int`
 /// and `long` that holds it (2.13.1, 2.13.2).
 #[tactic(auto, unfolding(cxx_model::specs::Spelling::literal_type))]
@@ -15,10 +29,7 @@ pub fn literal_type(spelling: &[u8]) -> Option<Base>
     ensures { result ≡ spec.literal_type spelling.now }
 {
     match spelling_of(spelling) {
-        Some(Spelled::Good(TokenKind::Integer)) if decimal_value(spelling) <= MOST_INT => Some(
-            Base::Int,
-        ),
-        Some(Spelled::Good(TokenKind::Integer)) => Some(Base::Long),
+        Some(Spelled::Good(TokenKind::Integer)) => Some(integer_type(spelling)),
         Some(Spelled::Good(TokenKind::Character)) => Some(Base::Char),
         _ => None,
     }
