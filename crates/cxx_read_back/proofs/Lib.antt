@@ -1,0 +1,13 @@
+mod Standing
+mod Tools
+mod Again
+mod Lookup
+mod Items
+mod Unit
+mod Taken
+mod TakenCalls
+mod TakenItems
+mod Made
+mod Same
+mod Printable
+mod Joined
