@@ -1,4 +1,7 @@
+pub mod Answers
+pub mod Champion
+pub mod FirstForm
 pub mod Fronts
+mod Rows
 pub mod Spellings
 pub mod Readings
-mod Rows

@@ -71,6 +71,14 @@ impl<T: Drop> Listed<T> {
         self.items.push(item)?;
         Ok(())
     }
+
+    /// Adds an element before the others.
+    pub fn push_front(&mut self, item: T) -> Result<(), AllocError>
+        ensures { OnOk result (self.new ≡ item ∷ self.old) }
+    {
+        self.items.insert(0, item)?;
+        Ok(())
+    }
 }
 
 impl<T: Copy> Listed<T> {

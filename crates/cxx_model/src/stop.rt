@@ -1,3 +1,8 @@
+ghost use Rattle.std.specs.Prelude.{◌≡◌};
+ghost use Rattle.cxx_model.specs.declared.stop.Stop.TheVariants as stop;
+
+use std::alloc::{AllocError, AllocFailed};
+
 use crate::listed::Listed;
 use crate::place::Place;
 
@@ -60,4 +65,20 @@ pub enum Stop {
     Fault(Box<Fault>),
     Limit(LimitKind),
     OutOfMemory,
+}
+
+impl From<AllocError> for Stop {
+    ghost from_gives = { λ _ e. e ≡ stop.OutOfMemory };
+
+    fn from(_e: AllocError) -> Stop {
+        Stop::OutOfMemory
+    }
+}
+
+impl<T: Drop> From<AllocFailed<T>> for Stop {
+    ghost from_gives = { λ _ e. e ≡ stop.OutOfMemory };
+
+    fn from(_e: AllocFailed<T>) -> Stop {
+        Stop::OutOfMemory
+    }
 }

@@ -1,0 +1,17 @@
+//! The reading of a unit: its declarations in order, up to its end or the first fault.
+//!
+//! Each reader takes tokens from the front of a `Cursor`, and its contract says that it gives what the production of
+//! `cxx_model`'s definitions gives for the tokens ahead.
+#![tactic(auto)]
+
+mod call;
+mod champion;
+mod cursor;
+mod declaration;
+mod expression;
+mod fault;
+mod scope;
+mod standard;
+mod viable;
+
+pub use declaration::read_unit;

@@ -1,0 +1,3 @@
+-- Laws of the first form.
+pub mod Taken
+pub mod Bound

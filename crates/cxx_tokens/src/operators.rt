@@ -1,0 +1,80 @@
+//! Operators and punctuators (2.5, 2.12).
+
+ghost use Rattle.std.specs.Prelude.{◌≡◌, ◌<◌, ◌≤◌, length, is_some, take};
+ghost use Rattle.cxx_model.specs.Spelling as spec;
+ghost use Rattle.cxx_model.specs.Tokens.{IsLongest};
+ghost use Rattle.cxx_tokens.specs.Pieces.{spelled_option, operator_of, operator_at, piece_of, IsOperatorText};
+
+use crate::piece::{Piece, Spelled};
+use crate::words::number_in;
+use cxx_model::{TokenKind, TokenReason, punct};
+
+#[tactic(auto, unfolding(cxx_model::specs::Spelling::operators))]
+fn operator_number(text: &[u8]) -> Option<u8>
+    ensures { result ≡ spec.number_in spec.operators text.now }
+{
+    match number_in(&punct::SPELLINGS, text) {
+        Some(n) => Some(n as u8),
+        None => None,
+    }
+}
+
+#[tactic(auto, unfolding(cxx_model::specs::Spelling::digraphs))]
+fn is_digraph(text: &[u8]) -> bool
+    ensures { result ≡ is_some (spec.number_in spec.digraphs text.now) }
+{
+    number_in(&punct::DIGRAPHS, text).is_some()
+}
+
+/// The punctuators of the first form: ( ) , ; = < >
+fn is_built(number: u8) -> bool
+    ensures { result ≡ spec.is_built number }
+{
+    number == punct::LEFT_PARENTHESIS
+        || number == punct::RIGHT_PARENTHESIS
+        || number == punct::COMMA
+        || number == punct::SEMICOLON
+        || number == punct::EQUALS
+        || number == punct::LESS
+        || number == punct::GREATER
+}
+
+/// What a whole text spells as an operator. Each byte spells something by itself.
+#[tactic(auto, unfolding(cxx_model::specs::Spelling::operator))]
+fn operator_of(text: &[u8]) -> Option<Spelled>
+    requires { 0 < length text.now }
+    ensures { spelled_option result ≡ operator_of text.now }
+{
+    match operator_number(text) {
+        Some(n) if is_built(n) => Some(Spelled::Good(TokenKind::Punct(n))),
+        Some(_) => Some(Spelled::Ill(TokenReason::NotBuilt)),
+        None if is_digraph(text) || text.len() == 1 => Some(Spelled::Ill(TokenReason::NotBuilt)),
+        None => None,
+    }
+}
+
+fn operator_at(text: &[u8], len: usize) -> Option<Spelled>
+    requires { 0 < len }
+    ensures { spelled_option result ≡ operator_at text.now len }
+{
+    if len <= text.len() {
+        operator_of(&text[..len])
+    } else {
+        None
+    }
+}
+
+/// The longest front of a text that begins as an operator, or with a byte with which no token begins.
+pub fn operator(text: &[u8]) -> Piece
+    requires { IsOperatorText text.now }
+    ensures { IsLongest text.now (piece_of result) }
+{
+    if let Some(spells) = operator_at(text, 3) {
+        return Piece { len: 3, spells };
+    }
+    if let Some(spells) = operator_at(text, 2) {
+        return Piece { len: 2, spells };
+    }
+    let spells = operator_at(text, 1).unwrap_or(Spelled::Ill(TokenReason::NotBuilt));
+    Piece { len: 1, spells }
+}
