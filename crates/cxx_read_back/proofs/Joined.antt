@@ -18,6 +18,7 @@ use Rattle.cxx_model.specs.ReadsBack.{ReadsBack, IsTooLarge, PlainReadsBack}
 use Rattle.cxx_model.specs.Stops.{Answer, Faulty, Limited}
 use Rattle.cxx_model.specs.Tokens.{Unread, BadAt, PastTokens, tokens_of}
 use Rattle.cxx_model.specs.Written.{line_of}
+use Rattle.cxx_model.proofs.Answers.{either_is}
 use Rattle.cxx_written.specs.ReadsAs.{ReadsAs}
 use Rattle.cxx_written.proofs.FirstWords.{printed_are_tokens}
 use Rattle.cxx_written.proofs.ReadWords.{read_is_spelled}
@@ -28,8 +29,7 @@ use Rattle.cxx_read_back.proofs.Made.{normal_made}
 use Rattle.cxx_read_back.proofs.Printable.{lines_printable}
 use Rattle.cxx_read_back.proofs.Same.{both_of, normal_again, normal_bare}
 use Rattle.cxx_read_back.proofs.TakenItems.{unit_taken}
-use Rattle.cxx_read_back.proofs.Tools.{either}
-use Rattle.cxx_read_back.proofs.Unit.{IsWholeOr, whole, past, GoesOnWith, unit_again}
+use Rattle.cxx_read_back.proofs.AgainUnit.{IsWholeOr, whole, past, GoesOnWith, unit_again}
 
 -- ---- what a whole unit is
 
@@ -50,9 +50,10 @@ tokens_by options bytes r (Err PastTokens) spelled e = absurd cc
 
 is_read : (options : Options) (bytes : List ℕ) (r : Reading) → outcome_of options bytes ≡ Whole r → IsRead options bytes r
 unfolding outcome_of
-is_read options bytes r e =
-    either (nat_lt limits.MOST_BYTES (length bytes)) (PastLimit Bytes) (tokens_outcome options bytes (tokens_of bytes)) (Whole r) e
-    (λ t f. absurd cc) (λ t f. tokens_by options bytes r (tokens_of bytes) refl f)
+is_read options bytes r e = elim (either_is (nat_lt limits.MOST_BYTES (length bytes)) (PastLimit Bytes) (tokens_outcome options bytes (tokens_of bytes)) (Whole r) e) [
+  | inl t ↦ absurd cc
+  | inr t ↦ tokens_by options bytes r (tokens_of bytes) refl t.1
+]
 
 pub whole_is_normal : (options : Options) (bytes : List ℕ) (r : Reading) → outcome_of options bytes ≡ Whole r → IsNormal (normal r).declarations (normal r).items
 whole_is_normal options bytes r e =

@@ -1,13 +1,13 @@
-mod Standing
-mod Tools
-mod Again
-mod Lookup
-mod Items
-mod Unit
-mod Taken
-mod TakenCalls
-mod TakenItems
-mod Made
-mod Same
-mod Printable
-mod Joined
+pub mod Tools
+pub mod Standing
+pub mod Again
+pub mod Lookup
+pub mod AgainItems
+pub mod AgainUnit
+pub mod Taken
+pub mod TakenCalls
+pub mod TakenItems
+pub mod Made
+pub mod Same
+pub mod Printable
+pub mod Joined

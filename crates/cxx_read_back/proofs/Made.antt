@@ -23,7 +23,7 @@ use Rattle.cxx_written.specs.Line.{IsName}
 use Rattle.cxx_written.proofs.Names.{printed_is_name}
 use Rattle.cxx_read_back.specs.Lines.{IsKeywordType, IsArgument, IsCallAmong, IsLineAmong, AreLinesAmong, AreExact, IsExact, AreNumbered, bare}
 use Rattle.cxx_read_back.specs.Normal.{DeclaresObject, HasFunctionsFirst, AreExactLines, IsNormal}
-use Rattle.cxx_read_back.proofs.Items.{later_call}
+use Rattle.cxx_read_back.proofs.AgainItems.{later_call}
 use Rattle.cxx_read_back.proofs.Tools.{get_before, all_filtered}
 
 -- ---- tests

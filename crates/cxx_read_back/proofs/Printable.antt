@@ -1,5 +1,5 @@
 -- The lines of a whole reading can be printed.
-use Rattle.std.proofs.Common.{◌≡◌, ℕ, zero, suc, List, [], ◌∷◌, ◌++◌, Option, Some, ap, subst}
+use Rattle.std.proofs.Common.{inl, inr, ◌≡◌, ℕ, zero, suc, List, [], ◌∷◌, ◌++◌, Option, Some, ap, subst}
 use Rattle.std.specs.Bool.{nat_le}
 use Rattle.std.specs.List.{AllByRecursion}
 use Rattle.std.specs.Prelude.{slice_get}
@@ -14,16 +14,16 @@ use Rattle.cxx_model.specs.declared.first.Item.TheVariants as item
 use Rattle.cxx_model.specs.declared.token.TokenKind.TheVariants.{Name, Integer, Character}
 use Rattle.cxx_model.specs.First.Words.{kind_of_literal}
 use Rattle.cxx_model.specs.Spelling.{Spelled, Good, spelling_of, literal_type, literal_type_by, decimal_value, most_int}
+use Rattle.cxx_model.proofs.Answers.{either_is}
 use Rattle.cxx_written.specs.Line.{IsName}
 use Rattle.cxx_written.specs.Printable.{IsLiteral, IsPrintableItem, ArePrintable}
 use Rattle.cxx_read_back.specs.Lines.{IsArgument, IsLineAmong, AreLinesAmong}
-use Rattle.cxx_read_back.proofs.Tools.{either}
 
 literal_kind_by : (text : List ℕ) (spells : Option Spelled) (of : Base) → literal_type_by text spells ≡ Some of → spells ≡ Some (Good (kind_of_literal of))
-literal_kind_by text (Some (Good Integer)) of e =
-    either (nat_le (decimal_value text) most_int) (Some Int) (Some Long) (Some of) e
-    (λ t f. let g : Int ≡ of = cc in ap (λ b. Some (Good (kind_of_literal b))) g)
-    (λ t f. let g : Long ≡ of = cc in ap (λ b. Some (Good (kind_of_literal b))) g)
+literal_kind_by text (Some (Good Integer)) of e = elim (either_is (nat_le (decimal_value text) most_int) (Some Int) (Some Long) (Some of) e) [
+  | inl t ↦ let g : Int ≡ of = cc in ap (λ b. Some (Good (kind_of_literal b))) g
+  | inr t ↦ let g : Long ≡ of = cc in ap (λ b. Some (Good (kind_of_literal b))) g
+]
 literal_kind_by text (Some (Good Character)) of e = let g : Char ≡ of = cc in ap (λ b. Some (Good (kind_of_literal b))) g
 literal_kind_by text (Some (Good Name)) of e = absurd cc
 literal_kind_by text _ of e = absurd cc

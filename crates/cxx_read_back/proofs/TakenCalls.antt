@@ -1,5 +1,5 @@
 -- A call that was read means a function that is declared before, with as many parameters as it has arguments.
-use Rattle.std.proofs.Common.{◌≡◌, ℕ, zero, suc, ◌+◌, Bool, true, false, cond, not, List, [], ◌∷◌, filter_map, find, Option, Some, None, Ok, refl, sym, ◌∙◌, subst, arith, length}
+use Rattle.std.proofs.Common.{inl, inr, ◌≡◌, ℕ, zero, suc, ◌+◌, Bool, true, false, cond, List, [], ◌∷◌, filter_map, find, Some, None, Ok, refl, sym, ◌∙◌, subst, arith, length}
 use Rattle.std.specs.Bool.{nat_lt}
 use Rattle.std.specs.List.{AllByRecursion, cons_option, enumerate_from}
 use Rattle.std.specs.Prelude.{slice_get}
@@ -12,17 +12,19 @@ use Rattle.cxx_model.specs.declared.first.Declaration.{Declaration}
 use Rattle.cxx_model.specs.declared.first.Declared.{Declared}
 use Rattle.cxx_model.specs.declared.first.Declared.TheVariants.{Function, Object}
 use Rattle.cxx_model.specs.declared.first.Initializer.{Initializer}
-use Rattle.cxx_model.specs.declared.keyword.TheConstants as keyword
 use Rattle.cxx_model.specs.declared.limits.TheConstants as limits
 use Rattle.cxx_model.specs.declared.place.Place.{Place}
 use Rattle.cxx_model.specs.declared.punct.TheConstants as punct
-use Rattle.cxx_model.specs.First.Candidates.{Candidate, Contender, candidates, candidate_of, candidate_by, call_of, choice, choice_by, chosen, contenders, has_word, is_viable, names_object, is_declared, types_of, bound}
-use Rattle.cxx_model.specs.First.Reading.{punct_at, name_at, is_keyword, misplaced, cast_at, arguments_opened, call_at, cast_initializer, begins_call, initializer_by, initializer_opened, initializer_at}
-use Rattle.cxx_model.specs.Lexemes.{Lexeme, kind_of}
+use Rattle.cxx_model.specs.First.Candidates.{Candidate, Contender, candidates, candidate_of, candidate_by, chosen, contenders, has_word, is_viable, types_of, bound}
+use Rattle.cxx_model.specs.First.Reading.{call_at, cast_initializer, initializer_by, initializer_opened, initializer_at}
+use Rattle.cxx_model.specs.Lexemes.{Lexeme}
 use Rattle.cxx_model.specs.Stops.{Reads}
+use Rattle.cxx_model.proofs.Answers.{either_is}
+use Rattle.cxx_model.proofs.FirstForm.Bound.{call_means}
+use Rattle.cxx_model.proofs.FirstForm.Taken as model
 use Rattle.cxx_read_back.specs.Lines.{IsKeywordType, IsArgument, IsCallAmong}
-use Rattle.cxx_read_back.proofs.Tools.{bind_ok, either, all_filtered, same_count}
-use Rattle.cxx_read_back.proofs.Taken.{AreSpelled, Takes, punct_taken, name_taken, arguments_taken, answered, no_misplaced, cast_takes}
+use Rattle.cxx_read_back.proofs.Tools.{all_filtered, same_count}
+use Rattle.cxx_read_back.proofs.Taken.{AreSpelled, Takes, punct_taken, name_taken, arguments_taken, cast_takes}
 
 -- ---- what holds of all of a list
 
@@ -32,7 +34,10 @@ all_numbered P k (x ∷ xs) h = (h.0, all_numbered P (k + 1) xs h.1)
 
 found_of_all : {X : Type 0} (P : X → Type 0) (test : X → Bool) (xs : List X) (x : X) → AllByRecursion P xs → find test xs ≡ Some x → P x
 found_of_all P test [] x h e = absurd cc
-found_of_all P test (y ∷ xs) x h e = either (test y) (Some y) (find test xs) (Some x) e (λ t f. let g : y ≡ x = cc in subst P g h.0) (λ t f. found_of_all P test xs x h.1 f)
+found_of_all P test (y ∷ xs) x h e = elim (either_is (test y) (Some y) (find test xs) (Some x) e) [
+  | inl t ↦ let g : y ≡ x = cc in subst P g h.0
+  | inr t ↦ found_of_all P test xs x h.1 t.1
+]
 
 -- ---- candidates
 
@@ -96,38 +101,15 @@ bound_means declarations place word arguments c h of viable = record {
   arguments = h;
 }
 
-choice_means : (declarations : List Declaration) (place : Place) (word : List ℕ) (arguments : List Argument) (x : Initializer × Call) → AllByRecursion IsArgument arguments → choice place word arguments (candidates declarations word) ≡ Ok x → MeansAmong declarations x
-unfolding choice
-choice_means declarations place word arguments x h e = by (contenders (types_of arguments) (candidates declarations word)) (chosen (types_of arguments) (contenders (types_of arguments) (candidates declarations word))) refl e
-  where
-    by : (viable : List Contender) (o : Option Contender) → chosen (types_of arguments) (contenders (types_of arguments) (candidates declarations word)) ≡ o → choice_by place word arguments (candidates declarations word) viable o ≡ Ok x → MeansAmong declarations x
-    by viable (Some meant) c f =
-        let of = chosen_of declarations word (types_of arguments) meant c in
-        let g : bound place word arguments (candidates declarations word) meant.1 ≡ x = cc in
-        subst (MeansAmong declarations) g (bound_means declarations place word arguments meant.1 h of.0 of.1)
-    by [] None c f = absurd cc
-    by (v ∷ viable) None c f = absurd cc
-
-call_means : (declarations : List Declaration) (place : Place) (word : List ℕ) (arguments : List Argument) (x : Initializer × Call) → AllByRecursion IsArgument arguments → call_of declarations place word arguments ≡ Ok x → MeansAmong declarations x
-unfolding call_of
-call_means declarations place word arguments x h e =
-    either (names_object declarations word) _ _ (Ok x) e (λ t f. absurd cc)
-    (λ t f. either (not (is_declared declarations word)) _ _ (Ok x) f (λ t f. absurd cc)
-    (λ t f. either (nat_lt limits.MOST_CANDIDATES (length (candidates declarations word))) _ _ (Ok x) f (λ t f. absurd cc)
-    (λ t f. choice_means declarations place word arguments x h f)))
-
 call_takes : (declarations : List Declaration) (room : ℕ) (ls : List Lexeme) (x : (Initializer × Call) × List Lexeme) → call_at declarations room ls ≡ Ok x → AreSpelled ls → MeansAmong declarations x.0 × AreSpelled x.1
-unfolding call_at
 call_takes declarations room ls x e h =
-    let (name, e1, f1) = bind_ok (name_at ls) _ x e in
-    let s1 = name_taken.takes ls name e1 h in
-    let (opened, e2, f2) = bind_ok (punct_at punct.LEFT_PARENTHESIS name.1) _ x f1 in
-    let s2 = punct_taken punct.LEFT_PARENTHESIS name.1 opened e2 s1.1 in
-    let (arguments, e3, f3) = bind_ok (arguments_opened declarations room opened) _ x f2 in
-    let s3 = (arguments_taken declarations room).takes opened arguments e3 s2 in
-    let (closed, e4, f4) = bind_ok (punct_at punct.RIGHT_PARENTHESIS arguments.1) _ x f3 in
-    let (call, e5, f5) = bind_ok (call_of declarations name.0.place name.0.spelling arguments.0) _ x f4 in
-    answered (MeansAmong declarations) call closed x (call_means declarations name.0.place name.0.spelling arguments.0 call s3.0 e5) (punct_taken punct.RIGHT_PARENTHESIS arguments.1 closed e4 s3.1) f5
+    let t = model.call_taken declarations room ls x e in
+    let name = name_taken.takes ls t.name t.names h in
+    let arguments = (arguments_taken declarations room).takes t.opened t.arguments t.lists (punct_taken punct.LEFT_PARENTHESIS t.name.1 t.opened t.opens name.1) in
+    let word = t.name.0.spelling in
+    let m = call_means declarations t.name.0.place word t.arguments.0 x.0 t.means in
+    let meant = chosen_of declarations word (types_of t.arguments.0) m.meant m.chose in
+    (subst (MeansAmong declarations) (sym m.made) (bound_means declarations t.name.0.place word t.arguments.0 m.meant.1 arguments.0 meant.0 meant.1), punct_taken punct.RIGHT_PARENTHESIS t.arguments.1 x.1 t.closes arguments.1)
 
 cast_means : (declarations : List Declaration) (target : Base) (x : Initializer × Call) → IsKeywordType target → MeansAmong declarations x → MeansAmong declarations (cast_initializer target x)
 cast_means declarations target x k h = record {
@@ -141,13 +123,10 @@ cast_means declarations target x k h = record {
 }
 
 initializer_takes : (declarations : List Declaration) (inside : List Lexeme → Reads (Initializer × Call)) → Takes inside (MeansAmong declarations) → (room : ℕ) (ls : List Lexeme) (x : (Initializer × Call) × List Lexeme) → initializer_by declarations inside room ls ≡ Ok x → AreSpelled ls → MeansAmong declarations x.0 × AreSpelled x.1
-unfolding initializer_by
-initializer_takes declarations inside within room ls x e h =
-    either (begins_call ls) (call_at declarations room ls) (cond (is_keyword keyword.STATIC_CAST (kind_of ls)) (cast_at cast_initializer inside ls) (misplaced declarations ls)) (Ok x) e
-    (λ t f. call_takes declarations room ls x f h)
-    (λ t f. either (is_keyword keyword.STATIC_CAST (kind_of ls)) (cast_at cast_initializer inside ls) (misplaced declarations ls) (Ok x) f
-    (λ t f. cast_takes cast_initializer inside (cast_means declarations) within ls x f h)
-    (λ t f. no_misplaced declarations ls x f))
+initializer_takes declarations inside within room ls x e h = elim (model.initializer_taken declarations inside room ls x e) [
+  | inl t ↦ call_takes declarations room ls x t.1 h
+  | inr t ↦ cast_takes cast_initializer inside (cast_means declarations) within ls x t.1 h
+]
 
 initializer_opened_takes : (declarations : List Declaration) (room : ℕ) (ls : List Lexeme) (x : (Initializer × Call) × List Lexeme) → initializer_opened declarations room ls ≡ Ok x → AreSpelled ls → MeansAmong declarations x.0 × AreSpelled x.1
 unfolding initializer_opened

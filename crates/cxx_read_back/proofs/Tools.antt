@@ -1,5 +1,5 @@
 -- What the proofs share.
-use Rattle.std.proofs.Common.{◌≡◌, ℕ, zero, suc, Bool, true, false, cond, List, [], ◌∷◌, ◌++◌, Some, Ok, Err, refl, ap, length, filter}
+use Rattle.std.proofs.Common.{◌≡◌, ℕ, zero, suc, Bool, true, false, cond, List, [], ◌∷◌, ◌++◌, Some, refl, ap, length, filter}
 use Rattle.std.specs.List.{AllByRecursion}
 use Rattle.std.proofs.lemmas.Bool.{cond_both}
 use Rattle.cxx_model.specs.declared.first.Argument.{Argument}
@@ -7,7 +7,6 @@ use Rattle.cxx_model.specs.First.Candidates.{types_of}
 use Rattle.std.specs.Prelude.{slice_get}
 use Rattle.std.specs.Str.{bytes_eq}
 use Rattle.std.proofs.lemmas.Slice.Eq.{bytes_eq-Decides}
-use Rattle.cxx_model.specs.Stops.{Answer, ◌>>=◌}
 
 false_of : (b : Bool) → (b ≡ true → ⊥) → b ≡ false
 false_of true h = absurd (h refl)
@@ -24,17 +23,6 @@ pub get_before : {A : Type 0} (xs ys : List A) (n : ℕ) (x : A) → slice_get x
 get_before [] ys n x e = absurd cc
 get_before (y ∷ xs) ys zero x e = e
 get_before (y ∷ xs) ys (suc n) x e = get_before xs ys n x e
-
--- ---- inversion
-
-pub bind_ok : {A B : Type 0} (r : Answer A) (f : A → Answer B) (y : B) → (r >>= f) ≡ Ok y → (x : A) × (r ≡ Ok x) × (f x ≡ Ok y)
-bind_ok (Ok x) f y e = (x, refl, e)
-bind_ok (Err why) f y e = absurd cc
-
--- by what was tested
-pub either : {A Z : Type 0} (b : Bool) (x y z : A) → cond b x y ≡ z → (b ≡ true → x ≡ z → Z) → (b ≡ false → y ≡ z → Z) → Z
-either true x y z e one two = one refl e
-either false x y z e one two = two refl e
 
 -- ---- lists
 

@@ -26,7 +26,7 @@ use Rattle.cxx_model.specs.Written.{Written, written, close_word, semicolon_word
 use Rattle.cxx_written.specs.ReadsAs.{end_word}
 use Rattle.cxx_read_back.specs.Lines.{IsCallAmong, IsLineAmong, AreLinesAmong, AreNumbered, bare}
 use Rattle.cxx_read_back.proofs.Standing.{standing, stands, place_at, Reached, reaches, meets}
-use Rattle.cxx_read_back.proofs.Items.{item_again, with_line, numbered_more}
+use Rattle.cxx_read_back.proofs.AgainItems.{item_again, with_line, numbered_more}
 
 -- ---- each line before what follows it
 
