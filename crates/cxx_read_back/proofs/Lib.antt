@@ -11,3 +11,4 @@ pub mod Made
 pub mod Same
 pub mod Printable
 pub mod Joined
+mod Rows
