@@ -1,0 +1,61 @@
+-- The lines of a whole reading can be printed.
+use Rattle.std.proofs.Common.{inl, inr, ◌≡◌, ℕ, zero, suc, List, [], ◌∷◌, ◌++◌, Option, Some, ap, subst}
+use Rattle.std.specs.Bool.{nat_le}
+use Rattle.std.specs.List.{AllByRecursion}
+use Rattle.std.specs.Prelude.{slice_get}
+use Rattle.cxx_model.specs.declared.base.Base.{Base}
+use Rattle.cxx_model.specs.declared.base.Base.TheVariants.{Int, Long, Char}
+use Rattle.cxx_model.specs.declared.first.Argument.{Argument}
+use Rattle.cxx_model.specs.declared.first.Declaration.{Declaration}
+use Rattle.cxx_model.specs.declared.first.Declared.{Declared}
+use Rattle.cxx_model.specs.declared.first.Declared.TheVariants.{Function, Object}
+use Rattle.cxx_model.specs.declared.first.Item.{Item}
+use Rattle.cxx_model.specs.declared.first.Item.TheVariants as item
+use Rattle.cxx_model.specs.declared.token.TokenKind.TheVariants.{Name, Integer, Character}
+use Rattle.cxx_model.specs.First.Words.{kind_of_literal}
+use Rattle.cxx_model.specs.Spelling.{Spelled, Good, spelling_of, literal_type, literal_type_by, decimal_value, most_int}
+use Rattle.cxx_model.proofs.Answers.{either_is}
+use Rattle.cxx_written.specs.Line.{IsName}
+use Rattle.cxx_written.specs.Printable.{IsLiteral, IsPrintableItem, ArePrintable}
+use Rattle.cxx_read_back.specs.Lines.{IsArgument, IsLineAmong, AreLinesAmong}
+
+literal_kind_by : (text : List ℕ) (spells : Option Spelled) (of : Base) → literal_type_by text spells ≡ Some of → spells ≡ Some (Good (kind_of_literal of))
+literal_kind_by text (Some (Good Integer)) of e = elim (either_is (nat_le (decimal_value text) most_int) (Some Int) (Some Long) (Some of) e) [
+  | inl t ↦ let g : Int ≡ of = cc in ap (λ b. Some (Good (kind_of_literal b))) g
+  | inr t ↦ let g : Long ≡ of = cc in ap (λ b. Some (Good (kind_of_literal b))) g
+]
+literal_kind_by text (Some (Good Character)) of e = let g : Char ≡ of = cc in ap (λ b. Some (Good (kind_of_literal b))) g
+literal_kind_by text (Some (Good Name)) of e = absurd cc
+literal_kind_by text _ of e = absurd cc
+
+literal_printable : (argument : Argument) → IsArgument argument → IsLiteral argument
+unfolding literal_type
+literal_printable argument h = record { spelled = literal_kind_by argument.spelling (spelling_of argument.spelling) argument.of h.literal }
+
+literals_printable : (arguments : List Argument) → AllByRecursion IsArgument arguments → AllByRecursion IsLiteral arguments
+literals_printable [] h = tt
+literals_printable (a ∷ arguments) h = (literal_printable a h.0, literals_printable arguments h.1)
+
+abbrev DeclaresName : Declaration → Type 0
+DeclaresName d = IsName d.word
+
+name_at : (before : List Declaration) → AllByRecursion DeclaresName before → (n : ℕ) (d : Declaration) → slice_get before n ≡ Some d → IsName d.word
+name_at [] h n d e = absurd cc
+name_at (x ∷ before) h zero d e = let g : x ≡ d = cc in subst DeclaresName g h.0
+name_at (x ∷ before) h (suc n) d e = name_at before h.1 n d e
+
+names_more : (before : List Declaration) (d : Declaration) → AllByRecursion DeclaresName before → IsName d.word → AllByRecursion DeclaresName (before ++ d ∷ [])
+names_more [] d h k = (k, tt)
+names_more (x ∷ before) d h k = (h.0, names_more before d h.1 k)
+
+item_printable : (before : List Declaration) (what : Declared) (it : Item) → AllByRecursion DeclaresName before → IsLineAmong before what it → IsPrintableItem it
+item_printable before (Function result parameters) item.Function names h = tt
+item_printable before (Function result parameters) (item.Object init) names h = absurd h
+item_printable before (Object of) item.Function names h = tt
+item_printable before (Object of) (item.Object init) names h = (subst IsName h.1.named (name_at before names init.chosen h.1.meant h.1.chosen), literals_printable init.arguments h.1.arguments)
+
+pub lines_printable : (before declarations : List Declaration) (items : List Item) → AllByRecursion DeclaresName before → AreLinesAmong before declarations items → ArePrintable declarations items
+lines_printable before [] items names h = tt
+lines_printable before (d ∷ declarations) [] names h = tt
+lines_printable before (d ∷ declarations) (what ∷ items) names h =
+    (record { word = h.0; says = item_printable before d.what what names h.1 }, lines_printable (before ++ d ∷ []) declarations items (names_more before d names h.0) h.2)
