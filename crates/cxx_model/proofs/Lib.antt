@@ -1,4 +1,5 @@
 pub mod Answers
+pub mod Asymmetric
 pub mod Champion
 pub mod FirstForm
 pub mod Fronts
