@@ -17,3 +17,6 @@ mod viable;
 
 pub use declaration::read_unit;
 pub use laws::{better_is_asymmetric, each_call_is_best};
+
+#[cfg(test)]
+mod tests;
