@@ -16,7 +16,7 @@ mod standard;
 mod viable;
 
 pub use declaration::read_unit;
-pub use laws::{better_is_asymmetric, each_call_is_best};
+pub use laws::{better_is_asymmetric, each_call_is_best, words_are_kept};
 
 #[cfg(test)]
 mod tests;

@@ -5,3 +5,4 @@ pub mod FirstForm
 pub mod Fronts
 pub mod Spellings
 pub mod Readings
+pub mod SpelledKinds
