@@ -1,8 +1,7 @@
 -- The front of a text: it is the longest piece, there is one piece, and each byte begins one.
 use Rattle.std.proofs.Common.{◌≡◌, ◌≤◌, ◌<◌, ℕ, zero, suc, Bool, true, false, cond, List, [], ◌∷◌, length, take, Option, Some, None, refl, sym, ap, ◌∙◌, ⊎_elim, arith}
 use Rattle.std.proofs.lemmas.Bool.{cases_lt}
-use Rattle.std.specs.List.{list_all}
-use Rattle.cxx_model.specs.Spelling.{Spelled, Blank, is_white, is_word, begins_word, begins_number, is_number_rest, word_kind, number_kind, is_wide_quote, character, number_in, operators, digraphs, operator_by, operator, spelling_of}
+use Rattle.cxx_model.specs.Spelling.{Spelled, Blank, is_white, begins_word, begins_number, word_kind, number_kind, number_in, operators, digraphs, operator_by, operator, spelling_of}
 use Rattle.std.proofs.Common.{is_some}
 use Rattle.cxx_model.specs.Tokens.{Piece, IsLongest, or_shorter, longest_within, front}
 
@@ -15,9 +14,9 @@ within_is (suc n) text len spells h low high =
     ⊎_elim
     (λ (lt : len < suc n). ap (λ o. or_shorter (suc n) o (longest_within n text)) (h.longest (suc n) lt high) ∙ within_is n text len spells h (omega arith) (omega arith))
     (λ (ge : suc n ≤ len).
-        let e : len ≡ suc n = omega arith in
-        let spelled : spelling_of (take (suc n) text) ≡ Some spells = rw e at h.spelled in
-        ap (λ o. or_shorter (suc n) o (longest_within n text)) spelled ∙ ap (λ k. Some (record { len = k; spells = spells })) (sym e))
+    let e : len ≡ suc n = omega arith in
+    let spelled : spelling_of (take (suc n) text) ≡ Some spells = rw e at h.spelled in
+    ap (λ o. or_shorter (suc n) o (longest_within n text)) spelled ∙ ap (λ k. Some (record { len = k; spells = spells })) (sym e))
     (cases_lt len (suc n))
 
 pub front_is : (text : List ℕ) (len : ℕ) (spells : Spelled) → IsLongest text (record { len = len; spells = spells }) → front text ≡ Some (record { len = len; spells = spells })

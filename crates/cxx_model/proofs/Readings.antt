@@ -1,11 +1,11 @@
 -- The token list as a function and as a relation: each gives the other, so that there is one.
-use Rattle.std.proofs.Common.{◌≡◌, ◌≤◌, ◌<◌, ℕ, zero, suc, pred, ◌+◌, List, [], ◌∷◌, ◌++◌, length, take, drop, get_or, Option, Some, Result, Ok, Err, refl, sym, ap, ◌∙◌, subst, ⊎_elim, arith, take-add, drop-drop, take_all, length-drop, add-zero, All}
+use Rattle.std.proofs.Common.{◌≡◌, ◌≤◌, ◌<◌, ℕ, zero, suc, pred, ◌+◌, List, [], ◌∷◌, ◌++◌, length, take, drop, Option, Result, Ok, Err, refl, sym, ap, ap₂, ◌∙◌, subst, ⊎_elim, arith, take-add, drop-drop, take_all, length-drop, add-zero, All}
+use Rattle.std.proofs.Math.Seq.{take-append_seam, drop-append_seam}
 use Rattle.std.proofs.lemmas.Bool.{cases_lt}
 use Rattle.std.proofs.lemmas.List.{drop_all}
 use Rattle.cxx_model.specs.declared.place.Place.{Place}
 use Rattle.cxx_model.specs.declared.token.Token.{Token}
 use Rattle.cxx_model.specs.declared.token.TokenKind.{TokenKind}
-use Rattle.cxx_model.specs.declared.token.TokenKind.TheVariants.{End}
 use Rattle.cxx_model.specs.declared.token.TokenReason.{TokenReason}
 use Rattle.cxx_model.specs.declared.limits.TheConstants as limits
 use Rattle.cxx_model.specs.Lexemes.{first_place, after, past}
@@ -144,12 +144,12 @@ means zero bytes at room low high =
 means (suc fuel) bytes at room low high =
     ⊎_elim
     (λ (more : at < length bytes).
-        let begun = begins (drop at bytes) (omega (arith, length-drop at bytes)) in
-        means_piece bytes at room begun.0.len begun.0.spells begun.1
-        (λ left. means fuel bytes (at + begun.0.len) left (omega (arith, begun.1.within, length-drop at bytes)) (omega (arith, begun.1.some))))
+    let begun = begins (drop at bytes) (omega (arith, length-drop at bytes)) in
+    means_piece bytes at room begun.0.len begun.0.spells begun.1
+    (λ left. means fuel bytes (at + begun.0.len) left (omega (arith, begun.1.within, length-drop at bytes)) (omega (arith, begun.1.some))))
     (λ (done : length bytes ≤ at).
-        let e : length bytes ≡ at = omega arith in
-        subst (λ a. Means bytes at room a) (sym (at_last bytes at room e)) (means_end bytes at room e))
+    let e : length bytes ≡ at = omega arith in
+    subst (λ a. Means bytes at room a) (sym (at_last bytes at room e)) (means_end bytes at room e))
     (cases_lt at (length bytes))
 
 -- ---- the whole text
@@ -210,3 +210,16 @@ lies_within bytes (at_end at e) = all_cons (LiesWithin bytes) _ [] (omega arith,
 lies_within bytes (after_blank at len tokens longest rest) = lies_within bytes rest
 lies_within bytes (after_token at len kind tokens longest rest) =
     all_cons (LiesWithin bytes) _ tokens (omega arith, omega (arith, longest.some, longest.within, length-drop at bytes)) (lies_within bytes rest)
+
+-- ---- a text by its parts: what stands at the front, and the rest
+
+pub reads_spelled : (w rest : List ℕ) (kind : TokenKind) (room at : ℕ) (place : Place) → IsLongest (w ++ rest) (record { len = length w; spells = Good kind })
+    → tokens_from 0 (suc room) at place (w ++ rest) ≡ put (record { kind = kind; place = place; from = at; to = at + length w }) (tokens_from 0 room (at + length w) (past w place) rest)
+reads_spelled w rest kind room at place h =
+    reads_token (w ++ rest) (length w) kind room at place h
+    ∙ ap₂ (λ front behind. put (record { kind = kind; place = place; from = at; to = at + length w }) (tokens_from 0 room (at + length w) (past front place) behind)) (take-append_seam w rest) (drop-append_seam w rest)
+
+pub reads_space : (w rest : List ℕ) (room at : ℕ) (place : Place) → IsLongest (w ++ rest) (record { len = length w; spells = Blank }) → tokens_from 0 room at place (w ++ rest) ≡ tokens_from 0 room (at + length w) (past w place) rest
+reads_space w rest room at place h =
+    reads_blank (w ++ rest) (length w) room at place h
+    ∙ ap₂ (λ front behind. tokens_from 0 room (at + length w) (past front place) behind) (take-append_seam w rest) (drop-append_seam w rest)

@@ -1,15 +1,17 @@
 -- The longest fronts by what they spell: each token before what cannot go on with it.
-use Rattle.std.proofs.Common.{◌≡◌, ◌≤◌, ◌<◌, ℕ, zero, suc, ◌+◌, Bool, true, false, cond, eqb, ◌==◌, not, ◌&&◌, ◌||◌, is_some, List, [], ◌∷◌, ◌++◌, length, take, drop, Option, Some, None, refl, sym, ap, ◌∙◌, subst, ⊎_elim, arith, length-append, eqb-true, leb-true, le-ltb, nat_le, nat_lt, bytes_eq, position}
+use Rattle.std.proofs.Common.{◌≡◌, ◌≤◌, ◌<◌, ℕ, zero, suc, Bool, true, false, cond, ◌==◌, ◌&&◌, ◌||◌, is_some, List, [], ◌∷◌, ◌++◌, length, take, Some, None, refl, sym, ap, ◌∙◌, subst, ⊎_elim, arith, length-append, eqb-true, eq-eqb, ◌⊎◌, inl, inr, leb-true, le-ltb, nat_le, nat_lt, bytes_eq}
 use Rattle.std.proofs.Math.Seq.{take-append_seam}
-use Rattle.std.proofs.lemmas.Bool.{cases_lt, and_left, and_right, and_parts, or_cases, or_from, or_left, or_right, or_parts, both_ways}
+use Rattle.std.proofs.lemmas.Bool.{cases_lt, and_left, and_right, and_parts, or_cases, or_from, or_left, or_parts, both_ways}
 use Rattle.std.proofs.lemmas.Bool.Decides.{nat_tests}
 use Rattle.std.specs.List.{list_all, position_or_len}
 use Rattle.std.specs.Char.{is_ascii_digit}
-use Rattle.cxx_model.specs.Spelling.{Spelled, Blank, Good, Ill, is_white, is_word, begins_word, begins_number, begins_with_digit, is_number_rest, is_sign, is_exponent, word_kind, number_kind, is_wide_quote, is_plain, character, alone, number_in, operators, digraphs, operator_by, operator, spelling_of}
+use Rattle.cxx_model.specs.Spelling.{Spelled, Blank, Good, Ill, is_white, is_word, begins_word, begins_number, is_number_rest, word_kind, number_kind, is_wide_quote, character, alone, number_in, operators, digraphs, operator_by, operator, spelling_of, decimal_value, most_int, literal_type, literal_type_by}
 use Rattle.cxx_model.specs.Continuing.{starts, is_quote, number_goes_on, last_of, closes, BeginsOperator}
-use Rattle.cxx_model.specs.declared.token.TokenKind.TheVariants.{Character}
+use Rattle.cxx_model.specs.declared.base.Base.TheVariants.{Int, Long, Char}
+use Rattle.cxx_model.specs.declared.punct.TheConstants as punct
+use Rattle.cxx_model.specs.declared.token.TokenKind.TheVariants.{Character, Integer, Punct}
 use Rattle.cxx_model.specs.declared.token.TokenReason.TheVariants.{NotBuilt}
-use Rattle.cxx_model.specs.Tokens.{Piece, IsLongest}
+use Rattle.cxx_model.specs.Tokens.{IsLongest}
 
 -- ---- bytes
 
@@ -287,7 +289,99 @@ operator_front b w tail spells begins is none =
     longest_from b w tail spells
     (ap (λ t. spelling_of (b ∷ t)) (sym seam) ∙ spells_operator_front b (w ++ tail) (length w) begins ∙ ap (operator b) seam ∙ is)
     (λ m low high. spells_operator_front b (w ++ tail) m begins ∙
-        ⊎_elim
-        (λ (long : 2 < m). no_long_operator b (w ++ tail) m long high)
-        (λ (short : m ≤ 2). none m low short high)
-        (cases_lt 2 m))
+    ⊎_elim
+    (λ (long : 2 < m). no_long_operator b (w ++ tail) m long high)
+    (λ (short : m ≤ 2). none m low short high)
+    (cases_lt 2 m))
+
+-- ---- the punctuators of the first form
+
+no_longer : (b : ℕ) (rest : List ℕ) → ((c : ℕ) → starts (λ d. d == c) rest ≡ true → operator b (c ∷ []) ≡ None) → ((c d : ℕ) → starts (λ e. e == c) rest ≡ true → operator b (c ∷ d ∷ []) ≡ None) → (m : ℕ) → 0 < m → m ≤ 2 → m ≤ length rest → operator b (take m rest) ≡ None
+no_longer b rest two three zero low short high = absurd (omega arith)
+no_longer b [] two three (suc m) low short high = absurd (omega arith)
+no_longer b (c ∷ rest) two three (suc zero) low short high = two c (eq-eqb c c refl)
+no_longer b (c ∷ []) two three (suc (suc m)) low short high = absurd (omega arith)
+no_longer b (c ∷ d ∷ rest) two three (suc (suc zero)) low short high = three c d (eq-eqb c c refl)
+no_longer b (c ∷ d ∷ rest) two three (suc (suc (suc m))) low short high = absurd (omega arith)
+
+alone_front : (b n : ℕ) (rest : List ℕ) → BeginsOperator b rest → operator b [] ≡ Some (Good (Punct n)) → ((c : ℕ) → starts (λ d. d == c) rest ≡ true → operator b (c ∷ []) ≡ None) → ((c d : ℕ) → starts (λ e. e == c) rest ≡ true → operator b (c ∷ d ∷ []) ≡ None) → IsLongest (b ∷ rest) (record { len = 1; spells = Good (Punct n) })
+alone_front b n rest begins is two three = operator_front b [] rest (Good (Punct n)) begins is (no_longer b rest two three)
+
+-- `(`, `)`, `,` and `;` go on with nothing
+pub left_parenthesis_front : (rest : List ℕ) → IsLongest (40 ∷ rest) (record { len = 1; spells = Good (Punct punct.LEFT_PARENTHESIS) })
+unfolding operator operators digraphs
+left_parenthesis_front rest = alone_front 40 punct.LEFT_PARENTHESIS rest (record { black = refl; no_word = refl; no_number = refl; no_quote = refl }) refl (λ c h. refl) (λ c d h. refl)
+
+pub right_parenthesis_front : (rest : List ℕ) → IsLongest (41 ∷ rest) (record { len = 1; spells = Good (Punct punct.RIGHT_PARENTHESIS) })
+unfolding operator operators digraphs
+right_parenthesis_front rest = alone_front 41 punct.RIGHT_PARENTHESIS rest (record { black = refl; no_word = refl; no_number = refl; no_quote = refl }) refl (λ c h. refl) (λ c d h. refl)
+
+pub comma_front : (rest : List ℕ) → IsLongest (44 ∷ rest) (record { len = 1; spells = Good (Punct punct.COMMA) })
+unfolding operator operators digraphs
+comma_front rest = alone_front 44 punct.COMMA rest (record { black = refl; no_word = refl; no_number = refl; no_quote = refl }) refl (λ c h. refl) (λ c d h. refl)
+
+pub semicolon_front : (rest : List ℕ) → IsLongest (59 ∷ rest) (record { len = 1; spells = Good (Punct punct.SEMICOLON) })
+unfolding operator operators digraphs
+semicolon_front rest = alone_front 59 punct.SEMICOLON rest (record { black = refl; no_word = refl; no_number = refl; no_quote = refl }) refl (λ c h. refl) (λ c d h. refl)
+
+apart : (test : ℕ → Bool) (rest : List ℕ) (c : ℕ) → starts test rest ≡ false → starts (λ d. d == c) rest ≡ true → test c ≡ false
+apart test [] c ends h = cc
+apart test (b ∷ rest) c ends h = let e : b ≡ c = eqb-true b c h in subst (λ x. test x ≡ false) e ends
+
+-- `=` goes on with `=`
+abbrev pub fuses_with_equals : ℕ → Bool
+fuses_with_equals c = c == 61
+
+equals_alone : (c : ℕ) (rest : List ℕ) → (c == 61) ≡ false → (rest ≡ []) ⊎ ((d : ℕ) × (rest ≡ d ∷ [])) → operator 61 (c ∷ rest) ≡ None
+unfolding operator operators digraphs
+equals_alone c rest h (inl e) = rw (e, h) refl
+equals_alone c rest h (inr e) = rw (e.1, h) refl
+
+pub equals_front : (rest : List ℕ) → starts fuses_with_equals rest ≡ false → IsLongest (61 ∷ rest) (record { len = 1; spells = Good (Punct punct.EQUALS) })
+unfolding operator operators digraphs
+equals_front rest ends =
+    alone_front 61 punct.EQUALS rest (record { black = refl; no_word = refl; no_number = refl; no_quote = refl }) refl
+    (λ c h. equals_alone c [] (apart fuses_with_equals rest c ends h) (inl refl))
+    (λ c d h. equals_alone c (d ∷ []) (apart fuses_with_equals rest c ends h) (inr (d, refl)))
+
+-- `<` goes on with `<`, `=`, `%` and `:`
+abbrev pub fuses_with_less : ℕ → Bool
+fuses_with_less c = (c == 60 || c == 61) || (c == 37 || c == 58)
+
+less_alone : (c : ℕ) (rest : List ℕ) → (c == 60) ≡ false → (c == 61) ≡ false → (c == 37) ≡ false → (c == 58) ≡ false → (rest ≡ []) ⊎ ((d : ℕ) × (rest ≡ d ∷ [])) → operator 60 (c ∷ rest) ≡ None
+unfolding operator operators digraphs
+less_alone c rest h i j k (inl e) = rw (e, h, i, j, k) refl
+less_alone c rest h i j k (inr e) = rw (e.1, h, i, j, k) refl
+
+pub less_front : (rest : List ℕ) → starts fuses_with_less rest ≡ false → IsLongest (60 ∷ rest) (record { len = 1; spells = Good (Punct punct.LESS) })
+unfolding operator operators digraphs
+less_front rest ends =
+    alone_front 60 punct.LESS rest (record { black = refl; no_word = refl; no_number = refl; no_quote = refl }) refl
+    (λ c h. let p = or_parts (c == 60 || c == 61) (c == 37 || c == 58) (apart fuses_with_less rest c ends h) in let q = or_parts (c == 60) (c == 61) p.0 in let r = or_parts (c == 37) (c == 58) p.1 in less_alone c [] q.0 q.1 r.0 r.1 (inl refl))
+    (λ c d h. let p = or_parts (c == 60 || c == 61) (c == 37 || c == 58) (apart fuses_with_less rest c ends h) in let q = or_parts (c == 60) (c == 61) p.0 in let r = or_parts (c == 37) (c == 58) p.1 in less_alone c (d ∷ []) q.0 q.1 r.0 r.1 (inr (d, refl)))
+
+-- `>` goes on with `>` and `=`
+abbrev pub fuses_with_greater : ℕ → Bool
+fuses_with_greater c = c == 62 || c == 61
+
+greater_alone : (c : ℕ) (rest : List ℕ) → (c == 62) ≡ false → (c == 61) ≡ false → (rest ≡ []) ⊎ ((d : ℕ) × (rest ≡ d ∷ [])) → operator 62 (c ∷ rest) ≡ None
+unfolding operator operators digraphs
+greater_alone c rest h i (inl e) = rw (e, h, i) refl
+greater_alone c rest h i (inr e) = rw (e.1, h, i) refl
+
+pub greater_front : (rest : List ℕ) → starts fuses_with_greater rest ≡ false → IsLongest (62 ∷ rest) (record { len = 1; spells = Good (Punct punct.GREATER) })
+unfolding operator operators digraphs
+greater_front rest ends =
+    alone_front 62 punct.GREATER rest (record { black = refl; no_word = refl; no_number = refl; no_quote = refl }) refl
+    (λ c h. let p = or_parts (c == 62) (c == 61) (apart fuses_with_greater rest c ends h) in greater_alone c [] p.0 p.1 (inl refl))
+    (λ c d h. let p = or_parts (c == 62) (c == 61) (apart fuses_with_greater rest c ends h) in greater_alone c (d ∷ []) p.0 p.1 (inr (d, refl)))
+
+-- ---- the types of literals
+
+pub integer_has_type : (text : List ℕ) → spelling_of text ≡ Some (Good Integer) → literal_type text ≡ cond (nat_le (decimal_value text) most_int) (Some Int) (Some Long)
+unfolding literal_type
+integer_has_type text e = ap (literal_type_by text) e
+
+pub character_has_type : (text : List ℕ) → spelling_of text ≡ Some (Good Character) → literal_type text ≡ Some Char
+unfolding literal_type
+character_has_type text e = ap (literal_type_by text) e

@@ -11,3 +11,4 @@ pub mod Written
 pub mod First
 pub mod Outcome
 pub mod Reports
+pub mod ReadsBack

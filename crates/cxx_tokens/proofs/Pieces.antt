@@ -1,5 +1,5 @@
 -- The longest front of a text by its slices, as the code finds it.
-use Rattle.std.proofs.Common.{◌≡◌, ◌≤◌, ◌<◌, ℕ, zero, suc, ◌+◌, ◌-◌, Bool, true, false, ◌&&◌, ◌||◌, ◌==◌, List, [], ◌∷◌, ◌++◌, length, get_or, take, drop, Option, Some, None, unwrap_or, refl, sym, ap, ◌∙◌, subst, ⊎_elim, arith, take-append-drop, length-take-le, eqb-true, le-leb, take_all}
+use Rattle.std.proofs.Common.{◌≡◌, ◌≤◌, ◌<◌, ℕ, zero, suc, ◌+◌, ◌-◌, Bool, true, false, ◌&&◌, ◌||◌, ◌==◌, List, [], ◌∷◌, length, get_or, take, drop, Option, Some, None, unwrap_or, refl, sym, ap, ◌∙◌, subst, ⊎_elim, arith, take-append-drop, length-take-le, eqb-true, le-leb, take_all}
 use Rattle.std.proofs.lemmas.List.{take_rest}
 use Rattle.std.proofs.lemmas.Bool.{or_cases, or_left, or_parts, and_parts, both_ways, cases_lt}
 use Rattle.std.proofs.lemmas.Bool.Decides.{nat_tests}
@@ -7,9 +7,9 @@ use Rattle.std.specs.List.{list_all}
 use Rattle.std.specs.Char.{is_ascii_digit}
 use Rattle.cxx_model.specs.declared.token.TokenKind.TheVariants.{Character}
 use Rattle.cxx_model.specs.declared.token.TokenReason.TheVariants.{NotBuilt}
-use Rattle.cxx_model.specs.Spelling.{Spelled, Blank, Good, Ill, is_white, is_word, begins_word, begins_number, begins_with_digit, is_number_rest, word_kind, number_kind, is_wide_quote, operator, operators, digraphs, number_in, spelling_of}
+use Rattle.cxx_model.specs.Spelling.{Spelled, Blank, Good, Ill, is_white, is_word, begins_word, begins_number, is_number_rest, word_kind, number_kind, is_wide_quote, operator, operators, digraphs, number_in, spelling_of}
 use Rattle.cxx_model.specs.Continuing.{starts, number_goes_on, last_of, closes, BeginsOperator}
-use Rattle.cxx_model.specs.Tokens.{Piece, IsLongest}
+use Rattle.cxx_model.specs.Tokens.{IsLongest}
 use Rattle.cxx_model.proofs.Fronts.{IsSpelled, operator_alone}
 use Rattle.cxx_model.proofs.Spellings.{blank_front, word_longest, wide_front, number_front, character_front, quote_front, operator_front}
 use Rattle.cxx_tokens.specs.declared.piece.Spelled as code

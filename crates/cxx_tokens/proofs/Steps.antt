@@ -1,16 +1,15 @@
 -- One step of the reading, and what the whole answer says.
-use Rattle.std.proofs.Common.{◌≡◌, ◌≤◌, ◌<◌, ℕ, zero, suc, ◌+◌, ◌-◌, List, [], ◌∷◌, ◌++◌, length, take, drop, Result, Ok, Err, IfOk, IfErr, All, refl, sym, ap, ◌∙◌, subst, arith, length-append, add-zero}
+use Rattle.std.proofs.Common.{◌≡◌, ◌≤◌, ◌<◌, ℕ, suc, ◌+◌, ◌-◌, List, [], ◌∷◌, ◌++◌, length, take, drop, Result, Ok, Err, IfOk, IfErr, All, refl, sym, ap, ◌∙◌, subst, arith, length-append, add-zero}
 use Rattle.std.specs.Global.{Vec}
 use Rattle.cxx_model.specs.declared.place.Place.{Place}
 use Rattle.cxx_model.specs.declared.token.Token.{Token}
 use Rattle.cxx_model.specs.declared.token.TokenKind.{TokenKind}
 use Rattle.cxx_model.specs.declared.token.TokenKind.TheVariants.{End}
 use Rattle.cxx_model.specs.declared.token.TokenReason.{TokenReason}
-use Rattle.cxx_model.specs.declared.stop.LimitKind.TheVariants.{Tokens}
 use Rattle.cxx_model.specs.declared.limits.TheConstants as limits
 use Rattle.cxx_model.specs.Lexemes.{first_place, past}
 use Rattle.cxx_model.specs.Spelling.{Blank, Good, Ill}
-use Rattle.cxx_model.specs.Tokens.{Unread, BadAt, PastTokens, IsLongest, put, ended, tokens_from, tokens_of, IsTokenList, IsBadPlace, IsPastTokens}
+use Rattle.cxx_model.specs.Tokens.{Unread, BadAt, PastTokens, IsLongest, put, tokens_from, tokens_of, IsTokenList, IsBadPlace, IsPastTokens}
 use Rattle.cxx_model.proofs.Readings.{reads_end, reads_blank, reads_token, reads_full, reads_bad, means_at, tokens_of_list, tokens_of_bad, tokens_of_limit, lies_within}
 use Rattle.cxx_tokens.specs.declared.fault.TokenFault.{TokenFault}
 use Rattle.cxx_tokens.specs.declared.fault.TokenFault.TheVariants.{Bad, Limit, OutOfMemory}

@@ -1,9 +1,8 @@
 -- What an answer of `tokens` says of the token list.
-use Rattle.std.specs.Prelude.{◌≡◌, ◌≤◌, ℕ, ◌+◌, ◌-◌, List, [], ◌∷◌, Result, Ok, Err, length}
+use Rattle.std.specs.Prelude.{◌≡◌, ◌≤◌, ℕ, ◌-◌, List, [], ◌∷◌, Result, Ok, Err, length}
 use Rattle.std.specs.Global.{Vec}
 use Rattle.cxx_model.specs.declared.place.Place.{Place}
 use Rattle.cxx_model.specs.declared.token.Token.{Token}
-use Rattle.cxx_model.specs.declared.token.TokenReason.{TokenReason}
 use Rattle.cxx_model.specs.declared.stop.LimitKind.TheVariants.{Tokens}
 use Rattle.cxx_model.specs.declared.limits.TheConstants as limits
 use Rattle.cxx_model.specs.Tokens.{Unread, BadAt, PastTokens, put, tokens_from, tokens_of, IsBadPlace, IsPastTokens}

@@ -18,7 +18,10 @@ pub fn front(text: &[u8]) -> Piece
 {
     let first = text[0];
     if is_white(first) {
-        Piece { len: 1, spells: Spelled::Blank }
+        Piece {
+            len: 1,
+            spells: Spelled::Blank,
+        }
     } else if begins_word(first) {
         word(text)
     } else if begins_number(text) {
@@ -31,7 +34,7 @@ pub fn front(text: &[u8]) -> Piece
 }
 
 /// What a whole text spells.
-pub fn spelling(text: &[u8]) -> Option<Spelled>
+pub fn spelling_of(text: &[u8]) -> Option<Spelled>
     ensures { spelled_option result ≡ spec.spelling_of text.now }
 {
     if text.is_empty() {

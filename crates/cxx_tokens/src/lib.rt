@@ -19,3 +19,6 @@ mod words;
 pub use fault::TokenFault;
 pub use literal::literal_type;
 pub use read::{one_token_list, tokens};
+
+#[cfg(test)]
+mod tests;

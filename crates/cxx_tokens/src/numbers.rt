@@ -8,10 +8,9 @@ ghost use Rattle.cxx_model.specs.Continuing as goes;
 ghost use Rattle.cxx_model.specs.Tokens.{IsLongest};
 ghost use Rattle.cxx_tokens.specs.Pieces.{spelled, piece_of, begins_numeral};
 
-use cxx_model::{TokenKind, TokenReason};
-
 use crate::bytes::number_goes_on;
 use crate::piece::{Piece, Spelled};
+use cxx_model::{TokenKind, TokenReason};
 
 const MOST_LONG: u64 = 9_223_372_036_854_775_807;
 
@@ -39,18 +38,22 @@ fn is_decimal(text: &[u8]) -> bool
     match text {
         [] => false,
         [b] => b.is_ascii_digit(),
-        [b, c, rest @ ..] => b.is_ascii_digit() && *b != b'0' && c.is_ascii_digit() && are_digits(rest),
+        [b, c, rest @ ..] => b.is_ascii_digit()
+            && *b != b'0'
+            && c.is_ascii_digit()
+            && are_digits(rest),
     }
 }
 
-#[tactic(auto, using(crate::proofs::Runs::value_after_push))]
 /// The value of decimal digits, or the most of the type where that is more.
 pub fn decimal_value(text: &[u8]) -> u64
     ensures { result ≡ min (spec.decimal_value text.now) (2 ^ 64 - 1) }
 {
     let mut value: u64 = 0;
     for b in text {
-        value = value.saturating_mul(10).saturating_add(u64::from(b.saturating_sub(b'0')));
+        value = value
+            .saturating_mul(10)
+            .saturating_add(u64::from(b.saturating_sub(b'0')));
     }
     value
 }
@@ -66,7 +69,6 @@ fn number_kind(text: &[u8]) -> Spelled
     }
 }
 
-#[tactic(auto, using(crate::proofs::Runs::number_rest_push, crate::proofs::Runs::last_of_push))]
 /// How many bytes go on with a number that begins with `first`.
 fn number_len(first: u8, rest: &[u8]) -> usize
     ensures within { result ≤ length rest.now }
@@ -89,5 +91,8 @@ pub fn number(text: &[u8]) -> Piece
     ensures { IsLongest text.now (piece_of result) }
 {
     let len = 1 + number_len(text[0], &text[1..]);
-    Piece { len, spells: number_kind(&text[..len]) }
+    Piece {
+        len,
+        spells: number_kind(&text[..len]),
+    }
 }

@@ -5,10 +5,9 @@ ghost use Rattle.cxx_model.specs.Spelling as spec;
 ghost use Rattle.cxx_model.specs.Tokens.{IsLongest};
 ghost use Rattle.cxx_tokens.specs.Pieces.{spelled_option, operator_of, operator_at, piece_of, IsOperatorText};
 
-use cxx_model::{TokenKind, TokenReason, punct};
-
 use crate::piece::{Piece, Spelled};
 use crate::words::number_in;
+use cxx_model::{TokenKind, TokenReason, punct};
 
 #[tactic(auto, unfolding(cxx_model::specs::Spelling::operators))]
 fn operator_number(text: &[u8]) -> Option<u8>

@@ -5,10 +5,9 @@ ghost use Rattle.cxx_model.specs.Continuing as goes;
 ghost use Rattle.cxx_model.specs.Tokens.{IsLongest};
 ghost use Rattle.cxx_tokens.specs.Pieces.{piece_of, begins_quote};
 
-use cxx_model::{TokenKind, TokenReason};
-
 use crate::bytes::is_plain;
 use crate::piece::{Piece, Spelled};
+use cxx_model::{TokenKind, TokenReason};
 
 /// Whether a text goes on behind a quote with a byte that may stand between quotes, and a quote.
 fn closes(rest: &[u8]) -> bool
@@ -26,8 +25,14 @@ pub fn quoted(text: &[u8]) -> Piece
     ensures { IsLongest text.now (piece_of result) }
 {
     if closes(&text[1..]) {
-        Piece { len: 3, spells: Spelled::Good(TokenKind::Character) }
+        Piece {
+            len: 3,
+            spells: Spelled::Good(TokenKind::Character),
+        }
     } else {
-        Piece { len: 1, spells: Spelled::Ill(TokenReason::NotBuilt) }
+        Piece {
+            len: 1,
+            spells: Spelled::Ill(TokenReason::NotBuilt),
+        }
     }
 }

@@ -8,14 +8,12 @@ ghost use Rattle.cxx_model.specs.declared.token.TokenReason.{TokenReason};
 ghost use Rattle.cxx_model.specs.Tokens.{BadAt, PastTokens, IsTokenList, IsBadPlace, IsPastTokens};
 ghost use Rattle.cxx_tokens.specs.Answers as answers;
 
-use std::alloc::Global;
-
-use cxx_model::{LimitKind, Token, TokenKind, limits};
-
 use crate::fault::TokenFault;
 use crate::front::front;
 use crate::piece::Spelled;
 use crate::reader::Reader;
+use cxx_model::{LimitKind, Token, TokenKind, limits};
+use std::alloc::Global;
 
 /// Adds a token, where there is room for it.
 fn put(tokens: &mut Vec<Token>, token: Token) -> Result<(), TokenFault>
@@ -109,5 +107,4 @@ pub fn one_token_list()
         → IsTokenList bytes 0 list
         → IsBadPlace bytes place reason 0 count
         → ⊥ }
-{
-}
+{}

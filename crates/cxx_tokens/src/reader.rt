@@ -23,13 +23,18 @@ fn after(b: u8, place: Place) -> Place
     ensures { result ≡ spec.after b place }
 {
     if b == b'\n' {
-        Place { line: place.line + 1, column: 1 }
+        Place {
+            line: place.line + 1,
+            column: 1,
+        }
     } else {
-        Place { line: place.line, column: place.column + 1 }
+        Place {
+            line: place.line,
+            column: place.column + 1,
+        }
     }
 }
 
-#[tactic(auto, using(crate::proofs::Runs::past_push))]
 /// The place after a text.
 fn past(text: &[u8], place: Place) -> Place
     requires line { place.line + length text.now < 2 ^ 32 }
@@ -50,7 +55,11 @@ impl<'a> Reader<'a> {
         ensures at { result.at ≡ 0 }
         ensures place { result.place ≡ spec.first_place }
     {
-        Reader { rest: bytes, at: 0, place: Place { line: 1, column: 1 } }
+        Reader {
+            rest: bytes,
+            at: 0,
+            place: Place { line: 1, column: 1 },
+        }
     }
 
     /// The token of so many bytes that begins here.
@@ -58,7 +67,12 @@ impl<'a> Reader<'a> {
         requires { len ≤ length self.now.rest.now }
         ensures { result ≡ record { kind = kind; place = self.now.place; from = self.now.at; to = self.now.at + len } }
     {
-        Token { kind, place: self.place, from: self.at, to: self.at + len as u32 }
+        Token {
+            kind,
+            place: self.place,
+            from: self.at,
+            to: self.at + len as u32,
+        }
     }
 
     /// Passes so many bytes.

@@ -7,10 +7,9 @@ ghost use Rattle.cxx_model.specs.Continuing as goes;
 ghost use Rattle.cxx_model.specs.Tokens.{IsLongest};
 ghost use Rattle.cxx_tokens.specs.Pieces.{spelled, piece_of};
 
-use cxx_model::{TokenKind, TokenReason, keyword};
-
 use crate::bytes::is_word;
 use crate::piece::{Piece, Spelled};
+use cxx_model::{TokenKind, TokenReason, keyword};
 
 /// The place of a spelling in a table.
 pub fn number_in(table: &[&[u8]], text: &[u8]) -> Option<usize>
@@ -48,8 +47,8 @@ fn word_kind(text: &[u8]) -> Spelled
     }
 }
 
-#[tactic(auto, using(crate::proofs::Runs::all_word_push))]
 /// How many bytes of a word a text begins with.
+#[tactic(auto, using(crate::proofs::Runs::all_word_push))]
 fn word_len(text: &[u8]) -> usize
     ensures within { result ≤ length text.now }
     ensures word { list_all spec.is_word (take result text.now) ≡ true }
@@ -79,8 +78,14 @@ pub fn word(text: &[u8]) -> Piece
     ensures { IsLongest text.now (piece_of result) }
 {
     if begins_wide(text) {
-        return Piece { len: 2, spells: Spelled::Ill(TokenReason::NotBuilt) };
+        return Piece {
+            len: 2,
+            spells: Spelled::Ill(TokenReason::NotBuilt),
+        };
     }
     let len = 1 + word_len(&text[1..]);
-    Piece { len, spells: word_kind(&text[..len]) }
+    Piece {
+        len,
+        spells: word_kind(&text[..len]),
+    }
 }

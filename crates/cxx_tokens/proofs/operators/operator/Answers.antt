@@ -1,5 +1,4 @@
-use Rattle.std.proofs.Common.{sym, ◌∙◌, ap}
-use Rattle.cxx_tokens.specs.Pieces.{spelled, spelled_option}
+use Rattle.cxx_tokens.specs.Pieces.{spelled}
 use Rattle.cxx_tokens.specs.declared.piece.Spelled.TheVariants.{Ill}
 use Rattle.cxx_model.specs.declared.token.TokenReason.TheVariants.{NotBuilt}
 use Rattle.cxx_tokens.proofs.Pieces.{three_at, two_at, one_at}

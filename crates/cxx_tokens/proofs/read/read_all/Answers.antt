@@ -1,15 +1,14 @@
-use Rattle.std.proofs.Common.{◌≡◌, ◌≤◌, List, [], ◌∷◌, ◌++◌, Ok, length, ℕ, sym, ap, ◌∙◌, arith, eqb-true, rules}
+use Rattle.std.proofs.Common.{◌≡◌, [], arith}
 use Rattle.std.proofs.lemmas.List.{nil_from_length}
 use Rattle.std.proofs.lemmas.Result.{err_from_is_err_and}
-use Rattle.cxx_model.specs.Tokens.{tokens_of}
-use Rattle.cxx_tokens.specs.Answers.{list_at, IsFault}
 use Rattle.cxx_tokens.proofs.Steps.{begins_list, ends_list, refuses_end}
 use Rattle.cxx_tokens.proofs.read.read_all.Goals as goal
 
 pub loop-tokens-init : goal.loop-tokens-init
-loop-tokens-init c =
-    (rw (c.new-tokens.ensures.items, c.new-reader.ensures.at, c.new-reader.ensures.place, c.new-reader.ensures.rest) (begins_list c.args.bytes.now),
-     rw c.new-tokens.ensures.items (omega arith))
+loop-tokens-init c = (
+  rw (c.new-tokens.ensures.items, c.new-reader.ensures.at, c.new-reader.ensures.place, c.new-reader.ensures.rest) (begins_list c.args.bytes.now),
+  rw c.new-tokens.ensures.items (omega arith),
+)
 
 pub returns-in_err-put : goal.returns-in_err-put
 returns-in_err-put c =

@@ -1,6 +1,6 @@
 use Rattle.std.proofs.Common.{◌≡◌, ◌<◌, length, get_or, take, ap, arith}
 use Rattle.std.proofs.lemmas.List.{take_more}
-use Rattle.cxx_model.specs.Lexemes.{after, past}
+use Rattle.cxx_model.specs.Lexemes.{after}
 use Rattle.cxx_tokens.proofs.Runs.{past_push, after_line, after_column}
 use Rattle.cxx_tokens.proofs.reader.past.Goals as goal
 
@@ -11,7 +11,8 @@ loop-b-preserved c =
     let b = get_or text i 0 in
     let place = c.loop-b.place in
     let inside : i < length text = omega arith in
-    let is : c.after-place.result ≡ after b place = c.after-place.ensures in
-    (rw (take_more text i 0 inside, past_push (take i text) b c.args.place, ← c.loop-b.invariant.0) is,
-     omega (arith, ap (λ p. p.line) is, after_line b place, c.loop-b.invariant.1),
-     omega (arith, ap (λ p. p.column) is, after_column b place, c.loop-b.invariant.2))
+    let is : c.after-place.result ≡ after b place = c.after-place.ensures in (
+      rw (take_more text i 0 inside, past_push (take i text) b c.args.place, ← c.loop-b.invariant.0) is,
+      omega (arith, ap (λ p. p.line) is, after_line b place, c.loop-b.invariant.1),
+      omega (arith, ap (λ p. p.column) is, after_column b place, c.loop-b.invariant.2),
+    )

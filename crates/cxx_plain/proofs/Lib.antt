@@ -1,0 +1,6 @@
+pub mod Lines
+pub mod Stems
+pub mod Limits
+pub mod Entries
+pub mod Order
+pub mod Whole

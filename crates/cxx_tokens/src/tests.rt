@@ -1,0 +1,221 @@
+use crate::{TokenFault, literal_type, tokens};
+use cxx_model::{Base, LimitKind, Place, Token, TokenKind, TokenReason, keyword, limits, punct};
+use std::alloc::{AllocError, Global};
+
+const MOST: usize = 4_294_967_295;
+
+fn token(kind: TokenKind, line: u32, column: u32, from: u32, to: u32) -> Token {
+    Token {
+        kind,
+        place: Place { line, column },
+        from,
+        to,
+    }
+}
+
+/// Whether these are the tokens of a text.
+fn are_tokens(alloc: Global, text: &[u8], wanted: &[Token]) -> bool {
+    if text.len() >= MOST {
+        return false;
+    }
+    match tokens(alloc, text) {
+        Ok(list) => list.as_slice() == wanted,
+        Err(_) => false,
+    }
+}
+
+fn first_bad(alloc: Global, text: &[u8]) -> Option<Place> {
+    if text.len() >= MOST {
+        return None;
+    }
+    match tokens(alloc, text) {
+        Err(TokenFault::Bad(place, TokenReason::NotBuilt)) => Some(place),
+        _ => None,
+    }
+}
+
+/// How many tokens a text has, or none where they pass the limit.
+fn count(alloc: Global, text: &[u8]) -> Option<usize> {
+    if text.len() >= MOST {
+        return None;
+    }
+    match tokens(alloc, text) {
+        Ok(list) => Some(list.len()),
+        Err(TokenFault::Limit(LimitKind::Tokens)) => Some(0),
+        Err(_) => None,
+    }
+}
+
+#[test]
+fn reads_two_functions_and_a_call(rt: HostRuntime) {
+    let int = TokenKind::Keyword(keyword::INT);
+    let char = TokenKind::Keyword(keyword::CHAR);
+    let open = TokenKind::Punct(punct::LEFT_PARENTHESIS);
+    let close = TokenKind::Punct(punct::RIGHT_PARENTHESIS);
+    let semicolon = TokenKind::Punct(punct::SEMICOLON);
+    let equals = TokenKind::Punct(punct::EQUALS);
+    let name = TokenKind::Name;
+    let wanted = [
+        token(int, 1, 1, 0, 3),
+        token(name, 1, 5, 4, 5),
+        token(open, 1, 6, 5, 6),
+        token(int, 1, 7, 6, 9),
+        token(close, 1, 10, 9, 10),
+        token(semicolon, 1, 11, 10, 11),
+        token(int, 2, 1, 12, 15),
+        token(name, 2, 5, 16, 17),
+        token(open, 2, 6, 17, 18),
+        token(char, 2, 7, 18, 22),
+        token(close, 2, 11, 22, 23),
+        token(semicolon, 2, 12, 23, 24),
+        token(int, 3, 1, 25, 28),
+        token(name, 3, 5, 29, 30),
+        token(equals, 3, 7, 31, 32),
+        token(name, 3, 9, 33, 34),
+        token(open, 3, 10, 34, 35),
+        token(TokenKind::Character, 3, 11, 35, 38),
+        token(close, 3, 14, 38, 39),
+        token(semicolon, 3, 15, 39, 40),
+        token(TokenKind::End, 4, 1, 41, 41),
+    ];
+    assert!(rt;
+        are_tokens(
+            rt.alloc(),
+            b"int f(int);\nint f(char);\nint x = f('a');\n",
+            &wanted
+        )
+    );
+}
+
+#[test]
+fn counts_lines_by_newlines_alone(rt: HostRuntime) {
+    let name = TokenKind::Name;
+    assert!(rt; are_tokens(rt.alloc(), b"", &[token(TokenKind::End, 1, 1, 0, 0)]));
+    let wanted = [
+        token(name, 2, 2, 2, 3),
+        token(name, 2, 7, 7, 8),
+        token(TokenKind::End, 4, 1, 10, 10),
+    ];
+    assert!(rt; are_tokens(rt.alloc(), b"\n\ta\x0b\x0c\r b\n\n", &wanted));
+}
+
+static BAD: [(&[u8], u32); 40] = [
+    (b"==", 1),
+    (b"a==b", 2),
+    (b"<<", 1),
+    (b"<:", 1),
+    (b"<%", 1),
+    (b"%>", 1),
+    (b"x >= y", 3),
+    (b">>=", 1),
+    (b"...", 1),
+    (b".", 1),
+    (b".5", 1),
+    (b"f(...)", 3),
+    (b"->*", 1),
+    (b"{", 1),
+    (b"1u", 1),
+    (b"01", 1),
+    (b"00", 1),
+    (b"0x1", 1),
+    (b"1.5", 1),
+    (b"1e+5", 1),
+    (b"f(1e)", 3),
+    (b"9223372036854775808", 1),
+    (b"18446744073709551616", 1),
+    (b"99999999999999999999999999", 1),
+    (b"L'a'", 1),
+    (b"L\"a\"", 1),
+    (b"= L'", 3),
+    (b"and", 1),
+    (b"x xor_eq", 3),
+    (b"'ab'", 1),
+    (b"''", 1),
+    (b"'", 1),
+    (b"'a", 1),
+    (b"'\\n'", 1),
+    (b"'\xc8'", 1),
+    (b"\"x\"", 1),
+    (b"/", 1),
+    (b"f /", 3),
+    (b"@", 1),
+    (b"\xc8", 1),
+];
+
+#[test]
+fn stops_at_what_is_not_built(rt: HostRuntime) {
+    for (text, column) in &BAD {
+        assert_eq!(rt;
+            first_bad(rt.alloc(), text),
+            Some(Place {
+                line: 1,
+                column: *column
+            }),
+            "{text:?}"
+        );
+    }
+    assert_eq!(rt;
+        first_bad(rt.alloc(), b"a\n b '\n'"),
+        Some(Place { line: 2, column: 4 })
+    );
+}
+
+static GOOD: [(&[u8], usize); 14] = [
+    (b"9223372036854775807", 2),
+    (b"0", 2),
+    (b"'\"'", 2),
+    (b"'\x00'", 2),
+    (b"'\x7f'", 2),
+    (b"'('", 2),
+    (b"L", 2),
+    (b"LL()", 4),
+    (b"android", 2),
+    (b"_int int_ int", 4),
+    (b"f(<a>,b);", 10),
+    (b"a'b'c", 4),
+    (b"=;=", 4),
+    (b"< >(", 4),
+];
+
+#[test]
+fn counts_good_tokens(rt: HostRuntime) {
+    for (text, wanted) in &GOOD {
+        assert_eq!(rt; count(rt.alloc(), text), Some(*wanted), "{text:?}");
+    }
+}
+
+/// So many semicolons and a last byte.
+fn semicolons(alloc: Global, many: usize, last: u8) -> Result<Vec<u8>, AllocError> {
+    let mut text = vec![in alloc; b';'; many]?;
+    text.push(last)?;
+    Ok(text)
+}
+
+#[test]
+fn a_unit_has_so_many_tokens(rt: HostRuntime) -> Result<(), AllocError> {
+    let most = limits::MOST_TOKENS as usize;
+    let whole = semicolons(rt.alloc(), most - 1, b'\n')?;
+    assert_eq!(rt; count(rt.alloc(), &whole), Some(most));
+    let over = semicolons(rt.alloc(), most, b'\n')?;
+    assert_eq!(rt; count(rt.alloc(), &over), Some(0));
+    let bad = semicolons(rt.alloc(), most, b'@')?;
+    assert_eq!(rt;
+        first_bad(rt.alloc(), &bad),
+        Some(Place {
+            line: 1,
+            column: 4_194_305
+        })
+    );
+    let later = semicolons(rt.alloc(), most + 1, b'@')?;
+    assert_eq!(rt; count(rt.alloc(), &later), Some(0));
+    Ok(())
+}
+
+#[test]
+fn a_literal_has_a_type(rt: HostRuntime) {
+    assert_eq!(rt; literal_type(b"2147483647"), Some(Base::Int));
+    assert_eq!(rt; literal_type(b"2147483648"), Some(Base::Long));
+    assert_eq!(rt; literal_type(b"'a'"), Some(Base::Char));
+    assert_eq!(rt; literal_type(b"a"), None);
+    assert_eq!(rt; literal_type(b""), None);
+}

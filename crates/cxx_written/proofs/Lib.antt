@@ -1,0 +1,8 @@
+pub mod Tables
+pub mod Shapes
+pub mod Ends
+pub mod ReadLines
+pub mod Names
+pub mod FirstWords
+pub mod ReadWords
+mod Rows

@@ -1,0 +1,4 @@
+pub mod Line
+pub mod Ends
+pub mod ReadsAs
+pub mod Printable

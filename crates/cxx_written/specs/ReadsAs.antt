@@ -1,0 +1,32 @@
+-- When a text reads as lines of words.
+use Rattle.std.specs.Prelude.{◌≡◌, ◌⊎◌, List, [], ◌∷◌, ◌++◌, map, flat_map, Result, Ok, Err, ℕ}
+use Rattle.cxx_model.specs.declared.token.Token.{Token}
+use Rattle.cxx_model.specs.declared.token.TokenKind.TheVariants.{End}
+use Rattle.cxx_model.specs.First.Words.{joined}
+use Rattle.cxx_model.specs.Lexemes.{lexemes}
+use Rattle.cxx_model.specs.Tokens.{Unread, BadAt, PastTokens}
+use Rattle.cxx_model.specs.Written.{Written, written, line_of}
+use Rattle.cxx_written.specs.Line.{IsSpelled}
+
+-- the end of the unit, which is its last token
+abbrev pub end_word : Written
+end_word = record { kind = End; spelling = [] }
+
+-- the text of lines
+abbrev pub text_of : List (List Written) → List ℕ
+text_of lines = flat_map line_of lines
+
+-- The tokens of the text are these words, each spelled as it is written. No place is bad, and where the text has more
+-- tokens than may be read nothing is asked.
+abbrev pub ReadsAsWords : Result (List Token) Unread → List ℕ → List Written → Type 0
+ReadsAsWords (Ok tokens) text words = map written (lexemes text tokens) ≡ words
+ReadsAsWords (Err (BadAt place reason)) text words = ⊥
+ReadsAsWords (Err PastTokens) text words = Unit {0}
+
+-- the words of the lines, and the end
+abbrev pub ReadsAs : Result (List Token) Unread → List ℕ → List (List Written) → Type 0
+ReadsAs answer text lines = ReadsAsWords answer text (joined lines ++ end_word ∷ [])
+
+-- a word that was read: it is spelled as what it is, or is the end
+abbrev pub IsReadWord : Written → Type 0
+IsReadWord word = IsSpelled word ⊎ (word ≡ end_word)
