@@ -2,3 +2,4 @@ pub mod Items
 pub mod Lists
 pub mod Loops
 pub mod Productions
+pub mod Whole

@@ -47,12 +47,12 @@ pub(crate) fn chosen<'a>(arguments: &[Base], viable: &[Contender<'a>]) -> Option
 fn counter<'a>(
     arguments: &[Base],
     viable: &[Contender<'a>],
-    one: &Contender,
+    this: &Contender,
 ) -> Option<Contender<'a>>
-    ensures { option_map contender_at result ≡ counter_of position_of (contender_beats arguments.now) (map contender_at viable.now) (contender_at one.now) }
+    ensures { option_map contender_at result ≡ counter_of position_of (contender_beats arguments.now) (map contender_at viable.now) (contender_at this.now) }
 {
     for two in viable {
-        if !beats_if_other(arguments, one, two) {
+        if !beats_if_other(arguments, this, two) {
             return Some(*two);
         }
     }

@@ -1,10 +1,12 @@
 //! Declarations (clauses 7 and 8), and the unit.
 
-ghost use Rattle.std.specs.Prelude.{◌≡◌, ◌+◌, ◌≤◌, length};
+ghost use Rattle.std.specs.Prelude.{◌≡◌, ◌+◌, ◌≤◌, length, IfOk};
 ghost use Rattle.cxx_model.specs.declared.limits.TheConstants as limits;
 ghost use Rattle.cxx_model.specs.Lexemes.{lexemes};
 ghost use Rattle.cxx_model.specs.Stops.{Gives};
 ghost use Rattle.cxx_model.specs.First.Reading.{begins_type as begins_a_type, same_bases as are_same_bases, clashes as is_clash, has_clash as has_a_clash, list_at, type_at, declare as declare_at, function_at, object_at, item_at, items_at, reading_of, is_end as is_end_kind};
+ghost use Rattle.cxx_model.specs.First.Bound.{EachCallIsBest};
+ghost use Rattle.cxx_model.specs.First.Words.{AreSpelled, words_of, words_before_end};
 ghost use Rattle.cxx_decl.specs.Views.{left, lexeme};
 
 use crate::cursor::{Cursor, Spelled, is_punct, type_of_kind};
@@ -142,7 +144,7 @@ fn function(
 }
 
 /// An object, behind its name: it is declared before its initializer is read.
-#[tactic(auto, unfolding(cxx_model::specs::First::Reading::object_at))]
+#[tactic(auto, using(cxx_model::proofs::FirstForm::Taken::declares_counts), unfolding(cxx_model::specs::First::Reading::object_at))]
 fn object(
     alloc: Global,
     cursor: &mut Cursor,
@@ -205,16 +207,14 @@ fn items(alloc: Global, cursor: &mut Cursor, so_far: &mut Reading) -> Result<(),
     Err(Stop::Limit(LimitKind::Facts))
 }
 
-/// Reads a unit: the reading, the first fault, or the limit that is passed first, of the tokens with the bytes that
-/// spell them.
 #[tactic(auto, unfolding(cxx_model::specs::First::Reading::reading_of))]
-pub fn read_unit(
+fn read_all(
     alloc: Global,
     bytes: &[u8],
     tokens: &[Token],
     options: Options,
 ) -> Result<Reading, Stop>
-    ensures exact { Gives (λ reading. reading) result (reading_of options (lexemes bytes.now tokens.now)) }
+    ensures { Gives (λ reading. reading) result (reading_of options (lexemes bytes.now tokens.now)) }
 {
     let mut cursor = Cursor::new(bytes, tokens);
     let mut so_far = Reading {
@@ -225,4 +225,22 @@ pub fn read_unit(
     };
     items(alloc, &mut cursor, &mut so_far)?;
     Ok(so_far)
+}
+
+/// Reads a unit: the reading, the first fault, or the limit that is passed first, of the tokens with the bytes that
+/// spell them.
+pub fn read_unit(
+    alloc: Global,
+    bytes: &[u8],
+    tokens: &[Token],
+    options: Options,
+) -> Result<Reading, Stop>
+    ensures exact { Gives (λ reading. reading) result (reading_of options (lexemes bytes.now tokens.now)) }
+    // Each call means the best of the viable functions of its name that are declared before it.
+    ensures best { IfOk result EachCallIsBest }
+    // The words of the reading are those of the unit, where each token is spelled as its kind is.
+    ensures words { IfOk result
+        (λ reading. AreSpelled (lexemes bytes.now tokens.now) → words_of reading ≡ words_before_end (lexemes bytes.now tokens.now)) }
+{
+    read_all(alloc, bytes, tokens, options)
 }

@@ -10,8 +10,13 @@ mod cursor;
 mod declaration;
 mod expression;
 mod fault;
+mod laws;
 mod scope;
 mod standard;
 mod viable;
 
 pub use declaration::read_unit;
+pub use laws::{better_is_asymmetric, each_call_is_best, words_are_kept};
+
+#[cfg(test)]
+mod tests;

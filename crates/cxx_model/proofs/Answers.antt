@@ -28,7 +28,7 @@ pub if_ok : {A : Type 0} (b : Bool) (why : Stopped) (r : Answer A) (y : A) → c
 if_ok true why r y e = (refl, e)
 if_ok false why r y e = absurd cc
 
--- a choice between two readers
+-- a choice of two values
 pub either_is : {A : Type 0} (b : Bool) (x y z : A) → cond b x y ≡ z → ((b ≡ true) × (x ≡ z)) ⊎ ((b ≡ false) × (y ≡ z))
 either_is true x y z e = inl (refl, e)
 either_is false x y z e = inr (refl, e)

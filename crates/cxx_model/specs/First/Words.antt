@@ -1,5 +1,6 @@
--- The words of a reading: those of each declaration, in order.
-use Rattle.std.specs.Prelude.{ℕ, List, [], ◌∷◌, ◌++◌, codes}
+-- The words of a reading: those of each declaration, in order. And the words of the unit that it read.
+use Rattle.std.specs.Prelude.{◌≡◌, ℕ, if◌then◌else◌, List, [], ◌∷◌, ◌++◌, map, Some, codes}
+use Rattle.std.specs.List.{AllByRecursion}
 use Rattle.cxx_model.specs.declared.base.Base.{Base}
 use Rattle.cxx_model.specs.declared.base.Base.TheVariants as base
 use Rattle.cxx_model.specs.declared.first.Argument.{Argument}
@@ -13,7 +14,10 @@ use Rattle.cxx_model.specs.declared.first.Reading.{Reading}
 use Rattle.cxx_model.specs.declared.keyword.TheConstants as keyword
 use Rattle.cxx_model.specs.declared.token.TokenKind.{TokenKind}
 use Rattle.cxx_model.specs.declared.token.TokenKind.TheVariants.{Keyword, Integer, Character}
-use Rattle.cxx_model.specs.Written.{Written, open_word, close_word, comma_word, semicolon_word, equals_word, less_word, greater_word, static_cast_word, name_word}
+use Rattle.cxx_model.specs.First.Reading.{is_end}
+use Rattle.cxx_model.specs.Lexemes.{Lexeme}
+use Rattle.cxx_model.specs.Spelling.{Good, spelling_of}
+use Rattle.cxx_model.specs.Written.{Written, written, open_word, close_word, comma_word, semicolon_word, equals_word, less_word, greater_word, static_cast_word, name_word}
 
 abbrev pub keyword_word : ℕ → List ℕ → Written
 keyword_word n text = record { kind = Keyword n; spelling = text }
@@ -108,3 +112,20 @@ joined (line ∷ others) = line ++ joined others
 -- the words of a whole reading
 unfoldable pub words_of : Reading → List Written
 words_of reading = joined (lines reading.declarations reading.items)
+
+-- ---- the words of a unit
+
+-- the tokens before the end of the unit
+abbrev pub before_end : List Lexeme → List Lexeme
+before_end [] = []
+before_end (token ∷ ahead) = if is_end token.kind then [] else token ∷ before_end ahead
+
+abbrev pub words_before_end : List Lexeme → List Written
+words_before_end ahead = map written (before_end ahead)
+
+-- 2.6: what spells a token spells a token of its kind
+pub record IsSpelled (token : Lexeme) : Type 0 where
+  pub spelled : spelling_of token.spelling ≡ Some (Good token.kind)
+
+abbrev pub AreSpelled : List Lexeme → Type 0
+AreSpelled ahead = AllByRecursion IsSpelled (before_end ahead)

@@ -6,4 +6,4 @@ use Rattle.cxx_decl.specs.Views.{contender_at}
 use Rattle.cxx_decl.proofs.champion.counter.Given as goal
 
 abbrev pub invariant-loop-two : goal.invariant-loop-two
-invariant-loop-two l = find (λ g. not (beats_if_other position_of (contender_beats l.arguments) (contender_at l.one) g)) (map contender_at (drop l.two-index l.viable)) ≡ find (λ g. not (beats_if_other position_of (contender_beats l.arguments) (contender_at l.one) g)) (map contender_at l.viable)
+invariant-loop-two l = find (λ g. not (beats_if_other position_of (contender_beats l.arguments) (contender_at l.this) g)) (map contender_at (drop l.two-index l.viable)) ≡ find (λ g. not (beats_if_other position_of (contender_beats l.arguments) (contender_at l.this) g)) (map contender_at l.viable)
