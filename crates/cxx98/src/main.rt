@@ -4,10 +4,9 @@
 use cxx_command::run;
 use cxx_edge::{StdSink, StdSource};
 use std::alloc::AllocError;
-use std::env;
-use std::io;
 use std::process::ExitCode;
 use std::rt::Env;
+use std::{env, io};
 
 /// The status where the words find no memory.
 const NO_MEMORY: u8 = 6;

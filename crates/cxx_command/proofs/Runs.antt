@@ -1,9 +1,9 @@
 -- The contract of a run follows from what is due and where it was told.
-use Rattle.std.proofs.Common.{◌≡◌, rules, ◌≢◌, ◌⊎◌, inl, inr, ◌∙◌, ℕ, suc, ◌+◌, ◌<◌, ◌≤◌, Bool, true, false, cond, List, [], length, replicate, nat_lt, ◌∷◌, arith, refl, sym, ap, subst}
+use Rattle.std.proofs.Common.{◌≡◌, ◌≢◌, ◌⊎◌, inl, inr, ◌∙◌, ℕ, suc, ◌<◌, Bool, true, false, cond, List, [], length, replicate, nat_lt, ◌∷◌, arith, refl, sym, ap, subst}
 use Rattle.std.proofs.lemmas.Bool.{lt-ltb}
 use Rattle.std.proofs.lemmas.Bool.Decides.{nat_tests}
 use Rattle.std.proofs.lemmas.List.{length-replicate}
-use Rattle.std.specs.Prelude.{◌==◌, Option, Result, Some, None, IfSome, codes, Ok, Err}
+use Rattle.std.specs.Prelude.{◌==◌, Option, Result, Some, None, codes, Ok, Err}
 use Rattle.cxx_edge.specs.Source.{IsLonger}
 use Rattle.cxx_model.specs.declared.first.Options.{Options}
 use Rattle.cxx_model.specs.declared.first.Reading.{Reading}
@@ -17,13 +17,14 @@ use Rattle.cxx_model.specs.declared.token.Token.{Token}
 use Rattle.cxx_model.specs.First.Reading.{reading_of}
 use Rattle.cxx_model.specs.Lexemes.{Lexeme, lexemes}
 use Rattle.cxx_model.specs.Outcome.{UnitDue, Writes, Reports, Names, UnitOutcome, Whole, Broken, PastLimit, outcome_of, read_outcome, tokens_outcome, due_of, due_for}
+use Rattle.cxx_model.specs.ReadsBack.{PlainReadsBack}
 use Rattle.cxx_model.specs.Stops.{Answer as Reads, Faulty, Limited}
 use Rattle.cxx_model.specs.Tokens.{Unread, BadAt, PastTokens, tokens_of}
 use Rattle.cxx_model.specs.Reports.{report, limit_report}
 use Rattle.cxx_command.specs.declared.answers.Answer.{Answer}
 use Rattle.cxx_command.specs.declared.answers.Answer.TheVariants as answer
 use Rattle.cxx_command.specs.Answers.{IsInputAnswer, IsRunAnswer, DeliversAnswer}
-use Rattle.cxx_command.specs.Run.{default_options, due, IsUnderstood, Tells, AgreesWith, Due, ForUnit, NotUnderstood, CannotRead, NoMemory, status_of_unit, status_of, IsToldTo, IsTold, Delivers, IsUnitDue, IsDue, IsExcused, IsWritten, IsAnswer}
+use Rattle.cxx_command.specs.Run.{default_options, due, AgreesWith, ForUnit, NotUnderstood, CannotRead, NoMemory, status_of_unit, IsToldTo, IsTold, Delivers, IsUnitDue, IsDue, IsWritten, IsAnswer}
 use Rattle.cxx_command.specs.Streams.{Change, HasFailed, IsUntouched, TookAll, TookPart}
 
 -- ---- an input past the limit
@@ -95,6 +96,7 @@ whole_read options bytes reading is = unless_long (nat_lt limits.MOST_BYTES (len
 
 pub record Laws : Type 0 where
   pub best : (options : Options) (tokens : List Lexeme) (reading : Reading) → reading_of options tokens ≡ Ok reading → EachCallIsBest reading
+  pub back : (options : Options) (bytes : List ℕ) → PlainReadsBack options bytes
 
 written_of : {K E : Type 0} (laws : Laws) (input text : List ℕ) (out : Change K) (err : Change E) → due input ≡ Writes text → TookAll out text → IsUntouched err → (reading : Reading) × IsWritten input reading out err
 written_of laws input text out err is took quiet =
@@ -106,6 +108,7 @@ written_of laws input text out err is took quiet =
         written = subst (λ (t : List ℕ). TookAll out t) (sym found.2) took;
         quiet = quiet;
         best = laws.best default_options (lexemes input read.0) found.0 read.1;
+        reads_back = laws.back default_options input found.0 found.1;
       },
     )
 

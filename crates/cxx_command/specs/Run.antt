@@ -1,12 +1,13 @@
 -- What a run owes, and what its status says.
-use Rattle.std.specs.Prelude.{◌≡◌, ◌≢◌, ◌⊎◌, ℕ, List, [], Option, Some, None, ⊤, Bool, codes}
+use Rattle.std.specs.Prelude.{◌≡◌, ◌≢◌, ◌⊎◌, ℕ, List, [], Option, Some, None, ⊤, codes}
 use Rattle.cxx_model.specs.declared.first.Options.{Options}
 use Rattle.cxx_model.specs.declared.first.Reading.{Reading}
 use Rattle.cxx_model.specs.declared.stop.Fault.{Fault}
 use Rattle.cxx_model.specs.declared.stop.LimitKind.{LimitKind}
 use Rattle.cxx_model.specs.First.Bound.{EachCallIsBest}
 use Rattle.cxx_model.specs.First.Plain.{plain}
-use Rattle.cxx_model.specs.Outcome.{UnitDue, Writes, Reports, Names, UnitOutcome, Whole, outcome_of, due_for}
+use Rattle.cxx_model.specs.Outcome.{UnitDue, Writes, Reports, Names, Whole, outcome_of, due_for}
+use Rattle.cxx_model.specs.ReadsBack.{ReadsBack, IsTooLarge}
 use Rattle.cxx_model.specs.Reports.{report, limit_report}
 use Rattle.cxx_command.specs.Streams.{Change, HasFailed, IsUntouched, TookAll, TookPart}
 
@@ -92,6 +93,7 @@ pub record IsWritten {K E : Type 0} (input : List ℕ) (reading : Reading) (out 
   pub written : TookAll out (plain reading)
   pub quiet : IsUntouched err
   pub best : EachCallIsBest reading
+  pub reads_back : ReadsBack default_options (plain reading) reading ⊎ IsTooLarge default_options (plain reading)
 
 pub record IsAnswer {X S K E : Type 0} (words : List X) (source : Change S) (out : Change K) (err : Change E) (status : ℕ) : Type 0 where
   -- What is due is delivered. The rest follows from this, and says it status by status.
@@ -102,7 +104,8 @@ pub record IsAnswer {X S K E : Type 0} (words : List X) (source : Change S) (out
   -- plain form is appended to `out`, and nothing to `err`
   pub complete : (input text : List ℕ) → Tells source input → IsUnderstood words → due input ≡ Writes text
       → ¬ (HasFailed source) → ¬ (HasFailed out) → ¬ (HasFailed err) → ((status ≡ 0) × TookAll out text × IsUntouched err) ⊎ (status ≡ 6)
-  -- 0: only then; the unit is whole, and each of its calls names the viable function that is better than every other
+  -- 0: only then; the unit is whole, each of its calls names the viable function that is better than every other, and
+  -- the text that was written reads back, or is too large to be read again
   pub whole : (input : List ℕ) → Tells source input → status ≡ 0 → (reading : Reading) × IsWritten input reading out err
   -- 1: exactly where the unit is broken, with the report of its first fault
   pub broken : (input : List ℕ) → Tells source input → status ≡ 1 → (fault : Fault) × (due input ≡ Reports fault) × TookAll err (report fault)

@@ -8,7 +8,9 @@ mod answers;
 mod delivery;
 mod unit;
 
+use cxx_decl::each_call_is_best;
 use cxx_edge::{Sink, Source};
+use cxx_read_back::plain_reads_back;
 use std::alloc::Global;
 
 /// Does all that the program does, and gives its status: 0 where the plain form of the unit was written to `out`; else
@@ -25,6 +27,8 @@ pub fn run<S: Source, K: Sink, E: Sink>(
     ensures { IsAnswer words.now (change S.left S.faults source.old source.new)
         (change K.taken K.faults out.old out.new) (change E.taken E.faults err.old err.new) result }
 {
+    each_call_is_best();
+    plain_reads_back();
     let answer = answers::read_and_answer(alloc, words, source);
     delivery::deliver(&answer, out, err)
 }

@@ -1,8 +1,8 @@
-use Rattle.cxx_model.proofs.FirstForm.Bound.{each_call_is_best}
+-- The contract follows from what is due and where it was told, by the laws of every unit.
 use Rattle.cxx_command.proofs.Runs.{Laws, answered}
 use Rattle.cxx_command.proofs.run.Goals as goal
 
 pub returns : goal.returns
 returns g c =
-    let laws : Laws = record { best = each_call_is_best } in
+    let laws : Laws = record { best = c.each_call_is_best.ensures; back = c.plain_reads_back.ensures } in
     answered laws c.args.words.now _ _ _ _ _ c.read_and_answer-answer.ensures c.deliver.ensures

@@ -146,7 +146,7 @@ object_bound room so_far of name ahead after t b =
     let d = declared_bound room so_far name (Object of) t.declared (declares room so_far name (Object of) t.declared t.declares_it) b in
     let one = initializer_best t.declared.declarations t.equals t.call t.initializes in
     let whole : take (suc (0 + length t.declared.items)) t.declared.declarations ≡ t.declared.declarations =
-        ap (λ ds. take (suc (0 + length t.declared.items)) ds) (sym (append-nil t.declared.declarations)) ∙ take_at t.declared.declarations [] (suc (0 + length t.declared.items)) (omega (arith, d.0)) in
+    ap (λ ds. take (suc (0 + length t.declared.items)) ds) (sym (append-nil t.declared.declarations)) ∙ take_at t.declared.declarations [] (suc (0 + length t.declared.items)) (omega (arith, d.0)) in
     subst (λ (r : Reading). IsBoundSoFar r) (sym t.made) (record {
       paired = omega (arith, length-append t.declared.items (item.Object t.call.0.0 ∷ []), d.0);
       bound_all = with_object_item t.declared.declarations 0 t.declared.items t.declared.calls t.call.0.0 t.call.0.1 d.1 (subst (λ ds. IsBoundAmong ds t.call.0.0 t.call.0.1) (sym whole) one);

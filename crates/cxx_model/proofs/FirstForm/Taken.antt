@@ -102,9 +102,9 @@ argument_taken declarations inside ahead after e =
     elim (either_is (is_literal (kind_of ahead)) (literal_at ahead) (cond (is_keyword keyword.STATIC_CAST (kind_of ahead)) (cast_at cast_argument inside ahead) (misplaced declarations ahead)) (Ok after) e) [
       | inl literal ↦ inl literal
       | inr other ↦ elim (either_is (is_keyword keyword.STATIC_CAST (kind_of ahead)) (cast_at cast_argument inside ahead) (misplaced declarations ahead) (Ok after) other.1) [
-          | inl cast ↦ inr cast
-          | inr none ↦ absurd (misplaced_stops declarations ahead after none.1)
-        ]
+        | inl cast ↦ inr cast
+        | inr none ↦ absurd (misplaced_stops declarations ahead after none.1)
+      ]
     ]
 
 pub record CallTaken (declarations : List Declaration) (room : ℕ) (ahead : List Lexeme) (after : (Initializer × Call) × List Lexeme) : Type 0 where
@@ -136,9 +136,9 @@ initializer_taken declarations inside room ahead after e =
     elim (either_is (begins_call ahead) (call_at declarations room ahead) (cond (is_keyword keyword.STATIC_CAST (kind_of ahead)) (cast_at cast_initializer inside ahead) (misplaced declarations ahead)) (Ok after) e) [
       | inl call ↦ inl call
       | inr other ↦ elim (either_is (is_keyword keyword.STATIC_CAST (kind_of ahead)) (cast_at cast_initializer inside ahead) (misplaced declarations ahead) (Ok after) other.1) [
-          | inl cast ↦ inr cast
-          | inr none ↦ absurd (misplaced_stops declarations ahead after none.1)
-        ]
+        | inl cast ↦ inr cast
+        | inr none ↦ absurd (misplaced_stops declarations ahead after none.1)
+      ]
     ]
 
 -- ---- declarations

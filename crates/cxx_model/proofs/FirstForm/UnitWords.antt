@@ -137,9 +137,9 @@ function_line room so_far of name ahead after e opens t f =
       declarations = ap (λ (r : Reading). r.declarations) f.made ∙ ap (λ (r : Reading). r.declarations) d.made;
       items = ap (λ (r : Reading). r.items) f.made ∙ ap (λ (r : Reading). r.items ++ item.Function ∷ []) d.made;
       words = t.0 ∙ ap (λ w. spell_base of.0 (name_word name.0.spelling ∷ w)) t1.0
-        ∙ ap (λ w. spell_base of.0 (name_word name.0.spelling ∷ open_word ∷ w)) t2.0
-        ∙ ap (λ w. spell_base of.0 (name_word name.0.spelling ∷ open_word ∷ separated spell_base f.parameters.0 w)) t3.0
-        ∙ ap (λ w. spell_base of.0 (name_word name.0.spelling ∷ open_word ∷ separated spell_base f.parameters.0 (close_word ∷ w))) t4.0;
+          ∙ ap (λ w. spell_base of.0 (name_word name.0.spelling ∷ open_word ∷ w)) t2.0
+          ∙ ap (λ w. spell_base of.0 (name_word name.0.spelling ∷ open_word ∷ separated spell_base f.parameters.0 w)) t3.0
+          ∙ ap (λ w. spell_base of.0 (name_word name.0.spelling ∷ open_word ∷ separated spell_base f.parameters.0 (close_word ∷ w))) t4.0;
       spelled = t4.1;
     }
 
@@ -156,8 +156,8 @@ object_line room so_far of name ahead after t o =
       declarations = ap (λ (r : Reading). r.declarations) o.made ∙ ap (λ (r : Reading). r.declarations) d.made;
       items = ap (λ (r : Reading). r.items) o.made ∙ ap (λ (r : Reading). r.items ++ item.Object o.call.0.0 ∷ []) d.made;
       words = t.0 ∙ ap (λ w. spell_base of.0 (name_word name.0.spelling ∷ w)) t1.0
-        ∙ ap (λ w. spell_base of.0 (name_word name.0.spelling ∷ equals_word ∷ w)) t2.0
-        ∙ ap (λ w. spell_base of.0 (name_word name.0.spelling ∷ equals_word ∷ spell_object o.call.0 w)) t3.0;
+          ∙ ap (λ w. spell_base of.0 (name_word name.0.spelling ∷ equals_word ∷ w)) t2.0
+          ∙ ap (λ w. spell_base of.0 (name_word name.0.spelling ∷ equals_word ∷ spell_object o.call.0 w)) t3.0;
       spelled = t3.1;
     }
 
@@ -180,11 +180,12 @@ unfolding words_of
 line_added so_far after ahead rest h l =
     let line = line_words l.declaration l.says in
     let more : joined (lines after.declarations after.items) ≡ joined (lines so_far.declarations so_far.items) ++ line =
-        ap (λ ds. joined (lines ds after.items)) l.declarations ∙ ap (λ is. joined (lines (so_far.declarations ++ l.declaration ∷ []) is)) l.items
-        ∙ ap joined (lines_more so_far.declarations so_far.items l.declaration l.says h) ∙ joined_more (lines so_far.declarations so_far.items) line in
-    (omega (arith, ap length l.items, ap length l.declarations, length-append so_far.items (l.says ∷ []), length-append so_far.declarations (l.declaration ∷ []), h),
+    ap (λ ds. joined (lines ds after.items)) l.declarations ∙ ap (λ is. joined (lines (so_far.declarations ++ l.declaration ∷ []) is)) l.items
+    ∙ ap joined (lines_more so_far.declarations so_far.items l.declaration l.says h) ∙ joined_more (lines so_far.declarations so_far.items) line in (
+      omega (arith, ap length l.items, ap length l.declarations, length-append so_far.items (l.says ∷ []), length-append so_far.declarations (l.declaration ∷ []), h),
       ap (λ w. w ++ words_before_end rest) more ∙ append_assoc (joined (lines so_far.declarations so_far.items)) line (words_before_end rest)
-      ∙ ap (λ w. joined (lines so_far.declarations so_far.items) ++ w) (sym (l.words ∙ line_continues l.declaration l.says (words_before_end rest))))
+          ∙ ap (λ w. joined (lines so_far.declarations so_far.items) ++ w) (sym (l.words ∙ line_continues l.declaration l.says (words_before_end rest))),
+    )
 
 ended : (ahead : List Lexeme) → is_end (kind_of ahead) ≡ true → words_before_end ahead ≡ []
 ended [] h = refl

@@ -140,20 +140,45 @@ static_cast_is = refl
 type_word : (n : ℕ) (b : Base) (ahead : List Lexeme) → type_of_keyword n ≡ Some b → kind_of ahead ≡ Keyword n → AreSpelled ahead → Takes ahead (spell_base b (words_before_end (behind ahead))) (behind ahead)
 unfolding keywords spell_base
 type_word n b ahead e kind s =
-    elim (either_is (eqb n keyword.BOOL) _ _ _ e) [ | inl h ↦ one keyword.BOOL (codes "bool") base.Bool h.0 h.1 refl (λ rest. refl) | inr e1 ↦
-    elim (either_is (eqb n keyword.CHAR) _ _ _ e1.1) [ | inl h ↦ one keyword.CHAR (codes "char") base.Char h.0 h.1 refl (λ rest. refl) | inr e2 ↦
-    elim (either_is (eqb n keyword.SHORT) _ _ _ e2.1) [ | inl h ↦ one keyword.SHORT (codes "short") base.Short h.0 h.1 refl (λ rest. refl) | inr e3 ↦
-    elim (either_is (eqb n keyword.INT) _ _ _ e3.1) [ | inl h ↦ one keyword.INT (codes "int") base.Int h.0 h.1 refl (λ rest. refl) | inr e4 ↦
-    elim (either_is (eqb n keyword.LONG) _ _ _ e4.1) [ | inl h ↦ one keyword.LONG (codes "long") base.Long h.0 h.1 refl (λ rest. refl) | inr e5 ↦
-    elim (either_is (eqb n keyword.UNSIGNED) _ _ _ e5.1) [ | inl h ↦ one keyword.UNSIGNED (codes "unsigned") base.Unsigned h.0 h.1 refl (λ rest. refl) | inr e6 ↦
-    elim (either_is (eqb n keyword.FLOAT) _ _ _ e6.1) [ | inl h ↦ one keyword.FLOAT (codes "float") base.Float h.0 h.1 refl (λ rest. refl) | inr e7 ↦
-    elim (either_is (eqb n keyword.DOUBLE) _ _ _ e7.1) [ | inl h ↦ one keyword.DOUBLE (codes "double") base.Double h.0 h.1 refl (λ rest. refl) | inr e8 ↦ absurd (none e8.1)
-    ] ] ] ] ] ] ] ]
+    elim (either_is (eqb n keyword.BOOL) _ _ _ e) [
+      | inl h ↦ one keyword.BOOL (codes "bool") base.Bool h.0 h.1 refl (λ rest. refl)
+      | inr e1 ↦
+          elim (either_is (eqb n keyword.CHAR) _ _ _ e1.1) [
+            | inl h ↦ one keyword.CHAR (codes "char") base.Char h.0 h.1 refl (λ rest. refl)
+            | inr e2 ↦
+                elim (either_is (eqb n keyword.SHORT) _ _ _ e2.1) [
+                  | inl h ↦ one keyword.SHORT (codes "short") base.Short h.0 h.1 refl (λ rest. refl)
+                  | inr e3 ↦
+                      elim (either_is (eqb n keyword.INT) _ _ _ e3.1) [
+                        | inl h ↦ one keyword.INT (codes "int") base.Int h.0 h.1 refl (λ rest. refl)
+                        | inr e4 ↦
+                            elim (either_is (eqb n keyword.LONG) _ _ _ e4.1) [
+                              | inl h ↦ one keyword.LONG (codes "long") base.Long h.0 h.1 refl (λ rest. refl)
+                              | inr e5 ↦
+                                  elim (either_is (eqb n keyword.UNSIGNED) _ _ _ e5.1) [
+                                    | inl h ↦ one keyword.UNSIGNED (codes "unsigned") base.Unsigned h.0 h.1 refl (λ rest. refl)
+                                    | inr e6 ↦
+                                        elim (either_is (eqb n keyword.FLOAT) _ _ _ e6.1) [
+                                          | inl h ↦ one keyword.FLOAT (codes "float") base.Float h.0 h.1 refl (λ rest. refl)
+                                          | inr e7 ↦
+                                              elim (either_is (eqb n keyword.DOUBLE) _ _ _ e7.1) [
+                                                | inl h ↦ one keyword.DOUBLE (codes "double") base.Double h.0 h.1 refl (λ rest. refl)
+                                                | inr e8 ↦ absurd (none e8.1)
+                                              ]
+                                        ]
+                                  ]
+                            ]
+                      ]
+                ]
+          ]
+    ]
   where
     none : {b : Base} → None ≡ Some b → ⊥
     none e = cc
+
     same : (c : Base) → Some c ≡ Some b → c ≡ b
     same c e = cc
+
     one : (m : ℕ) (text : List ℕ) (c : Base) → eqb n m ≡ true → Some c ≡ Some b → get_or keywords m [] ≡ text → ((rest : List Written) → keyword_word m text ∷ rest ≡ spell_base c rest) → Takes ahead (spell_base b (words_before_end (behind ahead))) (behind ahead)
     one m text c at is table spells =
         let t = keyword_words m text ahead table (kind ∙ ap Keyword (eqb-true n m at)) s in
@@ -232,14 +257,16 @@ cast_takes {A = A} wrap spell inside ahead x writes within h e s =
     let t3 = punct_takes punct.GREATER (codes ">") c.target.1 c.greater greater_is c.greater_is t2.1 in
     let t4 = punct_takes punct.LEFT_PARENTHESIS (codes "(") c.greater c.opened open_is c.opens t3.1 in
     let t5 = within c.opened c.operand c.operates t4.1 in
-    let t6 = punct_takes punct.RIGHT_PARENTHESIS (codes ")") c.operand.1 x.1 close_is c.closes t5.1 in
-    (t0.0 ∙ ap (λ w. static_cast_word ∷ w) t1.0 ∙ ap (λ w. static_cast_word ∷ less_word ∷ w) t2.0
-      ∙ ap (λ w. static_cast_word ∷ less_word ∷ spell_base c.target.0 w) t3.0
-      ∙ ap (λ w. static_cast_word ∷ less_word ∷ spell_base c.target.0 (greater_word ∷ w)) t4.0
-      ∙ ap (λ w. static_cast_word ∷ less_word ∷ spell_base c.target.0 (greater_word ∷ open_word ∷ w)) t5.0
-      ∙ ap (λ w. static_cast_word ∷ less_word ∷ spell_base c.target.0 (greater_word ∷ open_word ∷ spell c.operand.0 w)) t6.0
-      ∙ writes c.target.0 c.operand.0 (words_before_end x.1)
-      ∙ ap (λ (y : A). spell y (words_before_end x.1)) (sym c.made), t6.1)
+    let t6 = punct_takes punct.RIGHT_PARENTHESIS (codes ")") c.operand.1 x.1 close_is c.closes t5.1 in (
+      t0.0 ∙ ap (λ w. static_cast_word ∷ w) t1.0 ∙ ap (λ w. static_cast_word ∷ less_word ∷ w) t2.0
+          ∙ ap (λ w. static_cast_word ∷ less_word ∷ spell_base c.target.0 w) t3.0
+          ∙ ap (λ w. static_cast_word ∷ less_word ∷ spell_base c.target.0 (greater_word ∷ w)) t4.0
+          ∙ ap (λ w. static_cast_word ∷ less_word ∷ spell_base c.target.0 (greater_word ∷ open_word ∷ w)) t5.0
+          ∙ ap (λ w. static_cast_word ∷ less_word ∷ spell_base c.target.0 (greater_word ∷ open_word ∷ spell c.operand.0 w)) t6.0
+          ∙ writes c.target.0 c.operand.0 (words_before_end x.1)
+          ∙ ap (λ (y : A). spell y (words_before_end x.1)) (sym c.made),
+      t6.1,
+    )
 
 argument_writes : WritesCast cast_argument spell_argument
 argument_writes target x rest = refl
@@ -334,10 +361,12 @@ call_takes declarations room ahead x e s =
     let t0 = name_takes ahead c.name c.names s in
     let t1 = punct_takes punct.LEFT_PARENTHESIS (codes "(") c.name.1 c.opened open_is c.opens t0.1 in
     let t2 = arguments_takes declarations room c.opened c.arguments c.lists t1.1 in
-    let t3 = punct_takes punct.RIGHT_PARENTHESIS (codes ")") c.arguments.1 x.1 close_is c.closes t2.1 in
-    (t0.0 ∙ ap (λ w. name_word c.name.0.spelling ∷ w) t1.0 ∙ ap (λ w. name_word c.name.0.spelling ∷ open_word ∷ w) t2.0
-      ∙ ap (λ w. name_word c.name.0.spelling ∷ open_word ∷ separated spell_argument c.arguments.0 w) t3.0
-      ∙ ap (λ (y : Initializer × Call). spell_object y (words_before_end x.1)) (sym m.made), t3.1)
+    let t3 = punct_takes punct.RIGHT_PARENTHESIS (codes ")") c.arguments.1 x.1 close_is c.closes t2.1 in (
+      t0.0 ∙ ap (λ w. name_word c.name.0.spelling ∷ w) t1.0 ∙ ap (λ w. name_word c.name.0.spelling ∷ open_word ∷ w) t2.0
+          ∙ ap (λ w. name_word c.name.0.spelling ∷ open_word ∷ separated spell_argument c.arguments.0 w) t3.0
+          ∙ ap (λ (y : Initializer × Call). spell_object y (words_before_end x.1)) (sym m.made),
+      t3.1,
+    )
 
 object_writes : WritesCast cast_initializer spell_object
 object_writes target x rest = refl

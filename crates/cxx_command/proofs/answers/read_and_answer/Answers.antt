@@ -1,5 +1,3 @@
-use Rattle.std.proofs.Common.{rules}
-use Rattle.cxx_command.specs.Streams.{change}
 use Rattle.cxx_command.proofs.Runs.{past_bytes, no_words}
 use Rattle.cxx_command.proofs.answers.read_and_answer.Goals as goal
 
