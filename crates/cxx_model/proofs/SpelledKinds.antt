@@ -1,11 +1,9 @@
 -- What a text is that spells a keyword or a punctuator.
-use Rattle.std.proofs.Common.{◌≡◌, ℕ, Bool, true, false, cond, eqb, List, [], ◌∷◌, get_or, Option, Some, None, refl, sym, ap, subst, ◌∙◌, ◌⊎◌, inl, inr}
+use Rattle.std.proofs.Common.{◌≡◌, ℕ, Bool, true, false, cond, eqb, List, [], ◌∷◌, get_or, Option, Some, None, refl, subst}
 use Rattle.std.specs.List.{list_all}
 use Rattle.std.specs.Str.{bytes_eq}
-use Rattle.std.proofs.lemmas.Bool.{eqb-true}
 use Rattle.std.proofs.lemmas.List.Quantifiers.{position-Some}
 use Rattle.std.proofs.lemmas.Slice.Eq.{bytes_eq-Decides}
-use Rattle.cxx_model.specs.declared.base.Base.{Base}
 use Rattle.cxx_model.specs.declared.token.TokenKind.{TokenKind}
 use Rattle.cxx_model.specs.declared.token.TokenKind.TheVariants.{Name, Keyword, Punct, Integer, Character, Text, End}
 use Rattle.cxx_model.specs.declared.token.TokenReason.TheVariants.{NotBuilt}
@@ -69,7 +67,7 @@ spelling_good [] = tt
 spelling_good (b ∷ rest) =
     let text : List ℕ = b ∷ rest in
     let word : IfGood (cond (list_all is_word rest) (Some (word_kind text)) (cond (is_wide_quote text) (Some (Ill NotBuilt)) None)) text =
-        either_good text (list_all is_word rest) (Some (word_kind text)) (cond (is_wide_quote text) (Some (Ill NotBuilt)) None) (word_good text (number_in keywords text) _ refl) (either_good text (is_wide_quote text) (Some (Ill NotBuilt)) None tt tt) in
+    either_good text (list_all is_word rest) (Some (word_kind text)) (cond (is_wide_quote text) (Some (Ill NotBuilt)) None) (word_good text (number_in keywords text) _ refl) (either_good text (is_wide_quote text) (Some (Ill NotBuilt)) None tt tt) in
     let number : IfGood (cond (is_number_rest b rest) (Some (number_kind text)) None) text = either_good text (is_number_rest b rest) (Some (number_kind text)) None (number_good text text) tt in
     let last : IfGood (operator b rest) text = operator_good text rest (number_in operators text) _ refl in
     let quoted : IfGood (cond (eqb b 39) (character rest) (operator b rest)) text = either_good text (eqb b 39) (character rest) (operator b rest) (character_good text rest) last in

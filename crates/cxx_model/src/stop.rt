@@ -1,10 +1,9 @@
 ghost use Rattle.std.specs.Prelude.{◌≡◌};
 ghost use Rattle.cxx_model.specs.declared.stop.Stop.TheVariants as stop;
 
-use std::alloc::{AllocError, AllocFailed};
-
 use crate::listed::Listed;
 use crate::place::Place;
+use std::alloc::{AllocError, AllocFailed};
 
 /// The bytes of a printed text.
 pub type Text = Listed<u8>;

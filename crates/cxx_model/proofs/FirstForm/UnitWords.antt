@@ -1,14 +1,12 @@
 -- The words of a whole reading are the words of its unit: declarations, line by line.
-use Rattle.std.proofs.Common.{◌≡◌, ℕ, zero, suc, ◌+◌, Bool, true, false, cond, List, [], ◌∷◌, ◌++◌, length, Ok, Err, refl, sym, ap, subst, ◌∙◌, ◌⊎◌, inl, inr, arith, append_assoc, length-append}
+use Rattle.std.proofs.Common.{◌≡◌, ℕ, zero, suc, true, List, [], ◌∷◌, ◌++◌, length, Ok, refl, sym, ap, ◌∙◌, inl, inr, arith, append_assoc, length-append}
 use Rattle.std.specs.Prelude.{codes}
 use Rattle.std.proofs.lemmas.List.{append-nil}
 use Rattle.cxx_model.specs.declared.base.Base.{Base}
 use Rattle.cxx_model.specs.declared.base.Base.TheVariants as base
-use Rattle.cxx_model.specs.declared.first.Argument.{Argument}
 use Rattle.cxx_model.specs.declared.first.Declaration.{Declaration}
 use Rattle.cxx_model.specs.declared.first.Declared.{Declared}
 use Rattle.cxx_model.specs.declared.first.Declared.TheVariants.{Function, Object}
-use Rattle.cxx_model.specs.declared.first.Initializer.{Initializer}
 use Rattle.cxx_model.specs.declared.first.Item.{Item}
 use Rattle.cxx_model.specs.declared.first.Item.TheVariants as item
 use Rattle.cxx_model.specs.declared.first.Options.{Options}
@@ -17,10 +15,10 @@ use Rattle.cxx_model.specs.declared.limits.TheConstants as limits
 use Rattle.cxx_model.specs.declared.punct.TheConstants as punct
 use Rattle.cxx_model.specs.declared.stop.LimitKind.TheVariants.{Facts}
 use Rattle.cxx_model.specs.Lexemes.{Lexeme, kind_of}
-use Rattle.cxx_model.specs.Stops.{Stopped, Limited, ◌>>=◌}
+use Rattle.cxx_model.specs.Stops.{Limited, ◌>>=◌}
 use Rattle.cxx_model.specs.Written.{Written, open_word, close_word, comma_word, semicolon_word, equals_word, less_word, greater_word, static_cast_word, name_word}
-use Rattle.cxx_model.specs.First.Reading.{is_punct, is_end, behind, type_at, begins_type, function_at, object_at, item_at, items_at, empty, reading_of}
-use Rattle.cxx_model.specs.First.Words.{spell_base, others_separated, separated, spell_casts, literal_word, spell_argument, spell_call, spell_initializer, spell_item, spell_declared, line_words, lines, joined, words_of, before_end, words_before_end, AreSpelled}
+use Rattle.cxx_model.specs.First.Reading.{is_punct, is_end, behind, type_at, begins_type, item_at, items_at, empty, reading_of}
+use Rattle.cxx_model.specs.First.Words.{spell_base, others_separated, separated, spell_casts, literal_word, spell_argument, spell_call, spell_initializer, spell_item, spell_declared, line_words, lines, joined, words_of, words_before_end, AreSpelled}
 use Rattle.cxx_model.proofs.Answers.{done, stopped, done_is, bind_ok, either_is}
 use Rattle.cxx_model.proofs.FirstForm.Taken.{declares, FunctionTaken, function_taken, ObjectTaken, object_taken, item_taken}
 use Rattle.cxx_model.proofs.FirstForm.Words.{Takes, punct_takes, punct_words, type_takes, name_takes, list_takes, initializer_takes, spell_object, open_is, close_is, semicolon_is, equals_is}
@@ -137,9 +135,9 @@ function_line room so_far of name ahead after e opens t f =
       declarations = ap (λ (r : Reading). r.declarations) f.made ∙ ap (λ (r : Reading). r.declarations) d.made;
       items = ap (λ (r : Reading). r.items) f.made ∙ ap (λ (r : Reading). r.items ++ item.Function ∷ []) d.made;
       words = t.0 ∙ ap (λ w. spell_base of.0 (name_word name.0.spelling ∷ w)) t1.0
-        ∙ ap (λ w. spell_base of.0 (name_word name.0.spelling ∷ open_word ∷ w)) t2.0
-        ∙ ap (λ w. spell_base of.0 (name_word name.0.spelling ∷ open_word ∷ separated spell_base f.parameters.0 w)) t3.0
-        ∙ ap (λ w. spell_base of.0 (name_word name.0.spelling ∷ open_word ∷ separated spell_base f.parameters.0 (close_word ∷ w))) t4.0;
+          ∙ ap (λ w. spell_base of.0 (name_word name.0.spelling ∷ open_word ∷ w)) t2.0
+          ∙ ap (λ w. spell_base of.0 (name_word name.0.spelling ∷ open_word ∷ separated spell_base f.parameters.0 w)) t3.0
+          ∙ ap (λ w. spell_base of.0 (name_word name.0.spelling ∷ open_word ∷ separated spell_base f.parameters.0 (close_word ∷ w))) t4.0;
       spelled = t4.1;
     }
 
@@ -156,8 +154,8 @@ object_line room so_far of name ahead after t o =
       declarations = ap (λ (r : Reading). r.declarations) o.made ∙ ap (λ (r : Reading). r.declarations) d.made;
       items = ap (λ (r : Reading). r.items) o.made ∙ ap (λ (r : Reading). r.items ++ item.Object o.call.0.0 ∷ []) d.made;
       words = t.0 ∙ ap (λ w. spell_base of.0 (name_word name.0.spelling ∷ w)) t1.0
-        ∙ ap (λ w. spell_base of.0 (name_word name.0.spelling ∷ equals_word ∷ w)) t2.0
-        ∙ ap (λ w. spell_base of.0 (name_word name.0.spelling ∷ equals_word ∷ spell_object o.call.0 w)) t3.0;
+          ∙ ap (λ w. spell_base of.0 (name_word name.0.spelling ∷ equals_word ∷ w)) t2.0
+          ∙ ap (λ w. spell_base of.0 (name_word name.0.spelling ∷ equals_word ∷ spell_object o.call.0 w)) t3.0;
       spelled = t3.1;
     }
 
@@ -180,11 +178,12 @@ unfolding words_of
 line_added so_far after ahead rest h l =
     let line = line_words l.declaration l.says in
     let more : joined (lines after.declarations after.items) ≡ joined (lines so_far.declarations so_far.items) ++ line =
-        ap (λ ds. joined (lines ds after.items)) l.declarations ∙ ap (λ is. joined (lines (so_far.declarations ++ l.declaration ∷ []) is)) l.items
-        ∙ ap joined (lines_more so_far.declarations so_far.items l.declaration l.says h) ∙ joined_more (lines so_far.declarations so_far.items) line in
-    (omega (arith, ap length l.items, ap length l.declarations, length-append so_far.items (l.says ∷ []), length-append so_far.declarations (l.declaration ∷ []), h),
+    ap (λ ds. joined (lines ds after.items)) l.declarations ∙ ap (λ is. joined (lines (so_far.declarations ++ l.declaration ∷ []) is)) l.items
+    ∙ ap joined (lines_more so_far.declarations so_far.items l.declaration l.says h) ∙ joined_more (lines so_far.declarations so_far.items) line in (
+      omega (arith, ap length l.items, ap length l.declarations, length-append so_far.items (l.says ∷ []), length-append so_far.declarations (l.declaration ∷ []), h),
       ap (λ w. w ++ words_before_end rest) more ∙ append_assoc (joined (lines so_far.declarations so_far.items)) line (words_before_end rest)
-      ∙ ap (λ w. joined (lines so_far.declarations so_far.items) ++ w) (sym (l.words ∙ line_continues l.declaration l.says (words_before_end rest))))
+          ∙ ap (λ w. joined (lines so_far.declarations so_far.items) ++ w) (sym (l.words ∙ line_continues l.declaration l.says (words_before_end rest))),
+    )
 
 ended : (ahead : List Lexeme) → is_end (kind_of ahead) ≡ true → words_before_end ahead ≡ []
 ended [] h = refl

@@ -1,38 +1,30 @@
 -- The words of a whole reading are the words of its unit.
-use Rattle.std.proofs.Common.{◌≡◌, ℕ, zero, suc, ◌+◌, ◌≤◌, ◌<◌, Bool, true, false, not, cond, eqb, ◌&&◌, List, [], ◌∷◌, ◌++◌, length, map, get_or, Option, Some, None, Ok, Err, refl, sym, ap, subst, ◌∙◌, ◌⊎◌, inl, inr, arith, append_assoc, length-append}
+use Rattle.std.proofs.Common.{◌≡◌, ℕ, zero, suc, Bool, true, false, cond, eqb, List, [], ◌∷◌, map, get_or, Some, None, Ok, Err, refl, sym, ap, subst, ◌∙◌, inl, inr}
 use Rattle.std.specs.Prelude.{codes}
 use Rattle.std.specs.List.{AllByRecursion}
 use Rattle.std.proofs.lemmas.Bool.{eqb-true}
-use Rattle.std.proofs.lemmas.List.{append-nil}
 use Rattle.cxx_model.specs.declared.base.Base.{Base}
 use Rattle.cxx_model.specs.declared.base.Base.TheVariants as base
 use Rattle.cxx_model.specs.declared.first.Argument.{Argument}
 use Rattle.cxx_model.specs.declared.first.Call.{Call}
 use Rattle.cxx_model.specs.declared.first.Declaration.{Declaration}
-use Rattle.cxx_model.specs.declared.first.Declared.{Declared}
-use Rattle.cxx_model.specs.declared.first.Declared.TheVariants.{Function, Object}
 use Rattle.cxx_model.specs.declared.first.Initializer.{Initializer}
-use Rattle.cxx_model.specs.declared.first.Item.{Item}
-use Rattle.cxx_model.specs.declared.first.Item.TheVariants as item
-use Rattle.cxx_model.specs.declared.first.Options.{Options}
-use Rattle.cxx_model.specs.declared.first.Reading.{Reading}
 use Rattle.cxx_model.specs.declared.keyword.TheConstants as keyword
 use Rattle.cxx_model.specs.declared.limits.TheConstants as limits
 use Rattle.cxx_model.specs.declared.punct.TheConstants as punct
-use Rattle.cxx_model.specs.declared.stop.LimitKind.TheVariants.{Arguments, Facts}
+use Rattle.cxx_model.specs.declared.stop.LimitKind.TheVariants.{Arguments}
 use Rattle.cxx_model.specs.declared.token.TokenKind.{TokenKind}
 use Rattle.cxx_model.specs.declared.token.TokenKind.TheVariants.{Name, Keyword, Punct, Integer, Character, Text, End}
 use Rattle.cxx_model.specs.Lexemes.{Lexeme, kind_of, spelling_ahead}
-use Rattle.cxx_model.specs.Spelling.{Spelled, Blank, Good, Ill, spelling_of, literal_type, literal_type_by, decimal_value, most_int, keywords, operators, number_in}
-use Rattle.cxx_model.specs.Stops.{Answer, Reads, Stopped, Limited, ◌>>=◌}
-use Rattle.cxx_model.specs.Written.{Written, written, open_word, close_word, comma_word, semicolon_word, equals_word, less_word, greater_word, static_cast_word, name_word}
-use Rattle.cxx_model.specs.First.Reading.{is_punct, is_keyword, is_name, is_literal, is_end, behind, type_of_keyword, type_of_kind, punct_at, type_at, name_at, put_first, more_at, list_at, begins_type, begins_argument, literal_at, cast_at, cast_argument, cast_initializer, argument_by, argument_opened, arguments_opened, call_at, initializer_by, initializer_opened, initializer_at, begins_call, item_at, items_at, empty, reading_of}
-use Rattle.cxx_model.specs.First.Words.{keyword_word, char_word, short_word, long_word, unsigned_word, double_word, spell_base, others_separated, separated, spell_casts, kind_of_literal, literal_word, spell_argument, spell_call, spell_initializer, spell_item, spell_declared, line_words, lines, joined, words_of, before_end, words_before_end, IsSpelled, AreSpelled}
+use Rattle.cxx_model.specs.Spelling.{Good, spelling_of, literal_type, literal_type_by, keywords, operators, number_in}
+use Rattle.cxx_model.specs.Stops.{Reads, Stopped, Limited, ◌>>=◌}
+use Rattle.cxx_model.specs.Written.{Written, written, open_word, close_word, comma_word, less_word, greater_word, static_cast_word, name_word}
+use Rattle.cxx_model.specs.First.Reading.{is_punct, is_keyword, is_name, is_literal, is_end, behind, type_of_keyword, type_of_kind, punct_at, type_at, name_at, put_first, more_at, list_at, begins_argument, literal_at, cast_at, cast_argument, cast_initializer, argument_by, argument_opened, arguments_opened, call_at, initializer_by, initializer_opened, initializer_at}
+use Rattle.cxx_model.specs.First.Words.{keyword_word, spell_base, others_separated, separated, kind_of_literal, spell_argument, spell_initializer, before_end, words_before_end, IsSpelled, AreSpelled}
 use Rattle.cxx_model.proofs.Answers.{done, stopped, done_is, bind_ok, either_is}
-use Rattle.cxx_model.proofs.Champion.{and_true}
 use Rattle.cxx_model.proofs.SpelledKinds.{KindSpells, kind_spells, number_is}
-use Rattle.cxx_model.proofs.FirstForm.Bound.{Means, call_means}
-use Rattle.cxx_model.proofs.FirstForm.Taken.{Declares, declares, punct_taken, type_taken, name_taken, literal_taken, CastTaken, cast_taken, argument_taken, CallTaken, call_taken, initializer_taken, FunctionTaken, function_taken, ObjectTaken, object_taken, ItemTaken, item_taken}
+use Rattle.cxx_model.proofs.FirstForm.Bound.{call_means}
+use Rattle.cxx_model.proofs.FirstForm.Taken.{punct_taken, type_taken, name_taken, literal_taken, cast_taken, argument_taken, call_taken, initializer_taken}
 
 -- ---- one token
 
@@ -140,20 +132,45 @@ static_cast_is = refl
 type_word : (n : ℕ) (b : Base) (ahead : List Lexeme) → type_of_keyword n ≡ Some b → kind_of ahead ≡ Keyword n → AreSpelled ahead → Takes ahead (spell_base b (words_before_end (behind ahead))) (behind ahead)
 unfolding keywords spell_base
 type_word n b ahead e kind s =
-    elim (either_is (eqb n keyword.BOOL) _ _ _ e) [ | inl h ↦ one keyword.BOOL (codes "bool") base.Bool h.0 h.1 refl (λ rest. refl) | inr e1 ↦
-    elim (either_is (eqb n keyword.CHAR) _ _ _ e1.1) [ | inl h ↦ one keyword.CHAR (codes "char") base.Char h.0 h.1 refl (λ rest. refl) | inr e2 ↦
-    elim (either_is (eqb n keyword.SHORT) _ _ _ e2.1) [ | inl h ↦ one keyword.SHORT (codes "short") base.Short h.0 h.1 refl (λ rest. refl) | inr e3 ↦
-    elim (either_is (eqb n keyword.INT) _ _ _ e3.1) [ | inl h ↦ one keyword.INT (codes "int") base.Int h.0 h.1 refl (λ rest. refl) | inr e4 ↦
-    elim (either_is (eqb n keyword.LONG) _ _ _ e4.1) [ | inl h ↦ one keyword.LONG (codes "long") base.Long h.0 h.1 refl (λ rest. refl) | inr e5 ↦
-    elim (either_is (eqb n keyword.UNSIGNED) _ _ _ e5.1) [ | inl h ↦ one keyword.UNSIGNED (codes "unsigned") base.Unsigned h.0 h.1 refl (λ rest. refl) | inr e6 ↦
-    elim (either_is (eqb n keyword.FLOAT) _ _ _ e6.1) [ | inl h ↦ one keyword.FLOAT (codes "float") base.Float h.0 h.1 refl (λ rest. refl) | inr e7 ↦
-    elim (either_is (eqb n keyword.DOUBLE) _ _ _ e7.1) [ | inl h ↦ one keyword.DOUBLE (codes "double") base.Double h.0 h.1 refl (λ rest. refl) | inr e8 ↦ absurd (none e8.1)
-    ] ] ] ] ] ] ] ]
+    elim (either_is (eqb n keyword.BOOL) _ _ _ e) [
+      | inl h ↦ one keyword.BOOL (codes "bool") base.Bool h.0 h.1 refl (λ rest. refl)
+      | inr e1 ↦
+          elim (either_is (eqb n keyword.CHAR) _ _ _ e1.1) [
+            | inl h ↦ one keyword.CHAR (codes "char") base.Char h.0 h.1 refl (λ rest. refl)
+            | inr e2 ↦
+                elim (either_is (eqb n keyword.SHORT) _ _ _ e2.1) [
+                  | inl h ↦ one keyword.SHORT (codes "short") base.Short h.0 h.1 refl (λ rest. refl)
+                  | inr e3 ↦
+                      elim (either_is (eqb n keyword.INT) _ _ _ e3.1) [
+                        | inl h ↦ one keyword.INT (codes "int") base.Int h.0 h.1 refl (λ rest. refl)
+                        | inr e4 ↦
+                            elim (either_is (eqb n keyword.LONG) _ _ _ e4.1) [
+                              | inl h ↦ one keyword.LONG (codes "long") base.Long h.0 h.1 refl (λ rest. refl)
+                              | inr e5 ↦
+                                  elim (either_is (eqb n keyword.UNSIGNED) _ _ _ e5.1) [
+                                    | inl h ↦ one keyword.UNSIGNED (codes "unsigned") base.Unsigned h.0 h.1 refl (λ rest. refl)
+                                    | inr e6 ↦
+                                        elim (either_is (eqb n keyword.FLOAT) _ _ _ e6.1) [
+                                          | inl h ↦ one keyword.FLOAT (codes "float") base.Float h.0 h.1 refl (λ rest. refl)
+                                          | inr e7 ↦
+                                              elim (either_is (eqb n keyword.DOUBLE) _ _ _ e7.1) [
+                                                | inl h ↦ one keyword.DOUBLE (codes "double") base.Double h.0 h.1 refl (λ rest. refl)
+                                                | inr e8 ↦ absurd (none e8.1)
+                                              ]
+                                        ]
+                                  ]
+                            ]
+                      ]
+                ]
+          ]
+    ]
   where
     none : {b : Base} → None ≡ Some b → ⊥
     none e = cc
+
     same : (c : Base) → Some c ≡ Some b → c ≡ b
     same c e = cc
+
     one : (m : ℕ) (text : List ℕ) (c : Base) → eqb n m ≡ true → Some c ≡ Some b → get_or keywords m [] ≡ text → ((rest : List Written) → keyword_word m text ∷ rest ≡ spell_base c rest) → Takes ahead (spell_base b (words_before_end (behind ahead))) (behind ahead)
     one m text c at is table spells =
         let t = keyword_words m text ahead table (kind ∙ ap Keyword (eqb-true n m at)) s in
@@ -232,14 +249,16 @@ cast_takes {A = A} wrap spell inside ahead x writes within h e s =
     let t3 = punct_takes punct.GREATER (codes ">") c.target.1 c.greater greater_is c.greater_is t2.1 in
     let t4 = punct_takes punct.LEFT_PARENTHESIS (codes "(") c.greater c.opened open_is c.opens t3.1 in
     let t5 = within c.opened c.operand c.operates t4.1 in
-    let t6 = punct_takes punct.RIGHT_PARENTHESIS (codes ")") c.operand.1 x.1 close_is c.closes t5.1 in
-    (t0.0 ∙ ap (λ w. static_cast_word ∷ w) t1.0 ∙ ap (λ w. static_cast_word ∷ less_word ∷ w) t2.0
-      ∙ ap (λ w. static_cast_word ∷ less_word ∷ spell_base c.target.0 w) t3.0
-      ∙ ap (λ w. static_cast_word ∷ less_word ∷ spell_base c.target.0 (greater_word ∷ w)) t4.0
-      ∙ ap (λ w. static_cast_word ∷ less_word ∷ spell_base c.target.0 (greater_word ∷ open_word ∷ w)) t5.0
-      ∙ ap (λ w. static_cast_word ∷ less_word ∷ spell_base c.target.0 (greater_word ∷ open_word ∷ spell c.operand.0 w)) t6.0
-      ∙ writes c.target.0 c.operand.0 (words_before_end x.1)
-      ∙ ap (λ (y : A). spell y (words_before_end x.1)) (sym c.made), t6.1)
+    let t6 = punct_takes punct.RIGHT_PARENTHESIS (codes ")") c.operand.1 x.1 close_is c.closes t5.1 in (
+      t0.0 ∙ ap (λ w. static_cast_word ∷ w) t1.0 ∙ ap (λ w. static_cast_word ∷ less_word ∷ w) t2.0
+          ∙ ap (λ w. static_cast_word ∷ less_word ∷ spell_base c.target.0 w) t3.0
+          ∙ ap (λ w. static_cast_word ∷ less_word ∷ spell_base c.target.0 (greater_word ∷ w)) t4.0
+          ∙ ap (λ w. static_cast_word ∷ less_word ∷ spell_base c.target.0 (greater_word ∷ open_word ∷ w)) t5.0
+          ∙ ap (λ w. static_cast_word ∷ less_word ∷ spell_base c.target.0 (greater_word ∷ open_word ∷ spell c.operand.0 w)) t6.0
+          ∙ writes c.target.0 c.operand.0 (words_before_end x.1)
+          ∙ ap (λ (y : A). spell y (words_before_end x.1)) (sym c.made),
+      t6.1,
+    )
 
 argument_writes : WritesCast cast_argument spell_argument
 argument_writes target x rest = refl
@@ -334,10 +353,12 @@ call_takes declarations room ahead x e s =
     let t0 = name_takes ahead c.name c.names s in
     let t1 = punct_takes punct.LEFT_PARENTHESIS (codes "(") c.name.1 c.opened open_is c.opens t0.1 in
     let t2 = arguments_takes declarations room c.opened c.arguments c.lists t1.1 in
-    let t3 = punct_takes punct.RIGHT_PARENTHESIS (codes ")") c.arguments.1 x.1 close_is c.closes t2.1 in
-    (t0.0 ∙ ap (λ w. name_word c.name.0.spelling ∷ w) t1.0 ∙ ap (λ w. name_word c.name.0.spelling ∷ open_word ∷ w) t2.0
-      ∙ ap (λ w. name_word c.name.0.spelling ∷ open_word ∷ separated spell_argument c.arguments.0 w) t3.0
-      ∙ ap (λ (y : Initializer × Call). spell_object y (words_before_end x.1)) (sym m.made), t3.1)
+    let t3 = punct_takes punct.RIGHT_PARENTHESIS (codes ")") c.arguments.1 x.1 close_is c.closes t2.1 in (
+      t0.0 ∙ ap (λ w. name_word c.name.0.spelling ∷ w) t1.0 ∙ ap (λ w. name_word c.name.0.spelling ∷ open_word ∷ w) t2.0
+          ∙ ap (λ w. name_word c.name.0.spelling ∷ open_word ∷ separated spell_argument c.arguments.0 w) t3.0
+          ∙ ap (λ (y : Initializer × Call). spell_object y (words_before_end x.1)) (sym m.made),
+      t3.1,
+    )
 
 object_writes : WritesCast cast_initializer spell_object
 object_writes target x rest = refl
