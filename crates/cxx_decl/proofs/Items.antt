@@ -1,11 +1,11 @@
 -- Reading the declarations of a unit one after the other, as a loop does.
-use Rattle.std.proofs.Common.{◌≡◌, ℕ, zero, suc, ◌-◌, ◌+◌, ◌≤◌, ◌<◌, Bool, true, false, Result, Ok, Err, List, refl, sym, subst, ◌∙◌, arith}
+use Rattle.std.proofs.Common.{◌≡◌, ℕ, zero, suc, ◌-◌, ◌+◌, ◌<◌, true, false, Ok, Err, List, refl, subst, arith}
 use Rattle.cxx_model.specs.declared.first.Reading.{Reading}
 use Rattle.cxx_model.specs.declared.stop.LimitKind.TheVariants.{Facts}
 use Rattle.cxx_model.specs.declared.stop.Stop.{Stop}
 use Rattle.cxx_model.specs.declared.stop.Stop.TheVariants as stop
 use Rattle.cxx_model.specs.Lexemes.{Lexeme, kind_of}
-use Rattle.cxx_model.specs.Stops.{Answer, Faulty, Limited, ◌>>=◌, Stops}
+use Rattle.cxx_model.specs.Stops.{Answer, Limited, Stops}
 use Rattle.cxx_model.specs.First.Reading.{is_end, item_at, items_at}
 
 pub ends : (room : ℕ) (so_far : Reading) (ahead : List Lexeme) → is_end (kind_of ahead) ≡ true → items_at room so_far ahead ≡ Ok so_far

@@ -1,6 +1,5 @@
 -- Reading the elements of a list one after the other, as a loop does.
-use Rattle.std.proofs.Common.{◌≡◌, ℕ, zero, suc, ◌-◌, ◌+◌, ◌≤◌, ◌<◌, Bool, true, false, cond, List, [], ◌∷◌, ◌++◌, Result, Ok, Err, refl, sym, ap, subst, ◌∙◌, append_assoc, arith}
-use Rattle.std.proofs.lemmas.List.{append-nil}
+use Rattle.std.proofs.Common.{◌≡◌, ℕ, suc, ◌-◌, ◌+◌, ◌≤◌, ◌<◌, Bool, true, false, List, [], ◌∷◌, ◌++◌, Ok, Err, refl, sym, ap, ◌∙◌, append_assoc, arith}
 use Rattle.cxx_model.specs.declared.limits.TheConstants as limits
 use Rattle.cxx_model.specs.declared.punct.TheConstants as punct
 use Rattle.cxx_model.specs.declared.stop.LimitKind.TheVariants.{Arguments}
@@ -8,7 +7,7 @@ use Rattle.cxx_model.specs.declared.stop.Stop.{Stop}
 use Rattle.cxx_model.specs.declared.stop.Stop.TheVariants as stop
 use Rattle.cxx_model.specs.declared.token.TokenKind.{TokenKind}
 use Rattle.cxx_model.specs.Lexemes.{Lexeme, kind_of}
-use Rattle.cxx_model.specs.Stops.{Answer, Reads, Stopped, Faulty, Limited, ◌>>=◌, Stops}
+use Rattle.cxx_model.specs.Stops.{Reads, Faulty, Limited, ◌>>=◌, Stops}
 use Rattle.cxx_model.specs.First.Reading.{is_punct, behind, put_first, more_at, list_at}
 
 -- what was read before, and what is still read

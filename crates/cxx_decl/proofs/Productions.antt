@@ -1,14 +1,11 @@
 -- Productions by cases on the room, and in the parts that the code has.
-use Rattle.std.proofs.Common.{◌≡◌, ◌≢◌, ℕ, zero, suc, ◌-◌, ◌+◌, ◌≤◌, ◌<◌, Bool, true, false, cond, List, [], ◌∷◌, ◌++◌, Result, Ok, Err, refl, sym, ap, ◌∙◌, append_assoc, arith}
+use Rattle.std.proofs.Common.{◌≡◌, ◌≢◌, ℕ, zero, suc, ◌-◌, Bool, true, false, cond, List, [], ◌∷◌, ◌++◌, Ok, Err, refl, arith}
 use Rattle.cxx_model.specs.declared.base.Base.{Base}
-use Rattle.cxx_model.specs.declared.first.Argument.{Argument}
-use Rattle.cxx_model.specs.declared.first.Call.{Call}
 use Rattle.cxx_model.specs.declared.first.Declaration.{Declaration}
-use Rattle.cxx_model.specs.declared.first.Initializer.{Initializer}
 use Rattle.cxx_model.specs.declared.first.Reading.{Reading}
 use Rattle.cxx_model.specs.declared.punct.TheConstants as punct
 use Rattle.cxx_model.specs.declared.stop.LimitKind.TheVariants.{Nesting, Facts}
-use Rattle.cxx_model.specs.Lexemes.{Lexeme, kind_of}
+use Rattle.cxx_model.specs.Lexemes.{Lexeme}
 use Rattle.cxx_model.specs.Stops.{Answer, Reads, Stopped, Limited, ◌>>=◌}
 use Rattle.cxx_model.specs.First.Reading.{misplaced, cast_at, punct_at, type_at, behind, list_at, begins_argument, argument_by, argument_opened, arguments_opened, initializer_by, initializer_opened, added}
 use Rattle.cxx_decl.specs.Views.{misplaced_fault, cast_opened}

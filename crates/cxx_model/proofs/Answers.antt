@@ -1,5 +1,5 @@
 -- What a whole answer says of the steps that led to it.
-use Rattle.std.proofs.Common.{◌≡◌, Bool, true, false, cond, Result, Ok, Err, refl, ◌⊎◌, inl, inr}
+use Rattle.std.proofs.Common.{◌≡◌, Bool, true, false, cond, Ok, Err, refl, ◌⊎◌, inl, inr}
 use Rattle.cxx_model.specs.Stops.{Answer, Stopped, ◌>>=◌}
 
 -- an answer that is a value

@@ -1,5 +1,5 @@
 -- Each call of a whole reading means the best of the viable functions of its name that are declared before it.
-use Rattle.std.proofs.Common.{◌≡◌, ℕ, zero, suc, ◌+◌, ◌≤◌, ◌<◌, Bool, true, false, not, cond, nat_lt, List, [], ◌∷◌, ◌++◌, length, take, map, Option, Some, None, Ok, Err, refl, sym, ap, subst, ◌∙◌, ◌⊎◌, inl, inr, arith, append_assoc, length-append}
+use Rattle.std.proofs.Common.{◌≡◌, ℕ, zero, suc, ◌+◌, ◌≤◌, Bool, true, false, not, cond, nat_lt, List, [], ◌∷◌, ◌++◌, length, take, Option, Some, None, Ok, refl, sym, ap, subst, ◌∙◌, inl, inr, arith, length-append}
 use Rattle.std.proofs.lemmas.List.{append-nil, take-append-le, take_at}
 use Rattle.cxx_model.specs.declared.base.Base.{Base}
 use Rattle.cxx_model.specs.declared.first.Argument.{Argument}
@@ -16,13 +16,13 @@ use Rattle.cxx_model.specs.declared.limits.TheConstants as limits
 use Rattle.cxx_model.specs.declared.place.Place.{Place}
 use Rattle.cxx_model.specs.declared.stop.LimitKind.TheVariants.{Candidates, Facts}
 use Rattle.cxx_model.specs.Lexemes.{Lexeme, kind_of}
-use Rattle.cxx_model.specs.Stops.{Answer, Reads, Stopped, Limited, ◌>>=◌, not_built_at, undeclared_at}
+use Rattle.cxx_model.specs.Stops.{Reads, Limited, ◌>>=◌, not_built_at, undeclared_at}
 use Rattle.cxx_model.specs.First.Candidates.{Candidate, Contender, names_object, is_declared, candidates, contenders, contender_beats, position_of, chosen, types_of, bound, choice_by, choice, call_of}
 use Rattle.cxx_model.specs.First.Reading.{cast_initializer, initializer_by, initializer_opened, initializer_at, is_end, item_at, items_at, empty, reading_of}
 use Rattle.cxx_model.specs.First.Bound.{IsBoundAmong, IsBoundFrom, EachCallIsBest}
 use Rattle.cxx_model.proofs.Answers.{done, stopped, done_is, bind_ok, unless_ok, either_is}
 use Rattle.cxx_model.proofs.Champion.{best_is_best}
-use Rattle.cxx_model.proofs.FirstForm.Taken.{Declares, declares, CastTaken, cast_taken, CallTaken, call_taken, initializer_taken, FunctionTaken, function_taken, ObjectTaken, object_taken, ItemTaken, item_taken}
+use Rattle.cxx_model.proofs.FirstForm.Taken.{Declares, declares, cast_taken, call_taken, initializer_taken, FunctionTaken, function_taken, ObjectTaken, object_taken, item_taken}
 
 -- ---- one call
 

@@ -1,5 +1,5 @@
 -- What a production that was read took, step by step.
-use Rattle.std.proofs.Common.{◌≡◌, ℕ, zero, suc, ◌+◌, ◌<◌, Bool, true, false, cond, not, ◌&&◌, List, [], ◌∷◌, ◌++◌, length, Option, Some, None, Result, Ok, Err, refl, sym, ap, subst, ◌∙◌, ◌⊎◌, inl, inr, arith, length-append}
+use Rattle.std.proofs.Common.{◌≡◌, ℕ, zero, suc, ◌+◌, ◌<◌, Bool, true, false, cond, not, ◌&&◌, List, [], ◌∷◌, ◌++◌, length, Option, Some, None, Ok, refl, sym, ap, ◌∙◌, ◌⊎◌, inl, inr, arith, length-append}
 use Rattle.cxx_model.specs.declared.base.Base.{Base}
 use Rattle.cxx_model.specs.declared.first.Argument.{Argument}
 use Rattle.cxx_model.specs.declared.first.Call.{Call}
@@ -10,12 +10,11 @@ use Rattle.cxx_model.specs.declared.first.Initializer.{Initializer}
 use Rattle.cxx_model.specs.declared.first.Reading.{Reading}
 use Rattle.cxx_model.specs.declared.keyword.TheConstants as keyword
 use Rattle.cxx_model.specs.declared.punct.TheConstants as punct
-use Rattle.cxx_model.specs.declared.stop.LimitKind.TheVariants.{Facts}
 use Rattle.cxx_model.specs.Lexemes.{Lexeme, kind_of, place_of, spelling_ahead}
 use Rattle.cxx_model.specs.Spelling.{literal_type}
-use Rattle.cxx_model.specs.Stops.{Answer, Reads, Stopped, Limited, ◌>>=◌, not_built_at, undeclared_at}
+use Rattle.cxx_model.specs.Stops.{Reads, Stopped, ◌>>=◌, not_built_at, undeclared_at}
 use Rattle.cxx_model.specs.First.Candidates.{call_of, is_declared}
-use Rattle.cxx_model.specs.First.Reading.{is_punct, is_keyword, is_name, is_literal, type_of_kind, type_by, name_by, literal_by, literal_at, argument_by, cast_argument, behind, punct_at, type_at, name_at, list_at, begins_type, begins_argument, arguments_opened, misplaced, cast_at, call_at, cast_initializer, begins_call, initializer_by, initializer_opened, initializer_at, has_clash, added, declare, with_function, with_object, function_at, object_at, item_at}
+use Rattle.cxx_model.specs.First.Reading.{is_punct, is_keyword, is_name, is_literal, type_of_kind, type_by, name_by, literal_by, literal_at, argument_by, cast_argument, behind, punct_at, type_at, name_at, list_at, begins_type, arguments_opened, misplaced, cast_at, call_at, cast_initializer, begins_call, initializer_by, initializer_at, has_clash, added, declare, with_function, with_object, function_at, object_at, item_at}
 use Rattle.cxx_model.proofs.Answers.{done, done_is, stopped, bind_ok, unless_ok, if_ok, either_is}
 
 -- ---- single tokens

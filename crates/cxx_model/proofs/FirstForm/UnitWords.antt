@@ -1,14 +1,12 @@
 -- The words of a whole reading are the words of its unit: declarations, line by line.
-use Rattle.std.proofs.Common.{◌≡◌, ℕ, zero, suc, ◌+◌, Bool, true, false, cond, List, [], ◌∷◌, ◌++◌, length, Ok, Err, refl, sym, ap, subst, ◌∙◌, ◌⊎◌, inl, inr, arith, append_assoc, length-append}
+use Rattle.std.proofs.Common.{◌≡◌, ℕ, zero, suc, true, List, [], ◌∷◌, ◌++◌, length, Ok, refl, sym, ap, ◌∙◌, inl, inr, arith, append_assoc, length-append}
 use Rattle.std.specs.Prelude.{codes}
 use Rattle.std.proofs.lemmas.List.{append-nil}
 use Rattle.cxx_model.specs.declared.base.Base.{Base}
 use Rattle.cxx_model.specs.declared.base.Base.TheVariants as base
-use Rattle.cxx_model.specs.declared.first.Argument.{Argument}
 use Rattle.cxx_model.specs.declared.first.Declaration.{Declaration}
 use Rattle.cxx_model.specs.declared.first.Declared.{Declared}
 use Rattle.cxx_model.specs.declared.first.Declared.TheVariants.{Function, Object}
-use Rattle.cxx_model.specs.declared.first.Initializer.{Initializer}
 use Rattle.cxx_model.specs.declared.first.Item.{Item}
 use Rattle.cxx_model.specs.declared.first.Item.TheVariants as item
 use Rattle.cxx_model.specs.declared.first.Options.{Options}
@@ -17,10 +15,10 @@ use Rattle.cxx_model.specs.declared.limits.TheConstants as limits
 use Rattle.cxx_model.specs.declared.punct.TheConstants as punct
 use Rattle.cxx_model.specs.declared.stop.LimitKind.TheVariants.{Facts}
 use Rattle.cxx_model.specs.Lexemes.{Lexeme, kind_of}
-use Rattle.cxx_model.specs.Stops.{Stopped, Limited, ◌>>=◌}
+use Rattle.cxx_model.specs.Stops.{Limited, ◌>>=◌}
 use Rattle.cxx_model.specs.Written.{Written, open_word, close_word, comma_word, semicolon_word, equals_word, less_word, greater_word, static_cast_word, name_word}
-use Rattle.cxx_model.specs.First.Reading.{is_punct, is_end, behind, type_at, begins_type, function_at, object_at, item_at, items_at, empty, reading_of}
-use Rattle.cxx_model.specs.First.Words.{spell_base, others_separated, separated, spell_casts, literal_word, spell_argument, spell_call, spell_initializer, spell_item, spell_declared, line_words, lines, joined, words_of, before_end, words_before_end, AreSpelled}
+use Rattle.cxx_model.specs.First.Reading.{is_punct, is_end, behind, type_at, begins_type, item_at, items_at, empty, reading_of}
+use Rattle.cxx_model.specs.First.Words.{spell_base, others_separated, separated, spell_casts, literal_word, spell_argument, spell_call, spell_initializer, spell_item, spell_declared, line_words, lines, joined, words_of, words_before_end, AreSpelled}
 use Rattle.cxx_model.proofs.Answers.{done, stopped, done_is, bind_ok, either_is}
 use Rattle.cxx_model.proofs.FirstForm.Taken.{declares, FunctionTaken, function_taken, ObjectTaken, object_taken, item_taken}
 use Rattle.cxx_model.proofs.FirstForm.Words.{Takes, punct_takes, punct_words, type_takes, name_takes, list_takes, initializer_takes, spell_object, open_is, close_is, semicolon_is, equals_is}

@@ -1,38 +1,30 @@
 -- The words of a whole reading are the words of its unit.
-use Rattle.std.proofs.Common.{◌≡◌, ℕ, zero, suc, ◌+◌, ◌≤◌, ◌<◌, Bool, true, false, not, cond, eqb, ◌&&◌, List, [], ◌∷◌, ◌++◌, length, map, get_or, Option, Some, None, Ok, Err, refl, sym, ap, subst, ◌∙◌, ◌⊎◌, inl, inr, arith, append_assoc, length-append}
+use Rattle.std.proofs.Common.{◌≡◌, ℕ, zero, suc, Bool, true, false, cond, eqb, List, [], ◌∷◌, map, get_or, Some, None, Ok, Err, refl, sym, ap, subst, ◌∙◌, inl, inr}
 use Rattle.std.specs.Prelude.{codes}
 use Rattle.std.specs.List.{AllByRecursion}
 use Rattle.std.proofs.lemmas.Bool.{eqb-true}
-use Rattle.std.proofs.lemmas.List.{append-nil}
 use Rattle.cxx_model.specs.declared.base.Base.{Base}
 use Rattle.cxx_model.specs.declared.base.Base.TheVariants as base
 use Rattle.cxx_model.specs.declared.first.Argument.{Argument}
 use Rattle.cxx_model.specs.declared.first.Call.{Call}
 use Rattle.cxx_model.specs.declared.first.Declaration.{Declaration}
-use Rattle.cxx_model.specs.declared.first.Declared.{Declared}
-use Rattle.cxx_model.specs.declared.first.Declared.TheVariants.{Function, Object}
 use Rattle.cxx_model.specs.declared.first.Initializer.{Initializer}
-use Rattle.cxx_model.specs.declared.first.Item.{Item}
-use Rattle.cxx_model.specs.declared.first.Item.TheVariants as item
-use Rattle.cxx_model.specs.declared.first.Options.{Options}
-use Rattle.cxx_model.specs.declared.first.Reading.{Reading}
 use Rattle.cxx_model.specs.declared.keyword.TheConstants as keyword
 use Rattle.cxx_model.specs.declared.limits.TheConstants as limits
 use Rattle.cxx_model.specs.declared.punct.TheConstants as punct
-use Rattle.cxx_model.specs.declared.stop.LimitKind.TheVariants.{Arguments, Facts}
+use Rattle.cxx_model.specs.declared.stop.LimitKind.TheVariants.{Arguments}
 use Rattle.cxx_model.specs.declared.token.TokenKind.{TokenKind}
 use Rattle.cxx_model.specs.declared.token.TokenKind.TheVariants.{Name, Keyword, Punct, Integer, Character, Text, End}
 use Rattle.cxx_model.specs.Lexemes.{Lexeme, kind_of, spelling_ahead}
-use Rattle.cxx_model.specs.Spelling.{Spelled, Blank, Good, Ill, spelling_of, literal_type, literal_type_by, decimal_value, most_int, keywords, operators, number_in}
-use Rattle.cxx_model.specs.Stops.{Answer, Reads, Stopped, Limited, ◌>>=◌}
-use Rattle.cxx_model.specs.Written.{Written, written, open_word, close_word, comma_word, semicolon_word, equals_word, less_word, greater_word, static_cast_word, name_word}
-use Rattle.cxx_model.specs.First.Reading.{is_punct, is_keyword, is_name, is_literal, is_end, behind, type_of_keyword, type_of_kind, punct_at, type_at, name_at, put_first, more_at, list_at, begins_type, begins_argument, literal_at, cast_at, cast_argument, cast_initializer, argument_by, argument_opened, arguments_opened, call_at, initializer_by, initializer_opened, initializer_at, begins_call, item_at, items_at, empty, reading_of}
-use Rattle.cxx_model.specs.First.Words.{keyword_word, char_word, short_word, long_word, unsigned_word, double_word, spell_base, others_separated, separated, spell_casts, kind_of_literal, literal_word, spell_argument, spell_call, spell_initializer, spell_item, spell_declared, line_words, lines, joined, words_of, before_end, words_before_end, IsSpelled, AreSpelled}
+use Rattle.cxx_model.specs.Spelling.{Good, spelling_of, literal_type, literal_type_by, keywords, operators, number_in}
+use Rattle.cxx_model.specs.Stops.{Reads, Stopped, Limited, ◌>>=◌}
+use Rattle.cxx_model.specs.Written.{Written, written, open_word, close_word, comma_word, less_word, greater_word, static_cast_word, name_word}
+use Rattle.cxx_model.specs.First.Reading.{is_punct, is_keyword, is_name, is_literal, is_end, behind, type_of_keyword, type_of_kind, punct_at, type_at, name_at, put_first, more_at, list_at, begins_argument, literal_at, cast_at, cast_argument, cast_initializer, argument_by, argument_opened, arguments_opened, call_at, initializer_by, initializer_opened, initializer_at}
+use Rattle.cxx_model.specs.First.Words.{keyword_word, spell_base, others_separated, separated, kind_of_literal, spell_argument, spell_initializer, before_end, words_before_end, IsSpelled, AreSpelled}
 use Rattle.cxx_model.proofs.Answers.{done, stopped, done_is, bind_ok, either_is}
-use Rattle.cxx_model.proofs.Champion.{and_true}
 use Rattle.cxx_model.proofs.SpelledKinds.{KindSpells, kind_spells, number_is}
-use Rattle.cxx_model.proofs.FirstForm.Bound.{Means, call_means}
-use Rattle.cxx_model.proofs.FirstForm.Taken.{Declares, declares, punct_taken, type_taken, name_taken, literal_taken, CastTaken, cast_taken, argument_taken, CallTaken, call_taken, initializer_taken, FunctionTaken, function_taken, ObjectTaken, object_taken, ItemTaken, item_taken}
+use Rattle.cxx_model.proofs.FirstForm.Bound.{call_means}
+use Rattle.cxx_model.proofs.FirstForm.Taken.{punct_taken, type_taken, name_taken, literal_taken, cast_taken, argument_taken, call_taken, initializer_taken}
 
 -- ---- one token
 
