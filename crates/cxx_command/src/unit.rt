@@ -49,7 +49,7 @@ fn printed(alloc: Global, reading: &Reading) -> Answer
 {
     match plain(alloc, reading) {
         Ok(text) => Answer::Writes(text),
-        Err(PlainFault::Output) => Answer::PassesLimit(LimitKind::Output),
+        Err(PlainFault::Limit) => Answer::PassesLimit(LimitKind::Output),
         Err(PlainFault::OutOfMemory) => Answer::NoMemory,
     }
 }

@@ -9,7 +9,7 @@ use thiserror::Error;
 pub enum PlainFault {
     /// It is longer than `MOST_OUTPUT` bytes.
     #[error("the plain form is too long")]
-    Output,
+    Limit,
     #[error("out of memory")]
     OutOfMemory,
 }

@@ -24,7 +24,7 @@ use std::alloc::Global;
 pub fn plain(alloc: Global, reading: &Reading) -> Result<Vec<u8>, PlainFault>
     ensures text { IfOk result (λ text. text.items ≡ plain reading.now) }
     ensures within { IfOk result (λ text. length text.items ≤ MOST_OUTPUT) }
-    ensures full { result ≡ Err PlainFault.Output → MOST_OUTPUT < length (plain reading.now) }
+    ensures full { result ≡ Err PlainFault.Limit → MOST_OUTPUT < length (plain reading.now) }
 {
     let declarations = reading.declarations.as_slice();
     let items = reading.items.as_slice();

@@ -34,10 +34,10 @@ impl Page {
     /// Writes at the end. Nothing is written that would not fit.
     pub fn write(&mut self, text: &[u8]) -> Result<(), PlainFault>
         ensures ok { OnOk result (self.new ≡ self.old ++ text.now) }
-        ensures full { result ≡ Err PlainFault.Output → MOST_OUTPUT < length self.old + length text.now }
+        ensures full { result ≡ Err PlainFault.Limit → MOST_OUTPUT < length self.old + length text.now }
     {
         if text.len() > MOST_OUTPUT as usize - self.bytes.len() {
-            return Err(PlainFault::Output);
+            return Err(PlainFault::Limit);
         }
         self.bytes.extend_from_slice(text)?;
         Ok(())

@@ -76,7 +76,7 @@ pub fn write_section(
 ) -> Result<(), PlainFault>
     requires { first + length (section objects (entries_from 0 declarations.now items.now)) < 2 ^ 64 }
     ensures ok { OnOk result (page.new ≡ page.old ++ section_text (number_at numbers.now) first (section objects (entries_from 0 declarations.now items.now))) }
-    ensures full { result ≡ Err PlainFault.Output → MOST_OUTPUT < length page.old + length (section_text (number_at numbers.now) first (section objects (entries_from 0 declarations.now items.now))) }
+    ensures full { result ≡ Err PlainFault.Limit → MOST_OUTPUT < length page.old + length (section_text (number_at numbers.now) first (section objects (entries_from 0 declarations.now items.now))) }
 {
     let mut number = first;
     for i in 0..declarations.len().min(items.len()) {

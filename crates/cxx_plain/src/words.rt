@@ -43,7 +43,7 @@ fn same_base(one: Base, two: Base) -> bool
 
 fn write_base(page: &mut Page, base: Base) -> Result<(), PlainFault>
     ensures ok { OnOk result (page.new ≡ page.old ++ base_text base) }
-    ensures full { result ≡ Err PlainFault.Output → MOST_OUTPUT < length page.old + length (base_text base) }
+    ensures full { result ≡ Err PlainFault.Limit → MOST_OUTPUT < length page.old + length (base_text base) }
 {
     page.write(spelling(base))
 }
@@ -52,7 +52,7 @@ fn write_base(page: &mut Page, base: Base) -> Result<(), PlainFault>
 #[tactic(auto, unfolding(crate::specs::Texts::cast_front))]
 fn write_cast_front(page: &mut Page, target: Base) -> Result<(), PlainFault>
     ensures ok { OnOk result (page.new ≡ page.old ++ cast_front target) }
-    ensures full { result ≡ Err PlainFault.Output → MOST_OUTPUT < length page.old + length (cast_front target) }
+    ensures full { result ≡ Err PlainFault.Limit → MOST_OUTPUT < length page.old + length (cast_front target) }
 {
     page.write(b"static_cast<")?;
     write_base(page, target)?;
@@ -61,7 +61,7 @@ fn write_cast_front(page: &mut Page, target: Base) -> Result<(), PlainFault>
 
 fn write_casts_front(page: &mut Page, casts: &[Base]) -> Result<(), PlainFault>
     ensures ok { OnOk result (page.new ≡ page.old ++ casts_front casts.now) }
-    ensures full { result ≡ Err PlainFault.Output → MOST_OUTPUT < length page.old + length (casts_front casts.now) }
+    ensures full { result ≡ Err PlainFault.Limit → MOST_OUTPUT < length page.old + length (casts_front casts.now) }
 {
     for cast in casts {
         write_cast_front(page, *cast)?;
@@ -71,7 +71,7 @@ fn write_casts_front(page: &mut Page, casts: &[Base]) -> Result<(), PlainFault>
 
 fn write_casts_back(page: &mut Page, casts: &[Base]) -> Result<(), PlainFault>
     ensures ok { OnOk result (page.new ≡ page.old ++ casts_back casts.now) }
-    ensures full { result ≡ Err PlainFault.Output → MOST_OUTPUT < length page.old + length (casts_back casts.now) }
+    ensures full { result ≡ Err PlainFault.Limit → MOST_OUTPUT < length page.old + length (casts_back casts.now) }
 {
     for _cast in casts {
         page.write(b")")?;
@@ -83,7 +83,7 @@ fn write_casts_back(page: &mut Page, casts: &[Base]) -> Result<(), PlainFault>
 #[tactic(auto, unfolding(crate::specs::Texts::conversion_front))]
 fn write_conversion_front(page: &mut Page, from: Base, to: Base) -> Result<(), PlainFault>
     ensures ok { OnOk result (page.new ≡ page.old ++ conversion_front from to) }
-    ensures full { result ≡ Err PlainFault.Output → MOST_OUTPUT < length page.old + length (conversion_front from to) }
+    ensures full { result ≡ Err PlainFault.Limit → MOST_OUTPUT < length page.old + length (conversion_front from to) }
 {
     if same_base(from, to) {
         return Ok(());
@@ -94,7 +94,7 @@ fn write_conversion_front(page: &mut Page, from: Base, to: Base) -> Result<(), P
 #[tactic(auto, unfolding(crate::specs::Texts::conversion_back))]
 fn write_conversion_back(page: &mut Page, from: Base, to: Base) -> Result<(), PlainFault>
     ensures ok { OnOk result (page.new ≡ page.old ++ conversion_back from to) }
-    ensures full { result ≡ Err PlainFault.Output → MOST_OUTPUT < length page.old + length (conversion_back from to) }
+    ensures full { result ≡ Err PlainFault.Limit → MOST_OUTPUT < length page.old + length (conversion_back from to) }
 {
     if same_base(from, to) {
         return Ok(());
@@ -105,7 +105,7 @@ fn write_conversion_back(page: &mut Page, from: Base, to: Base) -> Result<(), Pl
 /// Writes what stands before the element of this number, from 0.
 fn write_separator(page: &mut Page, number: usize) -> Result<(), PlainFault>
     ensures ok { OnOk result (page.new ≡ page.old ++ separator number) }
-    ensures full { result ≡ Err PlainFault.Output → MOST_OUTPUT < length page.old + length (separator number) }
+    ensures full { result ≡ Err PlainFault.Limit → MOST_OUTPUT < length page.old + length (separator number) }
 {
     if number == 0 {
         return Ok(());
@@ -115,7 +115,7 @@ fn write_separator(page: &mut Page, number: usize) -> Result<(), PlainFault>
 
 fn write_bases(page: &mut Page, bases: &[Base]) -> Result<(), PlainFault>
     ensures ok { OnOk result (page.new ≡ page.old ++ texts_from base_text 0 bases.now) }
-    ensures full { result ≡ Err PlainFault.Output → MOST_OUTPUT < length page.old + length (texts_from base_text 0 bases.now) }
+    ensures full { result ≡ Err PlainFault.Limit → MOST_OUTPUT < length page.old + length (texts_from base_text 0 bases.now) }
 {
     for (number, base) in bases.iter().enumerate() {
         write_separator(page, number)?;
@@ -138,7 +138,7 @@ fn outermost(casts: &[Base], of: Base) -> Base
 #[tactic(auto, unfolding(crate::specs::Texts::argument_text))]
 fn write_argument(page: &mut Page, argument: &Argument) -> Result<(), PlainFault>
     ensures ok { OnOk result (page.new ≡ page.old ++ argument_text argument.now) }
-    ensures full { result ≡ Err PlainFault.Output → MOST_OUTPUT < length page.old + length (argument_text argument.now) }
+    ensures full { result ≡ Err PlainFault.Limit → MOST_OUTPUT < length page.old + length (argument_text argument.now) }
 {
     let casts = argument.casts.as_slice();
     write_casts_front(page, casts)?;
@@ -150,7 +150,7 @@ fn write_argument(page: &mut Page, argument: &Argument) -> Result<(), PlainFault
 #[tactic(auto, unfolding(crate::specs::Texts::converted_text))]
 fn write_converted(page: &mut Page, target: Base, argument: &Argument) -> Result<(), PlainFault>
     ensures ok { OnOk result (page.new ≡ page.old ++ converted_text target argument.now) }
-    ensures full { result ≡ Err PlainFault.Output → MOST_OUTPUT < length page.old + length (converted_text target argument.now) }
+    ensures full { result ≡ Err PlainFault.Limit → MOST_OUTPUT < length page.old + length (converted_text target argument.now) }
 {
     let from = outermost(argument.casts.as_slice(), argument.of);
     write_conversion_front(page, from, target)?;
@@ -165,7 +165,7 @@ fn write_passed(
     argument: &Argument,
 ) -> Result<(), PlainFault>
     ensures ok { OnOk result (page.new ≡ page.old ++ passed_text parameter argument.now) }
-    ensures full { result ≡ Err PlainFault.Output → MOST_OUTPUT < length page.old + length (passed_text parameter argument.now) }
+    ensures full { result ≡ Err PlainFault.Limit → MOST_OUTPUT < length page.old + length (passed_text parameter argument.now) }
 {
     match parameter {
         Some(target) => write_converted(page, target, argument),
@@ -185,7 +185,7 @@ fn write_arguments(
     arguments: &[Argument],
 ) -> Result<(), PlainFault>
     ensures ok { OnOk result (page.new ≡ page.old ++ arguments_text parameters.now 0 arguments.now) }
-    ensures full { result ≡ Err PlainFault.Output → MOST_OUTPUT < length page.old + length (arguments_text parameters.now 0 arguments.now) }
+    ensures full { result ≡ Err PlainFault.Limit → MOST_OUTPUT < length page.old + length (arguments_text parameters.now 0 arguments.now) }
 {
     for (number, argument) in arguments.iter().enumerate() {
         write_separator(page, number)?;
@@ -208,7 +208,7 @@ fn number_of(numbers: &[usize], chosen: u32) -> usize
 #[tactic(auto, unfolding(cxx_model::specs::Names::printed_name))]
 fn write_name(page: &mut Page, number: usize, word: &[u8]) -> Result<(), PlainFault>
     ensures ok { OnOk result (page.new ≡ page.old ++ printed_name number word.now) }
-    ensures full { result ≡ Err PlainFault.Output → MOST_OUTPUT < length page.old + length (printed_name number word.now) }
+    ensures full { result ≡ Err PlainFault.Limit → MOST_OUTPUT < length page.old + length (printed_name number word.now) }
 {
     let mut digits = Buffer::new();
     page.write(stem(word))?;
@@ -219,7 +219,7 @@ fn write_name(page: &mut Page, number: usize, word: &[u8]) -> Result<(), PlainFa
 #[tactic(auto, unfolding(crate::specs::Texts::call_text))]
 fn write_call(page: &mut Page, numbers: &[usize], init: &Initializer) -> Result<(), PlainFault>
     ensures ok { OnOk result (page.new ≡ page.old ++ call_text (number_at numbers.now) init.now) }
-    ensures full { result ≡ Err PlainFault.Output → MOST_OUTPUT < length page.old + length (call_text (number_at numbers.now) init.now) }
+    ensures full { result ≡ Err PlainFault.Limit → MOST_OUTPUT < length page.old + length (call_text (number_at numbers.now) init.now) }
 {
     write_name(page, number_of(numbers, init.chosen), init.word.as_slice())?;
     page.write(b"(")?;
@@ -236,7 +236,7 @@ fn write_initializer(
     init: &Initializer,
 ) -> Result<(), PlainFault>
     ensures ok { OnOk result (page.new ≡ page.old ++ initializer_text (number_at numbers.now) target init.now) }
-    ensures full { result ≡ Err PlainFault.Output → MOST_OUTPUT < length page.old + length (initializer_text (number_at numbers.now) target init.now) }
+    ensures full { result ≡ Err PlainFault.Limit → MOST_OUTPUT < length page.old + length (initializer_text (number_at numbers.now) target init.now) }
 {
     let casts = init.casts.as_slice();
     let from = outermost(casts, init.of);
@@ -254,7 +254,7 @@ fn write_item(
     item: &Item,
 ) -> Result<(), PlainFault>
     ensures ok { OnOk result (page.new ≡ page.old ++ item_text (number_at numbers.now) target item.now) }
-    ensures full { result ≡ Err PlainFault.Output → MOST_OUTPUT < length page.old + length (item_text (number_at numbers.now) target item.now) }
+    ensures full { result ≡ Err PlainFault.Limit → MOST_OUTPUT < length page.old + length (item_text (number_at numbers.now) target item.now) }
 {
     match item {
         Item::Function => Ok(()),
@@ -273,7 +273,7 @@ fn write_declared(
     item: &Item,
 ) -> Result<(), PlainFault>
     ensures ok { OnOk result (page.new ≡ page.old ++ declared_text (number_at numbers.now) (printed_name number declaration.now.word) declaration.now.what item.now) }
-    ensures full { result ≡ Err PlainFault.Output → MOST_OUTPUT < length page.old + length (declared_text (number_at numbers.now) (printed_name number declaration.now.word) declaration.now.what item.now) }
+    ensures full { result ≡ Err PlainFault.Limit → MOST_OUTPUT < length page.old + length (declared_text (number_at numbers.now) (printed_name number declaration.now.word) declaration.now.what item.now) }
 {
     let word = declaration.word.as_slice();
     match &declaration.what {
@@ -304,7 +304,7 @@ pub fn write_line(
     item: &Item,
 ) -> Result<(), PlainFault>
     ensures ok { OnOk result (page.new ≡ page.old ++ line_text (number_at numbers.now) number declaration.now item.now) }
-    ensures full { result ≡ Err PlainFault.Output → MOST_OUTPUT < length page.old + length (line_text (number_at numbers.now) number declaration.now item.now) }
+    ensures full { result ≡ Err PlainFault.Limit → MOST_OUTPUT < length page.old + length (line_text (number_at numbers.now) number declaration.now item.now) }
 {
     write_declared(page, numbers, number, declaration, item)?;
     page.write(b";\n")
