@@ -1,4 +1,3 @@
-pub mod Continuing
 pub mod Lexemes
 pub mod Spelling
 pub mod Tokens

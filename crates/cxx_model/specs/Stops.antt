@@ -5,6 +5,8 @@ use Rattle.cxx_model.specs.declared.stop.Fault.{Fault}
 use Rattle.cxx_model.specs.declared.stop.LimitKind.{LimitKind}
 use Rattle.cxx_model.specs.declared.stop.Stop.{Stop}
 use Rattle.cxx_model.specs.declared.stop.Stop.TheVariants as stop
+use Rattle.cxx_model.specs.declared.token.TokenReason.{TokenReason}
+use Rattle.cxx_model.specs.declared.token.TokenReason.TheVariants as reason
 use Rattle.cxx_model.specs.Lexemes.{Lexeme, place_of}
 use Rattle.std.specs.Prelude.{ℕ}
 
@@ -26,6 +28,19 @@ abbrev pub ◌>>=◌ : {A B : Type 0} → Answer A → (A → Answer B) → Answ
 (Err e) >>= f = Err e
 
 -- ---- faults that rest on nothing but their place
+
+abbrev pub token_reason_text : TokenReason → List ℕ
+token_reason_text reason.StrayByte = codes "stray byte"
+token_reason_text reason.UnfinishedComment = codes "unfinished comment"
+token_reason_text reason.UnfinishedLiteral = codes "unfinished literal"
+token_reason_text reason.BadEscape = codes "bad escape"
+token_reason_text reason.BadNumber = codes "bad number"
+token_reason_text reason.NumberTooLarge = codes "number too large"
+token_reason_text reason.Directive = codes "directive"
+token_reason_text reason.MixedStrings = codes "mixed strings"
+token_reason_text reason.FloatingLiteral = codes "left out: floating literal"
+token_reason_text reason.MultiCharacter = codes "left out: multi-character literal"
+token_reason_text reason.UniversalName = codes "left out: universal character name"
 
 abbrev pub fault : Place → List ℕ → Stopped
 fault place text = Faulty (record { place = place; text = text; evidence = [] })

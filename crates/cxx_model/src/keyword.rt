@@ -192,9 +192,3 @@ pub static SPELLINGS: [&[u8]; 63] = [
     b"wchar_t",
     b"while",
 ];
-
-/// The words that are other spellings of operators (2.5).
-pub static ALTERNATIVES: [&[u8]; 11] = [
-    b"and", b"and_eq", b"bitand", b"bitor", b"compl", b"not", b"not_eq", b"or", b"or_eq", b"xor",
-    b"xor_eq",
-];

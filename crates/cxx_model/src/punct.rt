@@ -107,5 +107,25 @@ pub static SPELLINGS: [&[u8]; 49] = [
     b"||", b"++", b"--", b",", b"->*", b"->",
 ];
 
-/// The other spellings of brackets and braces (2.5).
-pub static DIGRAPHS: [&[u8]; 4] = [b"<%", b"%>", b"<:", b":>"];
+/// The words that are other spellings of operators, each with the number of its primary spelling (2.5).
+pub static ALTERNATIVES: [(&[u8], u8); 11] = [
+    (b"and", LOGICAL_AND),
+    (b"and_eq", AMPERSAND_EQUALS),
+    (b"bitand", AMPERSAND),
+    (b"bitor", BAR),
+    (b"compl", TILDE),
+    (b"not", EXCLAMATION),
+    (b"not_eq", NOT_EQUAL_TO),
+    (b"or", LOGICAL_OR),
+    (b"or_eq", BAR_EQUALS),
+    (b"xor", CARET),
+    (b"xor_eq", CARET_EQUALS),
+];
+
+/// The other spellings of brackets and braces, each with the number of its primary spelling (2.5).
+pub static DIGRAPHS: [(&[u8], u8); 4] = [
+    (b"<%", LEFT_BRACE),
+    (b"%>", RIGHT_BRACE),
+    (b"<:", LEFT_BRACKET),
+    (b":>", RIGHT_BRACKET),
+];

@@ -21,8 +21,28 @@ pub struct Token {
     pub to: u32,
 }
 
-/// Why no token of the profile begins at a byte.
+/// Why no token of the profile begins at a byte. Where several hold at one byte, the first in this order does.
 #[derive(Clone, Copy, Debug, PartialEq, Eq)]
 pub enum TokenReason {
-    NotBuilt,
+    /// No token begins with the byte.
+    StrayByte,
+    /// `/*` without `*/`.
+    UnfinishedComment,
+    /// A newline or the end inside a literal, or nothing between the quotes of a character.
+    UnfinishedLiteral,
+    /// An escape that there is not, or a value that the character does not hold.
+    BadEscape,
+    /// A number token that is neither an integer nor a floating literal.
+    BadNumber,
+    /// No type holds the value.
+    NumberTooLarge,
+    /// `#` that begins no marker line, and `%:`.
+    Directive,
+    /// A narrow string beside a wide one, at the second.
+    MixedStrings,
+    FloatingLiteral,
+    /// More than one character between the quotes of a character.
+    MultiCharacter,
+    /// `\u` or `\U` outside comments and marker lines.
+    UniversalName,
 }

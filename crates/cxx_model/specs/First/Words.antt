@@ -1,5 +1,5 @@
 -- The words of a reading: those of each declaration, in order. And the words of the unit that it read.
-use Rattle.std.specs.Prelude.{◌≡◌, ℕ, if◌then◌else◌, List, [], ◌∷◌, ◌++◌, map, Some, codes}
+use Rattle.std.specs.Prelude.{false, ◌≡◌, ℕ, if◌then◌else◌, List, [], ◌∷◌, ◌++◌, map, Some, codes}
 use Rattle.std.specs.List.{AllByRecursion}
 use Rattle.cxx_model.specs.declared.base.Base.{Base}
 use Rattle.cxx_model.specs.declared.base.Base.TheVariants as base
@@ -71,9 +71,10 @@ abbrev pub spell_casts : List Base → (List Written → List Written) → List 
 spell_casts [] inside rest = inside rest
 spell_casts (target ∷ casts) inside rest = static_cast_word ∷ less_word ∷ spell_base target (greater_word ∷ open_word ∷ spell_casts casts inside (close_word ∷ rest))
 
--- a literal of type `char` is a character, and any other an integer
+-- a literal of type `char` or `wchar_t` is a character, and any other an integer
 abbrev pub kind_of_literal : Base → TokenKind
 kind_of_literal base.Char = Character
+kind_of_literal base.WideChar = Character
 kind_of_literal _ = Integer
 
 abbrev pub literal_word : Argument → Written
@@ -125,7 +126,7 @@ words_before_end ahead = map written (before_end ahead)
 
 -- 2.6: what spells a token spells a token of its kind
 pub record IsSpelled (token : Lexeme) : Type 0 where
-  pub spelled : spelling_of token.spelling ≡ Some (Good token.kind)
+  pub spelled : spelling_of false token.spelling ≡ Some (Good token.kind)
 
 abbrev pub AreSpelled : List Lexeme → Type 0
 AreSpelled ahead = AllByRecursion IsSpelled (before_end ahead)
