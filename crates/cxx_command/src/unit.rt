@@ -3,12 +3,13 @@ ghost use Rattle.cxx_model.specs.declared.limits.TheConstants as limits;
 ghost use Rattle.cxx_model.specs.Lexemes.{lexemes};
 ghost use Rattle.cxx_model.specs.First.Reading.{reading_of};
 ghost use Rattle.cxx_model.specs.Outcome as spec;
-ghost use Rattle.cxx_command.specs.Answers.{IsUnitAnswer, not_built_fault};
+ghost use Rattle.cxx_command.specs.Answers.{IsUnitAnswer, token_fault};
+ghost use Rattle.cxx_model.specs.Stops.{token_reason_text};
 ghost use Rattle.cxx_command.specs.Run.{due, default_options};
 
 use crate::answers::Answer;
 use cxx_decl::read_unit;
-use cxx_model::{Fault, LimitKind, Listed, Options, Place, Reading, Stop, Token};
+use cxx_model::{Fault, LimitKind, Listed, Options, Place, Reading, Stop, Token, TokenReason};
 use cxx_plain::{PlainFault, plain, report};
 use cxx_tokens::{TokenFault, tokens};
 use std::alloc::{AllocError, Global};
@@ -25,20 +26,38 @@ fn reported(alloc: Global, fault: &Fault) -> Answer
     }
 }
 
-fn fault_at(alloc: Global, place: Place) -> Result<Fault, AllocError>
-    ensures { IfOk result (λ fault. fault ≡ not_built_fault place) }
+fn reason_text(reason: TokenReason) -> &'static [u8]
+    ensures { result.now ≡ token_reason_text reason }
+{
+    match reason {
+        TokenReason::StrayByte => b"stray byte",
+        TokenReason::UnfinishedComment => b"unfinished comment",
+        TokenReason::UnfinishedLiteral => b"unfinished literal",
+        TokenReason::BadEscape => b"bad escape",
+        TokenReason::BadNumber => b"bad number",
+        TokenReason::NumberTooLarge => b"number too large",
+        TokenReason::Directive => b"directive",
+        TokenReason::MixedStrings => b"mixed strings",
+        TokenReason::FloatingLiteral => b"left out: floating literal",
+        TokenReason::MultiCharacter => b"left out: multi-character literal",
+        TokenReason::UniversalName => b"left out: universal character name",
+    }
+}
+
+fn fault_at(alloc: Global, place: Place, reason: TokenReason) -> Result<Fault, AllocError>
+    ensures { IfOk result (λ fault. fault ≡ token_fault place reason) }
 {
     Ok(Fault {
         place,
-        text: Listed::from_slice(alloc, b"not built")?,
+        text: Listed::from_slice(alloc, reason_text(reason))?,
         evidence: Listed::new(alloc),
     })
 }
 
-fn not_built(alloc: Global, place: Place) -> Answer
-    ensures { IsUnitAnswer (spec.Reports (not_built_fault place)) result }
+fn bad_token(alloc: Global, place: Place, reason: TokenReason) -> Answer
+    ensures { IsUnitAnswer (spec.Reports (token_fault place reason)) result }
 {
-    match fault_at(alloc, place) {
+    match fault_at(alloc, place, reason) {
         Ok(fault) => reported(alloc, &fault),
         Err(_) => Answer::NoMemory,
     }
@@ -73,7 +92,7 @@ pub fn answer_unit(alloc: Global, bytes: &[u8]) -> Answer
 {
     match tokens(alloc, bytes) {
         Ok(tokens) => read(alloc, bytes, &tokens),
-        Err(TokenFault::Bad(place, _)) => not_built(alloc, place),
+        Err(TokenFault::Bad(place, reason)) => bad_token(alloc, place, reason),
         Err(TokenFault::Limit(limit)) => Answer::PassesLimit(limit),
         Err(TokenFault::OutOfMemory) => Answer::NoMemory,
     }
