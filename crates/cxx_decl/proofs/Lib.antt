@@ -1,4 +1,5 @@
 pub mod Items
+pub mod Kept
 pub mod Lists
 pub mod Loops
 pub mod Productions

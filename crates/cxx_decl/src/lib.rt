@@ -11,6 +11,7 @@ mod declaration;
 mod expression;
 mod fault;
 mod laws;
+mod numbers;
 mod scope;
 mod standard;
 mod viable;
