@@ -1,3 +1,4 @@
+pub mod Bounds
 pub mod Items
 pub mod Kept
 pub mod Lists
