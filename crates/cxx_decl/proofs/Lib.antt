@@ -1,4 +1,6 @@
+pub mod Bounds
 pub mod Items
+pub mod Kept
 pub mod Lists
 pub mod Loops
 pub mod Productions

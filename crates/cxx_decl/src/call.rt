@@ -8,11 +8,12 @@ ghost use Rattle.cxx_decl.specs.Views.{candidate_at, contender_at};
 
 use crate::champion::{chosen, ties};
 use crate::fault::{fault_with, not_built, undeclared};
+use crate::numbers::Seen;
 use crate::scope::{Candidate, candidates, is_declared, names_object};
 use crate::viable::{Contender, contenders, outcome, refusals};
 use cxx_model::{
-    Argument, ArgumentList, Base, BaseList, Call, Declaration, Fault, Initializer, LimitKind,
-    NumberList, OutcomeList, Place, Stop, Text, Word, limits,
+    Argument, ArgumentList, Base, BaseList, Call, Fault, Initializer, LimitKind, NumberList,
+    OutcomeList, Place, Stop, Text, Word, limits,
 };
 use std::alloc::{AllocError, Global};
 
@@ -144,21 +145,20 @@ fn choice(
 #[tactic(auto, unfolding(cxx_model::specs::First::Candidates::call_of))]
 pub(crate) fn call_of(
     alloc: Global,
-    declarations: &[Declaration],
+    seen: &Seen,
     place: Place,
     word: &[u8],
     arguments: ArgumentList,
 ) -> Result<(Initializer, Call), Stop>
-    requires { length declarations.now ≤ limits.MOST_DECLARATIONS }
-    ensures { Gives (λ call. call) result (call_meant declarations.now place word.now arguments) }
+    ensures { Gives (λ call. call) result (call_meant seen.now.declarations.now place word.now arguments) }
 {
-    if names_object(declarations, word) {
+    if names_object(seen, word) {
         return Err(Stop::Fault(not_built(alloc, place)?));
     }
-    if !is_declared(declarations, word) {
+    if !is_declared(seen, word) {
         return Err(Stop::Fault(undeclared(alloc, place, word)?));
     }
-    let all = candidates(alloc, declarations, word)?;
+    let all = candidates(alloc, seen, word)?;
     if all.len() > limits::MOST_CANDIDATES as usize {
         return Err(Stop::Limit(LimitKind::Candidates));
     }

@@ -1,18 +1,20 @@
 //! Declarations (clauses 7 and 8), and the unit.
 
-ghost use Rattle.std.specs.Prelude.{◌≡◌, ◌+◌, ◌≤◌, length, IfOk};
+ghost use Rattle.std.specs.Prelude.{◌≡◌, ◌+◌, ◌≤◌, [], length, IfOk, OnOk};
 ghost use Rattle.cxx_model.specs.declared.limits.TheConstants as limits;
 ghost use Rattle.cxx_model.specs.Lexemes.{lexemes};
 ghost use Rattle.cxx_model.specs.Stops.{Gives};
 ghost use Rattle.cxx_model.specs.First.Reading.{begins_type as begins_a_type, same_bases as are_same_bases, clashes as is_clash, has_clash as has_a_clash, list_at, type_at, declare as declare_at, function_at, object_at, item_at, items_at, reading_of, is_end as is_end_kind};
 ghost use Rattle.cxx_model.specs.First.Bound.{EachCallIsBest};
 ghost use Rattle.cxx_model.specs.First.Words.{AreSpelled, words_of, words_before_end};
+ghost use Rattle.std.specs.List.{list_any};
+ghost use Rattle.cxx_decl.specs.Numbers.{Keeps, passes_at};
 ghost use Rattle.cxx_decl.specs.Views.{left, lexeme};
 
 use crate::cursor::{Cursor, Spelled, is_punct, type_of_kind};
 use crate::expression::initializer;
 use crate::fault::not_built;
-use crate::scope::has_word;
+use crate::numbers::{Numbers, Seen};
 use crate::standard::is_same;
 use cxx_model::{
     Base, BaseList, CallList, Declaration, DeclarationList, Declared, Item, ItemList, LimitKind,
@@ -80,54 +82,84 @@ fn clashes(one: &Declared, two: &Declared) -> bool
     }
 }
 
-fn has_clash(declarations: &[Declaration], word: &[u8], what: &Declared) -> bool
-    ensures { result ≡ has_a_clash declarations.now word.now what.now }
+fn clashes_at(declarations: &[Declaration], number: u32, what: &Declared) -> bool
+    ensures { result ≡ passes_at (λ d. is_clash d.what what.now) declarations.now number }
 {
-    for declaration in declarations {
-        if has_word(declaration, word) && clashes(&declaration.what, what) {
+    match declarations.get(number as usize) {
+        Some(declaration) => clashes(&declaration.what, what),
+        None => false,
+    }
+}
+
+fn any_clashes(declarations: &[Declaration], numbers: &[u32], what: &Declared) -> bool
+    ensures { result ≡ list_any (passes_at (λ d. is_clash d.what what.now) declarations.now) numbers.now }
+{
+    for number in numbers {
+        if clashes_at(declarations, *number, what) {
             return true;
         }
     }
     false
 }
 
+/// Whether a name may not be declared as this, since it is declared already.
+fn has_clash(seen: &Seen, word: &[u8], what: &Declared) -> bool
+    ensures { result ≡ has_a_clash seen.now.declarations.now word.now what.now }
+{
+    any_clashes(seen.declarations, seen.of(word), what)
+}
+
 /// Declares a name, where there is room for a declaration.
 #[tactic(auto, using(crate::proofs::Productions::added_zero, crate::proofs::Productions::added_more), unfolding(cxx_model::specs::First::Reading::declare))]
-fn declare(
+fn declare<'a>(
     alloc: Global,
     room: u32,
     so_far: &mut Reading,
-    name: &Spelled,
+    numbers: &mut Numbers<'a>,
+    name: &Spelled<'a>,
     what: Declared,
 ) -> Result<(), Stop>
-    ensures { Gives (λ _. so_far.new) result (declare_at room so_far.old (lexeme name.now) what) }
+    requires room { length so_far.old.declarations + room ≤ limits.MOST_DECLARATIONS }
+    requires kept { Keeps numbers.old so_far.old.declarations }
+    ensures gives { Gives (λ _. so_far.new) result (declare_at room so_far.old (lexeme name.now) what) }
+    ensures kept { OnOk result (Keeps numbers.new so_far.new.declarations) }
 {
-    if has_clash(so_far.declarations.as_slice(), name.spelling, &what) {
+    let seen = Seen {
+        declarations: so_far.declarations.as_slice(),
+        numbers,
+    };
+    if has_clash(&seen, name.spelling, &what) {
         return Err(Stop::Fault(not_built(alloc, name.place)?));
     }
     if room == 0 {
         return Err(Stop::Limit(LimitKind::Facts));
     }
+    let number = so_far.declarations.len() as u32;
     let word = Word::from_slice(alloc, name.spelling)?;
     so_far.declarations.push(Declaration {
         place: name.place,
         word,
         what,
     })?;
+    numbers.add(alloc, name.spelling, number)?;
     Ok(())
 }
 
 /// A function, behind the bracket of its parameters.
 #[tactic(auto, unfolding(cxx_model::specs::First::Reading::function_at))]
-fn function(
+fn function<'a>(
     alloc: Global,
-    cursor: &mut Cursor,
+    cursor: &mut Cursor<'a>,
     room: u32,
     so_far: &mut Reading,
+    numbers: &mut Numbers<'a>,
     of: Base,
-    name: &Spelled,
+    name: &Spelled<'a>,
 ) -> Result<(), Stop>
-    ensures { Gives (λ _. (so_far.new, left cursor.new)) result (function_at room so_far.old of (lexeme name.now) (left cursor.old)) }
+    requires room { length so_far.old.declarations + room ≤ limits.MOST_DECLARATIONS }
+    requires kept { Keeps numbers.old so_far.old.declarations }
+    ensures gives { Gives (λ _. (so_far.new, left cursor.new)) result (function_at room so_far.old of (lexeme name.now) (left cursor.old)) }
+    ensures kept { OnOk result (Keeps numbers.new so_far.new.declarations) }
 {
     let parameters = parameters(alloc, cursor)?;
     cursor.punct(alloc, punct::RIGHT_PARENTHESIS)?;
@@ -135,6 +167,7 @@ fn function(
         alloc,
         room,
         so_far,
+        numbers,
         name,
         Declared::Function(of, parameters),
     )?;
@@ -145,20 +178,27 @@ fn function(
 
 /// An object, behind its name: it is declared before its initializer is read.
 #[tactic(auto, using(cxx_model::proofs::FirstForm::Taken::declares_counts), unfolding(cxx_model::specs::First::Reading::object_at))]
-fn object(
+fn object<'a>(
     alloc: Global,
-    cursor: &mut Cursor,
+    cursor: &mut Cursor<'a>,
     room: u32,
     so_far: &mut Reading,
+    numbers: &mut Numbers<'a>,
     of: Base,
-    name: &Spelled,
+    name: &Spelled<'a>,
 ) -> Result<(), Stop>
-    requires { length so_far.old.declarations + room ≤ limits.MOST_DECLARATIONS }
-    ensures { Gives (λ _. (so_far.new, left cursor.new)) result (object_at room so_far.old of (lexeme name.now) (left cursor.old)) }
+    requires room { length so_far.old.declarations + room ≤ limits.MOST_DECLARATIONS }
+    requires kept { Keeps numbers.old so_far.old.declarations }
+    ensures gives { Gives (λ _. (so_far.new, left cursor.new)) result (object_at room so_far.old of (lexeme name.now) (left cursor.old)) }
+    ensures kept { OnOk result (Keeps numbers.new so_far.new.declarations) }
 {
-    declare(alloc, room, so_far, name, Declared::Object(of))?;
+    declare(alloc, room, so_far, numbers, name, Declared::Object(of))?;
     cursor.punct(alloc, punct::EQUALS)?;
-    let (init, call) = initializer(alloc, cursor, so_far.declarations.as_slice())?;
+    let seen = Seen {
+        declarations: so_far.declarations.as_slice(),
+        numbers,
+    };
+    let (init, call) = initializer(alloc, cursor, &seen)?;
     cursor.punct(alloc, punct::SEMICOLON)?;
     so_far.items.push(Item::Object(init))?;
     so_far.calls.push(call)?;
@@ -167,17 +207,25 @@ fn object(
 
 /// A declaration.
 #[tactic(auto, unfolding(cxx_model::specs::First::Reading::item_at))]
-fn item(alloc: Global, cursor: &mut Cursor, room: u32, so_far: &mut Reading) -> Result<(), Stop>
-    requires { length so_far.old.declarations + room ≤ limits.MOST_DECLARATIONS }
-    ensures { Gives (λ _. (so_far.new, left cursor.new)) result (item_at room so_far.old (left cursor.old)) }
+fn item<'a>(
+    alloc: Global,
+    cursor: &mut Cursor<'a>,
+    room: u32,
+    so_far: &mut Reading,
+    numbers: &mut Numbers<'a>,
+) -> Result<(), Stop>
+    requires room { length so_far.old.declarations + room ≤ limits.MOST_DECLARATIONS }
+    requires kept { Keeps numbers.old so_far.old.declarations }
+    ensures gives { Gives (λ _. (so_far.new, left cursor.new)) result (item_at room so_far.old (left cursor.old)) }
+    ensures kept { OnOk result (Keeps numbers.new so_far.new.declarations) }
 {
     let of = cursor.base(alloc)?;
     let name = cursor.name(alloc)?;
     if is_punct(punct::LEFT_PARENTHESIS, cursor.kind()) {
         cursor.advance();
-        return function(alloc, cursor, room, so_far, of, &name);
+        return function(alloc, cursor, room, so_far, numbers, of, &name);
     }
-    object(alloc, cursor, room, so_far, of, &name)
+    object(alloc, cursor, room, so_far, numbers, of, &name)
 }
 
 fn is_end(kind: TokenKind) -> bool
@@ -191,19 +239,26 @@ fn is_end(kind: TokenKind) -> bool
 
 /// Declarations up to the end of the unit.
 fn items(alloc: Global, cursor: &mut Cursor, so_far: &mut Reading) -> Result<(), Stop>
-    requires { length so_far.old.declarations ≡ 0 }
+    requires { so_far.old.declarations ≡ [] }
     ensures { Gives (λ _. so_far.new) result (items_at limits.MOST_DECLARATIONS so_far.old (left cursor.old)) }
 {
+    let mut numbers = Numbers::new(alloc);
     for done in 0..limits::MOST_DECLARATIONS {
         if is_end(cursor.kind()) {
             return Ok(());
         }
-        item(alloc, cursor, limits::MOST_DECLARATIONS - done, so_far)?;
+        item(
+            alloc,
+            cursor,
+            limits::MOST_DECLARATIONS - done,
+            so_far,
+            &mut numbers,
+        )?;
     }
     if is_end(cursor.kind()) {
         return Ok(());
     }
-    item(alloc, cursor, 0, so_far)?;
+    item(alloc, cursor, 0, so_far, &mut numbers)?;
     Err(Stop::Limit(LimitKind::Facts))
 }
 

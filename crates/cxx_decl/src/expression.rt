@@ -9,10 +9,11 @@ ghost use Rattle.cxx_decl.specs.Views.{left, lexeme, misplaced_fault, cast_opene
 use crate::call::call_of;
 use crate::cursor::{Cursor, is_keyword, is_punct};
 use crate::fault::undeclared;
+use crate::numbers::Seen;
 use crate::scope::is_declared;
 use cxx_model::{
-    Argument, ArgumentList, Base, BaseList, Call, Declaration, Fault, Initializer, LimitKind, Stop,
-    TokenKind, Word, keyword, limits, punct,
+    Argument, ArgumentList, Base, BaseList, Call, Fault, Initializer, LimitKind, Stop, TokenKind,
+    Word, keyword, limits, punct,
 };
 use cxx_tokens::literal_type;
 use std::alloc::{AllocError, Global};
@@ -49,16 +50,12 @@ fn begins_call(cursor: &Cursor) -> bool
 }
 
 /// What is wrong where no form goes on with the token ahead: a name alone is looked up first.
-fn misplaced(
-    alloc: Global,
-    cursor: &Cursor,
-    declarations: &[Declaration],
-) -> Result<Box<Fault>, AllocError>
-    ensures { IfOk result (λ fault. Faulty fault.value ≡ misplaced_fault declarations.now (left cursor.now)) }
+fn misplaced(alloc: Global, cursor: &Cursor, seen: &Seen) -> Result<Box<Fault>, AllocError>
+    ensures { IfOk result (λ fault. Faulty fault.value ≡ misplaced_fault seen.now.declarations.now (left cursor.now)) }
 {
     if is_name(cursor.kind())
         && !is_punct(punct::LEFT_PARENTHESIS, cursor.kind_behind())
-        && !is_declared(declarations, cursor.spelling())
+        && !is_declared(seen, cursor.spelling())
     {
         return undeclared(alloc, cursor.place(), cursor.spelling());
     }
@@ -106,25 +103,20 @@ fn with_cast(target: Base, argument: Argument) -> Result<Argument, AllocError>
 
 /// An argument, with room for so many brackets.
 #[tactic(auto, using(crate::proofs::Productions::misplaced_is, crate::proofs::Productions::cast_at_is, crate::proofs::Productions::argument_opened_zero, crate::proofs::Productions::argument_opened_more), unfolding(cxx_model::specs::First::Reading::argument_by))]
-fn argument(
-    alloc: Global,
-    cursor: &mut Cursor,
-    declarations: &[Declaration],
-    room: u32,
-) -> Result<Argument, Stop>
-    ensures { Gives (λ argument. (argument, left cursor.new)) result (argument_by declarations.now (argument_opened declarations.now room) (left cursor.old)) }
+fn argument(alloc: Global, cursor: &mut Cursor, seen: &Seen, room: u32) -> Result<Argument, Stop>
+    ensures { Gives (λ argument. (argument, left cursor.new)) result (argument_by seen.now.declarations.now (argument_opened seen.now.declarations.now room) (left cursor.old)) }
 {
     if is_literal(cursor.kind()) {
         return literal(alloc, cursor);
     }
     if !is_keyword(keyword::STATIC_CAST, cursor.kind()) {
-        return Err(Stop::Fault(misplaced(alloc, cursor, declarations)?));
+        return Err(Stop::Fault(misplaced(alloc, cursor, seen)?));
     }
     let target = cast_target(alloc, cursor)?;
     if room == 0 {
         return Err(Stop::Limit(LimitKind::Nesting));
     }
-    let operand = argument(alloc, cursor, declarations, room - 1)?;
+    let operand = argument(alloc, cursor, seen, room - 1)?;
     cursor.punct(alloc, punct::RIGHT_PARENTHESIS)?;
     Ok(with_cast(target, operand)?)
 }
@@ -134,17 +126,17 @@ fn argument(
 fn arguments(
     alloc: Global,
     cursor: &mut Cursor,
-    declarations: &[Declaration],
+    seen: &Seen,
     room: u32,
 ) -> Result<ArgumentList, Stop>
-    ensures { Gives (λ arguments. (arguments, left cursor.new)) result (list_at (argument_by declarations.now (argument_opened declarations.now room)) begins_an_argument (left cursor.old)) }
+    ensures { Gives (λ arguments. (arguments, left cursor.new)) result (list_at (argument_by seen.now.declarations.now (argument_opened seen.now.declarations.now room)) begins_an_argument (left cursor.old)) }
 {
     let mut read = ArgumentList::new(alloc);
     if is_punct(punct::RIGHT_PARENTHESIS, cursor.kind()) {
         return Ok(read);
     }
     for _ in 0..limits::MOST_ARGUMENTS {
-        let next = argument(alloc, cursor, declarations, room)?;
+        let next = argument(alloc, cursor, seen, room)?;
         read.push(next)?;
         if !is_punct(punct::COMMA, cursor.kind()) {
             return Ok(read);
@@ -154,7 +146,7 @@ fn arguments(
     if begins_argument(cursor.kind()) {
         return Err(Stop::Limit(LimitKind::Arguments));
     }
-    let _past = argument(alloc, cursor, declarations, room)?;
+    let _past = argument(alloc, cursor, seen, room)?;
     Err(Stop::Limit(LimitKind::Arguments))
 }
 
@@ -163,15 +155,15 @@ fn arguments(
 fn arguments_in(
     alloc: Global,
     cursor: &mut Cursor,
-    declarations: &[Declaration],
+    seen: &Seen,
     room: u32,
 ) -> Result<ArgumentList, Stop>
-    ensures { Gives (λ arguments. (arguments, left cursor.new)) result (arguments_opened declarations.now room (left cursor.old)) }
+    ensures { Gives (λ arguments. (arguments, left cursor.new)) result (arguments_opened seen.now.declarations.now room (left cursor.old)) }
 {
     if room == 0 {
         return Err(Stop::Limit(LimitKind::Nesting));
     }
-    arguments(alloc, cursor, declarations, room - 1)
+    arguments(alloc, cursor, seen, room - 1)
 }
 
 /// A call: which function it means is asked when its bracket is closed.
@@ -179,17 +171,16 @@ fn arguments_in(
 fn call(
     alloc: Global,
     cursor: &mut Cursor,
-    declarations: &[Declaration],
+    seen: &Seen,
     room: u32,
 ) -> Result<(Initializer, Call), Stop>
-    requires { length declarations.now ≤ limits.MOST_DECLARATIONS }
-    ensures { Gives (λ call. (call, left cursor.new)) result (call_at declarations.now room (left cursor.old)) }
+    ensures { Gives (λ call. (call, left cursor.new)) result (call_at seen.now.declarations.now room (left cursor.old)) }
 {
     let name = cursor.name(alloc)?;
     cursor.punct(alloc, punct::LEFT_PARENTHESIS)?;
-    let arguments = arguments_in(alloc, cursor, declarations, room)?;
+    let arguments = arguments_in(alloc, cursor, seen, room)?;
     cursor.punct(alloc, punct::RIGHT_PARENTHESIS)?;
-    call_of(alloc, declarations, name.place, name.spelling, arguments)
+    call_of(alloc, seen, name.place, name.spelling, arguments)
 }
 
 fn with_cast_around(
@@ -208,23 +199,22 @@ fn with_cast_around(
 fn initializer_in(
     alloc: Global,
     cursor: &mut Cursor,
-    declarations: &[Declaration],
+    seen: &Seen,
     room: u32,
 ) -> Result<(Initializer, Call), Stop>
-    requires { length declarations.now ≤ limits.MOST_DECLARATIONS }
-    ensures { Gives (λ call. (call, left cursor.new)) result (initializer_by declarations.now (initializer_opened declarations.now room) room (left cursor.old)) }
+    ensures { Gives (λ call. (call, left cursor.new)) result (initializer_by seen.now.declarations.now (initializer_opened seen.now.declarations.now room) room (left cursor.old)) }
 {
     if begins_call(cursor) {
-        return call(alloc, cursor, declarations, room);
+        return call(alloc, cursor, seen, room);
     }
     if !is_keyword(keyword::STATIC_CAST, cursor.kind()) {
-        return Err(Stop::Fault(misplaced(alloc, cursor, declarations)?));
+        return Err(Stop::Fault(misplaced(alloc, cursor, seen)?));
     }
     let target = cast_target(alloc, cursor)?;
     if room == 0 {
         return Err(Stop::Limit(LimitKind::Nesting));
     }
-    let operand = initializer_in(alloc, cursor, declarations, room - 1)?;
+    let operand = initializer_in(alloc, cursor, seen, room - 1)?;
     cursor.punct(alloc, punct::RIGHT_PARENTHESIS)?;
     Ok(with_cast_around(target, operand)?)
 }
@@ -234,10 +224,9 @@ fn initializer_in(
 pub(crate) fn initializer(
     alloc: Global,
     cursor: &mut Cursor,
-    declarations: &[Declaration],
+    seen: &Seen,
 ) -> Result<(Initializer, Call), Stop>
-    requires { length declarations.now ≤ limits.MOST_DECLARATIONS }
-    ensures { Gives (λ call. (call, left cursor.new)) result (initializer_at declarations.now (left cursor.old)) }
+    ensures { Gives (λ call. (call, left cursor.new)) result (initializer_at seen.now.declarations.now (left cursor.old)) }
 {
-    initializer_in(alloc, cursor, declarations, limits::MOST_NESTING)
+    initializer_in(alloc, cursor, seen, limits::MOST_NESTING)
 }

@@ -2,11 +2,14 @@
 
 ghost use Rattle.std.specs.Prelude.{◌≡◌, List, Ok, true, false};
 ghost use Rattle.cxx_model.specs.declared.base.Base.{Base};
+ghost use Rattle.cxx_model.specs.declared.first.Argument.{Argument};
+ghost use Rattle.cxx_model.specs.declared.first.Declaration.{Declaration};
 ghost use Rattle.cxx_model.specs.declared.first.Options.{Options};
 ghost use Rattle.cxx_model.specs.declared.first.Reading.{Reading};
-ghost use Rattle.cxx_model.specs.Lexemes.{Lexeme};
+ghost use Rattle.cxx_model.specs.Lexemes.{Lexeme, kind_of};
+ghost use Rattle.cxx_model.specs.Stops.{Reads};
 ghost use Rattle.cxx_model.specs.First.Candidates.{Candidate, beats};
-ghost use Rattle.cxx_model.specs.First.Reading.{reading_of};
+ghost use Rattle.cxx_model.specs.First.Reading.{reading_of, item_at, type_at, argument_by, begins_type, begins_argument};
 ghost use Rattle.cxx_model.specs.First.Bound.{EachCallIsBest};
 ghost use Rattle.cxx_model.specs.First.Words.{AreSpelled, words_of, words_before_end};
 
@@ -23,4 +26,13 @@ pub fn words_are_kept()
 /// Of two functions at most one is better than the other, whatever the arguments are.
 pub fn better_is_asymmetric()
     ensures { (arguments : List Base) (f g : Candidate) → beats arguments f g ≡ true → beats arguments g f ≡ false }
+{}
+
+/// What a limit bounds is read by recursion on the room that is left, and the definition has no other bound: where there
+/// is no room for a declaration none is complete, and where none begins no type and no argument is read. So a limit is
+/// answered only where one more begins.
+pub fn bounds_are_limits()
+    ensures declarations { (so_far : Reading) (ahead : List Lexeme) (after : Reading × List Lexeme) → item_at 0 so_far ahead ≡ Ok after → ⊥ }
+    ensures types { (ahead : List Lexeme) (after : Base × List Lexeme) → begins_type (kind_of ahead) ≡ false → type_at ahead ≡ Ok after → ⊥ }
+    ensures arguments { (declarations : List Declaration) (inside : List Lexeme → Reads Argument) (ahead : List Lexeme) (after : Argument × List Lexeme) → begins_argument (kind_of ahead) ≡ false → argument_by declarations inside ahead ≡ Ok after → ⊥ }
 {}

@@ -11,12 +11,13 @@ mod declaration;
 mod expression;
 mod fault;
 mod laws;
+mod numbers;
 mod scope;
 mod standard;
 mod viable;
 
 pub use declaration::read_unit;
-pub use laws::{better_is_asymmetric, each_call_is_best, words_are_kept};
+pub use laws::{better_is_asymmetric, bounds_are_limits, each_call_is_best, words_are_kept};
 
 #[cfg(test)]
 mod tests;

@@ -1,10 +1,12 @@
 //! What the names of a unit are declared as (3.4.1), and the functions that a call may mean (13.3.1).
 
-ghost use Rattle.std.specs.Prelude.{◌≡◌, ◌≤◌, map, length, option_map, OnOk, IfOk};
-ghost use Rattle.cxx_model.specs.declared.limits.TheConstants as limits;
-ghost use Rattle.cxx_model.specs.First.Candidates.{has_word as is_of_word, is_object as is_object_declared, is_declared as is_name_declared, names_object as is_object_named, candidate_by as candidate_of_declared, candidate_of as candidate_of_declaration, candidates as candidates_of};
+ghost use Rattle.std.specs.Prelude.{◌≡◌, map, option_map, OnOk, IfOk};
+ghost use Rattle.std.specs.List.{list_any, filter_map};
+ghost use Rattle.cxx_model.specs.First.Candidates.{is_object as is_object_declared, is_declared as is_name_declared, names_object as is_object_named, candidates as candidates_of};
+ghost use Rattle.cxx_decl.specs.Numbers.{is_some_number as is_some, passes_at, function_at as function_with};
 ghost use Rattle.cxx_decl.specs.Views.{candidate_at, with_option};
 
+use crate::numbers::Seen;
 use cxx_model::{Base, Declaration, Declared, Place};
 use std::alloc::{AllocError, Global};
 
@@ -17,12 +19,6 @@ pub(crate) struct Candidate<'a> {
     pub parameters: &'a [Base],
 }
 
-pub(crate) fn has_word(declaration: &Declaration, word: &[u8]) -> bool
-    ensures { result ≡ is_of_word word.now declaration.now }
-{
-    declaration.word.as_slice() == word
-}
-
 fn is_object(what: &Declared) -> bool
     ensures { result ≡ is_object_declared what.now }
 {
@@ -32,37 +28,56 @@ fn is_object(what: &Declared) -> bool
     }
 }
 
-pub(crate) fn is_declared(declarations: &[Declaration], word: &[u8]) -> bool
-    ensures { result ≡ is_name_declared declarations.now word.now }
+fn is_some_number(numbers: &[u32]) -> bool
+    ensures { result ≡ is_some numbers.now }
 {
-    for declaration in declarations {
-        if has_word(declaration, word) {
+    match numbers {
+        [] => false,
+        [_, ..] => true,
+    }
+}
+
+/// Whether a name is declared.
+pub(crate) fn is_declared(seen: &Seen, word: &[u8]) -> bool
+    ensures { result ≡ is_name_declared seen.now.declarations.now word.now }
+{
+    is_some_number(seen.of(word))
+}
+
+fn is_object_at(declarations: &[Declaration], number: u32) -> bool
+    ensures { result ≡ passes_at (λ d. is_object_declared d.what) declarations.now number }
+{
+    match declarations.get(number as usize) {
+        Some(declaration) => is_object(&declaration.what),
+        None => false,
+    }
+}
+
+fn has_object(declarations: &[Declaration], numbers: &[u32]) -> bool
+    ensures { result ≡ list_any (passes_at (λ d. is_object_declared d.what) declarations.now) numbers.now }
+{
+    for number in numbers {
+        if is_object_at(declarations, *number) {
             return true;
         }
     }
     false
 }
 
-pub(crate) fn names_object(declarations: &[Declaration], word: &[u8]) -> bool
-    ensures { result ≡ is_object_named declarations.now word.now }
+/// Whether a name is that of an object.
+pub(crate) fn names_object(seen: &Seen, word: &[u8]) -> bool
+    ensures { result ≡ is_object_named seen.now.declarations.now word.now }
 {
-    for declaration in declarations {
-        if has_word(declaration, word) && is_object(&declaration.what) {
-            return true;
-        }
-    }
-    false
+    has_object(seen.declarations, seen.of(word))
 }
 
-fn function_named<'a>(fact: u32, declaration: &'a Declaration, word: &[u8]) -> Option<Candidate<'a>>
-    ensures { option_map candidate_at result ≡ candidate_of_declaration word.now (fact, declaration.now) }
+fn function_at<'s>(declarations: &'s [Declaration], number: u32) -> Option<Candidate<'s>>
+    ensures { option_map candidate_at result ≡ function_with declarations.now number }
 {
-    if !has_word(declaration, word) {
-        return None;
-    }
+    let declaration = declarations.get(number as usize)?;
     match &declaration.what {
         Declared::Function(of, parameters) => Some(Candidate {
-            fact,
+            fact: number,
             place: declaration.place,
             of: *of,
             parameters: parameters.as_slice(),
@@ -81,19 +96,27 @@ pub(crate) fn push_some<T: Drop>(items: &mut Vec<T>, item: Option<T>) -> Result<
     }
 }
 
-/// Every function of a name, in the order of their declarations.
-#[tactic(auto, unfolding(cxx_model::specs::First::Candidates::candidates))]
-pub(crate) fn candidates<'a>(
+fn functions_at<'s>(
     alloc: Global,
-    declarations: &'a [Declaration],
-    word: &[u8],
-) -> Result<Vec<Candidate<'a>>, AllocError>
-    requires { length declarations.now ≤ limits.MOST_DECLARATIONS }
-    ensures { IfOk result (λ found. map candidate_at found.items ≡ candidates_of declarations.now word.now) }
+    declarations: &'s [Declaration],
+    numbers: &[u32],
+) -> Result<Vec<Candidate<'s>>, AllocError>
+    ensures { IfOk result (λ found. map candidate_at found.items ≡ filter_map (function_with declarations.now) numbers.now) }
 {
     let mut found = Vec::new(alloc);
-    for (i, declaration) in declarations.iter().enumerate() {
-        push_some(&mut found, function_named(i as u32, declaration, word))?;
+    for number in numbers {
+        push_some(&mut found, function_at(declarations, *number))?;
     }
     Ok(found)
+}
+
+/// Every function of a name, in the order of their declarations.
+pub(crate) fn candidates<'s>(
+    alloc: Global,
+    seen: &Seen<'s, '_>,
+    word: &[u8],
+) -> Result<Vec<Candidate<'s>>, AllocError>
+    ensures { IfOk result (λ found. map candidate_at found.items ≡ candidates_of seen.now.declarations.now word.now) }
+{
+    functions_at(alloc, seen.declarations, seen.of(word))
 }

@@ -6,4 +6,4 @@ use Rattle.cxx_decl.proofs.Lists.{with_front}
 use Rattle.cxx_decl.proofs.expression.arguments.Given as goal
 
 abbrev pub invariant-loop : goal.invariant-loop
-invariant-loop l = with_front l.read (more_at (argument_by l.declarations (argument_opened l.declarations l.room)) begins_argument (limits.MOST_ARGUMENTS - l.counter) (left l.cursor)) ≡ list_at (argument_by l.declarations (argument_opened l.declarations l.room)) begins_argument (left l.fn.cursor)
+invariant-loop l = with_front l.read (more_at (argument_by l.seen.declarations.now (argument_opened l.seen.declarations.now l.room)) begins_argument (limits.MOST_ARGUMENTS - l.counter) (left l.cursor)) ≡ list_at (argument_by l.seen.declarations.now (argument_opened l.seen.declarations.now l.room)) begins_argument (left l.fn.cursor)
