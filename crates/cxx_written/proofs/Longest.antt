@@ -6,7 +6,7 @@ use Rattle.std.proofs.lemmas.Bool.Decides.{nat_tests}
 use Rattle.std.specs.Char.{is_ascii_digit}
 use Rattle.std.specs.List.{list_all}
 use Rattle.cxx_model.specs.declared.token.TokenKind.{TokenKind}
-use Rattle.cxx_model.specs.Spelling.{Spelled, Good, is_white, is_word, begins_word, begins_number, is_number_rest, is_sign, is_exponent, is_quote, word_kind, number_kind, Ending, Open, Closed, Past, closed_if_last, literal_ending, literal_by, literal, wide_literal, spelling_of}
+use Rattle.cxx_model.specs.Spelling.{Spelled, Blank, Good, alone, is_white, is_word, begins_word, begins_number, is_number_rest, is_sign, is_exponent, is_quote, word_kind, number_kind, Ending, Open, Closed, Past, closed_if_last, literal_ending, literal_by, literal, wide_literal, spelling_of}
 use Rattle.cxx_model.specs.Tokens.{IsLongest}
 use Rattle.cxx_model.proofs.Shapes.{pick, literal_is_closed}
 use Rattle.cxx_written.specs.Ends.{ends_in_exponent}
@@ -50,6 +50,27 @@ word_is_no_quote b h = grind (arith, nat_tests)
 
 quote_is_no_word : (b : ℕ) → is_quote b ≡ true → is_word b ≡ false
 quote_is_no_word b h = grind (arith, nat_tests)
+
+-- ---- white space
+
+spells_blank : (fresh : Bool) (b : ℕ) (rest : List ℕ) → is_white b ≡ true → spelling_of fresh (b ∷ rest) ≡ alone rest Blank
+unfolding spelling_of
+spells_blank fresh b rest white = rw white refl
+
+none_beside : (fresh : Bool) (b : ℕ) (rest : List ℕ) → is_white b ≡ true → (n : ℕ) → 1 < n → n ≤ length (b ∷ rest) → spelling_of fresh (take n (b ∷ rest)) ≡ None
+none_beside fresh b rest white zero low high = absurd (omega arith)
+none_beside fresh b rest white (suc zero) low high = absurd (omega arith)
+none_beside fresh b [] white (suc (suc n)) low high = absurd (omega arith)
+none_beside fresh b (c ∷ rest) white (suc (suc n)) low high = spells_blank fresh b (c ∷ take n rest) white
+
+-- white space is read a byte at a time
+pub blank_longest : (fresh : Bool) (b : ℕ) (rest : List ℕ) → is_white b ≡ true → IsLongest fresh (b ∷ rest) (record { len = 1; spells = Blank })
+blank_longest fresh b rest white = record {
+  some = omega arith;
+  within = omega arith;
+  spelled = spells_blank fresh b [] white;
+  longest = none_beside fresh b rest white;
+}
 
 -- ---- words
 
