@@ -1,1 +1,4 @@
+pub mod Fronts
+pub mod Readings
+pub mod Spellings
 mod TokenRows
