@@ -15,7 +15,7 @@ use Rattle.cxx_model.proofs.Shapes.{shape, no_empty}
 use Rattle.cxx_model.proofs.SpelledKinds.{KindSpells, kind_spells}
 use Rattle.cxx_written.specs.Ends.{ends_punct_before, ends_in_exponent, ends_before, word_ends_before, ends_before_spelling, is_apart, are_apart}
 use Rattle.cxx_written.specs.Line.{is_printed_punct, is_printed, MayStandBefore, IsSpelled, IsPrinted, IsWord, MayTouch, MayPrecede, IsLine}
-use Rattle.cxx_written.proofs.Longest.{Ends, ends_from, word_ends, not_wide_alone, not_wide_longer, number_ends, narrow_ends, wide_ends}
+use Rattle.cxx_written.proofs.Longest.{Ends, word_ends, number_ends, character_ends, punct_ends}
 use Rattle.cxx_written.proofs.Shapes.{Spells, IsWordText, word_text, IsIntegerText, integer_text, IsNarrowText, IsWideText, character_text, Built, built_open, built_close, built_comma, built_semicolon, built_equals, built_less, built_greater, built_is}
 use Rattle.cxx_written.proofs.Tables.{begins_with_two, none_begins, none_begins_beside}
 
@@ -33,9 +33,9 @@ narrow_by false q h = refl
 narrow_by true false h = refl
 narrow_by true true h = h
 
-narrow : (b : ℕ) (w : List ℕ) (c : ℕ) → list_all is_word w ≡ true → (is_quote c && bytes_eq (b ∷ w) (codes "L")) ≡ false → (more : List ℕ) → wide_literal b (w ++ c ∷ more) ≡ None
-narrow b [] c all h more = not_wide_alone b c more (narrow_by (b == 76) (is_quote c) h)
-narrow b (x ∷ w) c all h more = not_wide_longer b x w c more all
+narrow : (b : ℕ) (w : List ℕ) (c : ℕ) → (is_quote c && bytes_eq (b ∷ w) (codes "L")) ≡ false → w ≡ [] → (b == 76 && is_quote c) ≡ false
+narrow b [] c h e = narrow_by (b == 76) (is_quote c) h
+narrow b (x ∷ w) c h e = absurd (cc)
 
 one_letter_is_none : number_in keywords (codes "L") ≡ None
 unfolding keywords
@@ -52,86 +52,51 @@ keyword_is_longer text n e true is =
 name_ends : (b : ℕ) (w : List ℕ) (c : ℕ) → IsWordText b w Name → EndsBefore (b ∷ w) Name c
 name_ends b w c text h =
     let parts = and_parts (not (is_word c)) (not (is_quote c && bytes_eq (b ∷ w) (codes "L"))) h in
-    word_ends b w Name c text.begins text.all text.is (not_false _ parts.0) (narrow b w c text.all (not_false _ parts.1))
+    word_ends b w Name c text.begins text.all text.is (not_false _ parts.0) (narrow b w c (not_false _ parts.1))
 
 keyword_ends : (b : ℕ) (w : List ℕ) (n c : ℕ) → Spells (b ∷ w) (Keyword n) → IsWordText b w (Keyword n) → EndsBefore (b ∷ w) (Keyword n) c
 keyword_ends b w n c e text h =
     let longer : bytes_eq (b ∷ w) (codes "L") ≡ false = keyword_is_longer (b ∷ w) n (kind_spells false (b ∷ w) (Keyword n) e) (bytes_eq (b ∷ w) (codes "L")) refl in
-    word_ends b w (Keyword n) c text.begins text.all text.is (not_false _ h) (narrow b w c text.all (and_right (is_quote c) _ longer))
+    word_ends b w (Keyword n) c text.begins text.all text.is (not_false _ h) (narrow b w c (and_right (is_quote c) _ longer))
 
--- ---- numbers and characters
+-- ---- numbers
 
 integer_ends : (b : ℕ) (w : List ℕ) (c : ℕ) → IsIntegerText b w → EndsBefore (b ∷ w) Integer c
-integer_ends b w c text h = number_ends b w Integer c text.begins text.all text.is (not_false _ h)
-
-character_ends : (b : ℕ) (w : List ℕ) (c : ℕ) → Spells (b ∷ w) Character → Ends (b ∷ w) Character c
-character_ends b w c e =
-    ⊎_elim
-    (λ (text : IsNarrowText b w). narrow_ends b w Character c text.begins text.is)
-    (λ (text : IsWideText b w). subst (λ t. Ends t Character c) (sym text.text) (wide_ends text.quote text.tail Character c text.begins text.is))
-    (character_text b w (shape false b w Character e))
+integer_ends b w c text h = number_ends b w c text.begins text.all text.is (not_false _ h)
 
 -- ---- punctuators
 
-abbrev Joins : ℕ → ℕ → Bool
-Joins b c = list_any (begins_with_two b c) operators || list_any (λ entry. begins_with_two b c entry.0) digraphs
-
-no_longer_operator : (b c : ℕ) (text : List ℕ) → Joins b c ≡ false → operator b (c ∷ text) ≡ None
-unfolding operator
-no_longer_operator b c text apart =
-    let parts = or_parts (list_any (begins_with_two b c) operators) (list_any (λ entry. begins_with_two b c entry.0) digraphs) apart in
-    rw (none_begins operators b c text parts.0, none_begins_beside digraphs b c text parts.1) refl
-
--- whatever stands behind this byte, an operator begins with it
-abbrev BeginsOperator : ℕ → Type 0
-BeginsOperator b = (fresh : Bool) (rest : List ℕ) → spelling_of fresh (b ∷ rest) ≡ operator b rest
-
-punct_ends : (b c n : ℕ) → BeginsOperator b → operator b [] ≡ Some (Good (Punct n)) → Joins b c ≡ false → Ends (b ∷ []) (Punct n) c
-punct_ends b c n begins is apart =
-    ends_from b [] (Punct n) c
-    (λ fresh. begins fresh [] ∙ is)
-    (λ fresh more. begins fresh (c ∷ more) ∙ no_longer_operator b c more apart)
-
 open_ends : (c : ℕ) → Ends (codes "(") (Punct punct.LEFT_PARENTHESIS) c
-unfolding spelling_of operator operators digraphs
-open_ends c = punct_ends 40 c _ (λ fresh rest. refl) refl refl
+unfolding operators digraphs
+open_ends c = punct_ends (codes "(") punct.LEFT_PARENTHESIS c refl refl
 
 close_ends : (c : ℕ) → Ends (codes ")") (Punct punct.RIGHT_PARENTHESIS) c
-unfolding spelling_of operator operators digraphs
-close_ends c = punct_ends 41 c _ (λ fresh rest. refl) refl refl
+unfolding operators digraphs
+close_ends c = punct_ends (codes ")") punct.RIGHT_PARENTHESIS c refl refl
 
 comma_ends : (c : ℕ) → Ends (codes ",") (Punct punct.COMMA) c
-unfolding spelling_of operator operators digraphs
-comma_ends c = punct_ends 44 c _ (λ fresh rest. refl) refl refl
+unfolding operators digraphs
+comma_ends c = punct_ends (codes ",") punct.COMMA c refl refl
 
 semicolon_ends : (c : ℕ) → Ends (codes ";") (Punct punct.SEMICOLON) c
-unfolding spelling_of operator operators digraphs
-semicolon_ends c = punct_ends 59 c _ (λ fresh rest. refl) refl refl
+unfolding operators digraphs
+semicolon_ends c = punct_ends (codes ";") punct.SEMICOLON c refl refl
 
 equals_ends : (c : ℕ) → (c == 61) ≡ false → Ends (codes "=") (Punct punct.EQUALS) c
-unfolding spelling_of operator operators digraphs
-equals_ends c other = punct_ends 61 c _ (λ fresh rest. refl) refl (rw other refl)
-
-apart_less : (p q r s : Bool) → (p || q || r || s) ≡ false → ((p || (p || (q || false))) || (s || (r || false))) ≡ false
-apart_less false false false false h = refl
-apart_less false false false true h = h
-apart_less false false true false h = h
-apart_less false false true true h = h
-apart_less false true r s h = cc
-apart_less true q r s h = cc
+unfolding operators digraphs
+equals_ends c other = punct_ends (codes "=") punct.EQUALS c refl (rw other refl)
 
 less_ends : (c : ℕ) → (c == 60 || c == 61 || c == 58 || c == 37) ≡ false → Ends (codes "<") (Punct punct.LESS) c
-unfolding spelling_of operator operators digraphs
-less_ends c other = punct_ends 60 c _ (λ fresh rest. refl) refl (apart_less (c == 60) (c == 61) (c == 58) (c == 37) other)
-
-apart_greater : (p q : Bool) → (p || q) ≡ false → ((p || (p || (q || false))) || false) ≡ false
-apart_greater false false h = refl
-apart_greater false true h = h
-apart_greater true q h = h
+unfolding operators digraphs
+less_ends c other =
+    let one = or_parts (c == 60 || c == 61 || c == 58) (c == 37) other in
+    let two = or_parts (c == 60 || c == 61) (c == 58) one.0 in
+    let three = or_parts (c == 60) (c == 61) two.0 in
+    punct_ends (codes "<") punct.LESS c refl (rw (three.0, three.1, two.1, one.1) refl)
 
 greater_ends : (c : ℕ) → (c == 62 || c == 61) ≡ false → Ends (codes ">") (Punct punct.GREATER) c
-unfolding spelling_of operator operators digraphs
-greater_ends c other = punct_ends 62 c _ (λ fresh rest. refl) refl (apart_greater (c == 62) (c == 61) other)
+unfolding operators digraphs
+greater_ends c other = let parts = or_parts (c == 62) (c == 61) other in punct_ends (codes ">") punct.GREATER c refl (rw (parts.0, parts.1) refl)
 
 built_ends : (text : List ℕ) (n : ℕ) → Built text n → (c : ℕ) → ends_punct_before n c ≡ true → Ends text (Punct n) c
 built_ends _ _ built_open c h = open_ends c
@@ -161,7 +126,7 @@ ends (b ∷ w) Name e c h = name_ends b w c (word_text b w Name refl (shape fals
 ends (b ∷ w) (Keyword n) e c h = keyword_ends b w n c e (word_text b w (Keyword n) refl (shape false b w (Keyword n) e)) h
 ends (b ∷ w) (Punct n) e c h = built_ends (b ∷ w) n (built_is n (b ∷ w) (printed_if_ends n c h) e) c h
 ends (b ∷ w) Integer e c h = integer_ends b w c (integer_text b w (shape false b w Integer e)) h
-ends (b ∷ w) Character e c h = character_ends b w c e
+ends (b ∷ w) Character e c h = character_ends (b ∷ w) c e
 ends (b ∷ w) Text e c h = absurd (cc)
 ends (b ∷ w) End e c h = absurd (cc)
 

@@ -2,7 +2,6 @@ pub mod Tables
 pub mod Shapes
 pub mod Longest
 pub mod Ends
-pub mod Steps
 pub mod ReadLines
 pub mod Names
 pub mod FirstWords

@@ -13,26 +13,21 @@ use Rattle.cxx_model.specs.Lexemes.{first_place, after, past, spelling_in, lexem
 use Rattle.cxx_model.specs.Spelling.{Good, Blank, is_white, alone, spelling_of}
 use Rattle.cxx_model.specs.Tokens.{IsLongest, BadAt, PastTokens, Width, is_text, fresh_after, fresh_past, join_list, put, ended, tokens_from, tokens_of}
 use Rattle.cxx_model.specs.Written.{Written, written, has_gap, gap, line_of}
+use Rattle.cxx_model.proofs.Readings.{Answer, other_reason, other_joins, other_join, reads_end, reads_full, reads_spelled, reads_space}
 use Rattle.cxx_model.proofs.Shapes.{no_empty}
+use Rattle.cxx_model.proofs.Spellings.{blank_front}
 use Rattle.cxx_written.specs.Line.{IsWord, MayTouch, MayPrecede, IsLine}
 use Rattle.cxx_written.specs.ReadsAs.{ReadsAsWords, ReadsAs, end_word, text_of}
-use Rattle.cxx_written.proofs.Longest.{blank_longest}
-use Rattle.cxx_written.proofs.Steps.{Answer, passes, reads_blank, reads_word, reads_full}
 
 -- ---- one token in front
 
 same_word : (text : List ℕ) (token : Token) (word : Written) → token.kind ≡ word.kind → spelling_in text token ≡ word.spelling → written (lexeme_of text token) ≡ word
 same_word text token word k s = λ i. record { kind = k i; spelling = s i }
 
--- what is no string is not joined
-join_none : (token : Token) (tokens : List Token) → is_text token.kind ≡ false → join_list token tokens ≡ token ∷ tokens
-join_none token [] h = refl
-join_none token (next ∷ tokens) h = rw h refl
-
 reads_put : (text : List ℕ) (answer : Answer) (token : Token) (word : Written) (words : List Written) → is_text token.kind ≡ false → token.kind ≡ word.kind → spelling_in text token ≡ word.spelling → ReadsAsWords answer text words → ReadsAsWords (put token answer) text (word ∷ words)
 reads_put text (Ok tokens) token word words h k s rest =
     let e = same_word text token word k s in
-    subst (λ ts. ReadsAsWords (Ok ts) text (word ∷ words)) (sym (join_none token tokens h)) cc
+    subst (λ ts. ReadsAsWords (Ok ts) text (word ∷ words)) (sym (other_join token tokens h)) cc
 reads_put text (Err (BadAt place reason)) token word words h k s rest = rest
 reads_put text (Err PastTokens) token word words h k s rest = tt
 
@@ -49,7 +44,7 @@ ReadsRest text rest words = (room : ℕ) (before : Option Width) (fresh : Bool) 
 
 pub reads_blank_as : (text : List ℕ) (b : ℕ) (rest : List ℕ) (words : List Written) → is_white b ≡ true → ReadsRest text rest words → ReadsRest text (b ∷ rest) words
 reads_blank_as text b rest words white go = λ room before fresh at place e.
-    subst (λ a. ReadsAsWords a text words) (sym (reads_blank b rest room before fresh at place (blank_longest fresh b rest white)))
+    subst (λ a. ReadsAsWords a text words) (sym (reads_space (b ∷ []) rest room before fresh at place (blank_front fresh b rest white)))
     (go room before (fresh_after b fresh) (at + 1) (after b place) (drop_past text at (b ∷ []) rest e))
 
 spelled_there : (text : List ℕ) (at : ℕ) (spelling rest : List ℕ) → drop at text ≡ spelling ++ rest → take (at + length spelling - at) (drop at text) ≡ spelling
@@ -66,25 +61,18 @@ no_text _ h true e = sym e
 abbrev pub StandsBefore : Written → List ℕ → Type 0
 StandsBefore word rest = (fresh : Bool) → IsLongest fresh (word.spelling ++ rest) (record { len = length word.spelling; spells = Good word.kind })
 
-reads_bytes_as : (text : List ℕ) (b : ℕ) (w : List ℕ) (kind : TokenKind) (rest : List ℕ) (words : List Written) → is_text kind ≡ false → StandsBefore (record { kind = kind; spelling = b ∷ w }) rest → ReadsRest text rest words → ReadsRest text (b ∷ (w ++ rest)) ((record { kind = kind; spelling = b ∷ w }) ∷ words)
-reads_bytes_as text b w kind rest words h longest go zero before fresh at place e =
-    subst (λ a. ReadsAsWords a text ((record { kind = kind; spelling = b ∷ w }) ∷ words)) (sym (reads_full b w rest kind before fresh at place h (longest fresh))) tt
-reads_bytes_as text b w kind rest words h longest go (suc room) before fresh at place e =
-    let word : Written = record { kind = kind; spelling = b ∷ w } in
-    let len : ℕ = suc (length w) in
-    let token : Token = record { kind = kind; place = place; from = at; to = at + len } in
-    let sums : at + 1 + length w ≡ at + len = omega arith in
-    let behind = go room None (fresh_past w (fresh_after b fresh)) (at + 1 + length w) (past w (after b place)) (rw sums (drop_past text at (b ∷ w) rest e)) in
-    subst (λ a. ReadsAsWords a text (word ∷ words)) (sym (reads_word b w rest kind room before fresh at place h (longest fresh)))
-    (reads_put text (tokens_from (length w) room None (fresh_after b fresh) (at + 1) (after b place) (w ++ rest)) token word words h refl (spelled_there text at (b ∷ w) rest e)
-    (subst (λ a. ReadsAsWords a text words) (sym (passes w rest room None (fresh_after b fresh) (at + 1) (after b place))) behind))
-
 pub reads_word_as : (text : List ℕ) (word : Written) (rest : List ℕ) (words : List Written) → IsWord word → StandsBefore word rest → ReadsRest text rest words → ReadsRest text (word.spelling ++ rest) (word ∷ words)
-reads_word_as text word rest words is longest go = by word.kind word.spelling is.spelled (no_text word.kind is.no_text (is_text word.kind) refl) longest
-  where
-    by : (kind : TokenKind) (spelling : List ℕ) → spelling_of false spelling ≡ Some (Good kind) → is_text kind ≡ false → StandsBefore (record { kind = kind; spelling = spelling }) rest → ReadsRest text (spelling ++ rest) ((record { kind = kind; spelling = spelling }) ∷ words)
-    by kind [] e h longest = absurd (no_empty false kind e)
-    by kind (b ∷ w) e h longest = reads_bytes_as text b w kind rest words h longest go
+reads_word_as text word rest words is longest go zero before fresh at place e =
+    let other : is_text word.kind ≡ false = no_text word.kind is.no_text (is_text word.kind) refl in
+    subst (λ a. ReadsAsWords a text (word ∷ words))
+    (sym (reads_full (word.spelling ++ rest) (length word.spelling) word.kind before fresh at place (longest fresh) (other_reason before (word.spelling ++ rest) word.kind other) (other_joins before word.kind other))) tt
+reads_word_as text word rest words is longest go (suc room) before fresh at place e =
+    let other : is_text word.kind ≡ false = no_text word.kind is.no_text (is_text word.kind) refl in
+    let len : ℕ = length word.spelling in
+    let token : Token = record { kind = word.kind; place = place; from = at; to = at + len } in
+    subst (λ a. ReadsAsWords a text (word ∷ words)) (sym (reads_spelled word.spelling rest word.kind room before fresh at place (longest fresh) other))
+    (reads_put text (tokens_from 0 room None (fresh_past word.spelling fresh) (at + len) (past word.spelling place) rest) token word words other refl (spelled_there text at word.spelling rest e)
+    (go room None (fresh_past word.spelling fresh) (at + len) (past word.spelling place) (drop_past text at word.spelling rest e)))
 
 -- ---- a gap
 
@@ -132,8 +120,7 @@ ended_as text at place (suc room) =
     ap (λ w. w ∷ []) (same_word text (record { kind = End; place = place; from = at; to = at }) end_word refl nothing)
 
 reads_end_as : (text : List ℕ) → ReadsRest text [] (end_word ∷ [])
-unfolding tokens_from
-reads_end_as text room before fresh at place e = ended_as text at place room
+reads_end_as text room before fresh at place e = subst (λ a. ReadsAsWords a text (end_word ∷ [])) (sym (reads_end room before fresh at place)) (ended_as text at place room)
 
 pub reads_lines_as : (text : List ℕ) (lines : List (List Written)) → AllByRecursion IsLine lines → ReadsRest text (text_of lines) (joined lines ++ end_word ∷ [])
 reads_lines_as text [] all = reads_end_as text
