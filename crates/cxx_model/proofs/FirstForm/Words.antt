@@ -222,7 +222,8 @@ are_integer_types parts = by parts.has_u parts.has_l parts.is_decimal
     by false false true = (refl, (refl, tt))
     by false false false = (refl, (refl, (refl, (refl, tt))))
 
-literal_kind : (text : List ℕ) (kind : TokenKind) (b : Base) → literal_type_by text (Some (Good kind)) ≡ Some b → kind ≡ kind_of_literal b
+-- the kind of a literal is by its type
+pub literal_kind : (text : List ℕ) (kind : TokenKind) (b : Base) → literal_type_by text (Some (Good kind)) ≡ Some b → kind ≡ kind_of_literal b
 unfolding IsIntegerType
 literal_kind text Integer b e = by (integer_parts text) e
   where
