@@ -37,3 +37,18 @@ prints = refl
 reads_back : text_of (outcome text) ≡ text
 unfolding outcome text_of text
 reads_back = refl
+
+-- literals of other types than `int` and `char`: octal and hexadecimal, with a suffix, with an escape and wide
+literals : List ℕ
+literals = codes "int f(int, unsigned, long, unsigned); int x = f(017, 0x1e, L'\\'', 1U); int g(char); int y = g('\\n');"
+
+literals_text : List ℕ
+literals_text = codes "int f__1(int, unsigned, long, unsigned);\nint g__2(char);\nint x__3 = f__1(017, static_cast<unsigned>(0x1e), static_cast<long>(L'\\''), 1U);\nint y__4 = g__2('\\n');\n"
+
+literals_print : text_of (outcome literals) ≡ literals_text
+unfolding outcome text_of literals literals_text
+literals_print = refl
+
+literals_read_back : text_of (outcome literals_text) ≡ literals_text
+unfolding outcome text_of literals_text
+literals_read_back = refl
