@@ -1,7 +1,7 @@
 -- The token list as a function and as a relation: each gives the other, so that there is one.
 use Rattle.std.proofs.Common.{◌≡◌, ◌≤◌, ◌<◌, ℕ, zero, suc, pred, ◌+◌, ◌-◌, Bool, true, false, ◌&&◌, cond, List, [], ◌∷◌, ◌++◌, length, take, drop, Option, Some, None, Result, Ok, Err, refl, sym, ap, ap₂, ◌∙◌, subst, ⊎_elim, arith, take-add, drop-drop, take_all, length-drop, add-zero, take-append-drop, All}
 use Rattle.std.proofs.Math.Seq.{take-append_seam, drop-append_seam}
-use Rattle.std.proofs.lemmas.Bool.{cases_lt, cases_Bool, and_right, and_left}
+use Rattle.std.proofs.lemmas.Bool.{cases_lt, and_right, and_left}
 use Rattle.std.proofs.lemmas.List.{drop_all}
 use Rattle.cxx_model.specs.declared.place.Place.{Place}
 use Rattle.cxx_model.specs.declared.token.Token.{Token}
@@ -11,8 +11,8 @@ use Rattle.cxx_model.specs.declared.token.TokenReason.{TokenReason}
 use Rattle.cxx_model.specs.declared.token.TokenReason.TheVariants.{MixedStrings}
 use Rattle.cxx_model.specs.declared.limits.TheConstants as limits
 use Rattle.cxx_model.specs.Lexemes.{first_place, after, past}
-use Rattle.cxx_model.specs.Spelling.{Spelled, Blank, Good, Ill, spelling_of}
-use Rattle.cxx_model.specs.Tokens.{Piece, IsLongest, Unread, BadAt, PastTokens, Width, fresh_after, fresh_past, is_fresh, width_of, width_behind, is_mixed, is_text, is_some_width, joins, reason_at, reason_by, front, join, join_list, comes_after_mixed, put, ended, good, step_by, step, tokens_from, tokens_of, Stands, place_at, IsTokenList, at_end, after_blank, after_token, tokens_begun, IsBadPlace, bad_here, bad_after_blank, bad_after_token, IsPastTokens, past_at_end, past_at_token, past_after_blank, past_after_token}
+use Rattle.cxx_model.specs.Spelling.{Spelled, Blank, Good, Ill}
+use Rattle.cxx_model.specs.Tokens.{Piece, IsLongest, Unread, BadAt, PastTokens, Width, fresh_after, fresh_past, is_fresh, width_of, width_behind, is_mixed, is_text, is_some_width, joins, reason_at, reason_by, front, join_list, comes_after_mixed, put, ended, good, step_by, step, tokens_from, tokens_of, Stands, place_at, IsTokenList, at_end, after_blank, after_token, tokens_begun, IsBadPlace, bad_here, bad_after_blank, bad_after_token, IsPastTokens, past_at_end, past_at_token, past_after_blank, past_after_token}
 use Rattle.cxx_model.proofs.Fronts.{front_is, begins}
 use Rattle.cxx_model.proofs.Spellings.{text_width}
 

@@ -1,23 +1,22 @@
 -- Each word of the first form before the bytes that end it.
-use Rattle.std.proofs.Common.{◌≡◌, ℕ, Bool, true, false, ⊎_elim, not, ◌&&◌, ◌||◌, ◌==◌, List, [], ◌∷◌, ◌++◌, Some, None, ◌∙◌, refl, sym, subst, bytes_eq, eqb-true}
-use Rattle.std.proofs.lemmas.Bool.{and_parts, and_left, and_right, or_parts, or_cases, both_ways}
+use Rattle.std.proofs.Common.{◌≡◌, ℕ, Bool, true, false, ⊎_elim, not, ◌&&◌, ◌||◌, ◌==◌, List, [], ◌∷◌, Some, None, refl, sym, bytes_eq, eqb-true}
+use Rattle.std.proofs.lemmas.Bool.{and_parts, and_right, or_parts, or_cases, both_ways}
 use Rattle.std.proofs.lemmas.Bool.Decides.{nat_tests}
 use Rattle.std.proofs.Common.{arith}
 use Rattle.std.proofs.lemmas.Slice.Eq.{bytes_eq-Decides}
-use Rattle.std.specs.List.{list_all, list_any, AllByRecursion}
+use Rattle.std.specs.List.{AllByRecursion}
 use Rattle.std.specs.Prelude.{codes, if◌then◌else◌}
 use Rattle.cxx_model.specs.declared.token.TokenKind.{TokenKind}
 use Rattle.cxx_model.specs.declared.token.TokenKind.TheVariants.{Name, Keyword, Punct, Integer, Character, Text, End}
 use Rattle.cxx_model.specs.declared.punct.TheConstants as punct
-use Rattle.cxx_model.specs.Spelling.{Good, is_white, is_word, is_quote, is_sign, is_exponent, number_in, keywords, operators, digraphs, operator, wide_literal, spelling_of}
+use Rattle.cxx_model.specs.Spelling.{is_white, is_word, is_quote, is_sign, number_in, keywords, operators, digraphs}
 use Rattle.cxx_model.specs.Written.{Written, has_gap}
 use Rattle.cxx_model.proofs.Shapes.{shape, no_empty}
-use Rattle.cxx_model.proofs.SpelledKinds.{KindSpells, kind_spells}
-use Rattle.cxx_written.specs.Ends.{ends_punct_before, ends_in_exponent, ends_before, word_ends_before, ends_before_spelling, is_apart, are_apart}
+use Rattle.cxx_model.proofs.SpelledKinds.{kind_spells}
+use Rattle.cxx_written.specs.Ends.{ends_punct_before, ends_before, word_ends_before, ends_before_spelling, is_apart, are_apart}
 use Rattle.cxx_written.specs.Line.{is_printed_punct, is_printed, MayStandBefore, IsSpelled, IsPrinted, IsWord, MayTouch, MayPrecede, IsLine}
 use Rattle.cxx_written.proofs.Longest.{Ends, word_ends, number_ends, character_ends, punct_ends}
-use Rattle.cxx_written.proofs.Shapes.{Spells, IsWordText, word_text, IsIntegerText, integer_text, IsNarrowText, IsWideText, character_text, Built, built_open, built_close, built_comma, built_semicolon, built_equals, built_less, built_greater, built_is}
-use Rattle.cxx_written.proofs.Tables.{begins_with_two, none_begins, none_begins_beside}
+use Rattle.cxx_written.proofs.Shapes.{Spells, IsWordText, word_text, IsIntegerText, integer_text, Built, built_open, built_close, built_comma, built_semicolon, built_equals, built_less, built_greater, built_is}
 
 not_false : (p : Bool) → not p ≡ true → p ≡ false
 not_false true h = sym h

@@ -21,7 +21,7 @@ use Rattle.cxx_model.specs.Spelling.{is_word, is_quote, is_sign, keywords, alter
 use Rattle.cxx_model.specs.Tokens.{tokens_of}
 use Rattle.cxx_model.specs.Written.{Written, open_word, close_word, comma_word, semicolon_word, equals_word, less_word, greater_word, name_word, is_tight_before, is_tight_after, has_gap}
 use Rattle.cxx_written.specs.Ends.{ends_punct_before, ends_before}
-use Rattle.cxx_written.specs.Line.{is_printed_punct, is_printed, IsPrinted, IsWord, MayTouch, MayPrecede, IsLine, IsName}
+use Rattle.cxx_written.specs.Line.{is_printed_punct, is_printed, IsWord, MayTouch, MayPrecede, IsLine, IsName}
 use Rattle.cxx_written.specs.Printable.{IsLiteral, IsPrintableItem, IsPrintable, ArePrintable}
 use Rattle.cxx_written.specs.ReadsAs.{ReadsAs, text_of}
 use Rattle.cxx_written.proofs.ReadLines.{words_are_tokens}

@@ -1,5 +1,5 @@
 -- Words before a byte that does not go on with them: each is the longest front there.
-use Rattle.std.proofs.Common.{◌≡◌, ℕ, Bool, true, false, ◌&&◌, ◌||◌, ◌==◌, List, [], ◌∷◌, ◌++◌, length, Some, refl, sym, subst}
+use Rattle.std.proofs.Common.{◌≡◌, ℕ, Bool, true, false, ◌&&◌, ◌||◌, ◌==◌, List, [], ◌∷◌, ◌++◌, length, Some, refl, subst}
 use Rattle.std.proofs.lemmas.Bool.{and_right, and_parts}
 use Rattle.std.specs.List.{list_all}
 use Rattle.cxx_model.specs.declared.token.TokenKind.{TokenKind}

@@ -1,5 +1,5 @@
 -- The tokens of lines of words are the words.
-use Rattle.std.proofs.Common.{◌≡◌, ◌≤◌, ◌<◌, ℕ, zero, suc, ◌+◌, ◌-◌, Bool, true, false, List, [], ◌∷◌, ◌++◌, length, take, drop, Option, Some, None, Ok, Err, refl, sym, ap, ◌∙◌, subst, arith, append_assoc, drop-drop}
+use Rattle.std.proofs.Common.{◌≡◌, ℕ, zero, suc, ◌+◌, ◌-◌, Bool, true, false, List, [], ◌∷◌, ◌++◌, length, take, drop, Option, Some, None, Ok, Err, refl, sym, ap, ◌∙◌, subst, arith, append_assoc, drop-drop}
 use Rattle.std.proofs.Math.Seq.{take-append_seam, drop-append_seam}
 use Rattle.std.specs.List.{AllByRecursion}
 use Rattle.std.specs.Prelude.{codes, if◌then◌else◌}
@@ -10,8 +10,8 @@ use Rattle.cxx_model.specs.declared.token.TokenKind.TheVariants.{Text, End}
 use Rattle.cxx_model.specs.declared.limits.TheConstants as limits
 use Rattle.cxx_model.specs.First.Words.{joined}
 use Rattle.cxx_model.specs.Lexemes.{first_place, after, past, spelling_in, lexeme_of}
-use Rattle.cxx_model.specs.Spelling.{Good, Blank, is_white, alone, spelling_of}
-use Rattle.cxx_model.specs.Tokens.{IsLongest, BadAt, PastTokens, Width, is_text, fresh_after, fresh_past, join_list, put, ended, tokens_from, tokens_of}
+use Rattle.cxx_model.specs.Spelling.{Good, is_white, spelling_of}
+use Rattle.cxx_model.specs.Tokens.{IsLongest, BadAt, PastTokens, Width, is_text, fresh_after, fresh_past, put, ended, tokens_from, tokens_of}
 use Rattle.cxx_model.specs.Written.{Written, written, has_gap, gap, line_of}
 use Rattle.cxx_model.proofs.Readings.{Answer, other_reason, other_joins, other_join, reads_end, reads_full, reads_spelled, reads_space}
 use Rattle.cxx_model.proofs.Shapes.{no_empty}

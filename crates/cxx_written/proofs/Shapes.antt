@@ -1,14 +1,14 @@
 -- What the text of a word of the first form looks like.
-use Rattle.std.proofs.Common.{◌≡◌, ℕ, Bool, true, false, ◌⊎◌, inl, inr, ⊎_elim, ◌||◌, ◌==◌, List, [], ◌∷◌, Some, refl, sym, subst, get_or, eqb-true}
+use Rattle.std.proofs.Common.{◌≡◌, ℕ, Bool, true, false, ◌⊎◌, inl, inr, ⊎_elim, ◌||◌, ◌==◌, List, ◌∷◌, Some, refl, sym, subst, eqb-true}
 use Rattle.std.proofs.lemmas.Bool.{or_cases}
 use Rattle.std.specs.List.{list_all}
 use Rattle.std.specs.Prelude.{codes}
 use Rattle.cxx_model.specs.declared.token.TokenKind.{TokenKind}
-use Rattle.cxx_model.specs.declared.token.TokenKind.TheVariants.{Name, Keyword, Punct, Integer, Character, Text, End}
+use Rattle.cxx_model.specs.declared.token.TokenKind.TheVariants.{Name, Keyword, Punct, Integer, Character, Text}
 use Rattle.cxx_model.specs.declared.punct.TheConstants as punct
 use Rattle.cxx_model.specs.Spelling.{Good, is_word, begins_word, begins_number, is_number_rest, is_quote, word_kind, number_kind, literal, alternatives, operators, digraphs, spelling_of}
 use Rattle.cxx_model.proofs.Shapes.{Shape, wordy, wide, number, quoted, operated, word_kind_is, number_kind_is, literal_is, operator_is}
-use Rattle.cxx_model.proofs.SpelledKinds.{KindSpells, IsOnlySpelling, kind_spells, only_spelling}
+use Rattle.cxx_model.proofs.SpelledKinds.{IsOnlySpelling, kind_spells, only_spelling}
 use Rattle.cxx_written.specs.Line.{is_printed_punct}
 
 abbrev pub Spells : List ℕ → TokenKind → Type 0

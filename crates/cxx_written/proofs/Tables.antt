@@ -1,8 +1,7 @@
 -- When a text is not in a table of spellings.
-use Rattle.std.proofs.Common.{◌≡◌, ℕ, Bool, true, false, cond, ◌&&◌, ◌==◌, List, [], ◌∷◌, length, Some, None, refl, ap, ◌∙◌, arith, le-ltb, nat_lt, bytes_eq, get_or}
+use Rattle.std.proofs.Common.{◌≡◌, ℕ, Bool, true, false, cond, ◌&&◌, ◌==◌, List, [], ◌∷◌, length, Some, None, refl, ap, ◌∙◌, arith, le-ltb, nat_lt, bytes_eq}
 use Rattle.std.proofs.lemmas.Bool.{and_left, and_right, or_parts, or_from, both_ways}
 use Rattle.std.proofs.lemmas.Slice.Eq.{bytes_eq-Decides}
-use Rattle.std.proofs.lemmas.List.Quantifiers.{position-Some}
 use Rattle.std.specs.List.{list_any, position_or_len}
 use Rattle.cxx_model.specs.Spelling.{number_in, number_beside}
 
