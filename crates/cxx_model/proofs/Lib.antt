@@ -1,1 +1,11 @@
+pub mod Answers
+pub mod Asymmetric
+pub mod Champion
+pub mod FirstForm
+pub mod Fronts
+pub mod Readings
+mod Rows
+pub mod Shapes
+pub mod SpelledKinds
+pub mod Spellings
 mod TokenRows

@@ -1,6 +1,7 @@
 pub mod Lexemes
 pub mod Spelling
 pub mod Tokens
+pub mod Continuing
 pub mod Standard
 pub mod StandardOrder
 pub mod Better

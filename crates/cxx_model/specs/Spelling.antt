@@ -1,12 +1,12 @@
 -- What a whole text spells by itself (2.3, 2.5, 2.7, 2.9 to 2.13).
-use Rattle.std.specs.Prelude.{ℕ, zero, suc, ◌+◌, ◌*◌, ◌-◌, ◌^◌, min, Bool, true, false, ◌&&◌, ◌||◌, not, if◌then◌else◌, ◌==◌, nat_le, nat_lt, List, [], ◌∷◌, length, take, drop, map, position, take_while, Option, Some, None, is_some, codes, ℤ, pos, negsuc}
+use Rattle.std.specs.Prelude.{ℕ, zero, suc, ◌+◌, ◌*◌, ◌-◌, min, Bool, true, false, ◌&&◌, ◌||◌, not, if◌then◌else◌, ◌==◌, nat_le, nat_lt, List, [], ◌∷◌, length, take, drop, map, position, take_while, Option, Some, None, codes, ℤ, pos, negsuc}
 use Rattle.std.specs.List.{list_all, list_any, prefix_len}
 use Rattle.std.specs.Char.{is_ascii_digit, is_ascii_hexdigit, is_ascii_alphabetic, is_ascii_alphanumeric}
 use Rattle.std.specs.Str.{bytes_eq}
 use Rattle.cxx_model.specs.declared.base.Base.{Base}
 use Rattle.cxx_model.specs.declared.base.Base.TheVariants.{Int, Unsigned, Long, UnsignedLong, Char, WideChar}
 use Rattle.cxx_model.specs.declared.token.TokenKind.{TokenKind}
-use Rattle.cxx_model.specs.declared.token.TokenKind.TheVariants.{Name, Keyword, Punct, Integer, Character, Text, End}
+use Rattle.cxx_model.specs.declared.token.TokenKind.TheVariants.{Name, Keyword, Punct, Integer, Character, Text}
 use Rattle.cxx_model.specs.declared.token.TokenReason.{TokenReason}
 use Rattle.cxx_model.specs.declared.token.TokenReason.TheVariants as reason
 use Rattle.cxx_model.specs.declared.keyword.TheConstants as keyword

@@ -1,36 +1,30 @@
 -- The lines of a whole reading can be printed.
-use Rattle.std.proofs.Common.{inl, inr, ◌≡◌, ℕ, zero, suc, List, [], ◌∷◌, ◌++◌, Option, Some, ap, subst}
-use Rattle.std.specs.Bool.{nat_le}
+use Rattle.std.proofs.Common.{◌≡◌, ℕ, zero, suc, false, List, [], ◌∷◌, ◌++◌, Option, Some, None, ap, subst}
 use Rattle.std.specs.List.{AllByRecursion}
 use Rattle.std.specs.Prelude.{slice_get}
 use Rattle.cxx_model.specs.declared.base.Base.{Base}
-use Rattle.cxx_model.specs.declared.base.Base.TheVariants.{Int, Long, Char}
 use Rattle.cxx_model.specs.declared.first.Argument.{Argument}
 use Rattle.cxx_model.specs.declared.first.Declaration.{Declaration}
 use Rattle.cxx_model.specs.declared.first.Declared.{Declared}
 use Rattle.cxx_model.specs.declared.first.Declared.TheVariants.{Function, Object}
 use Rattle.cxx_model.specs.declared.first.Item.{Item}
 use Rattle.cxx_model.specs.declared.first.Item.TheVariants as item
-use Rattle.cxx_model.specs.declared.token.TokenKind.TheVariants.{Name, Integer, Character}
 use Rattle.cxx_model.specs.First.Words.{kind_of_literal}
-use Rattle.cxx_model.specs.Spelling.{Spelled, Good, spelling_of, literal_type, literal_type_by, decimal_value, most_int}
-use Rattle.cxx_model.proofs.Answers.{either_is}
+use Rattle.cxx_model.specs.Spelling.{Spelled, Blank, Good, Ill, spelling_of, literal_type, literal_type_by}
+use Rattle.cxx_model.proofs.FirstForm.Words.{literal_kind}
 use Rattle.cxx_written.specs.Line.{IsName}
 use Rattle.cxx_written.specs.Printable.{IsLiteral, IsPrintableItem, ArePrintable}
 use Rattle.cxx_read_back.specs.Lines.{IsArgument, IsLineAmong, AreLinesAmong}
 
 literal_kind_by : (text : List ℕ) (spells : Option Spelled) (of : Base) → literal_type_by text spells ≡ Some of → spells ≡ Some (Good (kind_of_literal of))
-literal_kind_by text (Some (Good Integer)) of e = elim (either_is (nat_le (decimal_value text) most_int) (Some Int) (Some Long) (Some of) e) [
-  | inl t ↦ let g : Int ≡ of = cc in ap (λ b. Some (Good (kind_of_literal b))) g
-  | inr t ↦ let g : Long ≡ of = cc in ap (λ b. Some (Good (kind_of_literal b))) g
-]
-literal_kind_by text (Some (Good Character)) of e = let g : Char ≡ of = cc in ap (λ b. Some (Good (kind_of_literal b))) g
-literal_kind_by text (Some (Good Name)) of e = absurd cc
-literal_kind_by text _ of e = absurd cc
+literal_kind_by text (Some (Good kind)) of e = ap (λ k. Some (Good k)) (literal_kind text kind of e)
+literal_kind_by text (Some Blank) of e = absurd cc
+literal_kind_by text (Some (Ill reason)) of e = absurd cc
+literal_kind_by text None of e = absurd cc
 
 literal_printable : (argument : Argument) → IsArgument argument → IsLiteral argument
 unfolding literal_type
-literal_printable argument h = record { spelled = literal_kind_by argument.spelling (spelling_of argument.spelling) argument.of h.literal }
+literal_printable argument h = record { spelled = literal_kind_by argument.spelling (spelling_of false argument.spelling) argument.of h.literal }
 
 literals_printable : (arguments : List Argument) → AllByRecursion IsArgument arguments → AllByRecursion IsLiteral arguments
 literals_printable [] h = tt

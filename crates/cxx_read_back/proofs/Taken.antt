@@ -77,7 +77,10 @@ named l n (inl h) = record { spelled = h.spelled ∙ ap (λ k. Some (Good k)) (i
     is_the_name : (kind : TokenKind) → is_name kind ≡ true → kind ≡ Name
     is_the_name Name e = refl
     is_the_name _ e = absurd cc
-named l n (inr e) =
+named l n (inr (inl e)) =
+    let f : is_name l.kind ≡ false = ap is_name e in
+    absurd cc
+named l n (inr (inr e)) =
     let f : is_name l.kind ≡ false = ap (λ (w : Written). is_name w.kind) e in
     absurd cc
 

@@ -1,53 +1,40 @@
 -- Each word of the first form before the bytes that end it.
-use Rattle.std.proofs.Common.{◌≡◌, ◌≤◌, ◌<◌, ℕ, zero, suc, Bool, true, false, ⊎_elim, not, ◌&&◌, ◌||◌, ◌==◌, List, [], ◌∷◌, ◌++◌, length, take, Some, None, refl, sym, subst, arith, bytes_eq, eqb-true}
-use Rattle.std.proofs.lemmas.Bool.{and_parts, and_left, and_right, or_parts, or_cases, both_ways}
+use Rattle.std.proofs.Common.{◌≡◌, ℕ, Bool, true, false, ⊎_elim, not, ◌&&◌, ◌||◌, ◌==◌, List, [], ◌∷◌, Some, None, refl, sym, bytes_eq, eqb-true}
+use Rattle.std.proofs.lemmas.Bool.{and_parts, and_right, or_parts, or_cases, both_ways}
 use Rattle.std.proofs.lemmas.Bool.Decides.{nat_tests}
+use Rattle.std.proofs.Common.{arith}
 use Rattle.std.proofs.lemmas.Slice.Eq.{bytes_eq-Decides}
-use Rattle.std.specs.Char.{is_ascii_digit}
-use Rattle.std.specs.List.{list_all, list_any, AllByRecursion}
-use Rattle.std.specs.Prelude.{codes}
+use Rattle.std.specs.List.{AllByRecursion}
+use Rattle.std.specs.Prelude.{codes, if◌then◌else◌}
 use Rattle.cxx_model.specs.declared.token.TokenKind.{TokenKind}
-use Rattle.cxx_model.specs.declared.token.TokenKind.TheVariants.{Name, Keyword, Punct, Integer, Character, End}
+use Rattle.cxx_model.specs.declared.token.TokenKind.TheVariants.{Name, Keyword, Punct, Integer, Character, Text, End}
 use Rattle.cxx_model.specs.declared.punct.TheConstants as punct
-use Rattle.cxx_model.specs.Continuing.{is_quote, number_goes_on, last_of, BeginsOperator}
-use Rattle.cxx_model.specs.Spelling.{Good, is_white, is_word, begins_word, begins_number, is_number_rest, is_sign, is_exponent, is_decimal, is_plain, word_kind, number_kind, is_wide_quote, number_in, keywords, operators, digraphs, operator, spelling_of}
-use Rattle.cxx_model.specs.Tokens.{IsLongest}
+use Rattle.cxx_model.specs.Spelling.{is_white, is_word, is_quote, is_sign, number_in, keywords, operators, digraphs}
 use Rattle.cxx_model.specs.Written.{Written, has_gap}
-use Rattle.cxx_model.proofs.Spellings.{word_longest, number_front, character_front, operator_front}
+use Rattle.cxx_model.proofs.Shapes.{shape, no_empty}
+use Rattle.cxx_model.proofs.SpelledKinds.{kind_spells}
 use Rattle.cxx_written.specs.Ends.{ends_punct_before, ends_before, word_ends_before, ends_before_spelling, is_apart, are_apart}
-use Rattle.cxx_written.specs.Line.{MayStandBefore, IsSpelled, IsWord, MayTouch, MayPrecede, IsLine}
-use Rattle.cxx_written.proofs.Shapes.{Spells, Shape, wordy, number, quoted, operated, shape, word_kind_is, number_kind_is, character_is, Built, built_open, built_close, built_comma, built_semicolon, built_equals, built_less, built_greater, operator_is}
-use Rattle.cxx_written.proofs.Tables.{begins_with_two, none_begins}
-
--- before this byte the text is the longest front
-abbrev pub Ends : List ℕ → TokenKind → ℕ → Type 0
-Ends text kind c = (rest : List ℕ) → IsLongest (text ++ c ∷ rest) (record { len = length text; spells = Good kind })
+use Rattle.cxx_written.specs.Line.{is_printed_punct, is_printed, MayStandBefore, IsSpelled, IsPrinted, IsWord, MayTouch, MayPrecede, IsLine}
+use Rattle.cxx_written.proofs.Longest.{Ends, word_ends, number_ends, character_ends, punct_ends}
+use Rattle.cxx_written.proofs.Shapes.{Spells, IsWordText, word_text, IsIntegerText, integer_text, Built, built_open, built_close, built_comma, built_semicolon, built_equals, built_less, built_greater, built_is}
 
 not_false : (p : Bool) → not p ≡ true → p ≡ false
 not_false true h = sym h
 not_false false h = refl
 
+abbrev EndsBefore : List ℕ → TokenKind → ℕ → Type 0
+EndsBefore text kind c = ends_before kind text c ≡ true → Ends text kind c
+
 -- ---- words
 
-narrow_by : (p q r : Bool) → ((q || r) && (p && true)) ≡ false → ((p && (q && true)) || (p && (r && true))) ≡ false
-narrow_by false q r h = refl
-narrow_by true false false h = refl
-narrow_by true true r h = h
-narrow_by true false true h = h
+narrow_by : (p q : Bool) → (q && (p && true)) ≡ false → (p && q) ≡ false
+narrow_by false q h = refl
+narrow_by true false h = refl
+narrow_by true true h = h
 
-narrow_beside : (b x : ℕ) → is_quote x ≡ false → is_wide_quote (b ∷ x ∷ []) ≡ false
-narrow_beside b x h = narrow_by (b == 76) (x == 39) (x == 34) (and_left _ _ h)
-
-word_is_no_quote : (b : ℕ) → is_word b ≡ true → is_quote b ≡ false
-word_is_no_quote b h = grind (arith, nat_tests)
-
-narrow : (b : ℕ) (w : List ℕ) (c : ℕ) (rest : List ℕ) → list_all is_word w ≡ true → (is_quote c && bytes_eq (b ∷ w) (codes "L")) ≡ false → is_wide_quote (b ∷ take 1 (w ++ c ∷ rest)) ≡ false
-narrow b [] c rest all h = narrow_by (b == 76) (c == 39) (c == 34) h
-narrow b (x ∷ w) c rest all h = narrow_beside b x (word_is_no_quote x (and_parts _ _ all).0)
-
-word_ends : (b : ℕ) (w : List ℕ) (kind : TokenKind) (c : ℕ) → begins_word b ≡ true → list_all is_word w ≡ true → word_kind (b ∷ w) ≡ Good kind → is_word c ≡ false → (is_quote c && bytes_eq (b ∷ w) (codes "L")) ≡ false → Ends (b ∷ w) kind c
-word_ends b w kind c begins all is other no_wide rest =
-    rw is at (word_longest b w (c ∷ rest) begins all other (narrow b w c rest all no_wide))
+narrow : (b : ℕ) (w : List ℕ) (c : ℕ) → (is_quote c && bytes_eq (b ∷ w) (codes "L")) ≡ false → w ≡ [] → (b == 76 && is_quote c) ≡ false
+narrow b [] c h e = narrow_by (b == 76) (is_quote c) h
+narrow b (x ∷ w) c h e = absurd (cc)
 
 one_letter_is_none : number_in keywords (codes "L") ≡ None
 unfolding keywords
@@ -61,89 +48,54 @@ keyword_is_longer text n e true is =
     let none = one_letter_is_none in
     absurd (cc)
 
+name_ends : (b : ℕ) (w : List ℕ) (c : ℕ) → IsWordText b w Name → EndsBefore (b ∷ w) Name c
+name_ends b w c text h =
+    let parts = and_parts (not (is_word c)) (not (is_quote c && bytes_eq (b ∷ w) (codes "L"))) h in
+    word_ends b w Name c text.begins text.all text.is (not_false _ parts.0) (narrow b w c (not_false _ parts.1))
+
+keyword_ends : (b : ℕ) (w : List ℕ) (n c : ℕ) → Spells (b ∷ w) (Keyword n) → IsWordText b w (Keyword n) → EndsBefore (b ∷ w) (Keyword n) c
+keyword_ends b w n c e text h =
+    let longer : bytes_eq (b ∷ w) (codes "L") ≡ false = keyword_is_longer (b ∷ w) n (kind_spells false (b ∷ w) (Keyword n) e) (bytes_eq (b ∷ w) (codes "L")) refl in
+    word_ends b w (Keyword n) c text.begins text.all text.is (not_false _ h) (narrow b w c (and_right (is_quote c) _ longer))
+
 -- ---- numbers
 
-digits_end : (b : ℕ) (w : List ℕ) → is_decimal (b ∷ w) ≡ true → is_ascii_digit (last_of b w) ≡ true
-digits_end b [] h = h
-digits_end b (c ∷ w) h = by c w (and_parts _ _ h).1
-  where
-    by : (c : ℕ) (w : List ℕ) → list_all is_ascii_digit (c ∷ w) ≡ true → is_ascii_digit (last_of c w) ≡ true
-    by c [] h = (and_parts _ _ h).0
-    by c (d ∷ w) h = by d w (and_parts _ _ h).1
-
-digit_is_no_exponent : (b : ℕ) → is_ascii_digit b ≡ true → is_exponent b ≡ false
-digit_is_no_exponent b h = grind (arith, nat_tests)
-
-number_stops : (last c : ℕ) → is_exponent last ≡ false → (is_word c || c == 46) ≡ false → number_goes_on last c ≡ false
-number_stops last c digit other = rw (other, digit) (and_right (is_sign c) false refl)
-
-number_ends : (b : ℕ) (w : List ℕ) (c : ℕ) → begins_number b w ≡ true → is_number_rest b w ≡ true → number_kind (b ∷ w) ≡ Good Integer → is_decimal (b ∷ w) ≡ true → (is_word c || c == 46) ≡ false → Ends (b ∷ w) Integer c
-number_ends b w c begins all is decimal other rest =
-    rw is at (number_front b w (c ∷ rest) begins all (number_stops (last_of b w) c (digit_is_no_exponent (last_of b w) (digits_end b w decimal)) other))
-
--- ---- characters
-
-character_ends : (b c : ℕ) → is_plain b ≡ true → Ends (39 ∷ b ∷ 39 ∷ []) Character c
-character_ends b c plain rest = character_front b 39 (c ∷ rest) (rw plain refl)
+integer_ends : (b : ℕ) (w : List ℕ) (c : ℕ) → IsIntegerText b w → EndsBefore (b ∷ w) Integer c
+integer_ends b w c text h = number_ends b w c text.begins text.all text.is (not_false _ h)
 
 -- ---- punctuators
 
-abbrev Joins : ℕ → ℕ → Bool
-Joins b c = list_any (begins_with_two b c) operators || list_any (begins_with_two b c) digraphs
-
-no_longer_operator : (b c : ℕ) (text : List ℕ) → Joins b c ≡ false → operator b (c ∷ text) ≡ None
-unfolding operator
-no_longer_operator b c text apart =
-    let parts = or_parts (list_any (begins_with_two b c) operators) (list_any (begins_with_two b c) digraphs) apart in
-    rw (none_begins operators b c text parts.0, none_begins digraphs b c text parts.1) refl
-
-punct_ends : (b c : ℕ) (kind : TokenKind) → ((rest : List ℕ) → BeginsOperator b (c ∷ rest)) → operator b [] ≡ Some (Good kind) → Joins b c ≡ false → Ends (b ∷ []) kind c
-punct_ends b c kind begins is apart rest = operator_front b [] (c ∷ rest) (Good kind) (begins rest) is (none_longer b c rest apart)
-  where
-    none_longer : (b c : ℕ) (rest : List ℕ) → Joins b c ≡ false → (m : ℕ) → 0 < m → m ≤ 2 → m ≤ length (c ∷ rest) → operator b (take m (c ∷ rest)) ≡ None
-    none_longer b c rest apart zero low short high = absurd (omega arith)
-    none_longer b c rest apart (suc m) low short high = no_longer_operator b c (take m rest) apart
-
 open_ends : (c : ℕ) → Ends (codes "(") (Punct punct.LEFT_PARENTHESIS) c
-unfolding operator operators digraphs
-open_ends c = punct_ends 40 c _ (λ rest. record { black = refl; no_word = refl; no_number = refl; no_quote = refl }) refl refl
+unfolding operators digraphs
+open_ends c = punct_ends (codes "(") punct.LEFT_PARENTHESIS c refl refl
 
 close_ends : (c : ℕ) → Ends (codes ")") (Punct punct.RIGHT_PARENTHESIS) c
-unfolding operator operators digraphs
-close_ends c = punct_ends 41 c _ (λ rest. record { black = refl; no_word = refl; no_number = refl; no_quote = refl }) refl refl
+unfolding operators digraphs
+close_ends c = punct_ends (codes ")") punct.RIGHT_PARENTHESIS c refl refl
 
 comma_ends : (c : ℕ) → Ends (codes ",") (Punct punct.COMMA) c
-unfolding operator operators digraphs
-comma_ends c = punct_ends 44 c _ (λ rest. record { black = refl; no_word = refl; no_number = refl; no_quote = refl }) refl refl
+unfolding operators digraphs
+comma_ends c = punct_ends (codes ",") punct.COMMA c refl refl
 
 semicolon_ends : (c : ℕ) → Ends (codes ";") (Punct punct.SEMICOLON) c
-unfolding operator operators digraphs
-semicolon_ends c = punct_ends 59 c _ (λ rest. record { black = refl; no_word = refl; no_number = refl; no_quote = refl }) refl refl
+unfolding operators digraphs
+semicolon_ends c = punct_ends (codes ";") punct.SEMICOLON c refl refl
 
 equals_ends : (c : ℕ) → (c == 61) ≡ false → Ends (codes "=") (Punct punct.EQUALS) c
-unfolding operator operators digraphs
-equals_ends c other = punct_ends 61 c _ (λ rest. record { black = refl; no_word = refl; no_number = refl; no_quote = refl }) refl (rw other refl)
-
-apart_less : (p q r s : Bool) → (p || q || r || s) ≡ false → ((p || (p || (q || false))) || (s || (r || false))) ≡ false
-apart_less false false false false h = refl
-apart_less false false false true h = h
-apart_less false false true false h = h
-apart_less false false true true h = h
-apart_less false true r s h = cc
-apart_less true q r s h = cc
+unfolding operators digraphs
+equals_ends c other = punct_ends (codes "=") punct.EQUALS c refl (rw other refl)
 
 less_ends : (c : ℕ) → (c == 60 || c == 61 || c == 58 || c == 37) ≡ false → Ends (codes "<") (Punct punct.LESS) c
-unfolding operator operators digraphs
-less_ends c other = punct_ends 60 c _ (λ rest. record { black = refl; no_word = refl; no_number = refl; no_quote = refl }) refl (apart_less (c == 60) (c == 61) (c == 58) (c == 37) other)
-
-apart_greater : (p q : Bool) → (p || q) ≡ false → ((p || (p || (q || false))) || false) ≡ false
-apart_greater false false h = refl
-apart_greater false true h = h
-apart_greater true q h = h
+unfolding operators digraphs
+less_ends c other =
+    let one = or_parts (c == 60 || c == 61 || c == 58) (c == 37) other in
+    let two = or_parts (c == 60 || c == 61) (c == 58) one.0 in
+    let three = or_parts (c == 60) (c == 61) two.0 in
+    punct_ends (codes "<") punct.LESS c refl (rw (three.0, three.1, two.1, one.1) refl)
 
 greater_ends : (c : ℕ) → (c == 62 || c == 61) ≡ false → Ends (codes ">") (Punct punct.GREATER) c
-unfolding operator operators digraphs
-greater_ends c other = punct_ends 62 c _ (λ rest. record { black = refl; no_word = refl; no_number = refl; no_quote = refl }) refl (apart_greater (c == 62) (c == 61) other)
+unfolding operators digraphs
+greater_ends c other = let parts = or_parts (c == 62) (c == 61) other in punct_ends (codes ">") punct.GREATER c refl (rw (parts.0, parts.1) refl)
 
 built_ends : (text : List ℕ) (n : ℕ) → Built text n → (c : ℕ) → ends_punct_before n c ≡ true → Ends text (Punct n) c
 built_ends _ _ built_open c h = open_ends c
@@ -154,61 +106,42 @@ built_ends _ _ built_equals c h = equals_ends c (not_false _ h)
 built_ends _ _ built_less c h = less_ends c (not_false _ h)
 built_ends _ _ built_greater c h = greater_ends c (not_false _ h)
 
+-- only punctuators of the first form end before some byte
+printed_if_ends : (n c : ℕ) → ends_punct_before n c ≡ true → is_printed_punct n ≡ true
+printed_if_ends n c h = by (n == punct.LEFT_PARENTHESIS || n == punct.RIGHT_PARENTHESIS || n == punct.COMMA || n == punct.SEMICOLON) (n == punct.EQUALS) (n == punct.LESS) (n == punct.GREATER) _ _ _ h
+  where
+    by : (p e l g x y z : Bool) → (if e then x else (if l then y else (if g then z else (p || e || l || g)))) ≡ true → (p || e || l || g) ≡ true
+    by true e l g x y z h = refl
+    by false true l g x y z h = refl
+    by false false true g x y z h = refl
+    by false false false true x y z h = refl
+    by false false false false x y z h = h
+
 -- ---- all
 
-abbrev EndsBefore : List ℕ → TokenKind → ℕ → Type 0
-EndsBefore text kind c = ends_before kind text c ≡ true → Ends text kind c
-
-ends_wordy : (b : ℕ) (w : List ℕ) (kind : TokenKind) (c : ℕ) → begins_word b ≡ true → list_all is_word w ≡ true → word_kind (b ∷ w) ≡ Good kind → EndsBefore (b ∷ w) kind c
-ends_wordy b w kind c begins all is = ⊎_elim name keyword (word_kind_is (b ∷ w) kind is)
-  where
-    name : kind ≡ Name → EndsBefore (b ∷ w) kind c
-    name e = subst (λ k. word_kind (b ∷ w) ≡ Good k → EndsBefore (b ∷ w) k c) (sym e)
-        (λ is h. let parts = and_parts (not (is_word c)) (not (is_quote c && bytes_eq (b ∷ w) (codes "L"))) h in
-        word_ends b w Name c begins all is (not_false _ parts.0) (not_false _ parts.1)) is
-
-    keyword : (n : ℕ) × (kind ≡ Keyword n) × (number_in keywords (b ∷ w) ≡ Some n) → EndsBefore (b ∷ w) kind c
-    keyword k = subst (λ x. word_kind (b ∷ w) ≡ Good x → EndsBefore (b ∷ w) x c) (sym k.1)
-        (λ is h. word_ends b w (Keyword k.0) c begins all is (not_false _ h)
-        (and_right (is_quote c) _ (keyword_is_longer (b ∷ w) k.0 k.2 (bytes_eq (b ∷ w) (codes "L")) refl))) is
-
-ends_shape : (b : ℕ) (w : List ℕ) (kind : TokenKind) (c : ℕ) → Shape b w kind → EndsBefore (b ∷ w) kind c
-ends_shape b w kind c (wordy begins all is) = ends_wordy b w kind c begins all is
-ends_shape b w kind c (number begins all is) =
-    let by = number_kind_is (b ∷ w) kind is in
-    subst (λ k. number_kind (b ∷ w) ≡ Good k → EndsBefore (b ∷ w) k c) (sym by.0) (λ is h. number_ends b w c begins all is by.1 (not_false _ h)) is
-ends_shape b w kind c (quoted e is) =
-    let by = character_is w kind is in
-    let text : 39 ∷ by.1.0 ∷ 39 ∷ [] ≡ b ∷ w = cc (by.1.1, e) in
-    subst (λ k. EndsBefore (b ∷ w) k c) (sym by.0) (subst (λ t. EndsBefore t Character c) text (λ h. character_ends by.1.0 c by.1.2))
-ends_shape b w kind c (operated is) =
-    let by = operator_is b w kind is in
-    subst (λ k. EndsBefore (b ∷ w) k c) (sym by.1) (built_ends (b ∷ w) by.0 by.2 c)
-
-no_empty : (kind : TokenKind) → Spells [] kind → ⊥
-unfolding spelling_of
-no_empty kind e = cc
-
 pub ends : (text : List ℕ) (kind : TokenKind) → Spells text kind → (c : ℕ) → ends_before kind text c ≡ true → Ends text kind c
-ends [] kind e c h = absurd (no_empty kind e)
-ends (b ∷ w) kind e c h = ends_shape b w kind c (shape b w kind e) h
+ends [] kind e c h = absurd (no_empty false kind e)
+ends (b ∷ w) Name e c h = name_ends b w c (word_text b w Name refl (shape false b w Name e)) h
+ends (b ∷ w) (Keyword n) e c h = keyword_ends b w n c e (word_text b w (Keyword n) refl (shape false b w (Keyword n) e)) h
+ends (b ∷ w) (Punct n) e c h = built_ends (b ∷ w) n (built_is n (b ∷ w) (printed_if_ends n c h) e) c h
+ends (b ∷ w) Integer e c h = integer_ends b w c (integer_text b w (shape false b w Integer e)) h
+ends (b ∷ w) Character e c h = character_ends (b ∷ w) c e
+ends (b ∷ w) Text e c h = absurd (cc)
+ends (b ∷ w) End e c h = absurd (cc)
 
 pub may_stand_before : (word : Written) → Spells word.spelling word.kind → (b : ℕ) → word_ends_before word b ≡ true → MayStandBefore word b
 may_stand_before word e b h = record { longest = ends word.spelling word.kind e b h }
 
 -- ---- what each word stands before
 
-is_no_end : (b : ℕ) (w : List ℕ) (kind : TokenKind) → Shape b w kind → kind ≡ End → ⊥
-is_no_end b w kind (wordy begins all is) e = ⊎_elim (λ n. cc) (λ k. cc k.1) (word_kind_is (b ∷ w) kind is)
-is_no_end b w kind (number begins all is) e = let by = (number_kind_is (b ∷ w) kind is).0 in cc
-is_no_end b w kind (quoted q is) e = let by = (character_is w kind is).0 in cc
-is_no_end b w kind (operated is) e = let by = (operator_is b w kind is).1 in cc
-
 white_is_no_word : (c : ℕ) → is_white c ≡ true → is_word c ≡ false
 white_is_no_word c h = grind (arith, nat_tests)
 
 white_is_no_quote : (c : ℕ) → is_white c ≡ true → is_quote c ≡ false
 white_is_no_quote c h = grind (arith, nat_tests)
+
+white_is_no_sign : (c : ℕ) → is_white c ≡ true → is_sign c ≡ false
+white_is_no_sign c h = grind (arith, nat_tests)
 
 white_is_other : (c : ℕ) → is_white c ≡ true → (k : ℕ) → is_white k ≡ false → (c == k) ≡ false
 white_is_other c h k other = by (c == k) refl
@@ -226,35 +159,30 @@ built_at_white _ _ built_equals c h = rw (white_is_other c h 61 refl) refl
 built_at_white _ _ built_less c h = rw (white_is_other c h 60 refl, white_is_other c h 61 refl, white_is_other c h 58 refl, white_is_other c h 37 refl) refl
 built_at_white _ _ built_greater c h = rw (white_is_other c h 62 refl, white_is_other c h 61 refl) refl
 
-ends_at_white : (b : ℕ) (w : List ℕ) (kind : TokenKind) (c : ℕ) → is_white c ≡ true → Shape b w kind → ends_before kind (b ∷ w) c ≡ true
-ends_at_white b w kind c h (wordy begins all is) =
-    ⊎_elim
-    (λ e. rw e (rw (white_is_no_word c h, white_is_no_quote c h) refl))
-    (λ k. rw k.1 (rw (white_is_no_word c h) refl))
-    (word_kind_is (b ∷ w) kind is)
-ends_at_white b w kind c h (number begins all is) = rw (number_kind_is (b ∷ w) kind is).0 (rw (white_is_no_word c h, white_is_other c h 46 refl) refl)
-ends_at_white b w kind c h (quoted q is) = rw (character_is w kind is).0 refl
-ends_at_white b w kind c h (operated is) = let by = operator_is b w kind is in rw by.1 (built_at_white (b ∷ w) by.0 by.2 c h)
+ends_at_white : (text : List ℕ) (kind : TokenKind) (c : ℕ) → is_white c ≡ true → Spells text kind → is_printed kind ≡ true → ends_before kind text c ≡ true
+ends_at_white text Name c h e printed = rw (white_is_no_word c h, white_is_no_quote c h) refl
+ends_at_white text (Keyword n) c h e printed = rw (white_is_no_word c h) refl
+ends_at_white text (Punct n) c h e printed = built_at_white text n (built_is n text printed e) c h
+ends_at_white text Integer c h e printed = rw (white_is_no_word c h, white_is_other c h 46 refl, white_is_no_sign c h) refl
+ends_at_white text Character c h e printed = refl
+ends_at_white text Text c h e printed = absurd (cc)
+ends_at_white text End c h e printed = absurd (cc)
 
--- any token of the first form may stand before white space
-pub before_white : (word : Written) → Spells word.spelling word.kind → (c : ℕ) → is_white c ≡ true → MayStandBefore word c
-before_white word e c h = may_stand_before word e c (by word.spelling word.kind e)
-  where
-    by : (text : List ℕ) (kind : TokenKind) → Spells text kind → ends_before kind text c ≡ true
-    by [] kind e = absurd (no_empty kind e)
-    by (b ∷ w) kind e = ends_at_white b w kind c h (shape b w kind e)
+-- any word of the first form may stand before white space
+pub before_white : (word : Written) → IsPrinted word → (c : ℕ) → is_white c ≡ true → MayStandBefore word c
+before_white word is c h = may_stand_before word is.spelled c (ends_at_white word.spelling word.kind c h is.spelled is.printed)
 
-pub is_word_from : (word : Written) → Spells word.spelling word.kind → IsWord word
-is_word_from word e = record {
-  spelled = e;
-  no_end = by word.spelling word.kind e;
-  before_space = before_white word e 32 refl;
-  before_newline = before_white word e 10 refl;
+pub is_word_from : (word : Written) → IsPrinted word → IsWord word
+is_word_from word is = record {
+  spelled = is.spelled;
+  no_text = λ e. no_other Text refl e;
+  no_end = λ e. no_other End refl e;
+  before_space = before_white word is 32 refl;
+  before_newline = before_white word is 10 refl;
 }
   where
-    by : (text : List ℕ) (kind : TokenKind) → Spells text kind → kind ≡ End → ⊥
-    by [] kind e = absurd (no_empty kind e)
-    by (b ∷ w) kind e = is_no_end b w kind (shape b w kind e)
+    no_other : (kind : TokenKind) → is_printed kind ≡ false → word.kind ≡ kind → ⊥
+    no_other kind other e = let f : is_printed word.kind ≡ false = rw e other in both_ways (is_printed word.kind) f is.printed
 
 -- ---- lines by their neighbours
 
@@ -268,14 +196,14 @@ precede_if word e (next ∷ others) h = λ gap.
     touch_if word e next.spelling
     (⊎_elim (λ spaced. absurd (both_ways (has_gap word next) gap spaced)) (λ ends. ends) (or_cases (has_gap word next) (ends_before_spelling word next.spelling) h))
 
-pub line_if_apart : (words : List Written) → AllByRecursion IsSpelled words → are_apart words ≡ true → IsLine words
+pub line_if_apart : (words : List Written) → AllByRecursion IsPrinted words → are_apart words ≡ true → IsLine words
 line_if_apart [] all h = tt
 line_if_apart (word ∷ others) all h =
     let parts = and_parts (is_apart word others) (are_apart others) h in
-    (is_word_from word all.0.spelled, precede_if word all.0.spelled others parts.0, line_if_apart others all.1 parts.1)
+    (is_word_from word all.0, precede_if word all.0.spelled others parts.0, line_if_apart others all.1 parts.1)
 
 pub spelled_ends_before : (word : Written) (b : ℕ) → IsSpelled word → word_ends_before word b ≡ true → MayStandBefore word b
 spelled_ends_before word b is h = may_stand_before word is.spelled b h
 
-pub spelled_is_word : (word : Written) → IsSpelled word → IsWord word
-spelled_is_word word is = is_word_from word is.spelled
+pub printed_is_word : (word : Written) → IsPrinted word → IsWord word
+printed_is_word word is = is_word_from word is

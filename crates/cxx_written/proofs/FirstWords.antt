@@ -1,6 +1,6 @@
 -- The words of a declaration may be printed in one line.
 use Rattle.std.proofs.Common.{◌≡◌, ℕ, Bool, true, false, cond, ⊎_elim, not, ◌&&◌, ◌||◌, ◌==◌, List, [], ◌∷◌, refl, sym, ap, eqb-true}
-use Rattle.std.proofs.lemmas.Bool.{and_parts, or_cases, both_ways}
+use Rattle.std.proofs.lemmas.Bool.{and_parts, and_right, or_cases, both_ways}
 use Rattle.std.specs.List.{AllByRecursion}
 use Rattle.std.specs.Prelude.{codes}
 use Rattle.cxx_model.specs.declared.base.Base.{Base}
@@ -16,26 +16,39 @@ use Rattle.cxx_model.specs.declared.keyword.TheConstants as keyword
 use Rattle.cxx_model.specs.declared.punct.TheConstants as punct
 use Rattle.cxx_model.specs.declared.token.TokenKind.{TokenKind}
 use Rattle.cxx_model.specs.declared.token.TokenKind.TheVariants.{Name, Keyword, Punct, Integer, Character, Text, End}
-use Rattle.cxx_model.specs.Continuing.{is_quote}
 use Rattle.cxx_model.specs.First.Words.{keyword_word, spell_base, others_separated, separated, spell_casts, kind_of_literal, literal_word, spell_argument, spell_call, spell_item, spell_declared, line_words, lines}
-use Rattle.cxx_model.specs.Spelling.{is_word, keywords, alternatives, operators, digraphs, word_kind, operator, spelling_of}
+use Rattle.cxx_model.specs.Spelling.{is_word, is_quote, is_sign, keywords, alternatives, operators, digraphs, word_kind, operator, spelling_of}
 use Rattle.cxx_model.specs.Tokens.{tokens_of}
 use Rattle.cxx_model.specs.Written.{Written, open_word, close_word, comma_word, semicolon_word, equals_word, less_word, greater_word, name_word, is_tight_before, is_tight_after, has_gap}
 use Rattle.cxx_written.specs.Ends.{ends_punct_before, ends_before}
-use Rattle.cxx_written.specs.Line.{IsWord, MayTouch, MayPrecede, IsLine, IsName}
+use Rattle.cxx_written.specs.Line.{is_printed_punct, is_printed, IsWord, MayTouch, MayPrecede, IsLine, IsName}
 use Rattle.cxx_written.specs.Printable.{IsLiteral, IsPrintableItem, IsPrintable, ArePrintable}
 use Rattle.cxx_written.specs.ReadsAs.{ReadsAs, text_of}
 use Rattle.cxx_written.proofs.ReadLines.{words_are_tokens}
 use Rattle.cxx_written.proofs.Ends.{may_stand_before, is_word_from}
 use Rattle.cxx_written.proofs.Shapes.{Spells}
 
--- ---- what may follow any word but `<` and `>`
+-- ---- what may follow any word of the first form but `<` and `>`
 
 abbrev pub is_open_ended : TokenKind → Bool
-is_open_ended (Punct n) = not (n == punct.LESS) && not (n == punct.GREATER)
+is_open_ended (Punct n) = is_printed_punct n && (not (n == punct.LESS) && not (n == punct.GREATER))
 is_open_ended Text = false
 is_open_ended End = false
 is_open_ended _ = true
+
+-- ---- words
+
+open_ended_is_printed : (kind : TokenKind) → is_open_ended kind ≡ true → is_printed kind ≡ true
+open_ended_is_printed Name h = refl
+open_ended_is_printed (Keyword n) h = refl
+open_ended_is_printed (Punct n) h = (and_parts (is_printed_punct n) (not (n == punct.LESS) && not (n == punct.GREATER)) h).0
+open_ended_is_printed Integer h = refl
+open_ended_is_printed Character h = refl
+open_ended_is_printed Text h = h
+open_ended_is_printed End h = h
+
+word_from : (word : Written) → Spells word.spelling word.kind → is_printed word.kind ≡ true → IsWord word
+word_from word spells printed = is_word_from word (record { spelled = spells; printed = printed })
 
 -- a line that may be printed behind any word but `<` and `>`
 pub record IsTail (rest : List Written) : Type 0 where
@@ -67,7 +80,7 @@ tight_after_open End h t = absurd (cc)
 tight_after_open (Punct n) h t =
     ⊎_elim
     (λ e. ap Punct (eqb-true n punct.LEFT_PARENTHESIS e))
-    (λ e. absurd (both_ways (not (n == punct.LESS)) (rw e refl) (and_parts (not (n == punct.LESS)) (not (n == punct.GREATER)) h).0))
+    (λ e. absurd (both_ways (not (n == punct.LESS)) (rw e refl) (and_parts (not (n == punct.LESS)) (not (n == punct.GREATER)) (and_parts (is_printed_punct n) (not (n == punct.LESS) && not (n == punct.GREATER)) h).1).0))
     (or_cases (n == punct.LEFT_PARENTHESIS) (n == punct.LESS) t)
 
 tight_by : (one two : Bool) → not (one || two) ≡ false → two ≡ false → one ≡ true
@@ -84,7 +97,7 @@ loose_follows word loose = λ one is ends gap.
     touches_any one is (tight_after_open one.kind ends (tight_by (is_tight_after one.kind) (is_tight_before word.kind) gap loose)) word.spelling
 
 pub tail_loose : (word : Written) (rest : List Written) → Spells word.spelling word.kind → is_open_ended word.kind ≡ true → is_tight_before word.kind ≡ false → IsTail rest → IsTail (word ∷ rest)
-tail_loose word rest e ends loose tail = tail_cons word rest (is_word_from word e) ends (loose_follows word loose) tail
+tail_loose word rest e ends loose tail = tail_cons word rest (word_from word e (open_ended_is_printed word.kind ends)) ends (loose_follows word loose) tail
 
 -- ---- words before which none stands
 
@@ -93,22 +106,24 @@ record EndsAny (b : ℕ) : Type 0 where
   no_word : is_word b ≡ false
   no_quote : is_quote b ≡ false
   no_dot : (b == 46) ≡ false
+  no_sign : is_sign b ≡ false
   no_equals : (b == 61) ≡ false
 
 ends_punct : (n b : ℕ) → is_open_ended (Punct n) ≡ true → (b == 61) ≡ false → ends_punct_before n b ≡ true
-ends_punct n b h other = by (n == punct.EQUALS) (n == punct.LESS) (n == punct.GREATER) (b == 61) (b == 60 || b == 61 || b == 58 || b == 37) (b == 62 || b == 61) h other
+ends_punct n b h other = by (n == punct.LEFT_PARENTHESIS || n == punct.RIGHT_PARENTHESIS || n == punct.COMMA || n == punct.SEMICOLON) (n == punct.EQUALS) (n == punct.LESS) (n == punct.GREATER) (b == 61) (b == 60 || b == 61 || b == 58 || b == 37) (b == 62 || b == 61) h other
   where
-    by : (e l g p q r : Bool) → (not l && not g) ≡ true → p ≡ false → cond e (not p) (cond l (not q) (cond g (not r) true)) ≡ true
-    by true l g p q r h other = rw other refl
-    by false false false p q r h other = refl
-    by false false true p q r h other = absurd (cc)
-    by false true g p q r h other = absurd (cc)
+    by : (w e l g p q r : Bool) → ((w || e || l || g) && (not l && not g)) ≡ true → p ≡ false → cond e (not p) (cond l (not q) (cond g (not r) (w || e || l || g))) ≡ true
+    by w true l g p q r h other = rw other refl
+    by true false false false p q r h other = refl
+    by false false false false p q r h other = h
+    by w false false true p q r h other = absurd (both_ways _ (and_right (w || false || false || true) false refl) h)
+    by w false true g p q r h other = absurd (both_ways _ (and_right (w || false || true || g) false refl) h)
 
 ends_any : (kind : TokenKind) (text : List ℕ) (b : ℕ) → is_open_ended kind ≡ true → (spelled : Spells text kind) → EndsAny b → ends_before kind text b ≡ true
 ends_any Name text b h e any = rw (any.no_word, any.no_quote) refl
 ends_any (Keyword n) text b h e any = rw any.no_word refl
 ends_any (Punct n) text b h e any = ends_punct n b h any.no_equals
-ends_any Integer text b h e any = rw (any.no_word, any.no_dot) refl
+ends_any Integer text b h e any = rw (any.no_word, any.no_dot, any.no_sign) refl
 ends_any Character text b h e any = refl
 ends_any Text text b h e any = absurd (cc)
 ends_any End text b h e any = absurd (cc)
@@ -117,22 +132,22 @@ tight_follows : (kind : TokenKind) (b : ℕ) (spelling : List ℕ) → EndsAny b
 tight_follows kind b spelling any = λ one is ends gap. may_stand_before one is.spelled b (ends_any one.kind one.spelling b ends is.spelled any)
 
 any_open : EndsAny 40
-any_open = record { no_word = refl; no_quote = refl; no_dot = refl; no_equals = refl }
+any_open = record { no_word = refl; no_quote = refl; no_dot = refl; no_sign = refl; no_equals = refl }
 
 any_close : EndsAny 41
-any_close = record { no_word = refl; no_quote = refl; no_dot = refl; no_equals = refl }
+any_close = record { no_word = refl; no_quote = refl; no_dot = refl; no_sign = refl; no_equals = refl }
 
 any_comma : EndsAny 44
-any_comma = record { no_word = refl; no_quote = refl; no_dot = refl; no_equals = refl }
+any_comma = record { no_word = refl; no_quote = refl; no_dot = refl; no_sign = refl; no_equals = refl }
 
 any_semicolon : EndsAny 59
-any_semicolon = record { no_word = refl; no_quote = refl; no_dot = refl; no_equals = refl }
+any_semicolon = record { no_word = refl; no_quote = refl; no_dot = refl; no_sign = refl; no_equals = refl }
 
 any_less : EndsAny 60
-any_less = record { no_word = refl; no_quote = refl; no_dot = refl; no_equals = refl }
+any_less = record { no_word = refl; no_quote = refl; no_dot = refl; no_sign = refl; no_equals = refl }
 
 any_greater : EndsAny 62
-any_greater = record { no_word = refl; no_quote = refl; no_dot = refl; no_equals = refl }
+any_greater = record { no_word = refl; no_quote = refl; no_dot = refl; no_sign = refl; no_equals = refl }
 
 -- ---- the punctuators
 
@@ -165,16 +180,16 @@ unfolding spelling_of operator operators digraphs
 greater_spells = refl
 
 pub tail_open : (rest : List Written) → IsTail rest → IsTail (open_word ∷ rest)
-tail_open rest tail = tail_cons open_word rest (is_word_from open_word open_spells) refl (tight_follows open_word.kind 40 [] any_open) tail
+tail_open rest tail = tail_cons open_word rest (word_from open_word open_spells refl) refl (tight_follows open_word.kind 40 [] any_open) tail
 
 pub tail_close : (rest : List Written) → IsTail rest → IsTail (close_word ∷ rest)
-tail_close rest tail = tail_cons close_word rest (is_word_from close_word close_spells) refl (tight_follows close_word.kind 41 [] any_close) tail
+tail_close rest tail = tail_cons close_word rest (word_from close_word close_spells refl) refl (tight_follows close_word.kind 41 [] any_close) tail
 
 pub tail_comma : (rest : List Written) → IsTail rest → IsTail (comma_word ∷ rest)
-tail_comma rest tail = tail_cons comma_word rest (is_word_from comma_word comma_spells) refl (tight_follows comma_word.kind 44 [] any_comma) tail
+tail_comma rest tail = tail_cons comma_word rest (word_from comma_word comma_spells refl) refl (tight_follows comma_word.kind 44 [] any_comma) tail
 
 pub tail_semicolon : (rest : List Written) → IsTail rest → IsTail (semicolon_word ∷ rest)
-tail_semicolon rest tail = tail_cons semicolon_word rest (is_word_from semicolon_word semicolon_spells) refl (tight_follows semicolon_word.kind 59 [] any_semicolon) tail
+tail_semicolon rest tail = tail_cons semicolon_word rest (word_from semicolon_word semicolon_spells refl) refl (tight_follows semicolon_word.kind 59 [] any_semicolon) tail
 
 pub tail_equals : (rest : List Written) → IsTail rest → IsTail (equals_word ∷ rest)
 tail_equals rest tail = tail_loose equals_word rest equals_spells refl refl tail
@@ -182,7 +197,7 @@ tail_equals rest tail = tail_loose equals_word rest equals_spells refl refl tail
 -- `>` stands before the `(` of a cast
 pub tail_greater : (rest : List Written) → IsTail rest → IsTail (greater_word ∷ open_word ∷ rest)
 tail_greater rest tail =
-    let is = is_word_from greater_word greater_spells in
+    let is = word_from greater_word greater_spells refl in
     tail_first greater_word (open_word ∷ rest) is (tight_follows greater_word.kind 62 [] any_greater) (λ gap. may_stand_before greater_word greater_spells 40 refl) (tail_open rest tail).line
 
 -- ---- names, literals and types
@@ -192,10 +207,12 @@ tail_name word rest name tail = tail_loose (name_word word) rest name.spelled re
 
 literal_is_open_ended : (of : Base) → is_open_ended (kind_of_literal of) ≡ true
 literal_is_open_ended base.Char = refl
+literal_is_open_ended base.WideChar = refl
 literal_is_open_ended _ = refl
 
 literal_is_loose : (of : Base) → is_tight_before (kind_of_literal of) ≡ false
 literal_is_loose base.Char = refl
+literal_is_loose base.WideChar = refl
 literal_is_loose _ = refl
 
 pub tail_literal : (argument : Argument) (rest : List Written) → IsLiteral argument → IsTail rest → IsTail (literal_word argument ∷ rest)
@@ -284,7 +301,7 @@ less_precedes base.Double rest = λ gap. may_stand_before less_word less_spells 
 less_precedes base.LongDouble rest = λ gap. may_stand_before less_word less_spells 108 refl
 
 tail_less : (of : Base) (rest : List Written) → IsTail rest → IsTail (less_word ∷ spell_base of rest)
-tail_less of rest tail = tail_first less_word (spell_base of rest) (is_word_from less_word less_spells) (tight_follows less_word.kind 60 [] any_less) (less_precedes of rest) (tail_base of rest tail).line
+tail_less of rest tail = tail_first less_word (spell_base of rest) (word_from less_word less_spells refl) (tight_follows less_word.kind 60 [] any_less) (less_precedes of rest) (tail_base of rest tail).line
 
 -- ---- casts and lists, whatever stands in them
 

@@ -1,5 +1,6 @@
 pub mod Tables
 pub mod Shapes
+pub mod Longest
 pub mod Ends
 pub mod ReadLines
 pub mod Names

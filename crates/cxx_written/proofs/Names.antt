@@ -1,5 +1,5 @@
 -- Printed names: their stems, what they spell, and their numbers.
-use Rattle.std.proofs.Common.{◌≡◌, ◌≢◌, ◌≤◌, ◌<◌, ℕ, ◌+◌, ◌^◌, ◌%◌, Bool, true, false, cond, ◌&&◌, List, [], ◌∷◌, ◌++◌, length, None, is_some, refl, sym, ap, ◌∙◌, arith, append_assoc, length-append}
+use Rattle.std.proofs.Common.{◌≡◌, ◌≢◌, ◌≤◌, ◌<◌, ℕ, ◌+◌, ◌^◌, ◌%◌, Bool, true, false, cond, ◌&&◌, List, [], ◌∷◌, ◌++◌, length, None, refl, sym, ap, ◌∙◌, arith, append_assoc, length-append}
 use Rattle.std.proofs.lemmas.Bool.{and_parts, and_right, or_left, or_right}
 use Rattle.std.proofs.lemmas.Bool.Decides.{nat_tests}
 use Rattle.std.proofs.lemmas.Fmt.{decimal_by_steps, decimal_injective, decimal_nonempty}
@@ -11,11 +11,12 @@ use Rattle.std.specs.List.{list_all, list_any}
 use Rattle.std.specs.Prelude.{codes}
 use Rattle.cxx_model.specs.declared.token.TokenKind.TheVariants.{Name}
 use Rattle.cxx_model.specs.Names.{is_digits, is_tag, untagged, or_n, stem, printed_name}
-use Rattle.cxx_model.specs.Spelling.{Good, is_word, begins_word, keywords, alternatives, number_in, word_by, word_kind, spelling_of}
+use Rattle.cxx_model.specs.Spelling.{Good, is_word, begins_word, keywords, alternatives, number_beside, word_by, word_kind}
+use Rattle.cxx_model.proofs.Shapes.{shape, no_empty}
 use Rattle.cxx_model.proofs.Spellings.{spells_word}
 use Rattle.cxx_written.specs.Line.{IsName}
-use Rattle.cxx_written.proofs.Shapes.{Spells, Shape, wordy, number, quoted, operated, shape, number_kind_is, character_is, operator_is}
-use Rattle.cxx_written.proofs.Tables.{none_passes}
+use Rattle.cxx_written.proofs.Shapes.{Spells, word_text}
+use Rattle.cxx_written.proofs.Tables.{none_passes, none_passes_beside}
 
 -- ---- digits
 
@@ -106,16 +107,9 @@ abbrev pub begins_name : List ℕ → Bool
 begins_name [] = false
 begins_name (b ∷ rest) = begins_word b && list_all is_word rest
 
-name_shape : (b : ℕ) (w : List ℕ) → Shape b w Name → begins_name (b ∷ w) ≡ true
-name_shape b w (wordy begins all is) = rw (begins, all) refl
-name_shape b w (number begins all is) = let by = (number_kind_is (b ∷ w) Name is).0 in absurd (cc)
-name_shape b w (quoted q is) = let by = (character_is w Name is).0 in absurd (cc)
-name_shape b w (operated is) = let by = (operator_is b w Name is).1 in absurd (cc)
-
 pub name_begins : (w : List ℕ) → Spells w Name → begins_name w ≡ true
-unfolding spelling_of
-name_begins [] e = absurd (cc)
-name_begins (b ∷ w) e = name_shape b w (shape b w Name e)
+name_begins [] e = absurd (no_empty false Name e)
+name_begins (b ∷ w) e = let text = word_text b w Name refl (shape false b w Name e) in rw (text.begins, text.all) refl
 
 untagged_by : (tagged : Bool) (b : ℕ) (text rest : List ℕ) → is_word b ≡ true → list_all is_word rest ≡ true → list_all is_word (cond tagged [] (b ∷ rest)) ≡ true
 untagged_by true b text rest here all = refl
@@ -148,21 +142,21 @@ spells_name : (text : List ℕ) → begins_name text ≡ true → word_kind text
 spells_name [] h is = absurd (cc)
 spells_name (b ∷ rest) h is =
     let parts = and_parts (begins_word b) (list_all is_word rest) h in
-    spells_word b rest parts.0 ∙ rw (parts.1, is) refl
+    spells_word false b rest parts.0 ∙ rw (parts.1, is) refl
 
 keywords_have_no_digit : list_any (λ entry. list_any is_ascii_digit entry) keywords ≡ false
 unfolding keywords
 keywords_have_no_digit = refl
 
-alternatives_have_no_digit : list_any (λ entry. list_any is_ascii_digit entry) alternatives ≡ false
+alternatives_have_no_digit : list_any (λ entry. list_any is_ascii_digit entry.0) alternatives ≡ false
 unfolding alternatives
 alternatives_have_no_digit = refl
 
 name_with_digit : (text : List ℕ) → list_any is_ascii_digit text ≡ true → word_kind text ≡ Good Name
 unfolding word_kind
 name_with_digit text h =
-    ap (λ o. word_by o (is_some (number_in alternatives text))) (none_passes (λ entry. list_any is_ascii_digit entry) keywords text keywords_have_no_digit h)
-    ∙ ap (λ o. word_by None (is_some o)) (none_passes (λ entry. list_any is_ascii_digit entry) alternatives text alternatives_have_no_digit h)
+    ap (λ o. word_by o (number_beside alternatives text)) (none_passes (λ entry. list_any is_ascii_digit entry) keywords text keywords_have_no_digit h)
+    ∙ ap (λ o. word_by None o) (none_passes_beside (λ entry. list_any is_ascii_digit entry) alternatives text alternatives_have_no_digit h)
 
 printed_begins : (n : ℕ) (w : List ℕ) → n < 2 ^ 64 → Spells w Name → begins_name (printed_name n w) ≡ true
 printed_begins n w small name =

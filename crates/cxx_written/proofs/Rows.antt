@@ -1,7 +1,9 @@
 -- The definitions on worked lines.
-use Rattle.std.proofs.Common.{◌≡◌, true, false, List, [], ◌∷◌, refl}
+use Rattle.std.proofs.Common.{◌≡◌, ℕ, true, false, List, [], ◌∷◌, refl}
 use Rattle.std.specs.Prelude.{codes}
 use Rattle.cxx_model.specs.declared.keyword.TheConstants as keyword
+use Rattle.cxx_model.specs.declared.punct.TheConstants as punct
+use Rattle.cxx_model.specs.declared.token.TokenKind.TheVariants.{Punct, Integer, Character}
 use Rattle.cxx_model.specs.First.Words.{keyword_word}
 use Rattle.cxx_model.specs.Names.{stem}
 use Rattle.cxx_model.specs.Written.{Written, open_word, close_word, semicolon_word, greater_word, name_word, line_of}
@@ -32,6 +34,25 @@ a_call = refl
 
 wide : word_ends_before (name_word (codes "L")) 39 ≡ false
 wide = refl
+
+-- a literal ends before what does not go on with it
+integer_word : List ℕ → Written
+integer_word text = record { kind = Integer; spelling = text }
+
+character_word : List ℕ → Written
+character_word text = record { kind = Character; spelling = text }
+
+integers : (word_ends_before (integer_word (codes "0x1e")) 43 ≡ false) × (word_ends_before (integer_word (codes "0x1f")) 43 ≡ true) × (word_ends_before (integer_word (codes "1u")) 41 ≡ true) × (word_ends_before (integer_word (codes "017l")) 46 ≡ false)
+unfolding integer_word
+integers = (refl, refl, refl, refl)
+
+characters : (word_ends_before (character_word (codes "'\\n'")) 39 ≡ true) × (word_ends_before (character_word (codes "L'a'")) 97 ≡ true)
+unfolding character_word
+characters = (refl, refl)
+
+-- what the first form does not print is let through nowhere
+other_words : word_ends_before (record { kind = Punct punct.PLUS; spelling = codes "+" }) 32 ≡ false
+other_words = refl
 
 stem_of_tagged : stem (codes "f__12") ≡ codes "f"
 unfolding stem

@@ -1,21 +1,43 @@
 -- Words that stand in the lines of a printed text, each where it is read as it is written.
-use Rattle.std.specs.Prelude.{◌≡◌, ◌≢◌, ℕ, false, List, [], ◌∷◌, ◌++◌, length, Some}
-use Rattle.cxx_model.specs.declared.token.TokenKind.TheVariants.{Name, End}
+use Rattle.std.specs.Prelude.{◌≡◌, ◌≢◌, ℕ, Bool, true, false, ◌||◌, ◌==◌, List, [], ◌∷◌, ◌++◌, length, Some}
+use Rattle.cxx_model.specs.declared.punct.TheConstants as punct
+use Rattle.cxx_model.specs.declared.token.TokenKind.{TokenKind}
+use Rattle.cxx_model.specs.declared.token.TokenKind.TheVariants.{Name, Keyword, Punct, Integer, Character, Text, End}
 use Rattle.cxx_model.specs.Spelling.{Good, spelling_of}
 use Rattle.cxx_model.specs.Tokens.{IsLongest}
 use Rattle.cxx_model.specs.Written.{Written, has_gap}
 
--- Before this byte the word is the longest front, whatever comes behind the byte.
+-- the punctuators of the first form: ( ) , ; = < >
+abbrev pub is_printed_punct : ℕ → Bool
+is_printed_punct n = n == punct.LEFT_PARENTHESIS || n == punct.RIGHT_PARENTHESIS || n == punct.COMMA || n == punct.SEMICOLON || n == punct.EQUALS || n == punct.LESS || n == punct.GREATER
+
+-- the kinds of the words of the first form
+abbrev pub is_printed : TokenKind → Bool
+is_printed Name = true
+is_printed (Keyword n) = true
+is_printed (Punct n) = is_printed_punct n
+is_printed Integer = true
+is_printed Character = true
+is_printed Text = false
+is_printed End = false
+
+-- Before this byte the word is the longest front, whatever comes behind the byte and wherever on its line it stands.
 pub record MayStandBefore (word : Written) (b : ℕ) : Type 0 where
-  pub longest : (rest : List ℕ) → IsLongest (word.spelling ++ b ∷ rest) (record { len = length word.spelling; spells = Good word.kind })
+  pub longest : (fresh : Bool) (rest : List ℕ) → IsLongest fresh (word.spelling ++ b ∷ rest) (record { len = length word.spelling; spells = Good word.kind })
 
 -- it is spelled as what it is
 pub record IsSpelled (word : Written) : Type 0 where
-  pub spelled : spelling_of word.spelling ≡ Some (Good word.kind)
+  pub spelled : spelling_of false word.spelling ≡ Some (Good word.kind)
 
--- It is spelled as what it is, is not the end of the unit, and may stand before a space and before a newline.
+-- it is spelled as what it is, of a kind that the first form prints
+pub record IsPrinted (word : Written) : Type 0 where
+  pub spelled : spelling_of false word.spelling ≡ Some (Good word.kind)
+  pub printed : is_printed word.kind ≡ true
+
+-- It is spelled as what it is, is no string and not the end of the unit, and may stand before a space and before a newline.
 pub record IsWord (word : Written) : Type 0 where
-  pub spelled : spelling_of word.spelling ≡ Some (Good word.kind)
+  pub spelled : spelling_of false word.spelling ≡ Some (Good word.kind)
+  pub no_text : word.kind ≢ Text
   pub no_end : word.kind ≢ End
   pub before_space : MayStandBefore word 32
   pub before_newline : MayStandBefore word 10
@@ -37,4 +59,4 @@ IsLine (word ∷ others) = IsWord word × MayPrecede word others × IsLine other
 
 -- a text that spells a name
 pub record IsName (text : List ℕ) : Type 0 where
-  pub spelled : spelling_of text ≡ Some (Good Name)
+  pub spelled : spelling_of false text ≡ Some (Good Name)

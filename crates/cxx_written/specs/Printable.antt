@@ -1,5 +1,5 @@
 -- What can be printed and read back word by word.
-use Rattle.std.specs.Prelude.{◌≡◌, List, [], ◌∷◌, Some}
+use Rattle.std.specs.Prelude.{◌≡◌, false, List, [], ◌∷◌, Some}
 use Rattle.std.specs.List.{AllByRecursion}
 use Rattle.cxx_model.specs.declared.first.Argument.{Argument}
 use Rattle.cxx_model.specs.declared.first.Declaration.{Declaration}
@@ -11,7 +11,7 @@ use Rattle.cxx_written.specs.Line.{IsName}
 
 -- the spelling of an argument is that of a literal of its type
 pub record IsLiteral (argument : Argument) : Type 0 where
-  pub spelled : spelling_of argument.spelling ≡ Some (Good (kind_of_literal argument.of))
+  pub spelled : spelling_of false argument.spelling ≡ Some (Good (kind_of_literal argument.of))
 
 -- a call names a name, and its arguments are literals
 abbrev pub IsPrintableItem : Item → Type 0

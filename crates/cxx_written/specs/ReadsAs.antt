@@ -1,7 +1,7 @@
 -- When a text reads as lines of words.
 use Rattle.std.specs.Prelude.{◌≡◌, ◌⊎◌, List, [], ◌∷◌, ◌++◌, map, flat_map, Result, Ok, Err, ℕ}
 use Rattle.cxx_model.specs.declared.token.Token.{Token}
-use Rattle.cxx_model.specs.declared.token.TokenKind.TheVariants.{End}
+use Rattle.cxx_model.specs.declared.token.TokenKind.TheVariants.{Text, End}
 use Rattle.cxx_model.specs.First.Words.{joined}
 use Rattle.cxx_model.specs.Lexemes.{lexemes}
 use Rattle.cxx_model.specs.Tokens.{Unread, BadAt, PastTokens}
@@ -27,6 +27,6 @@ ReadsAsWords (Err PastTokens) text words = Unit {0}
 abbrev pub ReadsAs : Result (List Token) Unread → List ℕ → List (List Written) → Type 0
 ReadsAs answer text lines = ReadsAsWords answer text (joined lines ++ end_word ∷ [])
 
--- a word that was read: it is spelled as what it is, or is the end
+-- A word that was read: it is spelled as what it is, or is a string, which may have been joined of several, or the end.
 abbrev pub IsReadWord : Written → Type 0
-IsReadWord word = IsSpelled word ⊎ (word ≡ end_word)
+IsReadWord word = IsSpelled word ⊎ ((word.kind ≡ Text) ⊎ (word ≡ end_word))

@@ -8,7 +8,7 @@ mod printed_lines;
 mod printed_names;
 
 pub use printed_lines::{
-    apart_words_are_a_line, each_spelled_word_is_a_word, printed_lines_are_lines,
+    apart_words_are_a_line, each_printed_word_is_a_word, printed_lines_are_lines,
     printed_text_is_tokens, read_words_are_spelled, word_ends_before_a_byte, words_are_tokens,
 };
 pub use printed_names::{

@@ -10,7 +10,7 @@ ghost use Rattle.cxx_model.specs.declared.first.Declaration.{Declaration};
 ghost use Rattle.cxx_model.specs.declared.first.Item.{Item};
 ghost use Rattle.cxx_model.specs.declared.token.Token.{Token};
 ghost use Rattle.cxx_written.specs.Ends.{word_ends_before, are_apart};
-ghost use Rattle.cxx_written.specs.Line.{MayStandBefore, IsSpelled, IsWord, IsLine};
+ghost use Rattle.cxx_written.specs.Line.{MayStandBefore, IsSpelled, IsPrinted, IsWord, IsLine};
 ghost use Rattle.cxx_written.specs.Printable.{IsPrintable, ArePrintable};
 ghost use Rattle.cxx_written.specs.ReadsAs.{ReadsAs, text_of, IsReadWord};
 
@@ -19,15 +19,16 @@ pub fn word_ends_before_a_byte()
     ensures { (word : Written) (b : ℕ) → IsSpelled word → word_ends_before word b ≡ true → MayStandBefore word b }
 {}
 
-/// Whatever is spelled as what it is, is a word: it is not the end, and stands before a space and before a newline.
-pub fn each_spelled_word_is_a_word()
-    ensures { (word : Written) → IsSpelled word → IsWord word }
+/// Whatever is spelled as what it is, of a kind that the first form prints, is a word: it is no string and not the end,
+/// and stands before a space and before a newline.
+pub fn each_printed_word_is_a_word()
+    ensures { (word : Written) → IsPrinted word → IsWord word }
 {}
 
 /// Words may be printed in one line where each two neighbours have a gap between them, or the first ends before the
 /// second.
 pub fn apart_words_are_a_line()
-    ensures { (words : List Written) → AllByRecursion IsSpelled words → are_apart words ≡ true → IsLine words }
+    ensures { (words : List Written) → AllByRecursion IsPrinted words → are_apart words ≡ true → IsLine words }
 {}
 
 /// The tokens of the text of lines are the words of the lines.
@@ -45,7 +46,7 @@ pub fn printed_text_is_tokens()
     ensures { (declarations : List Declaration) (items : List Item) → ArePrintable declarations items → let all = lines declarations items in ReadsAs (tokens_of (text_of all)) (text_of all) all }
 {}
 
-/// Each token that is read is spelled as what it is, but for the end: so what is read can be printed.
+/// Each token that is read is spelled as what it is, but for strings, which may have been joined, and the end.
 pub fn read_words_are_spelled()
     ensures { (bytes : List ℕ) (tokens : List Token) → tokens_of bytes ≡ Ok tokens → AllByRecursion IsReadWord (map written (lexemes bytes tokens)) }
 {}

@@ -1,0 +1,5 @@
+-- Laws of the first form.
+pub mod Taken
+pub mod Bound
+pub mod Words
+pub mod UnitWords
