@@ -11,3 +11,6 @@ pub mod First
 pub mod Outcome
 pub mod Reports
 pub mod ReadsBack
+pub mod Types
+pub mod TypeTrees
+pub mod TypeCode

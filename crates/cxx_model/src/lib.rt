@@ -15,6 +15,7 @@ pub mod punct;
 mod sequence;
 mod stop;
 mod token;
+mod types;
 
 pub use base::Base;
 pub use first::{
@@ -26,3 +27,7 @@ pub use place::Place;
 pub use sequence::{Order, Rank, Second, StandardSequence};
 pub use stop::{Evidence, EvidenceList, Fault, LimitKind, NumberList, Reason, Shown, Stop, Text};
 pub use token::{Token, TokenKind, TokenReason};
+pub use types::{
+    Bound, ClassId, Cv, EnumId, FactId, Formula, InstanceId, ScopeId, Signature, TemplateId,
+    TreeId, TypeArgument, TypeArgumentList, TypeId, TypeIdList, TypeList, TypeNode, TypeTree,
+};
