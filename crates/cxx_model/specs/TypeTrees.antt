@@ -1,5 +1,5 @@
 -- The types that the trees and nodes of the code stand for. A number of a type is a place in a list of types.
-use Rattle.std.specs.Prelude.{ℕ, ◌<◌, List, [], ◌∷◌, slice_index_or}
+use Rattle.std.specs.Prelude.{ℕ, ◌≡◌, ◌<◌, ◌≤◌, List, [], ◌∷◌, length, slice_index_or}
 use Rattle.cxx_model.specs.declared.base.Base.TheVariants.{Void}
 use Rattle.cxx_model.specs.declared.types.TypeId.{TypeId}
 use Rattle.cxx_model.specs.declared.types.Formula.{Formula, Value, Parameter, Member, SizeOf, Cast', Unary', Binary', Conditional'}
@@ -137,3 +137,8 @@ abbrev mutual
   pub IsRowBelow : ℕ → {m : _} → tree.Row_of-TypeTree m → Type 0
   IsRowBelow count tree.end_of-TypeTree = Unit {0}
   IsRowBelow count (tree.more_of-TypeTree t rest) = IsTreeBelow count t × IsRowBelow count rest
+
+-- A list of types that grew: each number that was given before names the same type.
+pub record Keeps (old new : List CxxType) : Type 0 where
+  pub grows : length old ≤ length new
+  pub same : (i : ℕ) → i < length old → type_at new i ≡ type_at old i
