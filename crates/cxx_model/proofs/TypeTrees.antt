@@ -232,4 +232,3 @@ argument_normal types (argument.Computed f) each ok = formula_normal types f.val
 pub arguments_normal : (types : List CxxType) (x : List TypeArgument) → ((i : ℕ) → i < length types → IsNormal (type_at types i)) → AreArgumentsBelow (length types) x → AreNormalArguments (arguments_at types x)
 arguments_normal types [] each ok = tt
 arguments_normal types (x ∷ others) each ok = (argument_normal types x each ok.0, arguments_normal types others each ok.1)
-

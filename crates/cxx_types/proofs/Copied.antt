@@ -9,8 +9,8 @@ use Rattle.cxx_model.specs.declared.types.Bound.TheVariants as bound
 use Rattle.cxx_model.specs.declared.types.TypeArgument.{TypeArgument}
 use Rattle.cxx_model.specs.declared.types.TypeArgument.TheVariants as argument
 use Rattle.cxx_model.specs.declared.types.TypeId.{TypeId}
-use Rattle.cxx_model.specs.Types.{CxxType, CxxArgument, CxxArguments, no_arguments, argument_then, formula_bound, formula_argument, cast_to, unary, binary, conditional}
-use Rattle.cxx_model.specs.TypeTrees.{type_at, formula_at, bound_at, argument_at, arguments_at, IsFormulaBelow, IsArgumentBelow, AreArgumentsBelow}
+use Rattle.cxx_model.specs.Types.{CxxType, CxxArgument, CxxArguments, no_arguments, argument_then, formula_bound, formula_argument, cast_to, unary, binary}
+use Rattle.cxx_model.specs.TypeTrees.{type_at, formula_at, argument_at, arguments_at, IsArgumentBelow, AreArgumentsBelow}
 use Rattle.cxx_types.specs.Copies.{CopiesFormula, CopiesBound, CopiesArgument, CopiesArguments}
 
 pub boxed : (f g : Formula) (a b : Box Formula Global) → CopiesFormula f g → f ≡ a.value → b.value ≡ g → CopiesFormula a.value b.value

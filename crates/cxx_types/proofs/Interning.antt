@@ -1,5 +1,5 @@
 -- What interning makes of a tree, step by step.
-use Rattle.std.specs.Prelude.{ℕ, zero, suc, ◌≡◌, ◌<◌, ◌≤◌, ◌+◌, Bool, false, List, [], ◌∷◌, ◌++◌, length, Box, refl}
+use Rattle.std.specs.Prelude.{ℕ, zero, suc, ◌≡◌, ◌<◌, ◌+◌, List, [], ◌∷◌, ◌++◌, length, Box, refl}
 use Rattle.std.proofs.Common.{ap, sym, subst, ◌∙◌, take, get_or, arith}
 use Rattle.std.proofs.lemmas.List.{take_more}
 use Rattle.std.specs.declared.alloc.Global.{Global}
@@ -9,12 +9,12 @@ use Rattle.cxx_model.specs.declared.types.Signature.{Signature}
 use Rattle.cxx_model.specs.declared.types.TypeId.{TypeId}
 use Rattle.cxx_model.specs.declared.types.TypeTree as tree
 use Rattle.cxx_model.specs.declared.types.TypeTree.{TypeTree}
-use Rattle.cxx_model.specs.Types.{CxxType, CxxTypes, CxxBound, no_types, type_then, array_of, function_of, normal, normal_bound, normal_parameters, adjusted, with_cv, merged, IsNormal, AreParameters}
+use Rattle.cxx_model.specs.Types.{CxxType, CxxTypes, no_types, type_then, array_of, function_of, normal, normal_bound, normal_parameters, adjusted, with_cv, merged}
 use Rattle.cxx_model.specs.TypeTrees.{type_at, types_at, tree_at, bound_at, IsTreeBelow, IsBoundBelow, AreTypesBelow, Keeps}
-use Rattle.cxx_model.proofs.TypeForm.{normal_is_normal, normal_parameters_is_normal, with_cv_merges}
+use Rattle.cxx_model.proofs.TypeForm.{normal_is_normal, with_cv_merges}
 use Rattle.cxx_model.proofs.TypeTrees.{bound_kept, bound_later, tree_kept, tree_later, types_kept, types_later, Keeps-refl, Keeps-trans}
 use Rattle.cxx_types.specs.Trees.{trees_at, AreTreesBelow}
-use Rattle.cxx_types.proofs.Rows.{function-below, function-at, trees-at-kept, trees-later}
+use Rattle.cxx_types.proofs.Rows.{function-below, function-at, trees-at-kept}
 
 pub array-bound : (old mid : List CxxType) (t : TypeTree) (element : Box TypeTree Global) (bound : Bound) → t ≡ tree.Array element bound → IsTreeBelow (length old) t → Keeps old mid → IsBoundBelow (length mid) bound
 array-bound old mid t element bound form ok kept =
@@ -36,17 +36,17 @@ signature-below count t s inner form same ok =
 pub interned-function : (old new : List CxxType) (cv : Cv) (t : TypeTree) (s : Box Signature Global) (inner : Signature) (n : ℕ) → t ≡ tree.Function s → inner ≡ s.value → type_at new n ≡ function_of (normal (tree_at old inner.result)) (normal_parameters (trees_at old inner.parameters.items)) inner.ellipsis inner.cv → type_at new n ≡ with_cv cv (normal (tree_at old t))
 interned-function old new cv t s inner n form same made =
     made
-      ∙ ap (λ (x : Signature). function_of (normal (tree_at old x.result)) (normal_parameters (trees_at old x.parameters.items)) x.ellipsis x.cv) same
-      ∙ sym (ap (λ x. with_cv cv (normal x)) (function-at old s))
-      ∙ sym (ap (λ x. with_cv cv (normal (tree_at old x))) form)
+    ∙ ap (λ (x : Signature). function_of (normal (tree_at old x.result)) (normal_parameters (trees_at old x.parameters.items)) x.ellipsis x.cv) same
+    ∙ sym (ap (λ x. with_cv cv (normal x)) (function-at old s))
+    ∙ sym (ap (λ x. with_cv cv (normal (tree_at old x))) form)
 
 pub interned-qualified : (old new : List CxxType) (cv own both : Cv) (t : TypeTree) (of : Box TypeTree Global) (inner : TypeTree) (n : ℕ) → t ≡ tree.Qualified own of → inner ≡ of.value → both ≡ merged cv own → type_at new n ≡ with_cv both (normal (tree_at old inner)) → type_at new n ≡ with_cv cv (normal (tree_at old t))
 interned-qualified old new cv own both t of inner n form same merges made =
     made
-      ∙ ap (λ c. with_cv c (normal (tree_at old inner))) merges
-      ∙ ap (λ x. with_cv (merged cv own) (normal (tree_at old x))) same
-      ∙ sym (with_cv_merges cv own (normal (tree_at old of.value)) (normal_is_normal (tree_at old of.value)))
-      ∙ sym (ap (λ x. with_cv cv (normal (tree_at old x))) form)
+    ∙ ap (λ c. with_cv c (normal (tree_at old inner))) merges
+    ∙ ap (λ x. with_cv (merged cv own) (normal (tree_at old x))) same
+    ∙ sym (with_cv_merges cv own (normal (tree_at old of.value)) (normal_is_normal (tree_at old of.value)))
+    ∙ sym (ap (λ x. with_cv cv (normal (tree_at old x))) form)
 
 -- the parameters, one after another
 more : CxxTypes → CxxType → CxxTypes
@@ -96,7 +96,7 @@ next-interned old now mid new trees numbers i t k n so within is ok one two inte
       keeps = Keeps-trans old now new so.keeps grown;
       below = below-more (length new) numbers n (types_later (length now) (length new) numbers grown.grows so.below) known;
       is =
-        types-more new numbers n ∙ ap (λ ts. more ts (type_at new n.0)) before ∙ ap (more (normal_parameters (trees_at old (take i trees)))) type-is
+          types-more new numbers n ∙ ap (λ ts. more ts (type_at new n.0)) before ∙ ap (more (normal_parameters (trees_at old (take i trees)))) type-is
           ∙ sym (parameters-more old (take i trees) t) ∙ sym (ap (λ ts. normal_parameters (trees_at old ts)) last);
     }
 

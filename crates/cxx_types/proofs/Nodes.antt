@@ -1,13 +1,12 @@
 -- The list of types of a table, and what becomes of it when a node is added.
-use Rattle.std.specs.Prelude.{ℕ, zero, suc, ◌≡◌, ◌<◌, ◌≤◌, ◌+◌, Bool, true, false, nat_lt, ◌||◌, if◌then◌else◌, List, [], ◌∷◌, ◌++◌, length, Some, refl, ◌⊎◌}
+use Rattle.std.specs.Prelude.{ℕ, zero, suc, ◌≡◌, ◌<◌, ◌≤◌, ◌+◌, Bool, true, false, nat_lt, if◌then◌else◌, List, [], ◌∷◌, ◌++◌, length, Some, refl, ◌⊎◌}
 use Rattle.std.specs.List.{slice_get, list_any}
-use Rattle.std.proofs.Common.{ap, sym, subst, ◌∙◌, arith, get_or, ⊎_elim, append_assoc, length-append, add-suc, add-zero, inl, inr}
+use Rattle.std.proofs.Common.{ap, sym, subst, ◌∙◌, arith, get_or, ⊎_elim, length-append, add-zero, inl, inr}
 use Rattle.std.proofs.Math.ListN.{get_or-append}
 use Rattle.std.proofs.Math.Seq.{get_or-append_seam}
-use Rattle.std.proofs.lemmas.Option.{slice_get_within, slice_get-get_or}
+use Rattle.std.proofs.lemmas.Option.{slice_get-get_or}
 use Rattle.std.proofs.lemmas.List.Folds.{list_any_at}
 use Rattle.cxx_model.specs.declared.types.TypeNode.{TypeNode}
-use Rattle.cxx_model.specs.declared.types.TypeNode.TheVariants as node
 use Rattle.cxx_model.specs.declared.base.Base.TheVariants.{Void}
 use Rattle.cxx_model.specs.Types.{CxxType, IsNormal, fundamental}
 use Rattle.cxx_model.specs.TypeTrees.{type_at, type_over, IsNodeBelow, Keeps}
@@ -69,7 +68,6 @@ type-of-node nodes j x table e =
     let zeroed : 0 + j ≡ j = omega arith in
     let P : ℕ → Type 0 = λ n. type_at (types_of nodes) n ≡ type_over (types_of nodes) x in
     subst P zeroed (node-at [] nodes j x e (subst (λ (n : ℕ). IsNodeBelow n x) (sym zeroed) (table.below j x e)))
-
 
 -- a node of a list with one more
 split-more : (nodes : List TypeNode) (x : TypeNode) (i : ℕ) (y : TypeNode) → slice_get (nodes ++ x ∷ []) i ≡ Some y → (slice_get nodes i ≡ Some y) ⊎ ((i ≡ length nodes) × (x ≡ y))

@@ -1,13 +1,13 @@
 -- What a table's steps make of types.
-use Rattle.std.specs.Prelude.{ℕ, ◌≡◌, ◌<◌, ◌≤◌, ◌+◌, List, [], ◌∷◌, ◌++◌, length, Result, Ok, Err, IfOk, refl}
-use Rattle.std.proofs.Common.{ap, sym, subst, ◌∙◌, take, get_or, arith, add-one}
+use Rattle.std.specs.Prelude.{ℕ, ◌≡◌, ◌<◌, ◌≤◌, ◌+◌, List, [], ◌∷◌, ◌++◌, length, Result, Ok, Err, IfOk}
+use Rattle.std.proofs.Common.{ap, sym, subst, ◌∙◌, take, get_or, arith}
 use Rattle.std.proofs.lemmas.List.{take_more}
 use Rattle.cxx_model.specs.declared.types.Bound.{Bound}
 use Rattle.cxx_model.specs.declared.types.TypeArgument.{TypeArgument}
 use Rattle.cxx_model.specs.declared.types.TypeId.{TypeId}
 use Rattle.cxx_model.specs.declared.types.TypeNode.{TypeNode}
 use Rattle.cxx_model.specs.declared.types.TypeNode.TheVariants as node
-use Rattle.cxx_model.specs.Types.{CxxType, CxxBound, array_of, unqualified}
+use Rattle.cxx_model.specs.Types.{CxxType, array_of, unqualified}
 use Rattle.cxx_model.specs.TypeTrees.{type_at, bound_at, type_over, IsNodeBelow, IsBoundBelow, Keeps}
 use Rattle.cxx_model.proofs.TypeTrees.{bound_kept, bound_later}
 use Rattle.cxx_types.specs.Copies.{CopiesBound, CopiesArgument, CopiesArguments}

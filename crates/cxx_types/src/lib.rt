@@ -4,6 +4,8 @@
 mod copies;
 mod form;
 mod intern;
+mod similar;
 mod table;
+mod tree;
 
 pub use table::TypeTable;

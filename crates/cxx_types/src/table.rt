@@ -10,7 +10,7 @@ use std::marker::Model;
 /// The types that were met, each with a number. A contract sees the list of the types, in the order of their numbers.
 #[derive(Drop)]
 pub struct TypeTable {
-    nodes: IndexSet<TypeNode>,
+    pub(crate) nodes: IndexSet<TypeNode>,
     alloc: Global,
 }
 

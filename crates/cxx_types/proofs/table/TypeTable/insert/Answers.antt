@@ -1,8 +1,8 @@
-use Rattle.std.proofs.Common.{sym, subst, length, List, ◌≡◌, ◌<◌, arith}
+use Rattle.std.proofs.Common.{sym, subst, length, List, ◌<◌, arith}
 use Rattle.std.proofs.lemmas.Option.{slice_get_within}
 use Rattle.cxx_model.specs.declared.types.TypeNode.{TypeNode}
 use Rattle.cxx_model.specs.Types.{CxxType, IsNormal}
-use Rattle.cxx_model.specs.TypeTrees.{type_at, type_over, IsNodeBelow, Keeps}
+use Rattle.cxx_model.specs.TypeTrees.{type_over, IsNodeBelow, Keeps}
 use Rattle.cxx_types.specs.Table.{types_of, AreNormal, IsTable}
 use Rattle.cxx_types.proofs.Nodes.{table-insert, Keeps-insert, type-of-stored, length-types}
 use Rattle.cxx_types.proofs.table.TypeTable.insert.Goals as goal
@@ -16,7 +16,7 @@ table c =
 keeps : (c : goal.In_ok-index) → Keeps c.args.self.now (types_of c.insert_full.new.self.keys)
 keeps c =
     subst (λ (ts : List CxxType). Keeps ts (types_of c.insert_full.new.self.keys)) c.self.view_is
-      (subst (λ (keys : List TypeNode). Keeps (types_of c.self.inside.nodes.keys) (types_of keys)) (sym c.in_ok-index.ensures.keys) (Keeps-insert c.self.inside.nodes.keys c.args.node))
+    (subst (λ (keys : List TypeNode). Keeps (types_of c.self.inside.nodes.keys) (types_of keys)) (sym c.in_ok-index.ensures.keys) (Keeps-insert c.self.inside.nodes.keys c.args.node))
 
 pub invariant_of-self-2 : goal.invariant_of-self-2
 invariant_of-self-2 c = table c

@@ -12,5 +12,5 @@ array-requires-clause-below c = c.in_ok-bound.ensures.below _ c.requires.below
 pub returns-clause-is : goal.returns-clause-is
 returns-clause-is c =
     if-ok c.array.result
-      (λ number made. made ∙ ap (array_of (type_at c.args.self.now c.args.element.0)) (c.in_ok-bound.ensures.at c.args.self.now ∙ sym (normal_bound_fixed (bound_at c.args.self.now c.args.bound.now) (bound_normal c.args.self.now c.args.bound.now c.form.ensures c.requires.below))))
-      c.array.ensures.is
+    (λ number made. made ∙ ap (array_of (type_at c.args.self.now c.args.element.0)) (c.in_ok-bound.ensures.at c.args.self.now ∙ sym (normal_bound_fixed (bound_at c.args.self.now c.args.bound.now) (bound_normal c.args.self.now c.args.bound.now c.form.ensures c.requires.below))))
+    c.array.ensures.is

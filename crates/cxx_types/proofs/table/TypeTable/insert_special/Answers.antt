@@ -15,5 +15,5 @@ insert_with-requires-clause-normal c = λ each. arguments_normal c.args.self.now
 pub returns-clause-is : goal.returns-clause-is
 returns-clause-is c =
     if-ok c.insert_with.result
-      (λ number made. made ∙ ap (λ given. layered c.args.cv (specialisation c.args.template.0 given)) (c.in_ok-arguments.ensures.at c.args.self.now ∙ sym (normal_arguments_fixed (arguments_at c.args.self.now c.args.arguments.now) (arguments_normal c.args.self.now c.args.arguments.now c.form.ensures c.requires))))
-      c.insert_with.ensures.is
+    (λ number made. made ∙ ap (λ given. layered c.args.cv (specialisation c.args.template.0 given)) (c.in_ok-arguments.ensures.at c.args.self.now ∙ sym (normal_arguments_fixed (arguments_at c.args.self.now c.args.arguments.now) (arguments_normal c.args.self.now c.args.arguments.now c.form.ensures c.requires))))
+    c.insert_with.ensures.is
