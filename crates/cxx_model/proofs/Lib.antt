@@ -9,3 +9,5 @@ pub mod Shapes
 pub mod SpelledKinds
 pub mod Spellings
 mod TokenRows
+pub mod TypeForm
+pub mod TypeTrees

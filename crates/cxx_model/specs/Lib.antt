@@ -12,3 +12,6 @@ pub mod First
 pub mod Outcome
 pub mod Reports
 pub mod ReadsBack
+pub mod Types
+pub mod TypeTrees
+pub mod TypeCode

@@ -1,14 +1,14 @@
 -- Standard conversion sequences between arithmetic types (clause 4, 13.3.3.1.1).
 use Rattle.std.specs.Prelude.{ℕ, Bool, true, false, ◌&&◌, ◌||◌, if◌then◌else◌, ◌==◌, List, [], ◌∷◌, Option, Some, None}
 use Rattle.cxx_model.specs.declared.base.Base.{Base}
-use Rattle.cxx_model.specs.declared.base.Base.TheVariants.{Bool as BoolType, Char, SignedChar, UnsignedChar, Short, UnsignedShort, Int, Unsigned, Long, UnsignedLong, WideChar, Float, Double, LongDouble}
+use Rattle.cxx_model.specs.declared.base.Base.TheVariants.{Bool as BoolType, Char, SignedChar, UnsignedChar, Short, UnsignedShort, Int, Unsigned, Long, UnsignedLong, WideChar, Float, Double, LongDouble, Void}
 use Rattle.cxx_model.specs.declared.sequence.Second.{Second}
 use Rattle.cxx_model.specs.declared.sequence.Second.TheVariants.{IntegralPromotion, FloatingPromotion, Integral, Floating, FloatingIntegral, Boolean}
 use Rattle.cxx_model.specs.declared.sequence.StandardSequence.{StandardSequence}
 use Rattle.cxx_model.specs.declared.sequence.Rank.{Rank}
 use Rattle.cxx_model.specs.declared.sequence.Rank.TheVariants.{Exact, Promotion, Conversion}
 
--- What the standard says of an arithmetic type by itself.
+-- What the standard says of a fundamental type by itself.
 pub record Row : Type 0 where
   -- its place in the table, by which two types are told apart
   pub number : ℕ
@@ -33,6 +33,7 @@ row WideChar = record { number = 10; is_floating = false; promoted = Int }
 row Float = record { number = 11; is_floating = true; promoted = Double }
 row Double = record { number = 12; is_floating = true; promoted = Double }
 row LongDouble = record { number = 13; is_floating = true; promoted = LongDouble }
+row Void = record { number = 14; is_floating = false; promoted = Void }
 
 abbrev pub same_base : Base → Base → Bool
 same_base one two = (row one).number == (row two).number

@@ -1,4 +1,4 @@
-/// The arithmetic types (3.9.1).
+/// The fundamental types (3.9.1): the arithmetic types, and `void`.
 #[derive(Clone, Copy, Debug, PartialEq, Eq, Hash)]
 pub enum Base {
     Bool,
@@ -15,4 +15,5 @@ pub enum Base {
     Float,
     Double,
     LongDouble,
+    Void,
 }

@@ -10,11 +10,14 @@ mod first;
 pub mod keyword;
 pub mod limits;
 mod listed;
+mod memory;
 mod place;
 pub mod punct;
 mod sequence;
+mod steps;
 mod stop;
 mod token;
+mod types;
 
 pub use base::Base;
 pub use first::{
@@ -22,7 +25,13 @@ pub use first::{
     Initializer, Item, ItemList, Options, Outcome, OutcomeList, Reading, Word,
 };
 pub use listed::Listed;
+pub use memory::OutOfMemory;
 pub use place::Place;
 pub use sequence::{Order, Rank, Second, StandardSequence};
+pub use steps::Steps;
 pub use stop::{Evidence, EvidenceList, Fault, LimitKind, NumberList, Reason, Shown, Stop, Text};
 pub use token::{Token, TokenKind, TokenReason};
+pub use types::{
+    Bound, ClassId, Cv, EnumId, FactId, Formula, InstanceId, ScopeId, Signature, TemplateId,
+    TreeId, TypeArgument, TypeArgumentList, TypeId, TypeIdList, TypeList, TypeNode, TypeTree,
+};

@@ -56,6 +56,7 @@ spell_base base.WideChar rest = keyword_word keyword.WCHAR_T (codes "wchar_t") �
 spell_base base.Float rest = keyword_word keyword.FLOAT (codes "float") ∷ rest
 spell_base base.Double rest = double_word ∷ rest
 spell_base base.LongDouble rest = long_word ∷ double_word ∷ rest
+spell_base base.Void rest = keyword_word keyword.VOID (codes "void") ∷ rest
 
 -- elements with a comma before each but the first
 abbrev pub others_separated : {A : Type 0} → (A → List Written → List Written) → List A → List Written → List Written

@@ -1,0 +1,7 @@
+pub mod Copied
+pub mod Equal
+pub mod Interning
+pub mod Nodes
+pub mod Reading
+pub mod Rows
+pub mod Steps

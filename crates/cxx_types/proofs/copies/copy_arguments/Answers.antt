@@ -1,0 +1,10 @@
+use Rattle.std.proofs.Common.{List, take, ◌+◌, sym, subst}
+use Rattle.cxx_model.specs.declared.types.TypeArgument.{TypeArgument}
+use Rattle.cxx_types.specs.Copies.{CopiesArguments}
+use Rattle.cxx_types.proofs.Steps.{copied-next}
+use Rattle.cxx_types.proofs.copies.copy_arguments.Goals as goal
+
+pub loop-argument-preserved : goal.loop-argument-preserved
+loop-argument-preserved c =
+    subst (λ (ys : List TypeArgument). CopiesArguments (take (c.loop-argument.argument-index + 1) c.args.arguments.now) ys) (sym c.in_ok-push.ensures.ok)
+    (copied-next c.args.arguments.now c.loop-argument.argument-index c.argument-item.result c.in_ok-copy_argument.field-0 c.loop-argument.copies c.loop-argument-test.true c.argument-item.is c.loop-argument.invariant c.in_ok-copy_argument.ensures)

@@ -1,0 +1,4 @@
+pub mod Copies
+pub mod Sizes
+pub mod Table
+pub mod Trees

@@ -1,0 +1,26 @@
+-- What a table of types stands for: the list of its types, each made of earlier ones.
+use Rattle.std.specs.Prelude.{ℕ, ◌≡◌, ◌<◌, List, [], ◌∷◌, ◌++◌, length, Some}
+use Rattle.std.specs.List.{slice_get}
+use Rattle.cxx_model.specs.declared.types.TypeNode.{TypeNode}
+use Rattle.cxx_model.specs.Types.{CxxType, IsNormal}
+use Rattle.cxx_model.specs.TypeTrees.{type_at, type_over, IsNodeBelow}
+
+abbrev pub types_after : List CxxType → List TypeNode → List CxxType
+types_after done [] = done
+types_after done (node ∷ nodes) = types_after (done ++ type_over done node ∷ []) nodes
+
+abbrev pub types_of : List TypeNode → List CxxType
+types_of nodes = types_after [] nodes
+
+-- no type has two numbers
+abbrev pub AreApart : List CxxType → Type 0
+AreApart types = (i j : ℕ) → i < length types → j < length types → type_at types i ≡ type_at types j → i ≡ j
+
+abbrev pub AreNormal : List CxxType → Type 0
+AreNormal types = (i : ℕ) → i < length types → IsNormal (type_at types i)
+
+-- Each node names earlier ones, no type stands twice, and each is in the one form.
+pub record IsTable (nodes : List TypeNode) : Type 0 where
+  pub below : (i : ℕ) (node : TypeNode) → slice_get nodes i ≡ Some node → IsNodeBelow i node
+  pub apart : AreApart (types_of nodes)
+  pub normal : AreNormal (types_of nodes)

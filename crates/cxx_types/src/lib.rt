@@ -1,0 +1,11 @@
+//! A table that gives each type a number: two numbers are the same exactly where the types are.
+#![tactic(auto)]
+
+mod copies;
+mod form;
+mod intern;
+mod similar;
+mod table;
+mod tree;
+
+pub use table::TypeTable;
