@@ -56,6 +56,7 @@ fn row_of_type(base: Base) -> Row
         Base::Float => floating(11, Base::Double),
         Base::Double => floating(12, Base::Double),
         Base::LongDouble => floating(13, Base::LongDouble),
+        Base::Void => integral(14, Base::Void),
     }
 }
 

@@ -56,6 +56,7 @@ line_base base.WideChar rest = line_loose (keyword_word keyword.WCHAR_T (codes "
 line_base base.Float rest = line_loose (keyword_word keyword.FLOAT (codes "float")) rest refl
 line_base base.Double rest = line_loose double_word rest refl
 line_base base.LongDouble rest = ap (λ t. codes "long " ++ t) (line_loose double_word rest refl)
+line_base base.Void rest = line_loose (keyword_word keyword.VOID (codes "void")) rest refl
 
 pub behind_base : (b : Base) (rest : List Written) → behind (spell_base b rest) ≡ codes " " ++ line_of (spell_base b rest)
 unfolding spell_base
@@ -73,6 +74,7 @@ behind_base base.WideChar rest = refl
 behind_base base.Float rest = refl
 behind_base base.Double rest = refl
 behind_base base.LongDouble rest = refl
+behind_base base.Void rest = refl
 
 -- ---- casts
 
@@ -118,6 +120,7 @@ loose_literal base.WideChar = refl
 loose_literal base.Float = refl
 loose_literal base.Double = refl
 loose_literal base.LongDouble = refl
+loose_literal base.Void = refl
 
 gap_literal : (b : Base) → is_tight_before (kind_of_literal b) ≡ false
 gap_literal base.Char = refl
@@ -134,6 +137,7 @@ gap_literal base.WideChar = refl
 gap_literal base.Float = refl
 gap_literal base.Double = refl
 gap_literal base.LongDouble = refl
+gap_literal base.Void = refl
 
 pub line_argument : (argument : Argument) (rest : List Written) → line_of (spell_argument argument rest) ≡ argument_text argument ++ behind rest
 unfolding argument_text

@@ -29,6 +29,7 @@ base_text base.WideChar = codes "wchar_t"
 base_text base.Float = codes "float"
 base_text base.Double = codes "double"
 base_text base.LongDouble = codes "long double"
+base_text base.Void = codes "void"
 
 -- what stands before the operand of a cast, and what stands behind it
 unfoldable pub cast_front : Base → List ℕ

@@ -32,6 +32,7 @@ fn spelling(base: Base) -> &'static [u8]
         Base::Float => b"float",
         Base::Double => b"double",
         Base::LongDouble => b"long double",
+        Base::Void => b"void",
     }
 }
 

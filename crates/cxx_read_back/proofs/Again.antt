@@ -2,7 +2,7 @@
 use Rattle.std.proofs.Common.{◌≡◌, ℕ, zero, suc, Bool, true, false, cond, List, [], ◌∷◌, Some, Err, refl, ap}
 use Rattle.std.specs.List.{AllByRecursion}
 use Rattle.cxx_model.specs.declared.base.Base.{Base}
-use Rattle.cxx_model.specs.declared.base.Base.TheVariants.{Bool as BoolType, Char, SignedChar, UnsignedChar, Short, UnsignedShort, Int, Unsigned, Long, UnsignedLong, WideChar, Float, Double, LongDouble}
+use Rattle.cxx_model.specs.declared.base.Base.TheVariants.{Bool as BoolType, Char, SignedChar, UnsignedChar, Short, UnsignedShort, Int, Unsigned, Long, UnsignedLong, WideChar, Float, Double, LongDouble, Void}
 use Rattle.cxx_model.specs.declared.first.Argument.{Argument}
 use Rattle.cxx_model.specs.declared.first.Declaration.{Declaration}
 use Rattle.cxx_model.specs.declared.place.Place.{Place}
@@ -39,6 +39,7 @@ base_again places WideChar h n rest = absurd cc
 base_again places Float h n rest = reaches tt (suc n) refl
 base_again places Double h n rest = reaches tt (suc n) refl
 base_again places LongDouble h n rest = absurd cc
+base_again places Void h n rest = absurd cc
 
 pub type_again : (places : ℕ → Place) (b : Base) → IsKeywordType b → (n : ℕ) (rest : List Written) → Reached places (type_at (standing places n (spell_base b rest))) (just b) rest
 type_again places b h n rest = base_again places b h.is n rest

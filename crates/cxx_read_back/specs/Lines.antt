@@ -2,7 +2,7 @@
 use Rattle.std.specs.Prelude.{◌≡◌, ℕ, suc, ◌<◌, ◌^◌, Bool, true, false, List, [], ◌∷◌, ◌++◌, length, Some, slice_get}
 use Rattle.std.specs.List.{AllByRecursion}
 use Rattle.cxx_model.specs.declared.base.Base.{Base}
-use Rattle.cxx_model.specs.declared.base.Base.TheVariants.{Bool as BoolType, Char, SignedChar, UnsignedChar, Short, UnsignedShort, Int, Unsigned, Long, UnsignedLong, WideChar, Float, Double, LongDouble}
+use Rattle.cxx_model.specs.declared.base.Base.TheVariants.{Bool as BoolType, Char, SignedChar, UnsignedChar, Short, UnsignedShort, Int, Unsigned, Long, UnsignedLong, WideChar, Float, Double, LongDouble, Void}
 use Rattle.cxx_model.specs.declared.first.Argument.{Argument}
 use Rattle.cxx_model.specs.declared.first.Declaration.{Declaration}
 use Rattle.cxx_model.specs.declared.first.Declared.{Declared}
@@ -33,6 +33,7 @@ is_keyword_type WideChar = false
 is_keyword_type Float = true
 is_keyword_type Double = true
 is_keyword_type LongDouble = false
+is_keyword_type Void = false
 
 pub record IsKeywordType (b : Base) : Type 0 where
   pub is : is_keyword_type b ≡ true

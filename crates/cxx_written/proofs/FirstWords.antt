@@ -281,6 +281,7 @@ tail_base base.WideChar rest tail = tail_keyword _ _ rest wide_spells tail
 tail_base base.Float rest tail = tail_keyword _ _ rest float_spells tail
 tail_base base.Double rest tail = tail_keyword _ _ rest double_spells tail
 tail_base base.LongDouble rest tail = tail_keyword _ _ _ long_spells (tail_keyword _ _ rest double_spells tail)
+tail_base base.Void rest tail = tail_keyword _ _ rest void_spells tail
 
 -- the `<` of a cast stands before a type
 less_precedes : (of : Base) (rest : List Written) → MayPrecede less_word (spell_base of rest)
@@ -299,6 +300,7 @@ less_precedes base.WideChar rest = λ gap. may_stand_before less_word less_spell
 less_precedes base.Float rest = λ gap. may_stand_before less_word less_spells 102 refl
 less_precedes base.Double rest = λ gap. may_stand_before less_word less_spells 100 refl
 less_precedes base.LongDouble rest = λ gap. may_stand_before less_word less_spells 108 refl
+less_precedes base.Void rest = λ gap. may_stand_before less_word less_spells 118 refl
 
 tail_less : (of : Base) (rest : List Written) → IsTail rest → IsTail (less_word ∷ spell_base of rest)
 tail_less of rest tail = tail_first less_word (spell_base of rest) (word_from less_word less_spells refl) (tight_follows less_word.kind 60 [] any_less) (less_precedes of rest) (tail_base of rest tail).line

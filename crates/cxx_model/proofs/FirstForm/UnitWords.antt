@@ -54,6 +54,7 @@ base_continues base.WideChar rest = refl
 base_continues base.Float rest = refl
 base_continues base.Double rest = refl
 base_continues base.LongDouble rest = refl
+base_continues base.Void rest = refl
 
 others_continue : {A : Type 0} (spell : A → List Written → List Written) → Each spell → (xs : List A) → Continues (others_separated spell xs)
 others_continue spell each [] rest = refl
