@@ -1,3 +1,5 @@
+ghost use Rattle.std.specs.Prelude.{◌≤◌};
+
 use super::run;
 use cxx_edge::{MemorySink, MemorySource};
 use std::alloc::Global;
