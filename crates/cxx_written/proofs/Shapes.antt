@@ -6,8 +6,9 @@ use Rattle.std.specs.Prelude.{codes}
 use Rattle.cxx_model.specs.declared.token.TokenKind.{TokenKind}
 use Rattle.cxx_model.specs.declared.token.TokenKind.TheVariants.{Name, Keyword, Punct, Integer, Character, Text}
 use Rattle.cxx_model.specs.declared.punct.TheConstants as punct
-use Rattle.cxx_model.specs.Spelling.{Good, is_word, begins_word, begins_number, is_number_rest, is_quote, word_kind, number_kind, literal, alternatives, operators, digraphs, spelling_of}
+use Rattle.cxx_model.specs.Spelling.{Good, is_word, begins_word, begins_number, is_number_rest, is_quote, word_kind, number_kind, literal, spelling_of}
 use Rattle.cxx_model.proofs.Shapes.{Shape, wordy, wide, number, quoted, operated, word_kind_is, number_kind_is, literal_is, operator_is}
+use Rattle.cxx_model.proofs.FirstForm.Words.{open_is, close_is, comma_is, semicolon_is, equals_is, less_is, greater_is}
 use Rattle.cxx_model.proofs.SpelledKinds.{IsOnlySpelling, kind_spells, only_spelling}
 use Rattle.cxx_written.specs.Line.{is_printed_punct}
 
@@ -94,19 +95,18 @@ unfolding IsBuilt
 built_there k text built only n e = subst IsBuilt (sym (eqb-true n k e)) (λ other spells. subst (λ t. Built t k) (sym (only_spelling k text other only (kind_spells false other (Punct k) spells))) built)
 
 built_at : (n : ℕ) → is_printed_punct n ≡ true → IsBuilt n
-unfolding operators alternatives digraphs
 built_at n e =
     one_of _ _ _
     (one_of _ _ _
     (one_of _ _ _
     (one_of _ _ _
     (one_of _ _ _
-    (one_of _ _ _ (built_there punct.LEFT_PARENTHESIS (codes "(") built_open (record { primary = refl; no_word = refl; no_digraph = refl }) n) (built_there punct.RIGHT_PARENTHESIS (codes ")") built_close (record { primary = refl; no_word = refl; no_digraph = refl }) n))
-    (built_there punct.COMMA (codes ",") built_comma (record { primary = refl; no_word = refl; no_digraph = refl }) n))
-    (built_there punct.SEMICOLON (codes ";") built_semicolon (record { primary = refl; no_word = refl; no_digraph = refl }) n))
-    (built_there punct.EQUALS (codes "=") built_equals (record { primary = refl; no_word = refl; no_digraph = refl }) n))
-    (built_there punct.LESS (codes "<") built_less (record { primary = refl; no_word = refl; no_digraph = refl }) n))
-    (built_there punct.GREATER (codes ">") built_greater (record { primary = refl; no_word = refl; no_digraph = refl }) n)
+    (one_of _ _ _ (built_there punct.LEFT_PARENTHESIS (codes "(") built_open open_is n) (built_there punct.RIGHT_PARENTHESIS (codes ")") built_close close_is n))
+    (built_there punct.COMMA (codes ",") built_comma comma_is n))
+    (built_there punct.SEMICOLON (codes ";") built_semicolon semicolon_is n))
+    (built_there punct.EQUALS (codes "=") built_equals equals_is n))
+    (built_there punct.LESS (codes "<") built_less less_is n))
+    (built_there punct.GREATER (codes ">") built_greater greater_is n)
     e
 
 pub built_is : (n : ℕ) (text : List ℕ) → is_printed_punct n ≡ true → Spells text (Punct n) → Built text n

@@ -9,7 +9,8 @@ mod printed_names;
 
 pub use printed_lines::{
     apart_words_are_a_line, each_printed_word_is_a_word, printed_lines_are_lines,
-    printed_text_is_tokens, read_words_are_spelled, word_ends_before_a_byte, words_are_tokens,
+    printed_text_is_tokens, read_tokens_are_spelled, read_words_are_spelled,
+    word_ends_before_a_byte, words_are_tokens,
 };
 pub use printed_names::{
     printed_name_gives_its_number, printed_name_gives_its_stem, printed_name_is_a_name,

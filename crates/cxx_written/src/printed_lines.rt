@@ -2,7 +2,7 @@
 
 ghost use Rattle.std.specs.Prelude.{◌≡◌, ℕ, List, map, true};
 ghost use Rattle.std.specs.List.{AllByRecursion};
-ghost use Rattle.cxx_model.specs.First.Words.{line_words, lines};
+ghost use Rattle.cxx_model.specs.First.Words.{AreSpelled, line_words, lines};
 ghost use Rattle.cxx_model.specs.Lexemes.{lexemes};
 ghost use Rattle.cxx_model.specs.Tokens.{tokens_of};
 ghost use Rattle.cxx_model.specs.Written.{Written, written};
@@ -49,4 +49,9 @@ pub fn printed_text_is_tokens()
 /// Each token that is read is spelled as what it is, but for strings, which may have been joined, and the end.
 pub fn read_words_are_spelled()
     ensures { (bytes : List ℕ) (tokens : List Token) → tokens_of bytes ≡ Ok tokens → AllByRecursion IsReadWord (map written (lexemes bytes tokens)) }
+{}
+
+/// So the tokens of each text may be asked what the words of its reading are.
+pub fn read_tokens_are_spelled()
+    ensures { (bytes : List ℕ) (tokens : List Token) → tokens_of bytes ≡ Ok tokens → AreSpelled (lexemes bytes tokens) }
 {}

@@ -18,6 +18,7 @@ use Rattle.cxx_model.specs.declared.token.TokenKind.TheVariants.{Name, Keyword, 
 use Rattle.cxx_model.specs.Lexemes.{Lexeme, kind_of, spelling_ahead}
 use Rattle.cxx_model.specs.Spelling.{Good, spelling_of, literal_type, literal_type_by, IntegerParts, type_of_parts, integer_parts, is_wide, integer_types, first_holding, most_of, keywords, alternatives, operators, digraphs, number_in}
 use Rattle.cxx_model.specs.Stops.{Reads, Stopped, Limited, ◌>>=◌}
+use Rattle.cxx_model.specs.Tokens.{is_text}
 use Rattle.cxx_model.specs.Written.{Written, written, open_word, close_word, comma_word, less_word, greater_word, static_cast_word, name_word}
 use Rattle.cxx_model.specs.First.Reading.{is_punct, is_keyword, is_name, is_literal, is_end, behind, type_of_keyword, type_of_kind, punct_at, type_at, name_at, put_first, more_at, list_at, begins_argument, literal_at, cast_at, cast_argument, cast_initializer, argument_by, argument_opened, arguments_opened, call_at, initializer_by, initializer_opened, initializer_at}
 use Rattle.cxx_model.specs.First.Words.{keyword_word, spell_base, others_separated, separated, kind_of_literal, spell_argument, spell_initializer, before_end, words_before_end, IsSpelled, AreSpelled}
@@ -37,7 +38,7 @@ Takes ahead words rest = (words_before_end ahead ≡ words) × AreSpelled rest
 
 pub record TokenTaken (ahead : List Lexeme) : Type 0 where
   pub words : words_before_end ahead ≡ (record { kind = kind_of ahead; spelling = spelling_ahead ahead }) ∷ words_before_end (behind ahead)
-  pub spelled : spelling_of false (spelling_ahead ahead) ≡ Some (Good (kind_of ahead))
+  pub spelled : is_text (kind_of ahead) ≡ false → spelling_of false (spelling_ahead ahead) ≡ Some (Good (kind_of ahead))
   pub rest : AreSpelled (behind ahead)
 
 pub token_taken : (ahead : List Lexeme) → is_end (kind_of ahead) ≡ false → AreSpelled ahead → TokenTaken ahead
@@ -78,7 +79,7 @@ pub punct_words : (n : ℕ) (text : List ℕ) (ahead : List Lexeme) → IsOnlySp
 punct_words n text ahead table h s =
     let kind = punct_kind n (kind_of ahead) h in
     let t = token_taken ahead (ap is_end kind) s in
-    let spells : SpellsPunct n (spelling_ahead ahead) = subst (λ k. KindSpells k (spelling_ahead ahead)) kind (kind_spells false (spelling_ahead ahead) (kind_of ahead) t.spelled) in
+    let spells : SpellsPunct n (spelling_ahead ahead) = subst (λ k. KindSpells k (spelling_ahead ahead)) kind (kind_spells false (spelling_ahead ahead) (kind_of ahead) (t.spelled (ap is_text kind))) in
     let spelling : spelling_ahead ahead ≡ text = only_spelling n text (spelling_ahead ahead) table spells in
     (t.words ∙ ap (λ k. (record { kind = k; spelling = spelling_ahead ahead }) ∷ words_before_end (behind ahead)) kind ∙ ap (λ w. (record { kind = Punct n; spelling = w }) ∷ words_before_end (behind ahead)) spelling, t.rest)
 
@@ -95,7 +96,7 @@ pub close_is : IsOnlySpelling punct.RIGHT_PARENTHESIS (codes ")")
 unfolding operators alternatives digraphs
 close_is = record { primary = refl; no_word = refl; no_digraph = refl }
 
-comma_is : IsOnlySpelling punct.COMMA (codes ",")
+pub comma_is : IsOnlySpelling punct.COMMA (codes ",")
 unfolding operators alternatives digraphs
 comma_is = record { primary = refl; no_word = refl; no_digraph = refl }
 
@@ -107,18 +108,18 @@ pub equals_is : IsOnlySpelling punct.EQUALS (codes "=")
 unfolding operators alternatives digraphs
 equals_is = record { primary = refl; no_word = refl; no_digraph = refl }
 
-less_is : IsOnlySpelling punct.LESS (codes "<")
+pub less_is : IsOnlySpelling punct.LESS (codes "<")
 unfolding operators alternatives digraphs
 less_is = record { primary = refl; no_word = refl; no_digraph = refl }
 
-greater_is : IsOnlySpelling punct.GREATER (codes ">")
+pub greater_is : IsOnlySpelling punct.GREATER (codes ">")
 unfolding operators alternatives digraphs
 greater_is = record { primary = refl; no_word = refl; no_digraph = refl }
 
 keyword_words : (n : ℕ) (text : List ℕ) (ahead : List Lexeme) → get_or keywords n [] ≡ text → kind_of ahead ≡ Keyword n → AreSpelled ahead → Takes ahead (keyword_word n text ∷ words_before_end (behind ahead)) (behind ahead)
 keyword_words n text ahead table kind s =
     let t = token_taken ahead (ap is_end kind) s in
-    let number : number_in keywords (spelling_ahead ahead) ≡ Some n = subst (λ k. KindSpells k (spelling_ahead ahead)) kind (kind_spells false (spelling_ahead ahead) (kind_of ahead) t.spelled) in
+    let number : number_in keywords (spelling_ahead ahead) ≡ Some n = subst (λ k. KindSpells k (spelling_ahead ahead)) kind (kind_spells false (spelling_ahead ahead) (kind_of ahead) (t.spelled (ap is_text kind))) in
     let spelling : spelling_ahead ahead ≡ text = number_is keywords (spelling_ahead ahead) n number ∙ table in
     (t.words ∙ ap (λ k. (record { kind = k; spelling = spelling_ahead ahead }) ∷ words_before_end (behind ahead)) kind ∙ ap (λ w. keyword_word n w ∷ words_before_end (behind ahead)) spelling, t.rest)
 
@@ -250,12 +251,21 @@ literal_is_no_end (Punct n) h = refl
 literal_is_no_end Text h = refl
 literal_is_no_end End h = absurd cc
 
+literal_is_no_text : (kind : TokenKind) → is_literal kind ≡ true → is_text kind ≡ false
+literal_is_no_text Integer h = refl
+literal_is_no_text Character h = refl
+literal_is_no_text Name h = refl
+literal_is_no_text (Keyword n) h = refl
+literal_is_no_text (Punct n) h = refl
+literal_is_no_text Text h = absurd cc
+literal_is_no_text End h = refl
+
 pub literal_takes : (ahead : List Lexeme) (x : Argument × List Lexeme) → is_literal (kind_of ahead) ≡ true → literal_at ahead ≡ Ok x → AreSpelled ahead → Takes ahead (spell_argument x.0 (words_before_end x.1)) x.1
 unfolding literal_type
 literal_takes ahead x h e s =
     let l = literal_taken ahead x e in
     let t = token_taken ahead (literal_is_no_end (kind_of ahead) h) s in
-    let typed : literal_type_by (spelling_ahead ahead) (Some (Good (kind_of ahead))) ≡ Some x.0.of = ap (λ o. literal_type_by (spelling_ahead ahead) o) (sym t.spelled) ∙ l.0 in
+    let typed : literal_type_by (spelling_ahead ahead) (Some (Good (kind_of ahead))) ≡ Some x.0.of = ap (λ o. literal_type_by (spelling_ahead ahead) o) (sym (t.spelled (literal_is_no_text (kind_of ahead) h))) ∙ l.0 in
     let kind : kind_of ahead ≡ kind_of_literal x.0.of = literal_kind (spelling_ahead ahead) (kind_of ahead) x.0.of typed in
     let word : words_before_end ahead ≡ spell_argument (record { casts = []; of = x.0.of; spelling = spelling_ahead ahead }) (words_before_end (behind ahead)) = t.words ∙ ap (λ k. (record { kind = k; spelling = spelling_ahead ahead }) ∷ words_before_end (behind ahead)) kind in
     (word ∙ ap (λ a. spell_argument a (words_before_end (behind ahead))) (sym l.1) ∙ ap (λ r. spell_argument x.0 (words_before_end r)) (sym l.2), subst (λ r. AreSpelled r) (sym l.2) t.rest)

@@ -17,6 +17,7 @@ use Rattle.cxx_model.specs.declared.token.TokenKind.TheVariants.{Keyword, Intege
 use Rattle.cxx_model.specs.First.Reading.{is_end}
 use Rattle.cxx_model.specs.Lexemes.{Lexeme}
 use Rattle.cxx_model.specs.Spelling.{Good, spelling_of}
+use Rattle.cxx_model.specs.Tokens.{is_text}
 use Rattle.cxx_model.specs.Written.{Written, written, open_word, close_word, comma_word, semicolon_word, equals_word, less_word, greater_word, static_cast_word, name_word}
 
 abbrev pub keyword_word : ℕ → List ℕ → Written
@@ -125,9 +126,9 @@ before_end (token ∷ ahead) = if is_end token.kind then [] else token ∷ befor
 abbrev pub words_before_end : List Lexeme → List Written
 words_before_end ahead = map written (before_end ahead)
 
--- 2.6: what spells a token spells a token of its kind
+-- 2.6: what spells a token spells a token of its kind; a string may have been joined of several
 pub record IsSpelled (token : Lexeme) : Type 0 where
-  pub spelled : spelling_of false token.spelling ≡ Some (Good token.kind)
+  pub spelled : is_text token.kind ≡ false → spelling_of false token.spelling ≡ Some (Good token.kind)
 
 abbrev pub AreSpelled : List Lexeme → Type 0
 AreSpelled ahead = AllByRecursion IsSpelled (before_end ahead)
