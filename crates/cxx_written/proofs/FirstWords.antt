@@ -257,6 +257,10 @@ float_spells : Spells (codes "float") (Keyword keyword.FLOAT)
 unfolding spelling_of word_kind keywords alternatives
 float_spells = refl
 
+void_spells : Spells (codes "void") (Keyword keyword.VOID)
+unfolding spelling_of word_kind keywords alternatives
+void_spells = refl
+
 double_spells : Spells (codes "double") (Keyword keyword.DOUBLE)
 unfolding spelling_of word_kind keywords alternatives
 double_spells = refl
