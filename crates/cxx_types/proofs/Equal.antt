@@ -1,5 +1,5 @@
 -- What the derived tests of nodes say of the types that they stand for.
-use Rattle.std.specs.Prelude.{ℕ, ◌<◌, ◌≤◌, ◌≡◌, Bool, true, false, ◌&&◌, nat_eq, ℤ, List, [], ◌∷◌, length, refl, IsTrue}
+use Rattle.std.specs.Prelude.{ℕ, ◌≡◌, Bool, true, false, ◌&&◌, nat_eq, ℤ, List, [], ◌∷◌, length, refl}
 use Rattle.cxx_model.specs.declared.types.TypeId.{TypeId}
 use Rattle.cxx_model.specs.declared.types.Formula.{Formula, Value, Parameter, Member, SizeOf, Cast', Unary', Binary', Conditional'}
 use Rattle.cxx_model.specs.declared.types.Bound.{Bound}
@@ -8,9 +8,7 @@ use Rattle.cxx_model.specs.declared.types.TypeArgument.{TypeArgument}
 use Rattle.cxx_model.specs.declared.types.TypeArgument.TheVariants as argument
 use Rattle.cxx_model.specs.declared.types.TypeNode.{TypeNode}
 use Rattle.cxx_model.specs.declared.types.TypeNode.TheVariants as node
-use Rattle.cxx_model.specs.declared.types.TypeTree as tree
-use Rattle.cxx_model.specs.declared.types.TypeTree.{TypeTree}
-use Rattle.cxx_model.specs.TypeTrees.{type_at, formula_at, bound_at, argument_at, arguments_at, types_at, type_over, tree_at, row_at, IsFormulaBelow, IsBoundBelow, IsArgumentBelow, AreArgumentsBelow, AreTypesBelow, IsNodeBelow, IsTreeBelow, IsRowBelow}
+use Rattle.cxx_model.specs.TypeTrees.{type_at, formula_at, bound_at, argument_at, arguments_at, types_at, type_over, IsFormulaBelow, IsBoundBelow, IsArgumentBelow, AreArgumentsBelow, AreTypesBelow, IsNodeBelow}
 use Rattle.std.specs.Ordering.{int_eq}
 use Rattle.std.specs.Cmp.{bool_eq_equiv, int_eq_equiv}
 use Rattle.std.specs.Cmp.Lexicographic.{pointwise, same_text}
@@ -29,7 +27,7 @@ use Rattle.cxx_model.specs.contracts.types.BoundPartialEq.TheImpl as bound_test
 use Rattle.cxx_model.specs.contracts.types.TypeArgumentPartialEq.TheImpl as argument_test
 use Rattle.cxx_model.specs.contracts.types.TypeIdPartialEq.TheImpl as id_test
 use Rattle.cxx_model.specs.contracts.types.TypeNodePartialEq.TheImpl as node_test
-use Rattle.cxx_model.specs.Types.{CxxType, fundamental, class_type, enumeration, pointer_to, reference_to, array_of, function_of, qualified, type_parameter, specialisation, nested_in, CxxTypes, no_types, type_then, CxxBound, unknown_bound, number_bound, formula_bound, CxxArgument, type_argument, value_argument, formula_argument, CxxArguments, no_arguments, argument_then, CxxFormula, value_of, value_parameter, member_of, size_of, cast_to, unary, binary, conditional}
+use Rattle.cxx_model.specs.Types.{CxxType}
 use Rattle.cxx_types.specs.Table.{AreApart}
 
 abbrev pub same_formula : Formula → Formula → Bool

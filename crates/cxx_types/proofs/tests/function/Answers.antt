@@ -16,6 +16,6 @@ returns c =
     record {
       below = λ count.
           below-function count c.in_ok-signature.signature
-            (subst (λ (x : Signature). IsTreeBelow count x.result) (sym made) tt)
-            (subst (λ (x : Signature). AreTreesBelow count x.parameters.items) (sym made) (subst (λ (ts : List TypeTree). AreTreesBelow count ts) (sym all) (free.below count, tt)));
+          (subst (λ (x : Signature). IsTreeBelow count x.result) (sym made) tt)
+          (subst (λ (x : Signature). AreTreesBelow count x.parameters.items) (sym made) (subst (λ (ts : List TypeTree). AreTreesBelow count ts) (sym all) (free.below count, tt)));
     }
