@@ -1,3 +1,4 @@
 mod Rows
 pub mod TypeForm
 pub mod TypeTrees
+pub mod GraphRange
