@@ -11,3 +11,4 @@ pub mod Spellings
 mod TokenRows
 pub mod TypeForm
 pub mod TypeTrees
+pub mod GraphRange

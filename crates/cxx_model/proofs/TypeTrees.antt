@@ -1,5 +1,5 @@
 -- What a type, an argument or a tree stands for stays as a table grows.
-use Rattle.std.specs.Prelude.{ℕ, ◌<◌, ◌≤◌, ◌≡◌, List, [], ◌∷◌, length, refl, IsTrue}
+use Rattle.std.specs.Prelude.{ℕ, ◌<◌, ◌≤◌, ◌≡◌, List, [], ◌∷◌, length, refl}
 use Rattle.cxx_model.specs.declared.types.TypeId.{TypeId}
 use Rattle.cxx_model.specs.declared.types.Formula.{Formula, Value, Parameter, Member, SizeOf, Cast', Unary', Binary', Conditional'}
 use Rattle.cxx_model.specs.declared.types.Bound.{Bound}
@@ -11,7 +11,7 @@ use Rattle.cxx_model.specs.declared.types.TypeNode.TheVariants as node
 use Rattle.cxx_model.specs.declared.types.TypeTree as tree
 use Rattle.cxx_model.specs.declared.types.TypeTree.{TypeTree}
 use Rattle.cxx_model.specs.TypeTrees.{type_at, formula_at, bound_at, argument_at, arguments_at, types_at, type_over, tree_at, row_at, IsFormulaBelow, IsBoundBelow, IsArgumentBelow, AreArgumentsBelow, AreTypesBelow, IsNodeBelow, IsTreeBelow, IsRowBelow, Keeps}
-use Rattle.std.proofs.Common.{ap, arith}
+use Rattle.std.proofs.Common.{arith}
 use Rattle.cxx_model.specs.Types.{CxxType, IsNormal, IsNormalFormula, IsNormalBound, IsNormalArgument, AreNormalArguments}
 
 pub formula_later : (old new : ℕ) (x : Formula) → old ≤ new → IsFormulaBelow old x → IsFormulaBelow new x

@@ -15,3 +15,5 @@ pub mod ReadsBack
 pub mod Types
 pub mod TypeTrees
 pub mod TypeCode
+pub mod Integral
+pub mod Graph

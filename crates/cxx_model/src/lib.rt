@@ -6,6 +6,7 @@
 #![tactic(auto)]
 
 mod base;
+mod facts;
 mod first;
 pub mod keyword;
 pub mod limits;
@@ -20,6 +21,10 @@ mod token;
 mod types;
 
 pub use base::Base;
+pub use facts::{
+    Access, Entity, Fact, FunctionFlags, MemberKind, ParameterKind, Pattern, ScopeKind,
+    Specialisation, TemplateParameter, TemplateParameterList,
+};
 pub use first::{
     Argument, ArgumentList, BaseList, Call, CallList, Declaration, DeclarationList, Declared,
     Initializer, Item, ItemList, Options, Outcome, OutcomeList, Reading, Word,

@@ -1,4 +1,5 @@
 pub mod Copies
+pub mod Free
 pub mod Sizes
 pub mod Table
 pub mod Trees

@@ -4,8 +4,11 @@
 mod copies;
 mod form;
 mod intern;
+pub mod laws;
 mod similar;
 mod table;
+#[cfg(test)]
+mod tests;
 mod tree;
 
 pub use table::TypeTable;
