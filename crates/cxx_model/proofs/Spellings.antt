@@ -7,7 +7,7 @@ use Rattle.std.proofs.lemmas.Slice.Eq.{bytes_eq-Decides}
 use Rattle.std.specs.List.{list_all, list_any, position_or_len, prefix_len, take_while}
 use Rattle.std.specs.Char.{is_ascii_digit}
 use Rattle.cxx_model.specs.Spelling.{Spelled, Blank, Good, Ill, Ending, Open, Closed, Past, is_white, is_blank, is_word, begins_word, begins_number, begins_with_digit, is_number_rest, is_quote, word_kind, number_kind, alone, number_in, number_beside, first_of, keywords, alternatives, operators, digraphs, operator_by, operator, closed_if_last, literal_ending, literal_by, literal_kind, body_of, literal, wide_literal, comment_ending, comment_by, is_newline, within_line, past_blanks, is_marker_word, marker_by, hash, slash, backslash, percent, spelling_of, Letter, letters, character_by, string_by, is_bad_letter, is_universal_letter, Value, Unknown, Universal, word_by, number_by, integer_by, integer_type, integer_parts, is_floating, IntegerParts}
-use Rattle.cxx_model.specs.Continuing.{starts, number_goes_on, last_of, begins_comment, is_colon, BeginsOperator, IsLongestBy, Goes, starts_with, alone_goes_on, operator_goes_on}
+use Rattle.cxx_model.specs.Continuing.{starts, number_goes_on, last_of, begins_comment, is_colon, BeginsOperator, IsLongestBy, Goes, comment, starts_with, alone_goes_on, operator_goes_on}
 use Rattle.cxx_model.specs.declared.punct.TheConstants as punct
 use Rattle.cxx_model.specs.declared.base.Base.{Base}
 use Rattle.cxx_model.specs.declared.token.TokenKind.{TokenKind}
@@ -255,10 +255,6 @@ take_done done tail b = let e : suc (length done) ≡ length done + 1 = omega ar
 done_fits : (done tail : List ℕ) (b : ℕ) → suc (length done) ≤ length (done ++ b ∷ tail)
 done_fits done tail b = omega (arith, length-append done (b ∷ tail))
 
--- a comment, behind its `/*`
-abbrev pub comment : List ℕ → Option Spelled
-comment text = comment_by (comment_ending false text)
-
 comment_closes : (text : List ℕ) → comment_ending true (47 ∷ text) ≡ closed_if_last text
 comment_closes text = refl
 
@@ -295,7 +291,7 @@ literal_past : (wide : Bool) (quote : ℕ) (rest : List ℕ) → literal_ending 
 unfolding literal
 literal_past wide quote rest e = ap (literal_by wide quote rest) e
 
-literal_is_closed : (wide : Bool) (quote : ℕ) (rest : List ℕ) → literal_ending quote false rest ≡ Closed → literal wide quote rest ≡ Some (literal_kind wide quote (body_of rest))
+pub literal_is_closed : (wide : Bool) (quote : ℕ) (rest : List ℕ) → literal_ending quote false rest ≡ Closed → literal wide quote rest ≡ Some (literal_kind wide quote (body_of rest))
 unfolding literal
 literal_is_closed wide quote rest e = ap (literal_by wide quote rest) e
 
@@ -466,7 +462,7 @@ pub data LiteralShape (spells : Spelled) (b : ℕ) (rest : List ℕ) : Type 0 wh
   in_narrow : is_quote b ≡ true → literal false b rest ≡ Some spells → LiteralShape spells b rest
   in_wide : (quote : ℕ) (behind : List ℕ) → b ≡ 76 → is_quote quote ≡ true → rest ≡ quote ∷ behind → literal true quote behind ≡ Some spells → LiteralShape spells b rest
 
-cond_is : {A : Type 0} (c : Bool) (x y z : A) → cond c x y ≡ z → ((c ≡ true) × (x ≡ z)) ⊎ ((c ≡ false) × (y ≡ z))
+pub cond_is : {A : Type 0} (c : Bool) (x y z : A) → cond c x y ≡ z → ((c ≡ true) × (x ≡ z)) ⊎ ((c ≡ false) × (y ≡ z))
 cond_is true x y z e = inl (refl, e)
 cond_is false x y z e = inr (refl, e)
 
@@ -527,7 +523,7 @@ literal_shape fresh kind b rest h e =
 
 -- a literal is closed, so that nothing goes on with it
 
-good_is_closed : (wide : Bool) (quote : ℕ) (rest : List ℕ) (kind : TokenKind) → literal wide quote rest ≡ Some (Good kind) → literal_ending quote false rest ≡ Closed
+pub good_is_closed : (wide : Bool) (quote : ℕ) (rest : List ℕ) (kind : TokenKind) → literal wide quote rest ≡ Some (Good kind) → literal_ending quote false rest ≡ Closed
 unfolding literal
 good_is_closed wide quote rest kind e = by (literal_ending quote false rest) e
   where
