@@ -197,14 +197,14 @@ holding_bound value (type ∷ types) t e =
     (λ (p : (nat_le value (most_of type) ≡ false) × (first_holding value types ≡ Some t)). holding_bound value types t p.1)
     (cond_is (nat_le value (most_of type)) (Some type) (first_holding value types) (Some t) e)
 
-pub integer_value_is : (text : List ℕ) (p : IntegerParts) (z : ℤ) → spelling_of false text ≡ Some (Good Integer) → Some p ≡ capped_option (integer_parts text) → z ≡ pos p.value → Some z ≡ value_of_parts (integer_parts text)
+pub integer_value_is : (text : List ℕ) (p : IntegerParts) (z : Option ℤ) → spelling_of false text ≡ Some (Good Integer) → Some p ≡ capped_option (integer_parts text) → z ≡ Some (pos p.value) → z ≡ value_of_parts (integer_parts text)
 integer_value_is text p z e f g =
     let has = integer_has text (integer_number false text e) in
     let bound = holding_bound has.0.value (integer_types has.0) has.2.0 has.2.1 in
     let is : Some p ≡ Some (capped_parts has.0) = f ∙ ap capped_option has.1 in
     let same : p ≡ capped_parts has.0 = cc in
     let value : min has.0.value (2 ^ 64) ≡ has.0.value = omega arith in
-    ap (λ v. Some v) (g ∙ ap (λ q. pos q.value) same ∙ ap pos value) ∙ sym (ap value_of_parts has.1)
+    g ∙ ap (λ q. Some (pos q.value)) same ∙ ap (λ n. Some (pos n)) value ∙ sym (ap value_of_parts has.1)
 
 has_some : {A : Type 0} (o : Option A) (x : A) → o ≡ Some x → IsSome o
 has_some o x e = subst (λ o. IsSome o) (sym e) (search rules)
@@ -241,7 +241,7 @@ HasLetter wide all = (list_any (is_bad_letter wide) all ≡ false) × ((n : ℕ)
 one_letter : (wide : Bool) (all : List Letter) → character_by wide all ≡ Good Character → HasLetter wide all
 unfolding HasLetter
 one_letter wide [] e = absurd cc
-one_letter wide (Value n ∷ []) e = (by (is_bad_letter wide (Value n)) e, n, refl)
+one_letter wide (Value n ∷ []) e = (by (is_bad_letter wide (Value n)) e, (n, refl))
   where
     by : (bad : Bool) → cond bad (Ill reason.BadEscape) (Good Character) ≡ Good Character → (bad || false) ≡ false
     by true e = absurd cc

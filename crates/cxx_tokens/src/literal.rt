@@ -88,11 +88,11 @@ fn literal_body(text: &[u8]) -> &[u8]
     }
 }
 
-fn signed(value: u128) -> i128
+fn signed(value: u128) -> Option<i128>
     requires { value < 2 ^ 127 }
-    ensures { result ≡ pos value }
+    ensures { result ≡ Some (pos value) }
 {
-    value as i128
+    Some(value as i128)
 }
 
 /// The value of an integer literal that some type holds.
@@ -101,9 +101,17 @@ fn integer_value(text: &[u8]) -> Option<i128>
     ensures { result ≡ spec.value_of_parts (spec.integer_parts text.now) }
 {
     match integer_parts(text) {
-        Some(parts) => Some(signed(parts.value)),
+        Some(parts) => signed(parts.value),
         None => None,
     }
+}
+
+/// The value of a character literal.
+fn character_value(text: &[u8]) -> Option<i128>
+    requires { spec.spelling_of false text.now ≡ Some (spec.Good Character) }
+    ensures { result ≡ spec.value_of_letters (spec.is_wide text.now) (spec.letters 0 (spec.literal_body text.now)) }
+{
+    value_of_body(is_wide(text), literal_body(text))
 }
 
 /// The value of an integer or character literal by its spelling (2.13.1, 2.13.2).
@@ -113,9 +121,7 @@ pub fn literal_value(spelling: &[u8]) -> Option<i128>
 {
     match spelling_of(spelling) {
         Some(Spelled::Good(TokenKind::Integer)) => integer_value(spelling),
-        Some(Spelled::Good(TokenKind::Character)) => {
-            value_of_body(is_wide(spelling), literal_body(spelling))
-        }
+        Some(Spelled::Good(TokenKind::Character)) => character_value(spelling),
         _ => None,
     }
 }
