@@ -155,14 +155,14 @@ begun_alone [] = refl
 begun_alone (token ∷ tokens) = let e : joins None token.kind ≡ false = and_right (is_text token.kind) false refl in let one : tokens_begun None token.kind ≡ 1 = ap (λ c. cond c 0 1) e in omega arith
 
 -- a string has a width, so that the next goes on with it
-behind_text : (bytes : List ℕ) (at len : ℕ) (kind : TokenKind) → Stands bytes at len (Good kind) → is_some_width (width_behind kind (drop at bytes)) ≡ is_text kind
-behind_text bytes at len Text h = ap (λ t. is_some_width (width_of t)) (sym (take-append-drop len (drop at bytes))) ∙ text_width (is_fresh (take at bytes)) (take len (drop at bytes)) (drop len (drop at bytes)) h.spelled
-behind_text bytes at len Name h = refl
-behind_text bytes at len (Keyword n) h = refl
-behind_text bytes at len (Punct n) h = refl
-behind_text bytes at len Integer h = refl
-behind_text bytes at len Character h = refl
-behind_text bytes at len End h = refl
+pub text_is_wide : (fresh : Bool) (text : List ℕ) (len : ℕ) (kind : TokenKind) → IsLongest fresh text (record { len = len; spells = Good kind }) → is_some_width (width_behind kind text) ≡ is_text kind
+text_is_wide fresh text len Text h = ap (λ t. is_some_width (width_of t)) (sym (take-append-drop len text)) ∙ text_width fresh (take len text) (drop len text) h.spelled
+text_is_wide fresh text len Name h = refl
+text_is_wide fresh text len (Keyword n) h = refl
+text_is_wide fresh text len (Punct n) h = refl
+text_is_wide fresh text len Integer h = refl
+text_is_wide fresh text len Character h = refl
+text_is_wide fresh text len End h = refl
 
 -- the list counts the same, joined or not
 begun_joined : (before behind : Option Width) (token : Token) (tokens : List Token) → is_some_width behind ≡ is_text token.kind → begun before (join_list token tokens) ≡ tokens_begun before token.kind + begun behind tokens
@@ -189,7 +189,7 @@ list_is_read bytes room (after_blank at len before tokens longest rest) h = at_b
 list_is_read bytes room (after_token at len before kind tokens longest sound rest) h =
     let behind = width_behind kind (drop at bytes) in
     let left : ℕ = room - tokens_begun before kind in
-    let counted = begun_joined before behind (token_at bytes at len kind) tokens (behind_text bytes at len kind longest) in
+    let counted = begun_joined before behind (token_at bytes at len kind) tokens (text_is_wide (is_fresh (take at bytes)) (drop at bytes) len kind longest) in
     let e : room ≡ tokens_begun before kind + left = omega arith in
     ap (λ n. tokens_at bytes n before at) e ∙ at_token bytes at len left before kind longest sound ∙ ap (put (token_at bytes at len kind)) (list_is_read bytes left rest (omega arith))
 
@@ -221,7 +221,7 @@ means_blank bytes at len room before (Err PastTokens) longest m = past_after_bla
 
 means_token : (bytes : List ℕ) (at len room : ℕ) (before : Option Width) (kind : TokenKind) (answer : Answer) → Stands bytes at len (Good kind) → reason_at before (drop at bytes) (Good kind) ≡ None → Means bytes (at + len) (width_behind kind (drop at bytes)) room answer → Means bytes at before (tokens_begun before kind + room) (put (token_at bytes at len kind) answer)
 means_token bytes at len room before kind (Ok tokens) longest sound m =
-    let counted = begun_joined before (width_behind kind (drop at bytes)) (token_at bytes at len kind) tokens (behind_text bytes at len kind longest) in
+    let counted = begun_joined before (width_behind kind (drop at bytes)) (token_at bytes at len kind) tokens (text_is_wide (is_fresh (take at bytes)) (drop at bytes) len kind longest) in
     (after_token at len before kind tokens longest sound m.0, omega (arith, m.1))
 means_token bytes at len room before kind (Err (BadAt place reason)) longest sound m = (tokens_begun before kind + m.0, bad_after_token at len m.0 before kind longest sound m.1, omega (arith, m.2))
 means_token bytes at len room before kind (Err PastTokens) longest sound m = past_after_token at len room before kind longest sound m
@@ -241,7 +241,7 @@ means_more bytes at room len before kind longest sound go fits =
     subst (λ n. Means bytes at before n (tokens_at bytes n before at)) e
     (subst (λ a. Means bytes at before (tokens_begun before kind + left) a) (sym (at_token bytes at len left before kind longest sound)) (means_token bytes at len left before kind (tokens_at bytes left behind (at + len)) longest sound (go left behind)))
 
-ill_has_reason : (mixed : Bool) (reason : TokenReason) → reason_by mixed (Ill reason) ≡ None → ⊥
+pub ill_has_reason : (mixed : Bool) (reason : TokenReason) → reason_by mixed (Ill reason) ≡ None → ⊥
 ill_has_reason mixed reason e = by (mixed && comes_after_mixed reason) e
   where
     by : (c : Bool) → cond c (Some MixedStrings) (Some reason) ≡ None → ⊥

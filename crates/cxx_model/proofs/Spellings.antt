@@ -1,19 +1,20 @@
 -- The longest fronts by what they spell: each token before what cannot go on with it.
-use Rattle.std.proofs.Common.{◌≡◌, ◌≤◌, ◌<◌, ℕ, zero, suc, ◌+◌, ◌-◌, Bool, true, false, not, cond, ◌==◌, ◌&&◌, ◌||◌, List, [], ◌∷◌, ◌++◌, length, take, Option, Some, None, refl, sym, ap, ◌∙◌, subst, ⊎_elim, arith, length-append, eqb-true, eq-eqb, ◌⊎◌, inl, inr, leb-true, le-ltb, nat_le, nat_lt, bytes_eq, take_all, append_assoc, append-nil}
+use Rattle.std.proofs.Common.{◌≡◌, ◌≤◌, ◌<◌, ℕ, zero, suc, ◌+◌, ◌-◌, Bool, true, false, not, cond, ◌==◌, ◌&&◌, ◌||◌, List, [], ◌∷◌, ◌++◌, length, take, drop, Option, Some, None, refl, sym, ap, ◌∙◌, subst, ⊎_elim, arith, length-append, eqb-true, eq-eqb, ◌⊎◌, inl, inr, leb-true, le-ltb, nat_le, nat_lt, bytes_eq, take_all, append_assoc, append-nil}
 use Rattle.std.proofs.Math.Seq.{take-append_seam}
 use Rattle.std.proofs.lemmas.Bool.{cases_lt, cases_Bool, and_left, and_right, and_parts, or_cases, or_from, or_left, or_parts, both_ways}
 use Rattle.std.proofs.lemmas.Bool.Decides.{nat_tests}
 use Rattle.std.proofs.lemmas.Slice.Eq.{bytes_eq-Decides}
-use Rattle.std.specs.List.{list_all, list_any, position_or_len, take_while}
+use Rattle.std.specs.List.{list_all, list_any, position_or_len, prefix_len, take_while}
 use Rattle.std.specs.Char.{is_ascii_digit}
-use Rattle.cxx_model.specs.Spelling.{Spelled, Blank, Good, Ill, Ending, Open, Closed, Past, is_white, is_word, begins_word, begins_number, is_number_rest, is_quote, word_kind, number_kind, alone, number_in, number_beside, first_of, keywords, alternatives, operators, digraphs, operator_by, operator, closed_if_last, literal_ending, literal_by, literal_kind, body_of, literal, wide_literal, comment_ending, comment_by, is_newline, within_line, past_blanks, is_marker_word, marker_by, hash, slash, backslash, percent, spelling_of, Letter, letters, character_by, string_by, is_bad_letter, is_universal_letter, word_by, number_by, integer_by, integer_type, integer_parts, is_floating, IntegerParts}
-use Rattle.cxx_model.specs.Continuing.{starts, number_goes_on, last_of, begins_comment, is_colon, BeginsOperator, IsLongestBy, Goes, starts_with, alone_goes_on, operator_goes_on}
+use Rattle.cxx_model.specs.Spelling.{Spelled, Blank, Good, Ill, Ending, Open, Closed, Past, is_white, is_blank, is_word, begins_word, begins_number, begins_with_digit, is_number_rest, is_quote, word_kind, number_kind, alone, number_in, number_beside, first_of, keywords, alternatives, operators, digraphs, operator_by, operator, closed_if_last, literal_ending, literal_by, literal_kind, body_of, literal, wide_literal, comment_ending, comment_by, is_newline, within_line, past_blanks, is_marker_word, marker_by, hash, slash, backslash, percent, spelling_of, Letter, letters, character_by, string_by, is_bad_letter, is_universal_letter, Value, Unknown, Universal, word_by, number_by, integer_by, integer_type, integer_parts, is_floating, IntegerParts}
+use Rattle.cxx_model.specs.Continuing.{starts, number_goes_on, last_of, begins_comment, is_colon, BeginsOperator, IsLongestBy, Goes, comment, starts_with, alone_goes_on, operator_goes_on}
+use Rattle.cxx_model.specs.declared.punct.TheConstants as punct
 use Rattle.cxx_model.specs.declared.base.Base.{Base}
 use Rattle.cxx_model.specs.declared.token.TokenKind.{TokenKind}
 use Rattle.cxx_model.specs.declared.token.TokenKind.TheVariants.{Name, Keyword, Punct, Integer, Character, Text, End}
 use Rattle.cxx_model.specs.declared.token.TokenReason.{TokenReason}
 use Rattle.cxx_model.specs.declared.token.TokenReason.TheVariants as reason
-use Rattle.cxx_model.specs.Tokens.{IsLongest, width_of, is_some_width}
+use Rattle.cxx_model.specs.Tokens.{IsLongest, Width, width_of, is_some_width, begins_with_quotes}
 
 -- ---- bytes
 
@@ -130,10 +131,10 @@ longest_under rule later w tail n spells same h = record {
   fits = omega (arith, length-append w tail, h.fits);
   spelled = ap rule (take_from w tail n) ∙ same n (omega arith) h.fits ∙ h.spelled;
   longest = λ m low high.
-      let k : ℕ = m - length w in
-      let e : m ≡ length w + k = omega arith in
-      let fits : k ≤ length tail = omega (arith, length-append w tail) in
-      ap (λ j. rule (take j (w ++ tail))) e ∙ ap rule (take_from w tail k) ∙ same k (omega arith) fits ∙ h.longest k (omega arith) fits;
+    let k : ℕ = m - length w in
+    let e : m ≡ length w + k = omega arith in
+    let fits : k ≤ length tail = omega (arith, length-append w tail) in
+    ap (λ j. rule (take j (w ++ tail))) e ∙ ap rule (take_from w tail k) ∙ same k (omega arith) fits ∙ h.longest k (omega arith) fits;
 }
 
 pub longest_of : (fresh : Bool) (text : List ℕ) (len : ℕ) (spells : Spelled) → 0 < len → IsLongestBy (spelling_of fresh) text len spells → IsLongest fresh text (record { len = len; spells = spells })
@@ -254,10 +255,6 @@ take_done done tail b = let e : suc (length done) ≡ length done + 1 = omega ar
 done_fits : (done tail : List ℕ) (b : ℕ) → suc (length done) ≤ length (done ++ b ∷ tail)
 done_fits done tail b = omega (arith, length-append done (b ∷ tail))
 
--- a comment, behind its `/*`
-abbrev pub comment : List ℕ → Option Spelled
-comment text = comment_by (comment_ending false text)
-
 comment_closes : (text : List ℕ) → comment_ending true (47 ∷ text) ≡ closed_if_last text
 comment_closes text = refl
 
@@ -294,7 +291,7 @@ literal_past : (wide : Bool) (quote : ℕ) (rest : List ℕ) → literal_ending 
 unfolding literal
 literal_past wide quote rest e = ap (literal_by wide quote rest) e
 
-literal_is_closed : (wide : Bool) (quote : ℕ) (rest : List ℕ) → literal_ending quote false rest ≡ Closed → literal wide quote rest ≡ Some (literal_kind wide quote (body_of rest))
+pub literal_is_closed : (wide : Bool) (quote : ℕ) (rest : List ℕ) → literal_ending quote false rest ≡ Closed → literal wide quote rest ≡ Some (literal_kind wide quote (body_of rest))
 unfolding literal
 literal_is_closed wide quote rest e = ap (literal_by wide quote rest) e
 
@@ -319,17 +316,16 @@ literal_open wide quote escaped done tail goes ends = record {
   fits = omega (arith, length-append done tail);
   spelled = ap (literal wide quote) (take-append_seam done tail) ∙ literal_is_open wide quote done (ap (literal_ending quote false) (sym (append-nil done)) ∙ goes []);
   longest = λ m low high.
-      let k : ℕ = m - length done in
-      let e : m ≡ length done + k = omega arith in
-      let fits : k ≤ length tail = omega (arith, length-append done tail) in
-      let some : 0 < k = omega arith in
-      literal_past wide quote (take m (done ++ tail)) (ap (λ j. literal_ending quote false (take j (done ++ tail))) e ∙ ap (literal_ending quote false) (take_from done tail k) ∙ goes (take k tail) ∙ none_behind tail k ends some fits);
+    let k : ℕ = m - length done in
+    let e : m ≡ length done + k = omega arith in
+    let fits : k ≤ length tail = omega (arith, length-append done tail) in
+    let some : 0 < k = omega arith in
+    literal_past wide quote (take m (done ++ tail)) (ap (λ j. literal_ending quote false (take j (done ++ tail))) e ∙ ap (literal_ending quote false) (take_from done tail k) ∙ goes (take k tail) ∙ none_behind tail k ends some fits);
 }
   where
     behind_newline : (tail rest : List ℕ) (k : ℕ) → tail ≡ 10 ∷ rest → 0 < k → literal_ending quote escaped (take k tail) ≡ Past
     behind_newline tail rest zero e low = absurd (omega arith)
     behind_newline tail rest (suc k) e low = ap (λ t. literal_ending quote escaped (take (suc k) t)) e ∙ newline_ends quote escaped (take k rest)
-
     none_behind : (tail : List ℕ) (k : ℕ) → ((tail ≡ []) ⊎ ((rest : List ℕ) × (tail ≡ 10 ∷ rest))) → 0 < k → k ≤ length tail → literal_ending quote escaped (take k tail) ≡ Past
     none_behind tail k (inl e) low high = let none : length tail ≡ 0 = ap length e in absurd (omega arith)
     none_behind tail k (inr e) low high = behind_newline tail e.0 k e.1 low
@@ -349,17 +345,16 @@ line_longest done tail line ends = record {
   fits = omega (arith, length-append done tail);
   spelled = ap within_line (take-append_seam done tail) ∙ ap (λ c. cond c None (Some Blank)) line;
   longest = λ m low high.
-      let k : ℕ = m - length done in
-      let e : m ≡ length done + k = omega arith in
-      let fits : k ≤ length tail = omega (arith, length-append done tail) in
-      let some : 0 < k = omega arith in
-      ap (λ j. within_line (take j (done ++ tail))) e ∙ ap within_line (take_from done tail k) ∙ within_line_append done (take k tail) line ∙ none_behind tail k ends some fits;
+    let k : ℕ = m - length done in
+    let e : m ≡ length done + k = omega arith in
+    let fits : k ≤ length tail = omega (arith, length-append done tail) in
+    let some : 0 < k = omega arith in
+    ap (λ j. within_line (take j (done ++ tail))) e ∙ ap within_line (take_from done tail k) ∙ within_line_append done (take k tail) line ∙ none_behind tail k ends some fits;
 }
   where
     behind_newline : (tail rest : List ℕ) (k : ℕ) → tail ≡ 10 ∷ rest → 0 < k → within_line (take k tail) ≡ None
     behind_newline tail rest zero e low = absurd (omega arith)
     behind_newline tail rest (suc k) e low = ap (λ t. within_line (take (suc k) t)) e
-
     none_behind : (tail : List ℕ) (k : ℕ) → ((tail ≡ []) ⊎ ((rest : List ℕ) × (tail ≡ 10 ∷ rest))) → 0 < k → k ≤ length tail → within_line (take k tail) ≡ None
     none_behind tail k (inl e) low high = let none : length tail ≡ 0 = ap length e in absurd (omega arith)
     none_behind tail k (inr e) low high = behind_newline tail e.0 k e.1 low
@@ -410,7 +405,6 @@ number_gives text = by (integer_parts text) (is_floating text)
     typed : (type : Option Base) → gives_literal (Some (integer_by type)) ≡ false
     typed (Some type) = refl
     typed None = refl
-
     by : (parts : Option IntegerParts) (floats : Bool) → gives_literal (Some (number_by parts floats)) ≡ false
     by (Some parts) floats = typed (integer_type parts)
     by None true = refl
@@ -468,7 +462,7 @@ pub data LiteralShape (spells : Spelled) (b : ℕ) (rest : List ℕ) : Type 0 wh
   in_narrow : is_quote b ≡ true → literal false b rest ≡ Some spells → LiteralShape spells b rest
   in_wide : (quote : ℕ) (behind : List ℕ) → b ≡ 76 → is_quote quote ≡ true → rest ≡ quote ∷ behind → literal true quote behind ≡ Some spells → LiteralShape spells b rest
 
-cond_is : {A : Type 0} (c : Bool) (x y z : A) → cond c x y ≡ z → ((c ≡ true) × (x ≡ z)) ⊎ ((c ≡ false) × (y ≡ z))
+pub cond_is : {A : Type 0} (c : Bool) (x y z : A) → cond c x y ≡ z → ((c ≡ true) × (x ≡ z)) ⊎ ((c ≡ false) × (y ≡ z))
 cond_is true x y z e = inl (refl, e)
 cond_is false x y z e = inr (refl, e)
 
@@ -529,7 +523,7 @@ literal_shape fresh kind b rest h e =
 
 -- a literal is closed, so that nothing goes on with it
 
-good_is_closed : (wide : Bool) (quote : ℕ) (rest : List ℕ) (kind : TokenKind) → literal wide quote rest ≡ Some (Good kind) → literal_ending quote false rest ≡ Closed
+pub good_is_closed : (wide : Bool) (quote : ℕ) (rest : List ℕ) (kind : TokenKind) → literal wide quote rest ≡ Some (Good kind) → literal_ending quote false rest ≡ Closed
 unfolding literal
 good_is_closed wide quote rest kind e = by (literal_ending quote false rest) e
   where

@@ -2,7 +2,7 @@
 use Rattle.std.specs.Prelude.{◌≡◌, ◌≤◌, ◌<◌, ℕ, Bool, true, false, ◌&&◌, ◌||◌, ◌==◌, List, [], ◌∷◌, ◌++◌, length, take, Option, Some, None}
 use Rattle.std.specs.List.{list_any}
 use Rattle.std.specs.Char.{is_ascii_digit}
-use Rattle.cxx_model.specs.Spelling.{Spelled, Ending, is_white, is_word, begins_word, begins_number, is_sign, is_exponent, is_quote, operators, digraphs}
+use Rattle.cxx_model.specs.Spelling.{Spelled, Ending, comment_by, comment_ending, is_white, is_word, begins_word, begins_number, is_sign, is_exponent, is_quote, operators, digraphs}
 
 -- the first byte of a text passes a test
 abbrev pub starts : (ℕ → Bool) → List ℕ → Bool
@@ -45,6 +45,10 @@ pub record IsLongestBy (rule : List ℕ → Option Spelled) (text : List ℕ) (l
 -- behind these bytes one scan goes on as another
 abbrev pub Goes : (List ℕ → Ending) → (List ℕ → Ending) → List ℕ → Type 0
 Goes whole later done = (text : List ℕ) → whole (done ++ text) ≡ later text
+
+-- what stands behind `/*`, up to and with `*/`
+abbrev pub comment : List ℕ → Option Spelled
+comment text = comment_by (comment_ending false text)
 
 -- ---- operators before other bytes
 

@@ -1,3 +1,8 @@
+pub mod Amounts
 pub mod Pieces
-pub mod Runs
+pub mod Pushes
+pub mod Scans
 pub mod Steps
+pub mod Escaping
+pub mod Lines
+pub mod Signs

@@ -1,64 +1,90 @@
 -- The longest front of a text by its slices, as the code finds it.
-use Rattle.std.proofs.Common.{◌≡◌, ◌≤◌, ◌<◌, ℕ, zero, suc, ◌+◌, ◌-◌, Bool, true, false, ◌&&◌, ◌||◌, ◌==◌, List, [], ◌∷◌, length, get_or, take, drop, Option, Some, None, unwrap_or, refl, sym, ap, ◌∙◌, subst, ⊎_elim, arith, take-append-drop, length-take-le, eqb-true, le-leb, take_all}
+use Rattle.std.proofs.Common.{◌≡◌, ◌≤◌, ◌<◌, ℕ, zero, suc, ◌+◌, ◌-◌, Bool, true, false, not, ◌&&◌, ◌||◌, ◌==◌, cond, List, [], ◌∷◌, ◌++◌, length, get_or, take, drop, map, Option, Some, None, unwrap_or, refl, eq-eqb, sym, ap, ◌∙◌, subst, ⊎_elim, arith, take-append-drop, length-take-le, eqb-true, le-leb, take_all, bytes_eq}
+use Rattle.std.proofs.Math.Seq.{drop-cons}
 use Rattle.std.proofs.lemmas.List.{take_rest}
-use Rattle.std.proofs.lemmas.Bool.{or_cases, or_left, or_parts, and_parts, both_ways, cases_lt}
+use Rattle.std.proofs.lemmas.Bool.{or_cases, or_left, or_parts, and_parts, and_left, and_right, both_ways, cases_lt, cases_Bool}
 use Rattle.std.proofs.lemmas.Bool.Decides.{nat_tests}
-use Rattle.std.specs.List.{list_all}
+use Rattle.std.proofs.lemmas.List.Sums.{prefix_len-le-length}
+use Rattle.std.specs.List.{list_all, list_any, prefix_len, take_while}
 use Rattle.std.specs.Char.{is_ascii_digit}
 use Rattle.cxx_model.specs.declared.token.TokenKind.TheVariants.{Character}
-use Rattle.cxx_model.specs.declared.token.TokenReason.TheVariants.{NotBuilt}
-use Rattle.cxx_model.specs.Spelling.{Spelled, Blank, Good, Ill, is_white, is_word, begins_word, begins_number, is_number_rest, word_kind, number_kind, is_wide_quote, operator, operators, digraphs, number_in, spelling_of}
-use Rattle.cxx_model.specs.Continuing.{starts, number_goes_on, last_of, closes, BeginsOperator}
+use Rattle.cxx_model.specs.declared.token.TokenReason.TheVariants as reason
+use Rattle.cxx_model.specs.Spelling.{Spelled, Blank, Good, Ill, alone, is_white, is_blank, is_word, is_newline, begins_word, begins_number, begins_with_digit, is_number_rest, is_quote, word_kind, number_kind, operator, operators, digraphs, number_in, number_beside, literal, within_line, marker_by, is_marker_word, past_blanks, hash, slash, backslash, percent, spelling_of}
+use Rattle.cxx_model.specs.Continuing.{starts, number_goes_on, last_of, begins_comment, is_colon, comment, BeginsOperator, IsLongestBy}
 use Rattle.cxx_model.specs.Tokens.{IsLongest}
 use Rattle.cxx_model.proofs.Fronts.{IsSpelled, operator_alone}
-use Rattle.cxx_model.proofs.Spellings.{blank_front, word_longest, wide_front, number_front, character_front, quote_front, operator_front}
+use Rattle.cxx_model.proofs.Spellings.{blank_front, word_longest, number_front, operator_front, longest_under, longest_of, longest_from, spells_narrow, spells_word, spells_hash, spells_slash, spells_backslash, spells_percent, quote_is_no_word, within_line_append}
 use Rattle.cxx_tokens.specs.declared.piece.Spelled as code
-use Rattle.cxx_tokens.specs.Pieces.{spelled, spelled_option, operator_of, operator_at, begins_numeral, begins_quote, IsOperatorText}
-use Rattle.std.proofs.Common.{is_some}
+use Rattle.cxx_tokens.specs.Pieces.{spelled, spelled_option, operator_of, operator_at, begins_numeral, begins_wide, begins_with, IsOperatorText, IsOther, IsOtherText}
 
--- what stands behind the first byte, as the code cuts it
+-- what stands behind the first bytes, as the code cuts it
 abbrev pub behind_first : List ℕ → List ℕ
 behind_first text = take (length text - 1) (drop 1 text)
+
+abbrev pub behind_two : List ℕ → List ℕ
+behind_two text = take (length text - 2) (drop 2 text)
 
 behind : (b : ℕ) (rest : List ℕ) → behind_first (b ∷ rest) ≡ rest
 behind b rest = take_rest (b ∷ rest) 1
 
-same_longest : (one two : List ℕ) (len n : ℕ) (spells kind : Spelled) → one ≡ two → len ≡ n → spells ≡ kind → IsLongest one (record { len = len; spells = spells }) → IsLongest two (record { len = n; spells = kind })
-same_longest one two len n spells kind e f g h =
-    subst (λ s. IsLongest two (record { len = n; spells = s })) g
-    (subst (λ k. IsLongest two (record { len = k; spells = spells })) f
-    (subst (λ t. IsLongest t (record { len = len; spells = spells })) e h))
+behind_both : (b c : ℕ) (rest : List ℕ) → behind_two (b ∷ c ∷ rest) ≡ rest
+behind_both b c rest = take_rest (b ∷ c ∷ rest) 2
+
+same_longest : (fresh : Bool) (one two : List ℕ) (len n : ℕ) (spells kind : Spelled) → one ≡ two → len ≡ n → spells ≡ kind → IsLongest fresh one (record { len = len; spells = spells }) → IsLongest fresh two (record { len = n; spells = kind })
+same_longest fresh one two len n spells kind e f g h =
+    subst (λ s. IsLongest fresh two (record { len = n; spells = s })) g
+    (subst (λ k. IsLongest fresh two (record { len = k; spells = spells })) f
+    (subst (λ t. IsLongest fresh t (record { len = len; spells = spells })) e h))
+
+-- one byte, and what a rule finds behind it
+under_one : (fresh : Bool) (b : ℕ) (rest : List ℕ) (rule : List ℕ → Option Spelled) (n : ℕ) (spells : Spelled) → ((t : List ℕ) → spelling_of fresh (b ∷ t) ≡ rule t) → IsLongestBy rule (behind_first (b ∷ rest)) n spells → IsLongest fresh (b ∷ rest) (record { len = 1 + n; spells = spells })
+under_one fresh b rest rule n spells same h =
+    let inner : IsLongestBy rule rest n spells = subst (λ t. IsLongestBy rule t n spells) (behind b rest) h in
+    longest_of fresh (b ∷ rest) (1 + n) spells (omega arith) (longest_under (spelling_of fresh) rule (b ∷ []) rest n spells (λ k low high. same (take k rest)) inner)
+
+under_two : (fresh : Bool) (b c : ℕ) (rest : List ℕ) (rule : List ℕ → Option Spelled) (n : ℕ) (spells : Spelled) → ((t : List ℕ) → spelling_of fresh (b ∷ c ∷ t) ≡ rule t) → IsLongestBy rule (behind_two (b ∷ c ∷ rest)) n spells → IsLongest fresh (b ∷ c ∷ rest) (record { len = 2 + n; spells = spells })
+under_two fresh b c rest rule n spells same h =
+    let inner : IsLongestBy rule rest n spells = subst (λ t. IsLongestBy rule t n spells) (behind_both b c rest) h in
+    longest_of fresh (b ∷ c ∷ rest) (2 + n) spells (omega arith) (longest_under (spelling_of fresh) rule (b ∷ c ∷ []) rest n spells (λ k low high. same (take k rest)) inner)
 
 -- ---- white space
 
-pub blank_at : (text : List ℕ) → 0 < length text → is_white (get_or text 0 0) ≡ true → IsLongest text (record { len = 1; spells = Blank })
-blank_at [] some white = absurd (omega arith)
-blank_at (b ∷ rest) some white = blank_front b rest white
+pub blank_at : (fresh : Bool) (text : List ℕ) → 0 < length text → is_white (get_or text 0 0) ≡ true → IsLongest fresh text (record { len = 1; spells = Blank })
+blank_at fresh [] some white = absurd (omega arith)
+blank_at fresh (b ∷ rest) some white = blank_front fresh b rest white
 
 -- ---- words
 
-word_in : (b : ℕ) (rest : List ℕ) (n : ℕ) (kind : Spelled) → begins_word b ≡ true → is_wide_quote (b ∷ take 1 rest) ≡ false → n ≤ length rest → list_all is_word (take n rest) ≡ true → starts is_word (drop n rest) ≡ false → kind ≡ word_kind (take (1 + n) (b ∷ rest)) → IsLongest (b ∷ rest) (record { len = 1 + n; spells = kind })
-word_in b rest n kind word narrow short all ends e =
+run_step : (test : ℕ → Bool) (b : ℕ) (text : List ℕ) (p : Bool) → test b ≡ p → list_all test (take (prefix_len test text) text) ≡ true → list_all test (take (cond p (1 + prefix_len test text) 0) (b ∷ text)) ≡ true
+run_step test b text true e all = let n : 1 + prefix_len test text ≡ suc (prefix_len test text) = omega arith in ap (λ k. list_all test (take k (b ∷ text))) n ∙ rw e all
+run_step test b text false e all = refl
+
+pub run_all : (test : ℕ → Bool) (text : List ℕ) → list_all test (take (prefix_len test text) text) ≡ true
+run_all test [] = refl
+run_all test (b ∷ text) = run_step test b text (test b) refl (run_all test text)
+
+end_step : (test : ℕ → Bool) (b : ℕ) (text : List ℕ) (p : Bool) → test b ≡ p → starts test (drop (prefix_len test text) text) ≡ false → starts test (drop (cond p (1 + prefix_len test text) 0) (b ∷ text)) ≡ false
+end_step test b text true e ends = let n : 1 + prefix_len test text ≡ suc (prefix_len test text) = omega arith in ap (λ k. starts test (drop k (b ∷ text))) n ∙ ends
+end_step test b text false e ends = e
+
+pub run_ends : (test : ℕ → Bool) (text : List ℕ) → starts test (drop (prefix_len test text) text) ≡ false
+run_ends test [] = refl
+run_ends test (b ∷ text) = end_step test b text (test b) refl (run_ends test text)
+
+word_in : (fresh : Bool) (b : ℕ) (rest : List ℕ) (n : ℕ) (kind : Spelled) → begins_word b ≡ true → (b == 76 && starts is_quote rest) ≡ false → n ≤ length rest → list_all is_word (take n rest) ≡ true → starts is_word (drop n rest) ≡ false → kind ≡ word_kind (take (1 + n) (b ∷ rest)) → IsLongest fresh (b ∷ rest) (record { len = 1 + n; spells = kind })
+word_in fresh b rest n kind word narrow short all ends e =
     let whole = take-append-drop n rest in
     let lengths : suc (length (take n rest)) ≡ 1 + n = omega (arith, length-take-le n rest short) in
     let more : 1 + n ≡ suc n = omega arith in
-    same_longest _ _ _ _ _ _ (ap (λ t. b ∷ t) whole) lengths (sym (e ∙ ap (λ k. word_kind (take k (b ∷ rest))) more))
-    (word_longest b (take n rest) (drop n rest) word all ends (ap (λ t. is_wide_quote (b ∷ take 1 t)) whole ∙ narrow))
+    same_longest fresh _ _ _ _ _ _ (ap (λ t. b ∷ t) whole) lengths (sym (e ∙ ap (λ k. word_kind (take k (b ∷ rest))) more))
+    (word_longest fresh b (take n rest) (drop n rest) word all ends (ap (λ t. b == 76 && starts is_quote t) whole ∙ narrow))
 
-pub word_at : (text : List ℕ) (n : ℕ) (kind : Spelled) → starts begins_word text ≡ true → is_wide_quote (take 2 text) ≡ false → n ≤ length (behind_first text) → list_all is_word (take n (behind_first text)) ≡ true → starts is_word (drop n (behind_first text)) ≡ false → kind ≡ word_kind (take (1 + n) text) → IsLongest text (record { len = 1 + n; spells = kind })
-word_at [] n kind word narrow short all ends e = cc
-word_at (b ∷ rest) n kind word narrow short all ends e =
+pub word_at : (fresh : Bool) (text : List ℕ) (n : ℕ) (kind : Spelled) → starts begins_word text ≡ true → begins_wide text ≡ false → n ≡ prefix_len is_word (behind_first text) → kind ≡ word_kind (take (1 + n) text) → IsLongest fresh text (record { len = 1 + n; spells = kind })
+word_at fresh [] n kind word narrow run e = absurd cc
+word_at fresh (b ∷ rest) n kind word narrow run e =
     let t = behind b rest in
-    word_in b rest n kind word narrow (subst (λ r. n ≤ length r) t short) (ap (λ r. list_all is_word (take n r)) (sym t) ∙ all) (ap (λ r. starts is_word (drop n r)) (sym t) ∙ ends) e
-
-pub wide_at : (text : List ℕ) → starts begins_word text ≡ true → is_wide_quote (take 2 text) ≡ true → IsLongest text (record { len = 2; spells = Ill NotBuilt })
-wide_at [] word wide = cc
-wide_at (b ∷ []) word wide = absurd (both_ways _ (alone_is_narrow (b == 76)) wide)
-  where
-    alone_is_narrow : (p : Bool) → ((p && false) || (p && false)) ≡ false
-    alone_is_narrow true = refl
-    alone_is_narrow false = refl
-wide_at (b ∷ c ∷ rest) word wide = wide_front b c rest word wide
+    let is : n ≡ prefix_len is_word rest = run ∙ ap (prefix_len is_word) t in
+    word_in fresh b rest n kind word narrow (omega (arith, prefix_len-le-length is_word rest)) (subst (λ k. list_all is_word (take k rest) ≡ true) (sym is) (run_all is_word rest)) (subst (λ k. starts is_word (drop k rest) ≡ false) (sym is) (run_ends is_word rest)) e
 
 -- ---- numbers
 
@@ -75,51 +101,168 @@ number_kept b (c ∷ rest) zero number ends =
 number_kept b [] (suc n) number ends = number
 number_kept b (c ∷ rest) (suc n) number ends = number
 
-number_within : (b : ℕ) (rest : List ℕ) (n : ℕ) (kind : Spelled) → begins_number b rest ≡ true → n ≤ length rest → is_number_rest b (take n rest) ≡ true → starts (number_goes_on (last_of b (take n rest))) (drop n rest) ≡ false → kind ≡ number_kind (take (1 + n) (b ∷ rest)) → IsLongest (b ∷ rest) (record { len = 1 + n; spells = kind })
-number_within b rest n kind number short all ends e =
+number_within : (fresh : Bool) (b : ℕ) (rest : List ℕ) (n : ℕ) (kind : Spelled) → begins_number b rest ≡ true → n ≤ length rest → is_number_rest b (take n rest) ≡ true → starts (number_goes_on (last_of b (take n rest))) (drop n rest) ≡ false → kind ≡ number_kind (take (1 + n) (b ∷ rest)) → IsLongest fresh (b ∷ rest) (record { len = 1 + n; spells = kind })
+number_within fresh b rest n kind number short all ends e =
     let whole = take-append-drop n rest in
     let lengths : suc (length (take n rest)) ≡ 1 + n = omega (arith, length-take-le n rest short) in
     let more : 1 + n ≡ suc n = omega arith in
-    same_longest _ _ _ _ _ _ (ap (λ t. b ∷ t) whole) lengths (sym (e ∙ ap (λ k. number_kind (take k (b ∷ rest))) more))
-    (number_front b (take n rest) (drop n rest) (number_kept b rest n number ends) all ends)
+    same_longest fresh _ _ _ _ _ _ (ap (λ t. b ∷ t) whole) lengths (sym (e ∙ ap (λ k. number_kind (take k (b ∷ rest))) more))
+    (number_front fresh b (take n rest) (drop n rest) (number_kept b rest n number ends) all ends)
 
-pub number_at : (text : List ℕ) (n : ℕ) (kind : Spelled) → begins_numeral text ≡ true → n ≤ length (behind_first text) → is_number_rest (get_or text 0 0) (take n (behind_first text)) ≡ true → starts (number_goes_on (last_of (get_or text 0 0) (take n (behind_first text)))) (drop n (behind_first text)) ≡ false → kind ≡ number_kind (take (1 + n) text) → IsLongest text (record { len = 1 + n; spells = kind })
-number_at [] n kind number short all ends e = cc
-number_at (b ∷ rest) n kind number short all ends e =
+pub number_at : (fresh : Bool) (text : List ℕ) (n : ℕ) (kind : Spelled) → begins_numeral text ≡ true → n ≤ length (behind_first text) → is_number_rest (get_or text 0 0) (take n (behind_first text)) ≡ true → starts (number_goes_on (last_of (get_or text 0 0) (take n (behind_first text)))) (drop n (behind_first text)) ≡ false → kind ≡ number_kind (take (1 + n) text) → IsLongest fresh text (record { len = 1 + n; spells = kind })
+number_at fresh [] n kind number short all ends e = absurd cc
+number_at fresh (b ∷ rest) n kind number short all ends e =
     let t = behind b rest in
-    number_within b rest n kind number (subst (λ r. n ≤ length r) t short) (ap (λ r. is_number_rest b (take n r)) (sym t) ∙ all) (ap (λ r. starts (number_goes_on (last_of b (take n r))) (drop n r)) (sym t) ∙ ends) e
+    number_within fresh b rest n kind number (subst (λ r. n ≤ length r) t short) (ap (λ r. is_number_rest b (take n r)) (sym t) ∙ all) (ap (λ r. starts (number_goes_on (last_of b (take n r))) (drop n r)) (sym t) ∙ ends) e
 
--- ---- character literals
+-- ---- literals
 
-pub closed_at : (text : List ℕ) → begins_quote text ≡ true → closes (behind_first text) ≡ true → IsLongest text (record { len = 3; spells = Good Character })
-closed_at [] quote closed = cc
-closed_at (b ∷ []) quote closed = cc
-closed_at (b ∷ c ∷ []) quote closed = absurd (both_ways (closes (behind_first (b ∷ c ∷ []))) (ap closes (behind b (c ∷ []))) closed)
-closed_at (b ∷ c ∷ d ∷ rest) quote closed =
-    let e : b ≡ 39 = eqb-true b 39 quote in
-    let shut : closes (c ∷ d ∷ rest) ≡ true = ap closes (sym (behind b (c ∷ d ∷ rest))) ∙ closed in
-    subst (λ q. IsLongest (q ∷ c ∷ d ∷ rest) (record { len = 3; spells = Good Character })) (sym e) (character_front c d rest shut)
+pub quoted_at : (fresh : Bool) (text : List ℕ) (n : ℕ) (kind : Spelled) → starts is_quote text ≡ true → IsLongestBy (literal false (get_or text 0 0)) (behind_first text) n kind → IsLongest fresh text (record { len = 1 + n; spells = kind })
+quoted_at fresh [] n kind quote h = absurd cc
+quoted_at fresh (b ∷ rest) n kind quote h = under_one fresh b rest (literal false b) n kind (λ t. spells_narrow fresh b t quote) h
 
-pub unclosed_at : (text : List ℕ) → begins_quote text ≡ true → closes (behind_first text) ≡ false → IsLongest text (record { len = 1; spells = Ill NotBuilt })
-unclosed_at [] quote closed = cc
-unclosed_at (b ∷ rest) quote closed =
-    let e : b ≡ 39 = eqb-true b 39 quote in
-    let loose : closes rest ≡ false = ap closes (sym (behind b rest)) ∙ closed in
-    subst (λ q. IsLongest (q ∷ rest) (record { len = 1; spells = Ill NotBuilt })) (sym e) (quote_front rest loose)
+wide_spells : (fresh : Bool) (b c : ℕ) (t : List ℕ) → (b == 76 && is_quote c) ≡ true → spelling_of fresh (b ∷ c ∷ t) ≡ literal true c t
+wide_spells fresh b c t h =
+    let p = and_parts (b == 76) (is_quote c) h in
+    let e : b ≡ 76 = eqb-true b 76 p.0 in
+    let other : is_word c ≡ false = quote_is_no_word c p.1 in
+    spells_word fresh b (c ∷ t) (ap begins_word e) ∙ rw (other, h) refl
+
+pub wide_at : (fresh : Bool) (text : List ℕ) (n : ℕ) (kind : Spelled) → begins_wide text ≡ true → IsLongestBy (literal true (get_or text 1 0)) (behind_two text) n kind → IsLongest fresh text (record { len = 2 + n; spells = kind })
+wide_at fresh [] n kind h found = absurd cc
+wide_at fresh (b ∷ []) n kind h found = absurd (both_ways _ (and_right (b == 76) false refl) h)
+wide_at fresh (b ∷ c ∷ rest) n kind h found = under_two fresh b c rest (literal true c) n kind (λ t. wide_spells fresh b c t h) found
+
+pub wide_quote : (text : List ℕ) → begins_wide text ≡ true → is_quote (get_or text 1 0) ≡ true
+wide_quote [] h = absurd cc
+wide_quote (b ∷ []) h = absurd (both_ways _ (and_right (b == 76) false refl) h)
+wide_quote (b ∷ c ∷ rest) h = (and_parts (b == 76) (is_quote c) h).1
+
+pub wide_long : (text : List ℕ) → begins_wide text ≡ true → 2 ≤ length text
+wide_long [] h = absurd cc
+wide_long (b ∷ []) h = absurd (both_ways _ (and_right (b == 76) false refl) h)
+wide_long (b ∷ c ∷ rest) h = omega arith
+
+-- ---- comments and lines
+
+slash_of_line : (t : List ℕ) → slash (47 ∷ t) ≡ within_line t
+unfolding slash
+slash_of_line t = refl
+
+slash_line : (fresh : Bool) (t : List ℕ) → spelling_of fresh (47 ∷ 47 ∷ t) ≡ within_line t
+slash_line fresh t = spells_slash fresh (47 ∷ t) ∙ slash_of_line t
+
+slash_of_comment : (t : List ℕ) → slash (42 ∷ t) ≡ comment t
+unfolding slash
+slash_of_comment t = refl
+
+slash_comment : (fresh : Bool) (t : List ℕ) → spelling_of fresh (47 ∷ 42 ∷ t) ≡ comment t
+slash_comment fresh t = spells_slash fresh (42 ∷ t) ∙ slash_of_comment t
+
+pub line_comment_at : (fresh : Bool) (text : List ℕ) (n : ℕ) → begins_with 47 text ≡ true → 2 ≤ length text → get_or text 1 0 ≡ 47 → IsLongestBy within_line (behind_two text) n Blank → IsLongest fresh text (record { len = 2 + n; spells = Blank })
+line_comment_at fresh [] n h long e found = absurd cc
+line_comment_at fresh (b ∷ []) n h long e found = absurd (omega arith)
+line_comment_at fresh (b ∷ c ∷ rest) n h long e found = let first : b ≡ 47 = eqb-true b 47 h in under_two fresh b c rest within_line n Blank (λ t. ap (λ x. spelling_of fresh (x ∷ c ∷ t)) first ∙ ap (λ x. spelling_of fresh (47 ∷ x ∷ t)) e ∙ slash_line fresh t) found
+
+pub comment_at : (fresh : Bool) (text : List ℕ) (n : ℕ) (kind : Spelled) → begins_with 47 text ≡ true → 2 ≤ length text → get_or text 1 0 ≡ 42 → IsLongestBy comment (behind_two text) n kind → IsLongest fresh text (record { len = 2 + n; spells = kind })
+comment_at fresh [] n kind h long e found = absurd cc
+comment_at fresh (b ∷ []) n kind h long e found = absurd (omega arith)
+comment_at fresh (b ∷ c ∷ rest) n kind h long e found = let first : b ≡ 47 = eqb-true b 47 h in under_two fresh b c rest comment n kind (λ t. ap (λ x. spelling_of fresh (x ∷ c ∷ t)) first ∙ ap (λ x. spelling_of fresh (47 ∷ x ∷ t)) e ∙ slash_comment fresh t) found
+
+-- ---- what is alone
+
+alone_more : (rest : List ℕ) (spells : Spelled) → IsLongestBy (λ t. alone t spells) rest 0 spells
+alone_more rest spells = record { fits = omega arith; spelled = refl; longest = λ m low high. none rest m low high }
+  where
+    none : (rest : List ℕ) (m : ℕ) → 0 < m → m ≤ length rest → alone (take m rest) spells ≡ None
+    none rest zero low high = absurd (omega arith)
+    none [] (suc m) low high = absurd (omega arith)
+    none (c ∷ rest) (suc m) low high = refl
+
+alone_one : (fresh : Bool) (b : ℕ) (rest : List ℕ) (spells : Spelled) → ((t : List ℕ) → spelling_of fresh (b ∷ t) ≡ alone t spells) → IsLongest fresh (b ∷ rest) (record { len = 1; spells = spells })
+alone_one fresh b rest spells same = longest_of fresh (b ∷ rest) 1 spells (omega arith) (longest_under (spelling_of fresh) (λ t. alone t spells) (b ∷ []) rest 0 spells (λ k low high. same (take k rest)) (alone_more rest spells))
+
+alone_two : (fresh : Bool) (b c : ℕ) (rest : List ℕ) (spells : Spelled) → ((t : List ℕ) → spelling_of fresh (b ∷ c ∷ t) ≡ alone t spells) → IsLongest fresh (b ∷ c ∷ rest) (record { len = 2; spells = spells })
+alone_two fresh b c rest spells same = longest_of fresh (b ∷ c ∷ rest) 2 spells (omega arith) (longest_under (spelling_of fresh) (λ t. alone t spells) (b ∷ c ∷ []) rest 0 spells (λ k low high. same (take k rest)) (alone_more rest spells))
+
+-- ---- `#`
+
+pub not_fresh : (fresh : Bool) → not fresh ≡ true → fresh ≡ false
+not_fresh true h = absurd cc
+not_fresh false h = refl
+
+hash_stale : (t : List ℕ) → hash false t ≡ alone t (Ill reason.Directive)
+unfolding hash
+hash_stale t = refl
+
+pub stale_hash_at : (fresh : Bool) (text : List ℕ) → begins_with 35 text ≡ true → fresh ≡ false → IsLongest fresh text (record { len = 1; spells = Ill reason.Directive })
+stale_hash_at fresh [] h e = absurd cc
+stale_hash_at fresh (b ∷ rest) h e =
+    let first : b ≡ 35 = eqb-true b 35 h in
+    alone_one fresh b rest (Ill reason.Directive) (λ t. ap (λ x. spelling_of fresh (x ∷ t)) first ∙ spells_hash fresh t ∙ ap (λ f. hash f t) e ∙ hash_stale t)
+
+pub hash_at : (fresh : Bool) (text : List ℕ) (n : ℕ) (kind : Spelled) → begins_with 35 text ≡ true → fresh ≡ true → IsLongestBy (hash true) (behind_first text) n kind → IsLongest fresh text (record { len = 1 + n; spells = kind })
+hash_at fresh [] n kind h e found = absurd cc
+hash_at fresh (b ∷ rest) n kind h e found =
+    let first : b ≡ 35 = eqb-true b 35 h in
+    under_one fresh b rest (hash true) n kind (λ t. ap (λ x. spelling_of fresh (x ∷ t)) first ∙ spells_hash fresh t ∙ ap (λ f. hash f t) e) found
+
+-- ---- a backslash
+
+begins_universal : ℕ → Bool
+begins_universal b = b == 117 || b == 85
+
+backslash_more : (c : ℕ) (t : List ℕ) → (c == 117 || c == 85) ≡ true → backslash (c ∷ t) ≡ alone t (Ill reason.UniversalName)
+backslash_more c t h = rw h refl
+
+pub universal_at : (fresh : Bool) (text : List ℕ) → begins_with 92 text ≡ true → 2 ≤ length text → (get_or text 1 0 == 117 || get_or text 1 0 == 85) ≡ true → IsLongest fresh text (record { len = 2; spells = Ill reason.UniversalName })
+universal_at fresh [] h long e = absurd cc
+universal_at fresh (b ∷ []) h long e = absurd (omega arith)
+universal_at fresh (b ∷ c ∷ rest) h long e =
+    let first : b ≡ 92 = eqb-true b 92 h in
+    alone_two fresh b c rest (Ill reason.UniversalName) (λ t. ap (λ x. spelling_of fresh (x ∷ c ∷ t)) first ∙ spells_backslash fresh (c ∷ t) ∙ backslash_more c t e)
+
+none_stray : (rest : List ℕ) → starts (λ c. c == 117 || c == 85) rest ≡ false → (m : ℕ) → 0 < m → m ≤ length rest → backslash (take m rest) ≡ None
+none_stray rest h zero low high = absurd (omega arith)
+none_stray [] h (suc m) low high = absurd (omega arith)
+none_stray (c ∷ rest) h (suc m) low high = rw h refl
+
+pub stray_at : (fresh : Bool) (text : List ℕ) → begins_with 92 text ≡ true → (2 ≤ length text → (get_or text 1 0 == 117 || get_or text 1 0 == 85) ≡ false) → IsLongest fresh text (record { len = 1; spells = Ill reason.StrayByte })
+stray_at fresh [] h other = absurd cc
+stray_at fresh (b ∷ rest) h other =
+    let first : b ≡ 92 = eqb-true b 92 h in
+    longest_from fresh b [] rest (Ill reason.StrayByte) (ap (λ x. spelling_of fresh (x ∷ [])) first ∙ spells_backslash fresh [])
+    (λ m low high. ap (λ x. spelling_of fresh (x ∷ take m rest)) first ∙ spells_backslash fresh (take m rest) ∙ none_stray rest (next_is b rest other) m low high)
+  where
+    next_is : (b : ℕ) (rest : List ℕ) → (2 ≤ length (b ∷ rest) → (get_or (b ∷ rest) 1 0 == 117 || get_or (b ∷ rest) 1 0 == 85) ≡ false) → starts (λ c. c == 117 || c == 85) rest ≡ false
+    next_is b [] other = refl
+    next_is b (c ∷ rest) other = other (omega arith)
+
+-- ---- `%:`
+
+percent_more : (t : List ℕ) → percent (58 ∷ t) ≡ alone t (Ill reason.Directive)
+unfolding percent
+percent_more t = refl
+
+pub directive_at : (fresh : Bool) (text : List ℕ) → begins_with 37 text ≡ true → 2 ≤ length text → get_or text 1 0 ≡ 58 → IsLongest fresh text (record { len = 2; spells = Ill reason.Directive })
+directive_at fresh [] h long e = absurd cc
+directive_at fresh (b ∷ []) h long e = absurd (omega arith)
+directive_at fresh (b ∷ c ∷ rest) h long e =
+    let first : b ≡ 37 = eqb-true b 37 h in
+    alone_two fresh b c rest (Ill reason.Directive) (λ t. ap (λ x. spelling_of fresh (x ∷ c ∷ t)) first ∙ spells_percent fresh (c ∷ t) ∙ ap (λ x. percent (x ∷ t)) e ∙ percent_more t)
 
 -- ---- operators
-
 operator_at_is : (text : List ℕ) (len : ℕ) → len ≤ length text → operator_at text len ≡ operator_of (take len text)
 operator_at_is text len fits = rw (le-leb len (length text) fits) refl
 
-three_in : (b c d : ℕ) (rest : List ℕ) (spells : Spelled) → BeginsOperator b (c ∷ d ∷ rest) → operator b (c ∷ d ∷ []) ≡ Some spells → IsLongest (b ∷ c ∷ d ∷ rest) (record { len = 3; spells = spells })
-three_in b c d rest spells begins is = operator_front b (c ∷ d ∷ []) rest spells begins is (λ m low short high. absurd (omega arith))
+three_in : (fresh : Bool) (b c d : ℕ) (rest : List ℕ) (spells : Spelled) → BeginsOperator b (c ∷ d ∷ rest) → operator b (c ∷ d ∷ []) ≡ Some spells → IsLongest fresh (b ∷ c ∷ d ∷ rest) (record { len = 3; spells = spells })
+three_in fresh b c d rest spells begins is = operator_front fresh b (c ∷ d ∷ []) rest spells begins is (λ m low short high. absurd (omega arith))
 
-pub three_at : (text : List ℕ) (spells : Spelled) → IsOperatorText text → Some spells ≡ operator_at text 3 → IsLongest text (record { len = 3; spells = spells })
-three_at [] spells begins is = cc
-three_at (b ∷ []) spells begins is = cc
-three_at (b ∷ c ∷ []) spells begins is = cc
-three_at (b ∷ c ∷ d ∷ rest) spells begins is = three_in b c d rest spells begins (sym (is ∙ operator_at_is (b ∷ c ∷ d ∷ rest) 3 (omega arith)))
+pub three_at : (fresh : Bool) (text : List ℕ) (spells : Spelled) → IsOperatorText text → Some spells ≡ operator_at text 3 → IsLongest fresh text (record { len = 3; spells = spells })
+three_at fresh [] spells begins is = cc
+three_at fresh (b ∷ []) spells begins is = cc
+three_at fresh (b ∷ c ∷ []) spells begins is = cc
+three_at fresh (b ∷ c ∷ d ∷ rest) spells begins is = three_in fresh b c d rest spells begins (sym (is ∙ operator_at_is (b ∷ c ∷ d ∷ rest) 3 (omega arith)))
 
 no_three : (b : ℕ) (rest : List ℕ) → None ≡ operator_at (b ∷ rest) 3 → 2 ≤ length rest → operator b (take 2 rest) ≡ None
 no_three b rest none long = sym (none ∙ operator_at_is (b ∷ rest) 3 (omega arith))
@@ -137,26 +280,23 @@ at_one b rest m none third low short high =
     (λ (one : m ≤ 1). let e : m ≡ 1 = omega arith in subst (λ k. operator b (take k rest) ≡ None) (sym e) (no_two b rest third (omega arith)))
     (cases_lt 1 m)
 
-pub two_at : (text : List ℕ) (spells : Spelled) → IsOperatorText text → None ≡ operator_at text 3 → Some spells ≡ operator_at text 2 → IsLongest text (record { len = 2; spells = spells })
-two_at [] spells begins none is = cc
-two_at (b ∷ []) spells begins none is = cc
-two_at (b ∷ c ∷ rest) spells begins none is =
-    operator_front b (c ∷ []) rest spells begins (sym (is ∙ operator_at_is (b ∷ c ∷ rest) 2 (omega arith))) (λ m low short high. at_two b (c ∷ rest) m none low short high)
+pub two_at : (fresh : Bool) (text : List ℕ) (spells : Spelled) → IsOperatorText text → None ≡ operator_at text 3 → Some spells ≡ operator_at text 2 → IsLongest fresh text (record { len = 2; spells = spells })
+two_at fresh [] spells begins none is = cc
+two_at fresh (b ∷ []) spells begins none is = cc
+two_at fresh (b ∷ c ∷ rest) spells begins none is =
+    operator_front fresh b (c ∷ []) rest spells begins (sym (is ∙ operator_at_is (b ∷ c ∷ rest) 2 (omega arith))) (λ m low short high. at_two b (c ∷ rest) m none low short high)
 
-one_in : (b : ℕ) (rest : List ℕ) (spells : Spelled) → BeginsOperator b rest → None ≡ operator_at (b ∷ rest) 3 → None ≡ operator_at (b ∷ rest) 2 → Some spells ≡ operator_at (b ∷ rest) 1 → IsLongest (b ∷ rest) (record { len = 1; spells = spells })
-one_in b rest spells begins none third is =
-    operator_front b [] rest spells begins (sym (is ∙ operator_at_is (b ∷ rest) 1 (omega arith))) (λ m low short high. at_one b rest m none third low short high)
+one_in : (fresh : Bool) (b : ℕ) (rest : List ℕ) (spells : Spelled) → BeginsOperator b rest → None ≡ operator_at (b ∷ rest) 3 → None ≡ operator_at (b ∷ rest) 2 → Some spells ≡ operator_at (b ∷ rest) 1 → IsLongest fresh (b ∷ rest) (record { len = 1; spells = spells })
+one_in fresh b rest spells begins none third is =
+    operator_front fresh b [] rest spells begins (sym (is ∙ operator_at_is (b ∷ rest) 1 (omega arith))) (λ m low short high. at_one b rest m none third low short high)
 
 always_one : (b : ℕ) (rest : List ℕ) → IsSpelled (operator_at (b ∷ rest) 1)
-unfolding operator
-always_one b rest =
-    let one = operator_alone (number_in operators (b ∷ [])) (is_some (number_in digraphs (b ∷ []))) in
-    (one.0, operator_at_is (b ∷ rest) 1 (omega arith) ∙ one.1)
+always_one b rest = let one = operator_alone b in (one.0, operator_at_is (b ∷ rest) 1 (omega arith) ∙ one.1)
 
-pub one_at : (text : List ℕ) (answer : Option code.Spelled) (otherwise : code.Spelled) → IsOperatorText text → None ≡ operator_at text 3 → None ≡ operator_at text 2 → spelled_option answer ≡ operator_at text 1 → IsLongest text (record { len = 1; spells = spelled (unwrap_or answer otherwise) })
-one_at [] answer otherwise begins none third is = absurd begins
-one_at (b ∷ rest) (Some spells) otherwise begins none third is = one_in b rest (spelled spells) begins none third is
-one_at (b ∷ rest) None otherwise begins none third is = let one = always_one b rest in absurd (cc (is, one.1))
+pub one_at : (fresh : Bool) (text : List ℕ) (answer : Option code.Spelled) (otherwise : code.Spelled) → IsOperatorText text → None ≡ operator_at text 3 → None ≡ operator_at text 2 → spelled_option answer ≡ operator_at text 1 → IsLongest fresh text (record { len = 1; spells = spelled (unwrap_or answer otherwise) })
+one_at fresh [] answer otherwise begins none third is = absurd begins
+one_at fresh (b ∷ rest) (Some spells) otherwise begins none third is = one_in fresh b rest (spelled spells) begins none third is
+one_at fresh (b ∷ rest) None otherwise begins none third is = let one = always_one b rest in absurd (cc (is, one.1))
 
 -- ---- the first byte of a text
 
@@ -164,24 +304,48 @@ pub starts_at : (test : ℕ → Bool) (text : List ℕ) → 0 < length text → 
 starts_at test [] some h = absurd (omega arith)
 starts_at test (b ∷ rest) some h = h
 
-pub begins_quote_at : (text : List ℕ) → 0 < length text → (get_or text 0 0) ≡ 39 → begins_quote text ≡ true
-begins_quote_at [] some h = absurd (omega arith)
-begins_quote_at (b ∷ rest) some h = ap (λ q. q == 39) h
+pub other_text : (text : List ℕ) → 0 < length text → is_white (get_or text 0 0) ≡ false → begins_word (get_or text 0 0) ≡ false → begins_numeral text ≡ false → is_quote (get_or text 0 0) ≡ false → IsOtherText text
+other_text [] some black other number quote = absurd (omega arith)
+other_text (b ∷ rest) some black other number quote = record { black = black; no_word = other; no_number = number; no_quote = quote }
 
-pub operator_text : (text : List ℕ) → 0 < length text → is_white (get_or text 0 0) ≡ false → begins_word (get_or text 0 0) ≡ false → begins_numeral text ≡ false → (get_or text 0 0 == 39) ≡ false → IsOperatorText text
-operator_text [] some black other number quote = absurd (omega arith)
-operator_text (b ∷ rest) some black other number quote = record { black = black; no_word = other; no_number = number; no_quote = quote }
+pub first_is : (text : List ℕ) (first : ℕ) → IsOtherText text → get_or text 0 0 ≡ first → begins_with first text ≡ true
+first_is [] first other e = absurd other
+first_is (b ∷ rest) first other e = eq-eqb b first e
+
+not_equal : (b c : ℕ) → (b ≡ c → ⊥) → (b == c) ≡ false
+not_equal b c h = ⊎_elim (λ (yes_it : (b == c) ≡ true). absurd (h (eqb-true b c yes_it))) (λ (not_it : (b == c) ≡ false). not_it) (cases_Bool (b == c))
+
+pub plain_operator : (text : List ℕ) → IsOtherText text → (get_or text 0 0 ≡ 35 → ⊥) → (get_or text 0 0 ≡ 47 → ⊥) → (get_or text 0 0 ≡ 92 → ⊥) → (get_or text 0 0 ≡ 37 → ⊥) → IsOperatorText text
+plain_operator [] other hash slash back percent = absurd other
+plain_operator (b ∷ rest) other hash slash back percent = record {
+  black = other.black; no_word = other.no_word; no_number = other.no_number; no_quote = other.no_quote;
+  no_hash = not_equal b 35 hash; no_comment = and_left (b == 47) _ (not_equal b 47 slash); no_backslash = not_equal b 92 back; no_directive = and_left (b == 37) _ (not_equal b 37 percent);
+}
+
+slash_record : (rest : List ℕ) → starts begins_comment rest ≡ false → BeginsOperator 47 rest
+slash_record rest h = record { black = refl; no_word = refl; no_number = refl; no_quote = refl; no_hash = refl; no_comment = h; no_backslash = refl; no_directive = refl }
+
+percent_record : (rest : List ℕ) → starts is_colon rest ≡ false → BeginsOperator 37 rest
+percent_record rest h = record { black = refl; no_word = refl; no_number = refl; no_quote = refl; no_hash = refl; no_comment = refl; no_backslash = refl; no_directive = h }
+
+pub slash_text : (text : List ℕ) → begins_with 47 text ≡ true → (2 ≤ length text → begins_comment (get_or text 1 0) ≡ false) → IsOperatorText text
+slash_text [] h other = absurd cc
+slash_text (b ∷ []) h other = let e : b ≡ 47 = eqb-true b 47 h in subst (λ x. BeginsOperator x []) (sym e) (slash_record [] refl)
+slash_text (b ∷ c ∷ rest) h other = let e : b ≡ 47 = eqb-true b 47 h in subst (λ x. BeginsOperator x (c ∷ rest)) (sym e) (slash_record (c ∷ rest) (other (omega arith)))
+
+pub percent_text : (text : List ℕ) → begins_with 37 text ≡ true → (2 ≤ length text → is_colon (get_or text 1 0) ≡ false) → IsOperatorText text
+percent_text [] h other = absurd cc
+percent_text (b ∷ []) h other = let e : b ≡ 37 = eqb-true b 37 h in subst (λ x. BeginsOperator x []) (sym e) (percent_record [] refl)
+percent_text (b ∷ c ∷ rest) h other = let e : b ≡ 37 = eqb-true b 37 h in subst (λ x. BeginsOperator x (c ∷ rest)) (sym e) (percent_record (c ∷ rest) (other (omega arith)))
 
 -- ---- what a whole text spells
 
-pub nothing_spells : (text : List ℕ) → length text ≡ 0 → None ≡ spelling_of text
+pub nothing_spells : (fresh : Bool) (text : List ℕ) → length text ≡ 0 → None ≡ spelling_of fresh text
 unfolding spelling_of
-nothing_spells [] e = refl
-nothing_spells (b ∷ rest) e = absurd (omega arith)
+nothing_spells fresh [] e = refl
+nothing_spells fresh (b ∷ rest) e = absurd (omega arith)
 
-pub whole_spells : (text : List ℕ) (len : ℕ) (spells : Spelled) → IsLongest text (record { len = len; spells = spells }) → len ≡ length text → Some spells ≡ spelling_of text
-whole_spells text len spells h e = sym h.spelled ∙ ap spelling_of (take_all len text (omega arith))
+-- ---- tables
 
-pub part_spells : (text : List ℕ) (len : ℕ) (spells : Spelled) → IsLongest text (record { len = len; spells = spells }) → (len ≡ length text → ⊥) → None ≡ spelling_of text
-part_spells text len spells h ne =
-    sym (h.longest (length text) (omega (arith, h.within)) (omega arith)) ∙ ap spelling_of (take_all (length text) text (omega arith))
+pub beside_next : {X : Type 0} (f : X → List ℕ × ℕ) (xs : List X) (i : ℕ) (d : X) (text : List ℕ) → i < length xs → number_beside (map f (drop i xs)) text ≡ cond (bytes_eq text (f (get_or xs i d)).0) (Some (f (get_or xs i d)).1) (number_beside (map f (drop (suc i) xs)) text)
+beside_next f xs i d text inside = ap (λ l. number_beside (map f l) text) (drop-cons xs i d inside)

@@ -1,2 +1,4 @@
+pub mod Escapes
+pub mod MarkerWords
 pub mod Pieces
 pub mod Answers

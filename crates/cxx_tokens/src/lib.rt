@@ -1,23 +1,32 @@
-//! Tokens: the text of a unit cut into the longest tokens (2.1, 2.4), in the first form of the profile.
+//! Tokens: the text of a unit cut into the longest tokens (2.1, 2.4).
 //!
 //! `tokens` answers the token list, the first place at which no token of the profile begins, or that the unit has too
-//! many tokens. `literal_type` is the type of a literal by its spelling.
+//! many tokens. `literal_type` and `literal_value` are the type and the value of a literal by its spelling.
 #![tactic(auto)]
 
 mod bytes;
+mod comments;
 mod fault;
+mod floats;
 mod front;
+mod integers;
+mod letters;
 mod literal;
+mod markers;
 mod numbers;
 mod operators;
 mod piece;
 mod quotes;
 mod read;
 mod reader;
+mod runs;
+mod tables;
+mod values;
+mod width;
 mod words;
 
 pub use fault::TokenFault;
-pub use literal::literal_type;
+pub use literal::{each_literal_has_a_value, literal_type, literal_value};
 pub use read::{one_token_list, tokens};
 
 #[cfg(test)]

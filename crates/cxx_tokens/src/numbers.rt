@@ -1,18 +1,16 @@
-//! Numbers (2.9, 2.13.1).
+//! Number tokens (2.9, 2.13.1, 2.13.3).
 
-ghost use Rattle.std.specs.Prelude.{◌≡◌, ◌≤◌, ◌-◌, ◌^◌, min, true, false, length, take, drop, slice_index};
-ghost use Rattle.std.specs.List.{list_all};
-ghost use Rattle.std.specs.Char.{is_ascii_digit};
+ghost use Rattle.std.specs.Prelude.{◌≡◌, ◌≤◌, None, true, false, length, take, drop};
 ghost use Rattle.cxx_model.specs.Spelling as spec;
 ghost use Rattle.cxx_model.specs.Continuing as goes;
 ghost use Rattle.cxx_model.specs.Tokens.{IsLongest};
 ghost use Rattle.cxx_tokens.specs.Pieces.{spelled, piece_of, begins_numeral};
 
 use crate::bytes::number_goes_on;
+use crate::floats::is_floating;
+use crate::integers::{integer_parts, integer_type};
 use crate::piece::{Piece, Spelled};
-use cxx_model::{TokenKind, TokenReason};
-
-const MOST_LONG: u64 = 9_223_372_036_854_775_807;
+use cxx_model::{Base, TokenKind, TokenReason};
 
 /// Whether a text begins with a digit, or with a dot and a digit.
 pub fn begins_number(text: &[u8]) -> bool
@@ -25,47 +23,42 @@ pub fn begins_number(text: &[u8]) -> bool
     }
 }
 
-fn are_digits(text: &[u8]) -> bool
-    ensures { result ≡ list_all is_ascii_digit text.now }
+/// The type of an integer literal that some type holds.
+pub fn type_of(text: &[u8]) -> Option<Base>
+    ensures { result ≡ spec.type_of_parts (spec.integer_parts text.now) }
 {
-    text.iter().all(|b| b.is_ascii_digit())
-}
-
-/// Decimal digits, of which the first is 0 only where it is alone.
-fn is_decimal(text: &[u8]) -> bool
-    ensures { result ≡ spec.is_decimal text.now }
-{
-    match text {
-        [] => false,
-        [b] => b.is_ascii_digit(),
-        [b, c, rest @ ..] => b.is_ascii_digit()
-            && *b != b'0'
-            && c.is_ascii_digit()
-            && are_digits(rest),
+    match integer_parts(text) {
+        Some(parts) => integer_type(&parts),
+        None => None,
     }
 }
 
-/// The value of decimal digits, or the most of the type where that is more.
-pub fn decimal_value(text: &[u8]) -> u64
-    ensures { result ≡ min (spec.decimal_value text.now) (2 ^ 64 - 1) }
+fn integer_by(kind: Option<Base>) -> Spelled
+    ensures { spelled result ≡ spec.integer_by kind }
 {
-    let mut value: u64 = 0;
-    for b in text {
-        value = value
-            .saturating_mul(10)
-            .saturating_add(u64::from(b.saturating_sub(b'0')));
+    match kind {
+        Some(_) => Spelled::Good(TokenKind::Integer),
+        None => Spelled::Ill(TokenReason::NumberTooLarge),
     }
-    value
 }
 
-#[tactic(auto, unfolding(cxx_model::specs::Spelling::number_kind))]
+fn no_integer(text: &[u8]) -> Spelled
+    ensures { spelled result ≡ spec.number_by None (spec.is_floating text.now) }
+{
+    if is_floating(text) {
+        Spelled::Ill(TokenReason::FloatingLiteral)
+    } else {
+        Spelled::Ill(TokenReason::BadNumber)
+    }
+}
+
+/// The whole run is judged.
 fn number_kind(text: &[u8]) -> Spelled
     ensures { spelled result ≡ spec.number_kind text.now }
 {
-    if is_decimal(text) && decimal_value(text) <= MOST_LONG {
-        Spelled::Good(TokenKind::Integer)
-    } else {
-        Spelled::Ill(TokenReason::NotBuilt)
+    match integer_parts(text) {
+        Some(parts) => integer_by(integer_type(&parts)),
+        None => no_integer(text),
     }
 }
 
@@ -86,9 +79,9 @@ fn number_len(first: u8, rest: &[u8]) -> usize
 }
 
 /// The longest front of a text that begins as a number.
-pub fn number(text: &[u8]) -> Piece
+pub fn number(fresh: bool, text: &[u8]) -> Piece
     requires { begins_numeral text.now ≡ true }
-    ensures { IsLongest text.now (piece_of result) }
+    ensures { IsLongest fresh text.now (piece_of result) }
 {
     let len = 1 + number_len(text[0], &text[1..]);
     Piece {

@@ -1,16 +1,16 @@
 //! Operators and punctuators (2.5, 2.12).
 
-ghost use Rattle.std.specs.Prelude.{◌≡◌, ◌<◌, ◌≤◌, length, is_some, take};
+ghost use Rattle.std.specs.Prelude.{◌≡◌, ◌<◌, length};
 ghost use Rattle.cxx_model.specs.Spelling as spec;
 ghost use Rattle.cxx_model.specs.Tokens.{IsLongest};
-ghost use Rattle.cxx_tokens.specs.Pieces.{spelled_option, operator_of, operator_at, piece_of, IsOperatorText};
+ghost use Rattle.cxx_tokens.specs.Pieces.{spelled_option, operator_number, operator_of, operator_at, piece_of, IsOperatorText};
 
 use crate::piece::{Piece, Spelled};
-use crate::words::number_in;
+use crate::tables::{number_beside, number_in};
 use cxx_model::{TokenKind, TokenReason, punct};
 
 #[tactic(auto, unfolding(cxx_model::specs::Spelling::operators))]
-fn operator_number(text: &[u8]) -> Option<u8>
+fn primary_number(text: &[u8]) -> Option<u8>
     ensures { result ≡ spec.number_in spec.operators text.now }
 {
     match number_in(&punct::SPELLINGS, text) {
@@ -20,23 +20,20 @@ fn operator_number(text: &[u8]) -> Option<u8>
 }
 
 #[tactic(auto, unfolding(cxx_model::specs::Spelling::digraphs))]
-fn is_digraph(text: &[u8]) -> bool
-    ensures { result ≡ is_some (spec.number_in spec.digraphs text.now) }
+fn digraph_number(text: &[u8]) -> Option<u8>
+    ensures { result ≡ spec.number_beside spec.digraphs text.now }
 {
-    number_in(&punct::DIGRAPHS, text).is_some()
+    number_beside(&punct::DIGRAPHS, text)
 }
 
-/// The punctuators of the first form: ( ) , ; = < >
-fn is_built(number: u8) -> bool
-    ensures { result ≡ spec.is_built number }
+/// The number of an operator by either spelling.
+fn operator_number(text: &[u8]) -> Option<u8>
+    ensures { result ≡ operator_number text.now }
 {
-    number == punct::LEFT_PARENTHESIS
-        || number == punct::RIGHT_PARENTHESIS
-        || number == punct::COMMA
-        || number == punct::SEMICOLON
-        || number == punct::EQUALS
-        || number == punct::LESS
-        || number == punct::GREATER
+    match primary_number(text) {
+        Some(n) => Some(n),
+        None => digraph_number(text),
+    }
 }
 
 /// What a whole text spells as an operator. Each byte spells something by itself.
@@ -46,9 +43,8 @@ fn operator_of(text: &[u8]) -> Option<Spelled>
     ensures { spelled_option result ≡ operator_of text.now }
 {
     match operator_number(text) {
-        Some(n) if is_built(n) => Some(Spelled::Good(TokenKind::Punct(n))),
-        Some(_) => Some(Spelled::Ill(TokenReason::NotBuilt)),
-        None if is_digraph(text) || text.len() == 1 => Some(Spelled::Ill(TokenReason::NotBuilt)),
+        Some(n) => Some(Spelled::Good(TokenKind::Punct(n))),
+        None if text.len() == 1 => Some(Spelled::Ill(TokenReason::StrayByte)),
         None => None,
     }
 }
@@ -65,9 +61,9 @@ fn operator_at(text: &[u8], len: usize) -> Option<Spelled>
 }
 
 /// The longest front of a text that begins as an operator, or with a byte with which no token begins.
-pub fn operator(text: &[u8]) -> Piece
+pub fn operator(fresh: bool, text: &[u8]) -> Piece
     requires { IsOperatorText text.now }
-    ensures { IsLongest text.now (piece_of result) }
+    ensures { IsLongest fresh text.now (piece_of result) }
 {
     if let Some(spells) = operator_at(text, 3) {
         return Piece { len: 3, spells };
@@ -75,6 +71,6 @@ pub fn operator(text: &[u8]) -> Piece
     if let Some(spells) = operator_at(text, 2) {
         return Piece { len: 2, spells };
     }
-    let spells = operator_at(text, 1).unwrap_or(Spelled::Ill(TokenReason::NotBuilt));
+    let spells = operator_at(text, 1).unwrap_or(Spelled::Ill(TokenReason::StrayByte));
     Piece { len: 1, spells }
 }

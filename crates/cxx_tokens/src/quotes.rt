@@ -1,38 +1,95 @@
-//! Character literals (2.13.2).
+//! Literals in quotes (2.13.2, 2.13.4).
 
-ghost use Rattle.std.specs.Prelude.{◌≡◌, ◌==◌, true, drop};
-ghost use Rattle.cxx_model.specs.Continuing as goes;
-ghost use Rattle.cxx_model.specs.Tokens.{IsLongest};
-ghost use Rattle.cxx_tokens.specs.Pieces.{piece_of, begins_quote};
+ghost use Rattle.std.specs.Prelude.{◌≡◌, ◌==◌, ◌&&◌, not, true};
+ghost use Rattle.cxx_model.specs.Spelling as spec;
+ghost use Rattle.cxx_model.specs.Continuing.{IsLongestBy};
+ghost use Rattle.cxx_tokens.specs.Pieces.{spelled};
 
-use crate::bytes::is_plain;
+use crate::bytes::is_newline;
+use crate::letters::{any_bad, any_universal, first_letter, is_universal};
 use crate::piece::{Piece, Spelled};
 use cxx_model::{TokenKind, TokenReason};
 
-/// Whether a text goes on behind a quote with a byte that may stand between quotes, and a quote.
-fn closes(rest: &[u8]) -> bool
-    ensures { result ≡ goes.closes rest.now }
+/// What a body between single quotes spells: the first reason that holds, in their order.
+fn character_kind(wide: bool, body: &[u8]) -> Spelled
+    ensures { spelled result ≡ spec.character_by wide (spec.letters 0 body.now) }
 {
-    match rest {
-        [b, c, ..] => is_plain(*b) && *c == b'\'',
-        _ => false,
+    if body.is_empty() {
+        return Spelled::Ill(TokenReason::UnfinishedLiteral);
+    }
+    let first = first_letter(body);
+    if any_bad(wide, body) {
+        Spelled::Ill(TokenReason::BadEscape)
+    } else if first.len < body.len() {
+        Spelled::Ill(TokenReason::MultiCharacter)
+    } else if is_universal(first.is) {
+        Spelled::Ill(TokenReason::UniversalName)
+    } else {
+        Spelled::Good(TokenKind::Character)
     }
 }
 
-/// The longest front of a text that begins with a quote.
-pub fn quoted(text: &[u8]) -> Piece
-    requires { begins_quote text.now ≡ true }
-    ensures { IsLongest text.now (piece_of result) }
+/// What a body between double quotes spells.
+fn string_kind(wide: bool, body: &[u8]) -> Spelled
+    ensures { spelled result ≡ spec.string_by wide (spec.letters 0 body.now) }
 {
-    if closes(&text[1..]) {
-        Piece {
-            len: 3,
-            spells: Spelled::Good(TokenKind::Character),
-        }
+    if any_bad(wide, body) {
+        Spelled::Ill(TokenReason::BadEscape)
+    } else if any_universal(body) {
+        Spelled::Ill(TokenReason::UniversalName)
     } else {
-        Piece {
-            len: 1,
-            spells: Spelled::Ill(TokenReason::NotBuilt),
+        Spelled::Good(TokenKind::Text)
+    }
+}
+
+fn literal_kind(wide: bool, quote: u8, body: &[u8]) -> Spelled
+    ensures { spelled result ≡ spec.literal_kind wide quote body.now }
+{
+    if quote == b'\'' {
+        character_kind(wide, body)
+    } else {
+        string_kind(wide, body)
+    }
+}
+
+/// Whether a byte escapes the next one.
+fn escapes(escaped: bool, b: u8) -> bool
+    ensures { result ≡ (not escaped && b == 92) }
+{
+    !escaped && b == b'\\'
+}
+
+/// Whether a byte ends a literal with this quote.
+fn ends_literal(quote: u8, escaped: bool, b: u8) -> bool
+    ensures { result ≡ (not escaped && b == quote) }
+{
+    !escaped && b == quote
+}
+
+/// The longest front of what stands behind a quote. A newline ends no literal, and a quote ends it unless a backslash
+/// stands before it.
+pub fn literal(wide: bool, quote: u8, rest: &[u8]) -> Piece
+    requires { spec.is_quote quote ≡ true }
+    ensures { IsLongestBy (spec.literal wide quote) rest.now result.len (spelled result.spells) }
+{
+    let mut escaped = false;
+    for (i, b) in rest.iter().enumerate() {
+        if is_newline(*b) {
+            return Piece {
+                len: i,
+                spells: Spelled::Ill(TokenReason::UnfinishedLiteral),
+            };
         }
+        if ends_literal(quote, escaped, *b) {
+            return Piece {
+                len: i + 1,
+                spells: literal_kind(wide, quote, &rest[..i]),
+            };
+        }
+        escaped = escapes(escaped, *b);
+    }
+    Piece {
+        len: rest.len(),
+        spells: Spelled::Ill(TokenReason::UnfinishedLiteral),
     }
 }

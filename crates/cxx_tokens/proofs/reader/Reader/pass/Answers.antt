@@ -1,5 +1,5 @@
 use Rattle.std.proofs.Common.{take, ap, arith, length-take-le}
-use Rattle.cxx_tokens.proofs.Runs.{past_line, past_column}
+use Rattle.cxx_tokens.proofs.Pushes.{past_line, past_column}
 use Rattle.cxx_tokens.proofs.reader.Reader.pass.Goals as goal
 
 pub invariant_of-self-clause-line : goal.invariant_of-self-clause-line

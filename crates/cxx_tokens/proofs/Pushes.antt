@@ -22,9 +22,6 @@ number_rest_push first (c ∷ text) b all here =
     let parts = and_parts (number_goes_on first c) (is_number_rest c text) all in
     and_from _ _ parts.0 (number_rest_push c text b parts.1 here)
 
-pub value_after_push : (n : ℕ) (text : List ℕ) (b : ℕ) → value_after n (text ++ b ∷ []) ≡ 10 * value_after n text + (b - 48)
-value_after_push n [] b = refl
-value_after_push n (c ∷ text) b = value_after_push (10 * n + (c - 48)) text b
 
 pub past_push : (text : List ℕ) (b : ℕ) (place : Place) → past (text ++ b ∷ []) place ≡ after b (past text place)
 past_push text b place = past_append text (b ∷ []) place

@@ -1,0 +1,8 @@
+use Rattle.std.proofs.Common.{take}
+use Rattle.std.specs.Prelude.{false}
+use Rattle.cxx_model.specs.Spelling.{comment_ending}
+use Rattle.cxx_model.specs.Continuing.{Goes}
+use Rattle.cxx_tokens.proofs.comments.comment.Given as goal
+
+abbrev pub invariant-loop-i : goal.invariant-loop-i
+invariant-loop-i l = Goes (comment_ending false) (comment_ending l.star) (take l.i l.rest)

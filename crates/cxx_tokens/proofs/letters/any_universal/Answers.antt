@@ -1,0 +1,11 @@
+use Rattle.std.proofs.Common.{◌≡◌, ◌<◌, ◌≤◌, length, sym, ap, ◌∙◌, arith, false, true}
+use Rattle.cxx_tokens.proofs.Escaping.{letters_go, universal_capped}
+use Rattle.cxx_tokens.specs.Escapes.{letter_at}
+use Rattle.cxx_model.specs.Spelling.{is_universal_letter}
+use Rattle.cxx_tokens.proofs.letters.any_universal.Goals as goal
+
+pub loop-rest-preserved : goal.loop-rest-preserved
+loop-rest-preserved c =
+    let rest = c.loop-rest.rest.now in
+    let fine : is_universal_letter (letter_at rest).is ≡ false = sym (universal_capped (letter_at rest).is) ∙ ap (λ f. is_universal_letter f.is) (sym c.first_letter-found.ensures.value) ∙ sym c.is_universal.ensures ∙ c.if-is_universal.false in
+    letters_go is_universal_letter rest c.args.body.now c.first_letter-found.result.len (grind arith) (ap (λ f. f.len) c.first_letter-found.ensures.value) fine c.loop-rest.invariant
