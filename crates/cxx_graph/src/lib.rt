@@ -1,0 +1,7 @@
+//! The facts of a unit in their order, and the classes that were reserved for them.
+#![tactic(auto)]
+
+mod graph;
+pub mod laws;
+
+pub use graph::{AddFault, Graph};
