@@ -107,7 +107,8 @@ impl Graph {
         let ended = ended_by(&fact.what);
         self.facts.push(fact)?;
         if let Some(class) = ended {
-            self.completed[class.0 as usize] = true;
+            let class = class.0 as usize;
+            self.completed[class] = true;
         }
         Ok(FactId(number))
     }

@@ -3,5 +3,7 @@
 
 mod graph;
 pub mod laws;
+#[cfg(test)]
+mod tests;
 
 pub use graph::{AddFault, Graph};
