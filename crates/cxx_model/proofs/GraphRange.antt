@@ -11,3 +11,11 @@ one-more graph before (x ∷ xs) fact each ok =
 
 pub appended-in-range : (graph : Graph) (fact : Fact) → InRange graph → MayFollow graph fact → InRange (appended graph fact)
 appended-in-range graph fact ok next = record { facts = one-more graph [] graph.facts fact ok.facts next; classes = ok.classes }
+
+follows-last : (graph : Graph) (before facts : List Fact) (fact : Fact) → EachMayFollow graph before (facts ++ fact ∷ []) → MayFollow (record graph { facts = before ++ facts }) fact
+follows-last graph before [] fact each = subst (λ (fs : List Fact). MayFollow (record graph { facts = fs }) fact) (sym (append-nil before)) each.0
+follows-last graph before (x ∷ xs) fact each =
+    subst (λ (fs : List Fact). MayFollow (record graph { facts = fs }) fact) (append_assoc before (x ∷ []) xs) (follows-last graph (before ++ x ∷ []) xs fact each.1)
+
+pub may-follow : (graph : Graph) (fact : Fact) → InRange (appended graph fact) → MayFollow graph fact
+may-follow graph fact ok = follows-last graph [] graph.facts fact ok.facts

@@ -44,7 +44,8 @@ scopes facts = count is_scope facts
 abbrev pub enumerations : List Fact → ℕ
 enumerations facts = count is_enumeration facts
 
-abbrev completes : ℕ → Fact → Bool
+-- 9.2: whether a fact is the end of a class
+abbrev pub completes : ℕ → Fact → Bool
 completes n fact = test fact.what
   where
     test : Entity → Bool
@@ -98,7 +99,7 @@ IsScopeInRange graph fact None kind = ⊥
 IsScopeInRange graph fact (Some parent) kind = (parent ≡ fact.scope) × IsKindInRange graph kind
 
 -- What an entity names is there: a fact, a scope, a template and an enumeration earlier, a class reserved.
-abbrev IsEntityInRange : Graph → Fact → Entity → Type 0
+abbrev pub IsEntityInRange : Graph → Fact → Entity → Type 0
 IsEntityInRange graph fact (entity.Scope parent kind) = IsScopeInRange graph fact parent kind
 IsEntityInRange graph fact (entity.Object _ _ _ first) = IsEarlier graph.facts is_object fact first
 IsEntityInRange graph fact (entity.Function _ _ _ _ first) = IsEarlier graph.facts is_function fact first
