@@ -3,7 +3,7 @@ use Rattle.std.proofs.Common.{◌≡◌, ◌≤◌, ◌<◌, ℕ, zero, suc, ◌
 use Rattle.std.proofs.lemmas.Bool.{cases_lt, cases_Bool, lt-leb}
 use Rattle.std.proofs.Math.Nat.{mul-le-mul, mul-le-mul_left}
 use Rattle.cxx_model.specs.declared.base.Base.{Base}
-use Rattle.cxx_model.specs.declared.base.Base.TheVariants.{Int, Unsigned, Long, UnsignedLong, Bool as BoolType, Char, WideChar, SignedChar, UnsignedChar, Short, UnsignedShort, Float, Double, LongDouble}
+use Rattle.cxx_model.specs.declared.base.Base.TheVariants.{Int, Unsigned, Long, UnsignedLong, Bool as BoolType, Char, WideChar, SignedChar, UnsignedChar, Short, UnsignedShort, Float, Double, LongDouble, Void}
 use Rattle.cxx_model.specs.Spelling.{Spelled, type_of_parts, integer_by, number_by, number_kind, is_floating, digit_value, value_after, IntegerParts, with_suffix, is_u, is_l, integer_parts, integer_type, integer_types, first_holding, most_of}
 use Rattle.cxx_tokens.specs.Pieces.{capped_parts, capped_option}
 
@@ -65,6 +65,7 @@ most_fits UnsignedShort = omega arith
 most_fits Float = omega arith
 most_fits Double = omega arith
 most_fits LongDouble = omega arith
+most_fits Void = omega arith
 
 holding_capped : (value : ℕ) (types : List Base) → first_holding (min value (2 ^ 64)) types ≡ first_holding value types
 holding_capped value [] = refl
