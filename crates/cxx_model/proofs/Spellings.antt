@@ -131,10 +131,10 @@ longest_under rule later w tail n spells same h = record {
   fits = omega (arith, length-append w tail, h.fits);
   spelled = ap rule (take_from w tail n) ∙ same n (omega arith) h.fits ∙ h.spelled;
   longest = λ m low high.
-    let k : ℕ = m - length w in
-    let e : m ≡ length w + k = omega arith in
-    let fits : k ≤ length tail = omega (arith, length-append w tail) in
-    ap (λ j. rule (take j (w ++ tail))) e ∙ ap rule (take_from w tail k) ∙ same k (omega arith) fits ∙ h.longest k (omega arith) fits;
+      let k : ℕ = m - length w in
+      let e : m ≡ length w + k = omega arith in
+      let fits : k ≤ length tail = omega (arith, length-append w tail) in
+      ap (λ j. rule (take j (w ++ tail))) e ∙ ap rule (take_from w tail k) ∙ same k (omega arith) fits ∙ h.longest k (omega arith) fits;
 }
 
 pub longest_of : (fresh : Bool) (text : List ℕ) (len : ℕ) (spells : Spelled) → 0 < len → IsLongestBy (spelling_of fresh) text len spells → IsLongest fresh text (record { len = len; spells = spells })
@@ -316,16 +316,17 @@ literal_open wide quote escaped done tail goes ends = record {
   fits = omega (arith, length-append done tail);
   spelled = ap (literal wide quote) (take-append_seam done tail) ∙ literal_is_open wide quote done (ap (literal_ending quote false) (sym (append-nil done)) ∙ goes []);
   longest = λ m low high.
-    let k : ℕ = m - length done in
-    let e : m ≡ length done + k = omega arith in
-    let fits : k ≤ length tail = omega (arith, length-append done tail) in
-    let some : 0 < k = omega arith in
-    literal_past wide quote (take m (done ++ tail)) (ap (λ j. literal_ending quote false (take j (done ++ tail))) e ∙ ap (literal_ending quote false) (take_from done tail k) ∙ goes (take k tail) ∙ none_behind tail k ends some fits);
+      let k : ℕ = m - length done in
+      let e : m ≡ length done + k = omega arith in
+      let fits : k ≤ length tail = omega (arith, length-append done tail) in
+      let some : 0 < k = omega arith in
+      literal_past wide quote (take m (done ++ tail)) (ap (λ j. literal_ending quote false (take j (done ++ tail))) e ∙ ap (literal_ending quote false) (take_from done tail k) ∙ goes (take k tail) ∙ none_behind tail k ends some fits);
 }
   where
     behind_newline : (tail rest : List ℕ) (k : ℕ) → tail ≡ 10 ∷ rest → 0 < k → literal_ending quote escaped (take k tail) ≡ Past
     behind_newline tail rest zero e low = absurd (omega arith)
     behind_newline tail rest (suc k) e low = ap (λ t. literal_ending quote escaped (take (suc k) t)) e ∙ newline_ends quote escaped (take k rest)
+
     none_behind : (tail : List ℕ) (k : ℕ) → ((tail ≡ []) ⊎ ((rest : List ℕ) × (tail ≡ 10 ∷ rest))) → 0 < k → k ≤ length tail → literal_ending quote escaped (take k tail) ≡ Past
     none_behind tail k (inl e) low high = let none : length tail ≡ 0 = ap length e in absurd (omega arith)
     none_behind tail k (inr e) low high = behind_newline tail e.0 k e.1 low
@@ -345,16 +346,17 @@ line_longest done tail line ends = record {
   fits = omega (arith, length-append done tail);
   spelled = ap within_line (take-append_seam done tail) ∙ ap (λ c. cond c None (Some Blank)) line;
   longest = λ m low high.
-    let k : ℕ = m - length done in
-    let e : m ≡ length done + k = omega arith in
-    let fits : k ≤ length tail = omega (arith, length-append done tail) in
-    let some : 0 < k = omega arith in
-    ap (λ j. within_line (take j (done ++ tail))) e ∙ ap within_line (take_from done tail k) ∙ within_line_append done (take k tail) line ∙ none_behind tail k ends some fits;
+      let k : ℕ = m - length done in
+      let e : m ≡ length done + k = omega arith in
+      let fits : k ≤ length tail = omega (arith, length-append done tail) in
+      let some : 0 < k = omega arith in
+      ap (λ j. within_line (take j (done ++ tail))) e ∙ ap within_line (take_from done tail k) ∙ within_line_append done (take k tail) line ∙ none_behind tail k ends some fits;
 }
   where
     behind_newline : (tail rest : List ℕ) (k : ℕ) → tail ≡ 10 ∷ rest → 0 < k → within_line (take k tail) ≡ None
     behind_newline tail rest zero e low = absurd (omega arith)
     behind_newline tail rest (suc k) e low = ap (λ t. within_line (take (suc k) t)) e
+
     none_behind : (tail : List ℕ) (k : ℕ) → ((tail ≡ []) ⊎ ((rest : List ℕ) × (tail ≡ 10 ∷ rest))) → 0 < k → k ≤ length tail → within_line (take k tail) ≡ None
     none_behind tail k (inl e) low high = let none : length tail ≡ 0 = ap length e in absurd (omega arith)
     none_behind tail k (inr e) low high = behind_newline tail e.0 k e.1 low
@@ -405,6 +407,7 @@ number_gives text = by (integer_parts text) (is_floating text)
     typed : (type : Option Base) → gives_literal (Some (integer_by type)) ≡ false
     typed (Some type) = refl
     typed None = refl
+
     by : (parts : Option IntegerParts) (floats : Bool) → gives_literal (Some (number_by parts floats)) ≡ false
     by (Some parts) floats = typed (integer_type parts)
     by None true = refl

@@ -103,6 +103,7 @@ bad_capped wide (Value value) = by wide
         (λ (more : most < value). let one : most < min value (2 ^ 64) = omega arith in lt-ltb most (min value (2 ^ 64)) one ∙ sym (lt-ltb most value more))
         (λ (less : value ≤ most). let one = le-ltb most value less in let e : min value (2 ^ 64) ≡ value = omega arith in ap (nat_lt most) e)
         (cases_lt most value)
+
     by : (w : Bool) → nat_lt (most_value w) (min value (2 ^ 64)) ≡ nat_lt (most_value w) value
     by true = at_most 4294967295 (omega arith)
     by false = at_most 255 (omega arith)

@@ -113,8 +113,10 @@ marker_is_none text word c tail all other marks = rest word all marks refl
     by true named whole d n w = absurd cc
     by false true whole d n w = absurd cc
     by false false true d n w = absurd cc
+
     no_digit : (c : ℕ) → is_word c ≡ false → is_ascii_digit c ≡ false
     no_digit c h = grind (arith, nat_tests)
+
     rest : (w : List ℕ) → list_all is_word w ≡ true → makes_marker w ≡ false → w ≡ word → marker_by text (w ++ c ∷ tail) ≡ None
     rest [] all marks e = by (is_ascii_digit c) (is_marker_word (take_while is_word (c ∷ tail))) (list_all is_word (c ∷ tail)) (no_digit c other) (ap is_marker_word (word_taken [] (c ∷ tail) refl other)) (and_left _ _ other)
     rest (b ∷ w) all marks e =
@@ -136,14 +138,14 @@ directive_behind : (blanks word tail : List ℕ) → list_all is_blank blanks �
 directive_behind blanks word tail white all ends black marks = record {
   fits = omega (arith, length-append blanks (word ++ tail), length-append word tail);
   spelled =
-    ap (hash true) (take_from blanks (word ++ tail) (length word)) ∙ ap (λ t. hash true (blanks ++ t)) (take_seam word tail ∙ sym (append-nil word))
-    ∙ hash_is blanks word [] white (no_blank word tail all black 0) ∙ marker_is_directive (blanks ++ (word ++ [])) word all marks;
+      ap (hash true) (take_from blanks (word ++ tail) (length word)) ∙ ap (λ t. hash true (blanks ++ t)) (take_seam word tail ∙ sym (append-nil word))
+      ∙ hash_is blanks word [] white (no_blank word tail all black 0) ∙ marker_is_directive (blanks ++ (word ++ [])) word all marks;
   longest = λ m low high.
-    let j : ℕ = m - length blanks - length word in
-    let e : m ≡ length blanks + (length word + j) = omega arith in
-    let fits : j ≤ length tail = omega (arith, length-append blanks (word ++ tail), length-append word tail) in
-    ap (λ n. hash true (take n (blanks ++ (word ++ tail)))) e ∙ ap (hash true) (take_from blanks (word ++ tail) (length word + j)) ∙ ap (λ t. hash true (blanks ++ t)) (take_from word tail j)
-    ∙ hash_is blanks word (take j tail) white (no_blank word tail all black j) ∙ nothing (blanks ++ (word ++ take j tail)) tail j ends (omega arith) fits;
+      let j : ℕ = m - length blanks - length word in
+      let e : m ≡ length blanks + (length word + j) = omega arith in
+      let fits : j ≤ length tail = omega (arith, length-append blanks (word ++ tail), length-append word tail) in
+      ap (λ n. hash true (take n (blanks ++ (word ++ tail)))) e ∙ ap (hash true) (take_from blanks (word ++ tail) (length word + j)) ∙ ap (λ t. hash true (blanks ++ t)) (take_from word tail j)
+      ∙ hash_is blanks word (take j tail) white (no_blank word tail all black j) ∙ nothing (blanks ++ (word ++ take j tail)) tail j ends (omega arith) fits;
 }
   where
     nothing : (text tail : List ℕ) (j : ℕ) → starts is_word tail ≡ false → 0 < j → j ≤ length tail → marker_by text (word ++ take j tail) ≡ None

@@ -318,8 +318,14 @@ not_equal b c h = ⊎_elim (λ (yes_it : (b == c) ≡ true). absurd (h (eqb-true
 pub plain_operator : (text : List ℕ) → IsOtherText text → (get_or text 0 0 ≡ 35 → ⊥) → (get_or text 0 0 ≡ 47 → ⊥) → (get_or text 0 0 ≡ 92 → ⊥) → (get_or text 0 0 ≡ 37 → ⊥) → IsOperatorText text
 plain_operator [] other hash slash back percent = absurd other
 plain_operator (b ∷ rest) other hash slash back percent = record {
-  black = other.black; no_word = other.no_word; no_number = other.no_number; no_quote = other.no_quote;
-  no_hash = not_equal b 35 hash; no_comment = and_left (b == 47) _ (not_equal b 47 slash); no_backslash = not_equal b 92 back; no_directive = and_left (b == 37) _ (not_equal b 37 percent);
+  black = other.black;
+  no_word = other.no_word;
+  no_number = other.no_number;
+  no_quote = other.no_quote;
+  no_hash = not_equal b 35 hash;
+  no_comment = and_left (b == 47) _ (not_equal b 47 slash);
+  no_backslash = not_equal b 92 back;
+  no_directive = and_left (b == 37) _ (not_equal b 37 percent);
 }
 
 slash_record : (rest : List ℕ) → starts begins_comment rest ≡ false → BeginsOperator 47 rest

@@ -22,7 +22,6 @@ number_rest_push first (c ∷ text) b all here =
     let parts = and_parts (number_goes_on first c) (is_number_rest c text) all in
     and_from _ _ parts.0 (number_rest_push c text b parts.1 here)
 
-
 pub past_push : (text : List ℕ) (b : ℕ) (place : Place) → past (text ++ b ∷ []) place ≡ after b (past text place)
 past_push text b place = past_append text (b ∷ []) place
 

@@ -95,7 +95,6 @@ unfolding percent
 percent_counts [] = operator_counts 37 []
 percent_counts (b ∷ rest) = neither_counts (b == 58) _ _ (alone_counts rest reason.Directive) (operator_counts 37 (b ∷ rest))
 
-
 character_counts : (wide : Bool) (all : List Letter) → gives_integer (Some (character_by wide all)) ≡ false
 character_counts wide [] = refl
 character_counts wide (c ∷ []) = by (is_bad_letter wide c) (is_universal_letter c)
@@ -125,6 +124,7 @@ literal_counts wide quote rest = by (literal_ending quote false rest)
     kind : (single : Bool) → gives_integer (Some (cond single (character_by wide (letters 0 (body_of rest))) (string_by wide (letters 0 (body_of rest))))) ≡ false
     kind true = character_counts wide (letters 0 (body_of rest))
     kind false = string_counts wide (letters 0 (body_of rest))
+
     by : (ending : Ending) → gives_integer (literal_by wide quote rest ending) ≡ false
     by Open = refl
     by Closed = kind (quote == 39)

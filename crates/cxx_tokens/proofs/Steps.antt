@@ -41,6 +41,7 @@ put_twice last token (Ok (next ∷ tokens)) h k = by (is_text next.kind)
     by_kinds true true false e f g a b = rw (e, f, g) (rw (e, f) refl)
     by_kinds false t n e f g a b = absurd cc
     by_kinds true false n e f g a b = absurd cc
+
     by : (n : Bool) → put (whole_of last token) (Ok (next ∷ tokens)) ≡ put last (put token (Ok (next ∷ tokens)))
     by n = ap (λ l. Ok l) (by_kinds (is_text last.kind) (is_text token.kind) (is_text next.kind) refl refl refl h k)
 

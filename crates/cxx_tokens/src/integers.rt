@@ -124,7 +124,11 @@ fn most_of(kind: Base) -> u128
 fn holding(value: u128, kind: Base) -> Option<Base>
     ensures { result ≡ spec.first_holding value (kind ∷ []) }
 {
-    if value <= most_of(kind) { Some(kind) } else { None }
+    if value <= most_of(kind) {
+        Some(kind)
+    } else {
+        None
+    }
 }
 
 /// The first of two types that holds the value.
