@@ -100,7 +100,7 @@ fn counts_lines_by_newlines_alone(rt: HostRuntime) {
 }
 
 /// The column and the reason of the first bad place, on the first line.
-static BAD: [(&[u8], u32, TokenReason); 34] = [
+static BAD: [(&[u8], u32, TokenReason); 119] = [
     (b"@", 1, TokenReason::StrayByte),
     (b"a \\ b", 3, TokenReason::StrayByte),
     (b"\xc8", 1, TokenReason::StrayByte),
@@ -135,6 +135,91 @@ static BAD: [(&[u8], u32, TokenReason); 34] = [
     (b"\\u0041", 1, TokenReason::UniversalName),
     (b"'\\u0041'", 1, TokenReason::UniversalName),
     (b"\"\\U00000041\"", 1, TokenReason::UniversalName),
+    (b"$", 1, TokenReason::StrayByte),
+    (b"`", 1, TokenReason::StrayByte),
+    (b"\x00", 1, TokenReason::StrayByte),
+    (b"a\x7f", 2, TokenReason::StrayByte),
+    (b"a \\\n", 3, TokenReason::StrayByte),
+    (b"/* *", 1, TokenReason::UnfinishedComment),
+    (b"/* * /", 1, TokenReason::UnfinishedComment),
+    (b"'", 1, TokenReason::UnfinishedLiteral),
+    (b"'\\", 1, TokenReason::UnfinishedLiteral),
+    (b"'\\'", 1, TokenReason::UnfinishedLiteral),
+    (b"\"", 1, TokenReason::UnfinishedLiteral),
+    (b"\"a\\\"", 1, TokenReason::UnfinishedLiteral),
+    (b"L\"", 1, TokenReason::UnfinishedLiteral),
+    (b"L''", 1, TokenReason::UnfinishedLiteral),
+    (b"'a\n'", 1, TokenReason::UnfinishedLiteral),
+    (b"x = 'a", 5, TokenReason::UnfinishedLiteral),
+    (b"\"a\" \"b", 5, TokenReason::UnfinishedLiteral),
+    (b"'\\8'", 1, TokenReason::BadEscape),
+    (b"'\\z'", 1, TokenReason::BadEscape),
+    (b"'\\ '", 1, TokenReason::BadEscape),
+    (b"'\\777'", 1, TokenReason::BadEscape),
+    (b"'\\xfff'", 1, TokenReason::BadEscape),
+    (b"\"a\\q\"", 1, TokenReason::BadEscape),
+    (b"\"\\x\"", 1, TokenReason::BadEscape),
+    (b"L'\\q'", 1, TokenReason::BadEscape),
+    (b"\"a\" \"\\q\"", 5, TokenReason::BadEscape),
+    (b"\"a\" L\"\\q\"", 5, TokenReason::BadEscape),
+    (b"'\\400ab'", 1, TokenReason::BadEscape),
+    (b"'\\q\\u0041'", 1, TokenReason::BadEscape),
+    (b"L'\\x1ffffffff'", 1, TokenReason::BadEscape),
+    (b"09", 1, TokenReason::BadNumber),
+    (b"0b1", 1, TokenReason::BadNumber),
+    (b"0x1g", 1, TokenReason::BadNumber),
+    (b"12ab", 1, TokenReason::BadNumber),
+    (b"1_0", 1, TokenReason::BadNumber),
+    (b"1ll", 1, TokenReason::BadNumber),
+    (b"1uu", 1, TokenReason::BadNumber),
+    (b"1ulu", 1, TokenReason::BadNumber),
+    (b"1..2", 1, TokenReason::BadNumber),
+    (b"1f", 1, TokenReason::BadNumber),
+    (b"1.5u", 1, TokenReason::BadNumber),
+    (b"0x1p3", 1, TokenReason::BadNumber),
+    (b"1.2.3", 1, TokenReason::BadNumber),
+    (b"1e+", 1, TokenReason::BadNumber),
+    (b"1.e5.x", 1, TokenReason::BadNumber),
+    (b"0x1e+1", 1, TokenReason::BadNumber),
+    (b"1.x", 1, TokenReason::BadNumber),
+    (b"08u", 1, TokenReason::BadNumber),
+    (b"99999999999999999999", 1, TokenReason::NumberTooLarge),
+    (b"0x10000000000000000", 1, TokenReason::NumberTooLarge),
+    (b"02000000000000000000000", 1, TokenReason::NumberTooLarge),
+    (b"18446744073709551616ul", 1, TokenReason::NumberTooLarge),
+    (b"#", 1, TokenReason::Directive),
+    (b"# ", 1, TokenReason::Directive),
+    (b"#\n", 1, TokenReason::Directive),
+    (b"##", 1, TokenReason::Directive),
+    (b"#if 1", 1, TokenReason::Directive),
+    (b"# lineage", 1, TokenReason::Directive),
+    (b"#pragmatic", 1, TokenReason::Directive),
+    (b"#Line 1", 1, TokenReason::Directive),
+    (b"#\"a\"", 1, TokenReason::Directive),
+    (b"/**/ # 1", 6, TokenReason::Directive),
+    (b"x # 1", 3, TokenReason::Directive),
+    (b"\x0b# 1", 2, TokenReason::Directive),
+    (b"a %:b", 3, TokenReason::Directive),
+    (b"%:%:", 1, TokenReason::Directive),
+    (b"\"a\" \"b\" L\"c\"", 9, TokenReason::MixedStrings),
+    (b"\"a\" L\"\\u0041\"", 5, TokenReason::MixedStrings),
+    (b"1.", 1, TokenReason::FloatingLiteral),
+    (b"1.f", 1, TokenReason::FloatingLiteral),
+    (b"1e5L", 1, TokenReason::FloatingLiteral),
+    (b"08.5", 1, TokenReason::FloatingLiteral),
+    (b"08e1", 1, TokenReason::FloatingLiteral),
+    (b"x=.5", 3, TokenReason::FloatingLiteral),
+    (b"1.5E-10F", 1, TokenReason::FloatingLiteral),
+    (b"L'ab'", 1, TokenReason::MultiCharacter),
+    (b"'a\\n'", 1, TokenReason::MultiCharacter),
+    (b"'\\1234'", 1, TokenReason::MultiCharacter),
+    (b"'\\u0041b'", 1, TokenReason::MultiCharacter),
+    (b"'\xc3\xa9'", 1, TokenReason::MultiCharacter),
+    (b"\\U", 1, TokenReason::UniversalName),
+    (b"a\\u0041", 2, TokenReason::UniversalName),
+    (b"L'\\u41'", 1, TokenReason::UniversalName),
+    (b"\"a\\u0041\"", 1, TokenReason::UniversalName),
+    (b"'\\u'", 1, TokenReason::UniversalName),
 ];
 
 #[test]
@@ -151,49 +236,204 @@ fn stops_at_what_is_no_token(rt: HostRuntime) {
     }
 }
 
-/// How many tokens a text has, the end counted.
-static GOOD: [(&[u8], usize); 34] = [
-    (b"9223372036854775807", 2),
-    (b"18446744073709551615u", 2),
-    (b"0x7fffffffUL", 2),
-    (b"0", 2),
-    (b"017", 2),
-    (b"'\"'", 2),
-    (b"'\\''", 2),
-    (b"'\\377'", 2),
-    (b"'\\xff'", 2),
-    (b"L'\\xffffffff'", 2),
-    (b"\"\"", 2),
-    (b"\"a\" \"b\"\n\"c\"", 2),
-    (b"\"a\" /* x */ \"b\" ;", 3),
-    (b"L\"a\" L\"b\"", 2),
-    (b"L", 2),
-    (b"LL()", 4),
-    (b"android", 2),
-    (b"and or not", 4),
-    (b"_int int_ int", 4),
-    (b">>=", 2),
-    (b">>>", 3),
-    (b"...", 2),
-    (b"..", 3),
-    (b"->*", 2),
-    (b"<:>", 3),
-    (b"a+++b", 5),
-    (b"x//y\nz", 3),
-    (b"x/**/y", 3),
-    (b"x/***/y", 3),
-    (b"# 1 \"a\"\nx", 2),
-    (b"#line 1\nx", 2),
-    (b"  #pragma x y\nz", 2),
-    (b"a'b'c", 4),
-    (b"=;=", 4),
+/// A letter for each kind of token.
+fn letter(kind: TokenKind) -> u8 {
+    match kind {
+        TokenKind::Name => b'n',
+        TokenKind::Keyword(_) => b'k',
+        TokenKind::Punct(_) => b'p',
+        TokenKind::Integer => b'i',
+        TokenKind::Character => b'c',
+        TokenKind::Text => b's',
+        TokenKind::End => b'.',
+    }
+}
+
+/// Whether the tokens of a text are of these kinds.
+fn are_kinds(alloc: Global, text: &[u8], wanted: &[u8]) -> bool {
+    if text.len() >= MOST {
+        return false;
+    }
+    match tokens(alloc, text) {
+        Ok(list) => {
+            list.len() == wanted.len()
+                && list
+                    .iter()
+                    .zip(wanted)
+                    .all(|(token, kind)| letter(token.kind) == *kind)
+        }
+        Err(_) => false,
+    }
+}
+
+/// A text, and the kinds of its tokens, the end among them.
+type Row = (&'static [u8], &'static [u8]);
+
+static NUMBERS_AND_CHARACTERS: [Row; 35] = [
+    (b"9223372036854775807", b"i."),
+    (b"18446744073709551615u", b"i."),
+    (b"0x7fffffffUL", b"i."),
+    (b"0", b"i."),
+    (b"017", b"i."),
+    (b"00", b"i."),
+    (b"0xFF", b"i."),
+    (b"0Xabcdef", b"i."),
+    (b"1l", b"i."),
+    (b"1L", b"i."),
+    (b"1lu", b"i."),
+    (b"1uL", b"i."),
+    (b"1LU", b"i."),
+    (b"1Ul", b"i."),
+    (b"077777777777u", b"i."),
+    (b"'\"'", b"c."),
+    (b"'\\''", b"c."),
+    (b"'\\\\'", b"c."),
+    (b"'\\?'", b"c."),
+    (b"'\\\"'", b"c."),
+    (b"'\\n'", b"c."),
+    (b"'\\r'", b"c."),
+    (b"'\\t'", b"c."),
+    (b"'\\v'", b"c."),
+    (b"'\\f'", b"c."),
+    (b"'\\0'", b"c."),
+    (b"'\\12'", b"c."),
+    (b"'\\377'", b"c."),
+    (b"'\\xff'", b"c."),
+    (b"'\\x0000041'", b"c."),
+    (b"L'a'", b"c."),
+    (b"L'\\xffffffff'", b"c."),
+    (b"L'\\777'", b"c."),
+    (b"\"\"", b"s."),
+    (b"\"a\"", b"s."),
 ];
 
-#[test]
-fn counts_good_tokens(rt: HostRuntime) {
-    for (text, wanted) in &GOOD {
-        assert_eq!(rt; count(rt.alloc(), text), Some(*wanted), "{text:?}");
+static STRINGS_AND_WORDS: [Row; 35] = [
+    (b"\"\\\"\"", b"s."),
+    (b"\"\\\\\"", b"s."),
+    (b"\"'\"", b"s."),
+    (b"\"\\x41\\101\"", b"s."),
+    (b"L\"\"", b"s."),
+    (b"L\"a\"", b"s."),
+    (b"\"a\" \"b\"", b"s."),
+    (b"\"a\"\"b\"\"c\"", b"s."),
+    (b"\"a\" /* x */ \"b\" ;", b"sp."),
+    (b"\"a\" // x", b"s."),
+    (b"L\"a\" L\"b\"", b"s."),
+    (b"\"a\" x \"b\"", b"sns."),
+    (b"L", b"n."),
+    (b"LL()", b"npp."),
+    (b"L L", b"nn."),
+    (b"Lx'a'", b"nc."),
+    (b"android", b"n."),
+    (b"and or not", b"ppp."),
+    (b"and_eq or_eq xor_eq not_eq", b"pppp."),
+    (b"bitand bitor compl xor", b"pppp."),
+    (b"andx nota", b"nn."),
+    (b"_int int_ int", b"nnk."),
+    (b"__x x__ _ __", b"nnnn."),
+    (b"if else while for", b"kkkk."),
+    (b"wchar_t bool true false", b"kkkk."),
+    (b"static_cast<int>(x)", b"kpkppnp."),
+    (b"typename typeid template", b"kkk."),
+    (b">>=", b"p."),
+    (b"<<=", b"p."),
+    (b">>>", b"pp."),
+    (b"<<<", b"pp."),
+    (b"->*", b"p."),
+    (b"->", b"p."),
+    (b"-->", b"pp."),
+    (b".*", b"p."),
+];
+
+static OPERATORS: [Row; 35] = [
+    (b".x", b"pn."),
+    (b"...", b"p."),
+    (b"..", b"pp."),
+    (b"....", b"pp."),
+    (b"::", b"p."),
+    (b":::", b"pp."),
+    (b"<:", b"p."),
+    (b":>", b"p."),
+    (b"<%", b"p."),
+    (b"%>", b"p."),
+    (b"<:>", b"pp."),
+    (b"<::", b"pp."),
+    (b"{}", b"pp."),
+    (b"[]", b"pp."),
+    (b"()", b"pp."),
+    (b";,", b"pp."),
+    (b"+ += ++", b"ppp."),
+    (b"- -= --", b"ppp."),
+    (b"* *=", b"pp."),
+    (b"/ /=", b"pp."),
+    (b"% %=", b"pp."),
+    (b"^ ^=", b"pp."),
+    (b"& &= &&", b"ppp."),
+    (b"| |= ||", b"ppp."),
+    (b"~ !", b"pp."),
+    (b"= == !=", b"ppp."),
+    (b"< <= > >=", b"pppp."),
+    (b"?:", b"pp."),
+    (b"a+++b", b"nppn."),
+    (b"a---b", b"nppn."),
+    (b"x=-1", b"nppi."),
+    (b"1+1", b"ipi."),
+    (b"1-1", b"ipi."),
+    (b"x//y", b"n."),
+    (b"x/**/y", b"nn."),
+];
+
+static TEXTS: [Row; 33] = [
+    (b"x/***/y", b"nn."),
+    (b"x/* // */y", b"nn."),
+    (b"x/*\"*/y", b"nn."),
+    (b"a'b'c", b"ncn."),
+    (b"=;=", b"ppp."),
+    (b"a.b->c", b"npnpn."),
+    (b"a<b>c", b"npnpn."),
+    (b"a<:0:>", b"npip."),
+    (b"\"a\"'b'", b"sc."),
+    (b"1'a'", b"ic."),
+    (b"x\"a\"", b"ns."),
+    (b"sizeof(int)", b"kpkp."),
+    (b"operator new delete", b"kkk."),
+    (b"0;", b"ip."),
+    (b"(1,2)", b"pipip."),
+    (b"a ? b : c", b"npnpn."),
+    (b"a%b", b"npn."),
+    (b"a&b", b"npn."),
+    (b"!a", b"pn."),
+    (b"# 1 \"a\"\nx", b"n."),
+    (b"#line 1\nx", b"n."),
+    (b"  #pragma x y\nz", b"n."),
+    (b"\t# 7\n;", b"p."),
+    (b"#pragma\n", b"."),
+    (b"x\n#1\ny", b"nn."),
+    (b"x\n # line 'q /* \"\ny", b"nn."),
+    (b"\n\n", b"."),
+    (b"/* a\nb */ x", b"n."),
+    (b"// a\n// b\nx", b"n."),
+    (b"\"a\"\n# 1 \"f\"\n\"b\"", b"s."),
+    (b"a\tb\x0bc\x0cd\re", b"nnnnn."),
+    (b"'a' 'b'", b"cc."),
+    (b"L'a'L'b'", b"cc."),
+];
+
+fn each_is_of_its_kinds(alloc: Global, rows: &[Row]) -> bool {
+    for (text, wanted) in rows {
+        if !are_kinds(alloc, text, wanted) {
+            return false;
+        }
     }
+    true
+}
+
+#[test]
+fn tells_the_kinds_of_tokens(rt: HostRuntime) {
+    assert!(rt; each_is_of_its_kinds(rt.alloc(), &NUMBERS_AND_CHARACTERS));
+    assert!(rt; each_is_of_its_kinds(rt.alloc(), &STRINGS_AND_WORDS));
+    assert!(rt; each_is_of_its_kinds(rt.alloc(), &OPERATORS));
+    assert!(rt; each_is_of_its_kinds(rt.alloc(), &TEXTS));
 }
 
 #[test]
