@@ -2,7 +2,7 @@
 ghost use Rattle.std.specs.Prelude.{◌≡◌, ◌<◌, length, IfOk};
 ghost use Rattle.cxx_model.specs.declared.types.Cv.{Cv};
 ghost use Rattle.cxx_model.specs.Types.{CxxType, IsNormal, Similar, adjusted, is_adjusted, merged, normal, unqualified, with_cv};
-ghost use Rattle.cxx_model.specs.TypeTrees.{IsTreeBelow};
+ghost use Rattle.cxx_model.specs.TypeTrees.{type_at, tree_at, IsTreeBelow};
 ghost use Rattle.std.specs.Prelude.{IsTrue};
 
 use crate::table::TypeTable;
@@ -37,7 +37,8 @@ pub fn interned_twice(
     tree: &TypeTree,
 ) -> Result<(TypeId, TypeId), OutOfMemory>
     requires { IsTreeBelow (length table.old) tree.now }
-    ensures { IfOk result (λ both. both.0 ≡ both.1) }
+    ensures same { IfOk result (λ both. both.0 ≡ both.1) }
+    ensures is { IfOk result (λ both. type_at table.new both.0.0 ≡ normal (tree_at table.old tree.now)) }
 {
     let one = table.intern(tree)?;
     let two = table.intern(tree)?;
