@@ -1,14 +1,14 @@
 -- The characters of a literal, one at a time.
-use Rattle.std.proofs.Common.{◌≡◌, ◌≤◌, ◌<◌, ℕ, zero, suc, ◌+◌, ◌-◌, ◌^◌, min, Bool, true, false, cond, ◌==◌, ◌&&◌, ◌||◌, nat_le, nat_lt, List, [], ◌∷◌, ◌++◌, length, get_or, take, drop, Option, Some, None, refl, sym, ap, ◌∙◌, subst, ⊎_elim, arith, eqb-true, drop-drop, length-drop, lt-ltb, le-ltb, IsSome}
-use Rattle.std.proofs.lemmas.Bool.{cases_lt, cases_Bool, or_parts, or_from, both_ways}
+use Rattle.std.proofs.Common.{◌≡◌, ◌≤◌, ◌<◌, ℕ, zero, suc, ◌-◌, ◌^◌, min, Bool, true, false, cond, ◌==◌, ◌||◌, nat_lt, List, [], ◌∷◌, length, get_or, take, drop, Option, Some, None, refl, sym, ap, ◌∙◌, ⊎_elim, arith, length-drop, lt-ltb, le-ltb}
+use Rattle.std.proofs.lemmas.Bool.{cases_lt, or_parts}
 use Rattle.std.proofs.lemmas.List.{take_rest, drop_all}
 use Rattle.std.proofs.lemmas.List.Sums.{prefix_len-le-length}
 use Rattle.std.specs.List.{list_any, prefix_len}
 use Rattle.std.specs.Char.{is_ascii_hexdigit}
 use Rattle.cxx_model.specs.declared.token.TokenReason.TheVariants as reason
 use Rattle.cxx_model.specs.declared.token.TokenKind.TheVariants.{Character}
-use Rattle.cxx_model.specs.Spelling.{Spelled, Good, Ill, Letter, Value, Unknown, Universal, Escape, escape, escape_by, simple_escape, octal_escape, hexadecimal_escape, universal_escape, put_letter, letters, is_octal, most_value, is_bad_letter, is_universal_letter, character_by}
-use Rattle.cxx_tokens.specs.Escapes.{letter_at, capped, capped_letter}
+use Rattle.cxx_model.specs.Spelling.{Good, Ill, Letter, Value, Unknown, Universal, Escape, escape, escape_by, simple_escape, octal_escape, hexadecimal_escape, universal_escape, put_letter, letters, is_octal, most_value, is_bad_letter, is_universal_letter, character_by}
+use Rattle.cxx_tokens.specs.Escapes.{letter_at, capped_letter}
 
 -- ---- what an escape spells
 

@@ -1,13 +1,13 @@
 -- Marker lines and directives.
-use Rattle.std.proofs.Common.{◌≡◌, ◌≤◌, ◌<◌, ℕ, zero, suc, ◌+◌, ◌-◌, Bool, true, false, cond, ◌==◌, ◌&&◌, ◌||◌, List, [], ◌∷◌, ◌++◌, length, get_or, take, drop, Option, Some, None, refl, sym, ap, ◌∙◌, subst, ⊎_elim, arith, take-append-drop, length-take-le, length-append, append-nil}
+use Rattle.std.proofs.Common.{◌≡◌, ◌≤◌, ◌<◌, ℕ, zero, suc, ◌+◌, ◌-◌, Bool, true, false, cond, List, [], ◌∷◌, ◌++◌, length, take, drop, Some, None, refl, sym, ap, ◌∙◌, subst, ⊎_elim, arith, take-append-drop, length-take-le, length-append, append-nil}
 use Rattle.std.proofs.lemmas.List.{take_rest}
-use Rattle.std.proofs.lemmas.Bool.{or_cases, or_parts, or_from, and_parts, and_left, and_right, both_ways, cases_Bool}
+use Rattle.std.proofs.lemmas.Bool.{or_cases, or_parts, or_from, and_parts, and_left, and_right, both_ways}
 use Rattle.std.proofs.lemmas.Bool.Decides.{nat_tests}
 use Rattle.std.proofs.lemmas.List.Sums.{prefix_len-le-length}
 use Rattle.std.specs.List.{list_all, list_any, prefix_len, take_while}
 use Rattle.std.specs.Char.{is_ascii_digit}
 use Rattle.cxx_model.specs.declared.token.TokenReason.TheVariants as reason
-use Rattle.cxx_model.specs.Spelling.{Spelled, Blank, Ill, is_blank, is_word, is_newline, begins_with_digit, within_line, marker_by, is_marker_word, past_blanks, hash}
+use Rattle.cxx_model.specs.Spelling.{Blank, Ill, is_blank, is_word, is_newline, within_line, marker_by, is_marker_word, past_blanks, hash}
 use Rattle.cxx_model.specs.Continuing.{starts, IsLongestBy}
 use Rattle.cxx_model.proofs.Spellings.{longest_under, within_line_append, take_from}
 use Rattle.cxx_tokens.specs.MarkerWords.{makes_marker}

@@ -1,21 +1,20 @@
 -- The longest front of a text by its slices, as the code finds it.
-use Rattle.std.proofs.Common.{◌≡◌, ◌≤◌, ◌<◌, ℕ, zero, suc, ◌+◌, ◌-◌, Bool, true, false, not, ◌&&◌, ◌||◌, ◌==◌, cond, List, [], ◌∷◌, ◌++◌, length, get_or, take, drop, map, Option, Some, None, unwrap_or, refl, eq-eqb, sym, ap, ◌∙◌, subst, ⊎_elim, arith, take-append-drop, length-take-le, eqb-true, le-leb, take_all, bytes_eq}
+use Rattle.std.proofs.Common.{◌≡◌, ◌≤◌, ◌<◌, ℕ, zero, suc, ◌+◌, ◌-◌, Bool, true, false, not, ◌&&◌, ◌||◌, ◌==◌, cond, List, [], ◌∷◌, length, get_or, take, drop, map, Option, Some, None, unwrap_or, refl, eq-eqb, sym, ap, ◌∙◌, subst, ⊎_elim, arith, take-append-drop, length-take-le, eqb-true, le-leb, bytes_eq}
 use Rattle.std.proofs.Math.Seq.{drop-cons}
 use Rattle.std.proofs.lemmas.List.{take_rest}
 use Rattle.std.proofs.lemmas.Bool.{or_cases, or_left, or_parts, and_parts, and_left, and_right, both_ways, cases_lt, cases_Bool}
 use Rattle.std.proofs.lemmas.Bool.Decides.{nat_tests}
 use Rattle.std.proofs.lemmas.List.Sums.{prefix_len-le-length}
-use Rattle.std.specs.List.{list_all, list_any, prefix_len, take_while}
+use Rattle.std.specs.List.{list_all, prefix_len}
 use Rattle.std.specs.Char.{is_ascii_digit}
-use Rattle.cxx_model.specs.declared.token.TokenKind.TheVariants.{Character}
 use Rattle.cxx_model.specs.declared.token.TokenReason.TheVariants as reason
-use Rattle.cxx_model.specs.Spelling.{Spelled, Blank, Good, Ill, alone, is_white, is_blank, is_word, is_newline, begins_word, begins_number, begins_with_digit, is_number_rest, is_quote, word_kind, number_kind, operator, operators, digraphs, number_in, number_beside, literal, within_line, marker_by, is_marker_word, past_blanks, hash, slash, backslash, percent, spelling_of}
+use Rattle.cxx_model.specs.Spelling.{Spelled, Blank, Ill, alone, is_white, is_word, begins_word, begins_number, is_number_rest, is_quote, word_kind, number_kind, operator, number_beside, literal, within_line, hash, slash, backslash, percent, spelling_of}
 use Rattle.cxx_model.specs.Continuing.{starts, number_goes_on, last_of, begins_comment, is_colon, comment, BeginsOperator, IsLongestBy}
 use Rattle.cxx_model.specs.Tokens.{IsLongest}
 use Rattle.cxx_model.proofs.Fronts.{IsSpelled, operator_alone}
-use Rattle.cxx_model.proofs.Spellings.{blank_front, word_longest, number_front, operator_front, longest_under, longest_of, longest_from, spells_narrow, spells_word, spells_hash, spells_slash, spells_backslash, spells_percent, quote_is_no_word, within_line_append}
+use Rattle.cxx_model.proofs.Spellings.{blank_front, word_longest, number_front, operator_front, longest_under, longest_of, longest_from, spells_narrow, spells_word, spells_hash, spells_slash, spells_backslash, spells_percent, quote_is_no_word}
 use Rattle.cxx_tokens.specs.declared.piece.Spelled as code
-use Rattle.cxx_tokens.specs.Pieces.{spelled, spelled_option, operator_of, operator_at, begins_numeral, begins_wide, begins_with, IsOperatorText, IsOther, IsOtherText}
+use Rattle.cxx_tokens.specs.Pieces.{spelled, spelled_option, operator_of, operator_at, begins_numeral, begins_wide, begins_with, IsOperatorText, IsOtherText}
 
 -- what stands behind the first bytes, as the code cuts it
 abbrev pub behind_first : List ℕ → List ℕ

@@ -1,10 +1,10 @@
 -- One more byte at the end of a run.
-use Rattle.std.proofs.Common.{◌≡◌, ◌≤◌, ℕ, ◌+◌, ◌-◌, ◌*◌, true, false, ◌==◌, List, [], ◌∷◌, ◌++◌, length, ⊎_elim, refl, arith}
+use Rattle.std.proofs.Common.{◌≡◌, ◌≤◌, ℕ, ◌+◌, true, false, ◌==◌, List, [], ◌∷◌, ◌++◌, length, ⊎_elim, refl, arith}
 use Rattle.std.proofs.lemmas.Bool.{and_from, and_parts, cases_Bool}
 use Rattle.std.specs.List.{list_all}
 use Rattle.cxx_model.specs.declared.place.Place.{Place}
 use Rattle.cxx_model.specs.Lexemes.{after, past}
-use Rattle.cxx_model.specs.Spelling.{is_word, is_number_rest, value_after}
+use Rattle.cxx_model.specs.Spelling.{is_word, is_number_rest}
 use Rattle.cxx_model.specs.Continuing.{number_goes_on, last_of}
 use Rattle.cxx_model.proofs.Readings.{past_append}
 

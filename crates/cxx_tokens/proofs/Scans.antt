@@ -1,14 +1,13 @@
 -- Scans of comments, lines and literals, a byte at a time.
-use Rattle.std.proofs.Common.{◌≡◌, ◌≤◌, ◌<◌, ℕ, zero, suc, ◌+◌, ◌-◌, Bool, true, false, not, cond, ◌==◌, ◌&&◌, ◌||◌, List, [], ◌∷◌, ◌++◌, length, get_or, take, drop, Option, Some, None, refl, sym, ap, ◌∙◌, subst, ⊎_elim, arith, take-append-drop, length-take-le, ◌⊎◌, inl, inr, eqb-true, take_all, append-nil, bytes_eq}
+use Rattle.std.proofs.Common.{◌≡◌, ◌≤◌, ◌<◌, ℕ, suc, ◌+◌, Bool, true, false, not, ◌==◌, ◌&&◌, ◌||◌, List, [], ◌∷◌, ◌++◌, length, get_or, take, drop, Option, refl, sym, ap, ◌∙◌, subst, arith, take-append-drop, length-take-le, inl, inr, eqb-true, take_all, append-nil}
 use Rattle.std.proofs.Math.Seq.{drop-cons}
-use Rattle.std.proofs.lemmas.List.{take_more, drop_all}
-use Rattle.std.proofs.lemmas.Bool.{or_from, cases_lt}
+use Rattle.std.proofs.lemmas.List.{take_more}
+use Rattle.std.proofs.lemmas.Bool.{or_from}
 use Rattle.std.specs.List.{list_any}
 use Rattle.cxx_model.specs.declared.token.TokenReason.TheVariants as reason
-use Rattle.cxx_model.specs.Lexemes.{past}
-use Rattle.cxx_model.specs.Spelling.{Spelled, Blank, Ill, Ending, Past, is_quote, is_newline, within_line, comment_ending, literal_ending, literal_kind, literal}
+use Rattle.cxx_model.specs.Spelling.{Spelled, Blank, Ill, Ending, is_quote, is_newline, within_line, comment_ending, literal_ending, literal_kind, literal}
 use Rattle.cxx_model.specs.Continuing.{IsLongestBy, Goes, comment}
-use Rattle.cxx_model.proofs.Spellings.{goes_start, goes_more, comment_closed, comment_open, literal_closed, literal_open, line_longest}
+use Rattle.cxx_model.proofs.Spellings.{goes_more, comment_closed, comment_open, literal_closed, literal_open, line_longest}
 
 pub goes_at : (f g h : List ℕ → Ending) (rest : List ℕ) (i : ℕ) → i < length rest → Goes f g (take i rest) → ((text : List ℕ) → g (get_or rest i 0 ∷ text) ≡ h text) → Goes f h (take (i + 1) rest)
 goes_at f g h rest i inside goes next = subst (λ done. Goes f h done) (sym (take_more rest i 0 inside)) (goes_more f g h (take i rest) (get_or rest i 0) goes next)

@@ -1,7 +1,7 @@
 -- What a text is that spells an integer or a character, and its value.
-use Rattle.std.proofs.Common.{◌≡◌, ◌≤◌, ◌<◌, ℕ, zero, suc, ◌+◌, ◌-◌, ◌^◌, ◌*◌, min, Bool, true, false, cond, ◌==◌, ◌&&◌, ◌||◌, nat_le, List, [], ◌∷◌, ◌++◌, length, take, drop, Option, Some, None, IsSome, rules, refl, sym, ap, ◌∙◌, subst, ⊎_elim, arith, eqb-true, leb-true, ◌⊎◌, inl, inr}
+use Rattle.std.proofs.Common.{◌≡◌, ◌<◌, ℕ, ◌^◌, min, Bool, true, false, cond, ◌==◌, ◌&&◌, ◌||◌, nat_le, List, [], ◌∷◌, Option, Some, None, IsSome, rules, refl, sym, ap, ◌∙◌, subst, ⊎_elim, arith, leb-true}
 use Rattle.std.specs.Prelude.{ℤ, pos}
-use Rattle.std.proofs.lemmas.Bool.{both_ways, or_cases, cases_Bool, cases_lt, or_parts}
+use Rattle.std.proofs.lemmas.Bool.{both_ways}
 use Rattle.std.proofs.lemmas.Bool.Decides.{nat_tests}
 use Rattle.std.specs.List.{list_all, list_any, take_while}
 use Rattle.std.specs.Char.{is_ascii_digit}

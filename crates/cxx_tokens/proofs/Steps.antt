@@ -1,6 +1,6 @@
 -- One step of the reading, and what the whole answer says.
 use Rattle.std.proofs.Common.{◌≡◌, ◌≤◌, ◌<◌, ℕ, suc, ◌+◌, ◌-◌, Bool, true, false, not, cond, ◌&&◌, List, [], ◌∷◌, ◌++◌, length, take, drop, Option, Some, None, Result, Ok, Err, IfOk, IfErr, All, refl, sym, ap, ◌∙◌, subst, arith, length-append, add-zero}
-use Rattle.std.proofs.lemmas.Bool.{and_parts, and_right, and_from, or_from}
+use Rattle.std.proofs.lemmas.Bool.{and_parts, and_right, and_from}
 use Rattle.std.specs.Global.{Vec}
 use Rattle.cxx_model.specs.declared.place.Place.{Place}
 use Rattle.cxx_model.specs.declared.token.Token.{Token}
@@ -11,7 +11,6 @@ use Rattle.cxx_model.specs.declared.limits.TheConstants as limits
 use Rattle.cxx_model.specs.Lexemes.{first_place, past}
 use Rattle.cxx_model.specs.Spelling.{Spelled, Blank, Good, Ill}
 use Rattle.cxx_model.specs.Tokens.{Unread, BadAt, PastTokens, IsLongest, Width, fresh_past, is_text, is_some_width, is_mixed, width_of, width_behind, joins, tokens_begun, reason_at, join, join_list, put, tokens_from, tokens_of, IsTokenList, IsBadPlace, IsPastTokens}
-use Rattle.cxx_model.proofs.Spellings.{text_width}
 use Rattle.cxx_model.proofs.Readings.{reads_end, reads_blank, reads_token, reads_full, reads_bad, ill_has_reason, text_is_wide, means_at, tokens_of_list, tokens_of_bad, tokens_of_limit, lies_within}
 use Rattle.cxx_tokens.specs.declared.fault.TokenFault.{TokenFault}
 use Rattle.cxx_tokens.specs.declared.fault.TokenFault.TheVariants.{Bad, Limit, OutOfMemory}

@@ -1,5 +1,5 @@
 -- The characters of a literal, of which a great value counts as one that no type holds.
-use Rattle.std.specs.Prelude.{ℕ, zero, suc, ◌+◌, ◌^◌, ◌==◌, min, if◌then◌else◌, List, [], ◌∷◌, Option, Some, None}
+use Rattle.std.specs.Prelude.{ℕ, suc, ◌^◌, ◌==◌, min, if◌then◌else◌, List, [], ◌∷◌}
 use Rattle.cxx_model.specs.Spelling as spec
 use Rattle.cxx_model.specs.Spelling.{Escape, escape}
 use Rattle.cxx_tokens.specs.declared.letters.Letter.{Letter}

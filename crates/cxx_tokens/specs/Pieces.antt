@@ -1,5 +1,5 @@
 -- The pieces of the code as those of the definitions.
-use Rattle.std.specs.Prelude.{◌≡◌, ℕ, Bool, true, false, not, ◌==◌, ◌&&◌, ◌||◌, ◌^◌, min, List, [], ◌∷◌, length, take, nat_le, if◌then◌else◌, Option, Some, None}
+use Rattle.std.specs.Prelude.{◌≡◌, ℕ, Bool, false, ◌==◌, ◌&&◌, ◌||◌, ◌^◌, min, List, [], ◌∷◌, length, take, nat_le, if◌then◌else◌, Option, Some, None}
 use Rattle.std.specs.Char.{is_ascii_digit, is_ascii_hexdigit}
 use Rattle.cxx_model.specs.Spelling as spelling
 use Rattle.cxx_model.specs.Spelling.{operator, operators, digraphs, first_of, number_in, number_beside, is_white, begins_word, is_quote, begins_number, IntegerParts, is_octal, is_x, begins_with_hex, with_digits, begins_with_digit, is_floating_suffix, is_exponent_part, after_digits}

@@ -1,4 +1,4 @@
-use Rattle.cxx_tokens.specs.Pieces.{spelled, parts_of}
+use Rattle.cxx_tokens.specs.Pieces.{spelled}
 use Rattle.std.proofs.Common.{arith}
 use Rattle.cxx_tokens.proofs.Pieces.{line_comment_at, comment_at}
 use Rattle.cxx_tokens.proofs.front.slash.Goals as goal

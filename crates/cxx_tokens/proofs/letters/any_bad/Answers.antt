@@ -1,4 +1,4 @@
-use Rattle.std.proofs.Common.{◌≡◌, ◌<◌, ◌≤◌, length, sym, ap, ◌∙◌, arith, false, true}
+use Rattle.std.proofs.Common.{◌≡◌, sym, ap, ◌∙◌, arith, false}
 use Rattle.cxx_tokens.proofs.Escaping.{letters_go, bad_capped}
 use Rattle.cxx_tokens.specs.Escapes.{letter_at}
 use Rattle.cxx_model.specs.Spelling.{is_bad_letter}

@@ -1,4 +1,4 @@
-use Rattle.std.proofs.Common.{◌≡◌, ◌<◌, ◌≤◌, length, sym, ap, ◌∙◌, arith, get_or, false, true}
+use Rattle.std.proofs.Common.{sym, ◌∙◌}
 use Rattle.cxx_tokens.proofs.Lines.{code_marker, code_directive}
 use Rattle.cxx_tokens.proofs.markers.marker.Goals as goal
 

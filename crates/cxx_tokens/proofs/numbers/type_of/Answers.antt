@@ -1,4 +1,4 @@
-use Rattle.cxx_tokens.specs.Pieces.{spelled, parts_of}
+use Rattle.cxx_tokens.specs.Pieces.{parts_of}
 use Rattle.cxx_model.specs.Spelling.{integer_parts}
 use Rattle.cxx_tokens.proofs.Amounts.{typed}
 use Rattle.cxx_tokens.proofs.numbers.type_of.Goals as goal

@@ -1,5 +1,3 @@
-use Rattle.std.proofs.Common.{◌≡◌, ◌<◌, ◌≤◌, length, sym, ap, ◌∙◌, arith, get_or, false, true}
-use Rattle.std.specs.Prelude.{ℕ, List, [], ◌∷◌, ◌++◌}
 use Rattle.cxx_tokens.proofs.Steps.{extended_last}
 use Rattle.cxx_tokens.proofs.read.extend.Goals as goal
 

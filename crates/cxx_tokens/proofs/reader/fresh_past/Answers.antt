@@ -1,4 +1,4 @@
-use Rattle.std.proofs.Common.{◌<◌, length, get_or, take, arith, sym, ap, ◌∙◌}
+use Rattle.std.proofs.Common.{◌<◌, length, get_or, take, arith, ap, ◌∙◌}
 use Rattle.std.proofs.lemmas.List.{take_more}
 use Rattle.cxx_model.specs.Tokens.{fresh_after}
 use Rattle.cxx_model.proofs.Readings.{fresh_append}

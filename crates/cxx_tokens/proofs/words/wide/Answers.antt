@@ -1,5 +1,4 @@
 use Rattle.cxx_tokens.specs.Pieces.{spelled}
-use Rattle.std.proofs.Common.{◌≤◌, length, arith}
 use Rattle.cxx_tokens.proofs.Pieces.{wide_at, wide_quote}
 use Rattle.cxx_tokens.proofs.words.wide.Goals as goal
 
