@@ -5,7 +5,7 @@ use Rattle.std.proofs.lemmas.Bool.Decides.{nat_tests}
 use Rattle.std.proofs.lemmas.List.{length-replicate}
 use Rattle.std.specs.Prelude.{◌==◌, Option, Result, Some, None, codes, Ok, Err}
 use Rattle.cxx_edge.specs.Source.{IsLonger}
-use Rattle.cxx_model.specs.declared.first.Options.{Options}
+use Rattle.cxx_model.specs.declared.options.Options.{Options}
 use Rattle.cxx_model.specs.declared.first.Reading.{Reading}
 use Rattle.cxx_model.specs.declared.limits.TheConstants as limits
 use Rattle.cxx_model.specs.declared.stop.Fault.{Fault}

@@ -1,6 +1,6 @@
 -- What a run owes, and what its status says.
 use Rattle.std.specs.Prelude.{◌≡◌, ◌≢◌, ◌⊎◌, ℕ, List, [], Option, Some, None, ⊤, codes}
-use Rattle.cxx_model.specs.declared.first.Options.{Options}
+use Rattle.cxx_model.specs.declared.options.Options.{Options}
 use Rattle.cxx_model.specs.declared.first.Reading.{Reading}
 use Rattle.cxx_model.specs.declared.stop.Fault.{Fault}
 use Rattle.cxx_model.specs.declared.stop.LimitKind.{LimitKind}

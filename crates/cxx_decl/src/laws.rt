@@ -4,7 +4,7 @@ ghost use Rattle.std.specs.Prelude.{◌≡◌, List, Ok, true, false};
 ghost use Rattle.cxx_model.specs.declared.base.Base.{Base};
 ghost use Rattle.cxx_model.specs.declared.first.Argument.{Argument};
 ghost use Rattle.cxx_model.specs.declared.first.Declaration.{Declaration};
-ghost use Rattle.cxx_model.specs.declared.first.Options.{Options};
+ghost use Rattle.cxx_model.specs.declared.options.Options.{Options};
 ghost use Rattle.cxx_model.specs.declared.first.Reading.{Reading};
 ghost use Rattle.cxx_model.specs.Lexemes.{Lexeme, kind_of};
 ghost use Rattle.cxx_model.specs.Stops.{Reads};

@@ -5,7 +5,7 @@ ghost use Rattle.cxx_model.specs.Standard.{row as standard_row, same_base, promo
 ghost use Rattle.cxx_model.specs.StandardOrder.{compare as order_of, number_of_rank as standard_number, is_proper_subsequence as is_proper, has_better_rank as has_better};
 ghost use Rattle.cxx_decl.specs.Views.{row_of};
 
-use cxx_model::{Base, Order, Rank, Second, StandardSequence};
+use cxx_model::{Base, Order, Rank, Second, ArithmeticSequence};
 
 /// What the standard says of an arithmetic type by itself.
 #[derive(Clone, Copy)]
@@ -117,10 +117,10 @@ fn second_step(from: Base, to: Base) -> Option<Second>
 
 /// The sequence that leads from an rvalue of one arithmetic type to another.
 #[tactic(auto, unfolding(cxx_model::specs::Standard::standard_sequence))]
-pub(crate) fn standard_sequence(from: Base, to: Base) -> StandardSequence
+pub(crate) fn standard_sequence(from: Base, to: Base) -> ArithmeticSequence
     ensures { result ≡ sequence_of from to }
 {
-    StandardSequence {
+    ArithmeticSequence {
         from,
         to,
         second: second_step(from, to),
@@ -140,7 +140,7 @@ fn rank_of_step(second: Second) -> Rank
     }
 }
 
-fn rank(sequence: StandardSequence) -> Rank
+fn rank(sequence: ArithmeticSequence) -> Rank
     ensures { result ≡ rank_of_sequence sequence }
 {
     match sequence.second {
@@ -160,7 +160,7 @@ fn number_of_rank(rank: Rank) -> u8
 }
 
 /// The identity is a proper subsequence of every sequence that is not the identity.
-fn is_proper_subsequence(one: StandardSequence, two: StandardSequence) -> bool
+fn is_proper_subsequence(one: ArithmeticSequence, two: ArithmeticSequence) -> bool
     ensures { result ≡ is_proper one two }
 {
     match one.second {
@@ -175,7 +175,7 @@ fn is_proper_subsequence(one: StandardSequence, two: StandardSequence) -> bool
     }
 }
 
-fn has_better_rank(one: StandardSequence, two: StandardSequence) -> bool
+fn has_better_rank(one: ArithmeticSequence, two: ArithmeticSequence) -> bool
     ensures { result ≡ has_better one two }
 {
     number_of_rank(rank(one)) < number_of_rank(rank(two))
@@ -183,7 +183,7 @@ fn has_better_rank(one: StandardSequence, two: StandardSequence) -> bool
 
 /// How one sequence stands to another: first by the proper subsequence, then by the rank.
 #[tactic(auto, unfolding(cxx_model::specs::StandardOrder::compare))]
-pub(crate) fn compare(one: StandardSequence, two: StandardSequence) -> Order
+pub(crate) fn compare(one: ArithmeticSequence, two: ArithmeticSequence) -> Order
     ensures { result ≡ order_of one two }
 {
     if is_proper_subsequence(one, two) {

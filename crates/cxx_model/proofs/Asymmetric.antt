@@ -5,7 +5,7 @@ use Rattle.std.proofs.lemmas.Bool.{ltb-true, le-ltb}
 use Rattle.cxx_model.specs.declared.base.Base.{Base}
 use Rattle.cxx_model.specs.declared.sequence.Order.{Order}
 use Rattle.cxx_model.specs.declared.sequence.Order.TheVariants.{Better, Worse, Same}
-use Rattle.cxx_model.specs.declared.sequence.StandardSequence.{StandardSequence}
+use Rattle.cxx_model.specs.declared.first.ArithmeticSequence.{ArithmeticSequence}
 use Rattle.cxx_model.specs.Better.{is_better_order, is_worse_order, compared, is_better}
 use Rattle.cxx_model.specs.Standard.{steps, rank}
 use Rattle.cxx_model.specs.StandardOrder.{number_of_rank, is_subsequence, order_by, else_by, is_proper_subsequence, has_better_rank, compare}
@@ -43,13 +43,13 @@ less_asymmetric a b h = let lt : a < b = ltb-true a b h in le-ltb b a (omega ari
 and_asymmetric : (p q p' q' : Bool) → (p ≡ true → p' ≡ false) → (p && q) ≡ true → (p' && q') ≡ false
 and_asymmetric p q p' q' h e = ap (λ x. x && q') (h (and_true p q e).0)
 
-proper_asymmetric : (a b : StandardSequence) → is_proper_subsequence a b ≡ true → is_proper_subsequence b a ≡ false
+proper_asymmetric : (a b : ArithmeticSequence) → is_proper_subsequence a b ≡ true → is_proper_subsequence b a ≡ false
 proper_asymmetric a b h = and_asymmetric (nat_lt (length (steps a)) (length (steps b))) (is_subsequence (steps a) (steps b)) (nat_lt (length (steps b)) (length (steps a))) (is_subsequence (steps b) (steps a)) (less_asymmetric (length (steps a)) (length (steps b))) h
 
-rank_asymmetric : (a b : StandardSequence) → has_better_rank a b ≡ true → has_better_rank b a ≡ false
+rank_asymmetric : (a b : ArithmeticSequence) → has_better_rank a b ≡ true → has_better_rank b a ≡ false
 rank_asymmetric a b h = less_asymmetric (number_of_rank (rank a)) (number_of_rank (rank b)) h
 
-pub compare_turned : (one two : StandardSequence) → compare two one ≡ turned (compare one two)
+pub compare_turned : (one two : ArithmeticSequence) → compare two one ≡ turned (compare one two)
 unfolding compare
 compare_turned one two =
     ap (λ x. else_by x (order_by has_better_rank two one)) (order_turned is_proper_subsequence proper_asymmetric one two)

@@ -1,6 +1,8 @@
 pub mod Answers
 pub mod Asymmetric
 pub mod Champion
+pub mod Copied
+pub mod Equal
 pub mod FirstForm
 pub mod Fronts
 pub mod Readings

@@ -12,9 +12,9 @@ use Rattle.cxx_model.specs.First.Words.{spell_base, line_words}
 use Rattle.cxx_model.specs.First.Plain.{in_text_order, normal, plain}
 use Rattle.cxx_model.specs.Outcome.{outcome_of, UnitOutcome, Whole, Broken, PastLimit}
 use Rattle.std.specs.Prelude.{◌++◌}
-use Rattle.cxx_model.specs.declared.stop.Evidence.TheVariants.{DoesNotBeat, Refused}
-use Rattle.cxx_model.specs.declared.stop.Reason.TheVariants.{TooFewArguments}
-use Rattle.cxx_model.specs.declared.stop.Shown.TheVariants.{Declared}
+use Rattle.cxx_model.specs.declared.evidence.Evidence.TheVariants.{DoesNotBeat, Refused}
+use Rattle.cxx_model.specs.declared.evidence.Reason.TheVariants.{TooFewArguments}
+use Rattle.cxx_model.specs.declared.evidence.Shown.TheVariants.{Declared}
 
 outcome : List ℕ → UnitOutcome
 unfolding outcome_of tokens_of tokens_from front longest_within spelling_of word_kind keywords alternatives operators digraphs number_kind operator literal hash slash percent literal_type standard_sequence compare is_better candidates chosen refusals ties choice call_of punct_at type_at name_at more_at list_at misplaced literal_at cast_at argument_by argument_opened arguments_opened call_at initializer_by initializer_opened initializer_at declare function_at object_at item_at items_at reading_of

@@ -15,5 +15,6 @@ pub mod ReadsBack
 pub mod Types
 pub mod TypeTrees
 pub mod TypeCode
+pub mod Copies
 pub mod Integral
 pub mod Graph

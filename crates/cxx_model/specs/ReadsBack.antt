@@ -1,6 +1,6 @@
 -- When a printed text reads back: read again it is a whole unit with the same text and the same functions.
 use Rattle.std.specs.Prelude.{◌≡◌, ◌⊎◌, List, ℕ}
-use Rattle.cxx_model.specs.declared.first.Options.{Options}
+use Rattle.cxx_model.specs.declared.options.Options.{Options}
 use Rattle.cxx_model.specs.declared.first.Reading.{Reading}
 use Rattle.cxx_model.specs.declared.stop.LimitKind.{LimitKind}
 use Rattle.cxx_model.specs.First.Plain.{plain, functions_of}

@@ -3,8 +3,8 @@ use Rattle.std.specs.Prelude.{ℕ, Bool, true, false, ◌&&◌, ◌||◌, if◌t
 use Rattle.cxx_model.specs.declared.base.Base.{Base}
 use Rattle.cxx_model.specs.declared.base.Base.TheVariants.{Bool as BoolType, Char, SignedChar, UnsignedChar, Short, UnsignedShort, Int, Unsigned, Long, UnsignedLong, WideChar, Float, Double, LongDouble, Void}
 use Rattle.cxx_model.specs.declared.sequence.Second.{Second}
-use Rattle.cxx_model.specs.declared.sequence.Second.TheVariants.{IntegralPromotion, FloatingPromotion, Integral, Floating, FloatingIntegral, Boolean}
-use Rattle.cxx_model.specs.declared.sequence.StandardSequence.{StandardSequence}
+use Rattle.cxx_model.specs.declared.sequence.Second.TheVariants.{IntegralPromotion, FloatingPromotion, Integral, Floating, FloatingIntegral, Pointer, Boolean, DerivedToBase}
+use Rattle.cxx_model.specs.declared.first.ArithmeticSequence.{ArithmeticSequence}
 use Rattle.cxx_model.specs.declared.sequence.Rank.{Rank}
 use Rattle.cxx_model.specs.declared.sequence.Rank.TheVariants.{Exact, Promotion, Conversion}
 
@@ -58,11 +58,11 @@ second_step from to =
     Some (conversion from to))
 
 -- The sequence that leads from an rvalue of one arithmetic type to another; there always is one.
-unfoldable pub standard_sequence : Base → Base → StandardSequence
+unfoldable pub standard_sequence : Base → Base → ArithmeticSequence
 standard_sequence from to = record { from = from; to = to; second = second_step from to }
 
 -- the steps of a sequence, in order
-abbrev pub steps : StandardSequence → List Second
+abbrev pub steps : ArithmeticSequence → List Second
 steps sequence = listed sequence.second
   where
     listed : Option Second → List Second
@@ -76,7 +76,9 @@ rank_of_step FloatingPromotion = Promotion
 rank_of_step Integral = Conversion
 rank_of_step Floating = Conversion
 rank_of_step FloatingIntegral = Conversion
+rank_of_step Pointer = Conversion
 rank_of_step Boolean = Conversion
+rank_of_step DerivedToBase = Conversion
 
 abbrev pub worse_rank : Rank → Rank → Rank
 worse_rank Exact other = other
@@ -89,5 +91,5 @@ abbrev pub rank_of_steps : List Second → Rank
 rank_of_steps [] = Exact
 rank_of_steps (second ∷ others) = worse_rank (rank_of_step second) (rank_of_steps others)
 
-abbrev pub rank : StandardSequence → Rank
+abbrev pub rank : ArithmeticSequence → Rank
 rank sequence = rank_of_steps (steps sequence)

@@ -1,8 +1,8 @@
 -- The order of two standard conversion sequences (13.3.3.2).
 use Rattle.std.specs.Prelude.{ℕ, Bool, true, false, ◌&&◌, if◌then◌else◌, ◌==◌, nat_lt, List, [], ◌∷◌, length}
 use Rattle.cxx_model.specs.declared.sequence.Second.{Second}
-use Rattle.cxx_model.specs.declared.sequence.Second.TheVariants.{IntegralPromotion, FloatingPromotion, Integral, Floating, FloatingIntegral, Boolean}
-use Rattle.cxx_model.specs.declared.sequence.StandardSequence.{StandardSequence}
+use Rattle.cxx_model.specs.declared.sequence.Second.TheVariants.{IntegralPromotion, FloatingPromotion, Integral, Floating, FloatingIntegral, Pointer, Boolean, DerivedToBase}
+use Rattle.cxx_model.specs.declared.first.ArithmeticSequence.{ArithmeticSequence}
 use Rattle.cxx_model.specs.declared.sequence.Rank.{Rank}
 use Rattle.cxx_model.specs.declared.sequence.Rank.TheVariants.{Exact, Promotion, Conversion}
 use Rattle.cxx_model.specs.declared.sequence.Order.{Order}
@@ -25,7 +25,9 @@ number_of_step FloatingPromotion = 1
 number_of_step Integral = 2
 number_of_step Floating = 3
 number_of_step FloatingIntegral = 4
-number_of_step Boolean = 5
+number_of_step Pointer = 5
+number_of_step Boolean = 6
+number_of_step DerivedToBase = 7
 
 abbrev pub same_step : Second → Second → Bool
 same_step one two = number_of_step one == number_of_step two
@@ -36,7 +38,7 @@ is_subsequence (step ∷ later) [] = false
 is_subsequence (step ∷ later) (other ∷ others) = if same_step step other then is_subsequence later others else is_subsequence (step ∷ later) others
 
 -- The identity is a proper subsequence of every sequence that is not the identity.
-abbrev pub is_proper_subsequence : StandardSequence → StandardSequence → Bool
+abbrev pub is_proper_subsequence : ArithmeticSequence → ArithmeticSequence → Bool
 is_proper_subsequence one two = nat_lt (length (steps one)) (length (steps two)) && is_subsequence (steps one) (steps two)
 
 abbrev pub number_of_rank : Rank → ℕ
@@ -44,9 +46,9 @@ number_of_rank Exact = 0
 number_of_rank Promotion = 1
 number_of_rank Conversion = 2
 
-abbrev pub has_better_rank : StandardSequence → StandardSequence → Bool
+abbrev pub has_better_rank : ArithmeticSequence → ArithmeticSequence → Bool
 has_better_rank one two = nat_lt (number_of_rank (rank one)) (number_of_rank (rank two))
 
 -- first the proper subsequence, then the rank
-unfoldable pub compare : StandardSequence → StandardSequence → Order
+unfoldable pub compare : ArithmeticSequence → ArithmeticSequence → Order
 compare one two = else_by (order_by is_proper_subsequence one two) (order_by has_better_rank one two)

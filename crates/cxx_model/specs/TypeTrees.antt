@@ -5,8 +5,8 @@ use Rattle.cxx_model.specs.declared.types.TypeId.{TypeId}
 use Rattle.cxx_model.specs.declared.types.Formula.{Formula, Value, Parameter, Member, SizeOf, Cast', Unary', Binary', Conditional'}
 use Rattle.cxx_model.specs.declared.types.Bound.{Bound}
 use Rattle.cxx_model.specs.declared.types.Bound.TheVariants as bound
-use Rattle.cxx_model.specs.declared.types.TypeArgument.{TypeArgument}
-use Rattle.cxx_model.specs.declared.types.TypeArgument.TheVariants as argument
+use Rattle.cxx_model.specs.declared.types.TemplateArgument.{TemplateArgument}
+use Rattle.cxx_model.specs.declared.types.TemplateArgument.TheVariants as argument
 use Rattle.cxx_model.specs.declared.types.TypeNode.{TypeNode}
 use Rattle.cxx_model.specs.declared.types.TypeNode.TheVariants as node
 use Rattle.cxx_model.specs.declared.types.TypeTree as tree
@@ -32,12 +32,12 @@ bound_at types bound.Unknown = unknown_bound
 bound_at types (bound.Number n) = number_bound n
 bound_at types (bound.Computed f) = formula_bound (formula_at types f.value)
 
-abbrev pub argument_at : List CxxType → TypeArgument → CxxArgument
+abbrev pub argument_at : List CxxType → TemplateArgument → CxxArgument
 argument_at types (argument.OfType of) = type_argument (type_at types of.0)
 argument_at types (argument.Value value of) = value_argument value (type_at types of.0)
 argument_at types (argument.Computed f) = formula_argument (formula_at types f.value)
 
-abbrev pub arguments_at : List CxxType → List TypeArgument → CxxArguments
+abbrev pub arguments_at : List CxxType → List TemplateArgument → CxxArguments
 arguments_at types [] = no_arguments
 arguments_at types (a ∷ others) = argument_then (argument_at types a) (arguments_at types others)
 
@@ -94,12 +94,12 @@ IsBoundBelow count bound.Unknown = Unit {0}
 IsBoundBelow count (bound.Number n) = Unit {0}
 IsBoundBelow count (bound.Computed f) = IsFormulaBelow count f.value
 
-abbrev pub IsArgumentBelow : ℕ → TypeArgument → Type 0
+abbrev pub IsArgumentBelow : ℕ → TemplateArgument → Type 0
 IsArgumentBelow count (argument.OfType of) = of.0 < count
 IsArgumentBelow count (argument.Value value of) = of.0 < count
 IsArgumentBelow count (argument.Computed f) = IsFormulaBelow count f.value
 
-abbrev pub AreArgumentsBelow : ℕ → List TypeArgument → Type 0
+abbrev pub AreArgumentsBelow : ℕ → List TemplateArgument → Type 0
 AreArgumentsBelow count [] = Unit {0}
 AreArgumentsBelow count (a ∷ others) = IsArgumentBelow count a × AreArgumentsBelow count others
 
@@ -142,3 +142,7 @@ abbrev mutual
 pub record Keeps (old new : List CxxType) : Type 0 where
   pub grows : length old ≤ length new
   pub same : (i : ℕ) → i < length old → type_at new i ≡ type_at old i
+
+-- no type has two numbers
+abbrev pub AreApart : List CxxType → Type 0
+AreApart types = (i j : ℕ) → i < length types → j < length types → type_at types i ≡ type_at types j → i ≡ j

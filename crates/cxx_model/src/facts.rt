@@ -1,11 +1,10 @@
 //! What a unit declares, one fact after another.
 
-use crate::first::Word;
-use crate::listed::Listed;
+use crate::listed::{Listed, Word};
 use crate::place::Place;
 use crate::types::{
-    ClassId, EnumId, FactId, ScopeId, TemplateId, TreeId, TypeArgument, TypeArgumentList, TypeId,
-    TypeTree,
+    ClassId, EnumId, FactId, ScopeId, TemplateArgument, TemplateArgumentList, TemplateId, TreeId,
+    TypeId, TypeTree,
 };
 
 /// How a function, an object or a template stands to a class (9.2, 9.3, 9.4, 12).
@@ -149,7 +148,7 @@ pub struct Fact {
 #[derive(Debug, PartialEq, Eq, Hash, Drop)]
 pub struct Specialisation {
     pub template: TemplateId,
-    pub arguments: TypeArgumentList,
+    pub arguments: TemplateArgumentList,
 }
 
 /// What a parameter of a template is (14.1).
@@ -163,7 +162,7 @@ pub enum ParameterKind {
 #[derive(Debug, Drop)]
 pub struct TemplateParameter {
     pub kind: ParameterKind,
-    pub fallback: Option<TypeArgument>,
+    pub fallback: Option<TemplateArgument>,
 }
 
 pub type TemplateParameterList = Listed<TemplateParameter>;
@@ -174,7 +173,7 @@ pub struct Pattern {
     pub parameters: TemplateParameterList,
     /// The template of which this is a partial specialisation (14.5.4), and its arguments.
     pub primary: Option<TemplateId>,
-    pub arguments: TypeArgumentList,
+    pub arguments: TemplateArgumentList,
     /// The type of a function template.
     pub of: Option<TypeId>,
     /// The class of a class template.

@@ -1,12 +1,11 @@
 //! Readings of the first form: functions over arithmetic types, and objects that calls of them initialize.
 
 use crate::base::Base;
-use crate::listed::Listed;
+use crate::listed::{Listed, NumberList, Word};
+use crate::options::Options;
+use crate::overload::OutcomeList;
 use crate::place::Place;
-use crate::stop::{NumberList, Reason};
-
-/// The bytes of a name.
-pub type Word = Listed<u8>;
+use crate::sequence::Second;
 
 pub type BaseList = Listed<Base>;
 
@@ -16,16 +15,7 @@ pub type DeclarationList = Listed<Declaration>;
 
 pub type ItemList = Listed<Item>;
 
-pub type OutcomeList = Listed<Outcome>;
-
 pub type CallList = Listed<Call>;
-
-/// What the user chooses for a run.
-#[derive(Clone, Copy, Debug, PartialEq, Eq)]
-pub struct Options {
-    /// How deep instances of templates may nest.
-    pub depth: u32,
-}
 
 /// What a name was declared as.
 #[derive(Debug, Drop)]
@@ -75,11 +65,12 @@ pub enum Item {
     Object(Initializer),
 }
 
-/// Whether a candidate is viable, and if not, why.
+/// A standard conversion sequence between arithmetic types (13.3.3.1.1): identity where it has no step.
 #[derive(Clone, Copy, Debug, PartialEq, Eq)]
-pub enum Outcome {
-    Viable,
-    NotViable(Reason),
+pub struct ArithmeticSequence {
+    pub from: Base,
+    pub to: Base,
+    pub second: Option<Second>,
 }
 
 /// A call as it was decided.

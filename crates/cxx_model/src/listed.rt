@@ -4,6 +4,14 @@ use std::alloc::{AllocError, Global};
 use std::hash::{Hash, Hasher};
 use std::marker::Model;
 
+/// The bytes of a name.
+pub type Word = Listed<u8>;
+
+/// The bytes of a printed text.
+pub type Text = Listed<u8>;
+
+pub type NumberList = Listed<u32>;
+
 /// A `Vec` that contracts see as the list of its elements, so that what holds it is plain data in a contract.
 #[derive(Debug, Drop)]
 pub struct Listed<T> {

@@ -1,14 +1,13 @@
+//! Why a unit is not read to its end, and what a layer waits for.
+
 ghost use Rattle.std.specs.Prelude.{◌≡◌};
 ghost use Rattle.cxx_model.specs.declared.stop.Stop.TheVariants as stop;
 
-use crate::listed::Listed;
+use crate::evidence::EvidenceList;
+use crate::listed::Text;
 use crate::place::Place;
+use crate::types::{ClassId, FactId, TemplateArgumentList};
 use std::alloc::{AllocError, AllocFailed};
-
-/// The bytes of a printed text.
-pub type Text = Listed<u8>;
-
-pub type NumberList = Listed<u32>;
 
 /// Which quantity was passed.
 #[derive(Clone, Copy, Debug, PartialEq, Eq)]
@@ -25,31 +24,6 @@ pub enum LimitKind {
     Output,
 }
 
-/// Why a candidate is not viable (13.3.2).
-#[derive(Clone, Copy, Debug, PartialEq, Eq)]
-pub enum Reason {
-    TooFewArguments,
-    TooManyArguments,
-}
-
-/// A candidate as a report shows it.
-#[derive(Clone, Copy, Debug, PartialEq, Eq)]
-pub enum Shown {
-    /// Its number among the candidates, from 1, and the place of its declared name.
-    Declared(u32, Place),
-}
-
-/// One line of what a fault rests on.
-#[derive(Clone, Copy, Debug, PartialEq, Eq)]
-pub enum Evidence {
-    /// The first candidate is not better than the second (13.3.3).
-    DoesNotBeat(Shown, Shown),
-    /// The candidate is not viable (13.3.2).
-    Refused(Shown, Reason),
-}
-
-pub type EvidenceList = Listed<Evidence>;
-
 /// What is wrong with a unit: where, the text that says it, and what it rests on.
 #[derive(Debug, Drop)]
 pub struct Fault {
@@ -64,6 +38,43 @@ pub enum Stop {
     Fault(Box<Fault>),
     Limit(LimitKind),
     OutOfMemory,
+}
+
+/// Why a question about a class has no answer yet.
+#[derive(Clone, Copy, Debug, PartialEq, Eq)]
+pub enum Wait {
+    /// The class must be complete first (14.7.1).
+    Needs(ClassId),
+    OutOfMemory,
+}
+
+/// Why a question that may reserve classes has no answer.
+#[derive(Clone, Copy, Debug, PartialEq, Eq)]
+pub enum Halt {
+    /// The class must be complete first (14.7.1).
+    Needs(ClassId),
+    Limit(LimitKind),
+    OutOfMemory,
+}
+
+/// What must be read before a reader goes on.
+#[derive(Debug, Drop)]
+pub enum Need {
+    /// The definition of a class (14.7.1).
+    Class(ClassId),
+    /// A default argument of a specialisation, by its index among the parameters (14.7.1).
+    Default {
+        function: FactId,
+        arguments: TemplateArgumentList,
+        index: u32,
+    },
+}
+
+/// Why a reader does not go on.
+#[derive(Debug, Drop)]
+pub enum Pause {
+    Needs(Need),
+    Stop(Stop),
 }
 
 impl From<AllocError> for Stop {

@@ -1,8 +1,7 @@
 //! Types as trees, and the numbers by which tables and lists name things.
 
 use crate::base::Base;
-use crate::first::Word;
-use crate::listed::Listed;
+use crate::listed::{Listed, Word};
 
 /// A declaration, by its place in the list of facts.
 #[derive(Clone, Copy, Debug, PartialEq, Eq, Hash)]
@@ -43,9 +42,13 @@ pub struct Cv {
     pub is_volatile: bool,
 }
 
+pub type FactList = Listed<FactId>;
+
 pub type TypeIdList = Listed<TypeId>;
 
-pub type TypeArgumentList = Listed<TypeArgument>;
+pub type TypeIdLists = Listed<TypeIdList>;
+
+pub type TemplateArgumentList = Listed<TemplateArgument>;
 
 pub type TypeList = Vec<TypeTree>;
 
@@ -72,7 +75,7 @@ pub enum TypeTree {
     /// A type parameter of a template, by the depth of its list and its index there (14.1).
     Parameter(u32, u32),
     /// A specialisation whose arguments name parameters of templates (14.2).
-    Special(TemplateId, TypeArgumentList),
+    Special(TemplateId, TemplateArgumentList),
     /// A type named as a member of a type that depends on parameters of templates (14.6).
     Nested(Box<TypeTree>, Word),
 }
@@ -90,7 +93,7 @@ pub struct Signature {
 
 /// An argument of a template (14.3).
 #[derive(Debug, PartialEq, Eq, Hash, Drop)]
-pub enum TypeArgument {
+pub enum TemplateArgument {
     OfType(TypeId),
     Value(i128, TypeId),
     /// A value that depends on parameters of templates.
@@ -138,6 +141,6 @@ pub enum TypeNode {
     },
     Qualified(Cv, TypeId),
     Parameter(u32, u32),
-    Special(TemplateId, TypeArgumentList),
+    Special(TemplateId, TemplateArgumentList),
     Nested(TypeId, Word),
 }

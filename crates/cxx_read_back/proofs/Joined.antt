@@ -4,7 +4,7 @@ use Rattle.std.specs.Bool.{nat_lt}
 use Rattle.std.specs.Prelude.{slice_get}
 use Rattle.cxx_model.specs.declared.first.Declaration.{Declaration}
 use Rattle.cxx_model.specs.declared.first.Item.{Item}
-use Rattle.cxx_model.specs.declared.first.Options.{Options}
+use Rattle.cxx_model.specs.declared.options.Options.{Options}
 use Rattle.cxx_model.specs.declared.first.Reading.{Reading}
 use Rattle.cxx_model.specs.declared.limits.TheConstants as limits
 use Rattle.cxx_model.specs.declared.stop.LimitKind.TheVariants.{Bytes, Tokens}

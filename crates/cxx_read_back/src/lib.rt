@@ -9,7 +9,7 @@ ghost use Rattle.cxx_model.specs.First.Plain.{normal};
 ghost use Rattle.cxx_model.specs.Outcome.{Whole, outcome_of};
 ghost use Rattle.cxx_model.specs.ReadsBack.{PlainReadsBack};
 ghost use Rattle.cxx_model.specs.declared.first.Declaration.{Declaration};
-ghost use Rattle.cxx_model.specs.declared.first.Options.{Options};
+ghost use Rattle.cxx_model.specs.declared.options.Options.{Options};
 ghost use Rattle.cxx_model.specs.declared.first.Reading.{Reading};
 ghost use Rattle.cxx_read_back.specs.Lines.{IsPrinted};
 ghost use Rattle.cxx_read_back.specs.Normal.{IsNormal};

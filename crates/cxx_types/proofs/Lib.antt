@@ -1,5 +1,3 @@
-pub mod Copied
-pub mod Equal
 pub mod Interning
 pub mod Nodes
 pub mod Reading

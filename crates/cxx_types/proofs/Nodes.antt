@@ -9,12 +9,12 @@ use Rattle.std.proofs.lemmas.List.Folds.{list_any_at}
 use Rattle.cxx_model.specs.declared.types.TypeNode.{TypeNode}
 use Rattle.cxx_model.specs.declared.base.Base.TheVariants.{Void}
 use Rattle.cxx_model.specs.Types.{CxxType, IsNormal, fundamental}
-use Rattle.cxx_model.specs.TypeTrees.{type_at, type_over, IsNodeBelow, Keeps}
+use Rattle.cxx_model.specs.TypeTrees.{AreApart, type_at, type_over, IsNodeBelow, Keeps}
 use Rattle.cxx_model.proofs.TypeTrees.{node_kept, node_later, Keeps-refl, Keeps-trans}
 use Rattle.std.proofs.lemmas.Bool.{ltb-true, ltb-false}
 use Rattle.indexmap.specs.IndexSet.{insert_key}
-use Rattle.cxx_types.proofs.Equal.{same_node, node_from, node_to}
-use Rattle.cxx_types.specs.Table.{types_after, types_of, AreApart, AreNormal, IsTable}
+use Rattle.cxx_model.proofs.Equal.{same_node, node_from, node_to}
+use Rattle.cxx_types.specs.Table.{types_after, types_of, AreNormal, IsTable}
 
 -- one more type
 pub Keeps-more : (types : List CxxType) (t : CxxType) → Keeps types (types ++ t ∷ [])

@@ -1,26 +1,18 @@
 -- What a table's steps make of types.
 use Rattle.std.specs.Prelude.{ℕ, ◌≡◌, ◌<◌, ◌≤◌, ◌+◌, List, [], ◌∷◌, ◌++◌, length, Result, Ok, Err, IfOk}
 use Rattle.std.proofs.Common.{ap, sym, subst, ◌∙◌, take, get_or, arith}
-use Rattle.std.proofs.lemmas.List.{take_more}
 use Rattle.cxx_model.specs.declared.types.Bound.{Bound}
-use Rattle.cxx_model.specs.declared.types.TypeArgument.{TypeArgument}
 use Rattle.cxx_model.specs.declared.types.TypeId.{TypeId}
 use Rattle.cxx_model.specs.declared.types.TypeNode.{TypeNode}
 use Rattle.cxx_model.specs.declared.types.TypeNode.TheVariants as node
 use Rattle.cxx_model.specs.Types.{CxxType, array_of, unqualified}
 use Rattle.cxx_model.specs.TypeTrees.{type_at, bound_at, type_over, IsNodeBelow, IsBoundBelow, Keeps}
 use Rattle.cxx_model.proofs.TypeTrees.{bound_kept, bound_later}
-use Rattle.cxx_types.specs.Copies.{CopiesBound, CopiesArgument, CopiesArguments}
-use Rattle.cxx_types.proofs.Copied.{copied-more}
+use Rattle.cxx_model.specs.Copies.{CopiesBound}
 
 pub if-ok : {A E : Type 0} {P Q : A → Type 0} (r : Result A E) → ((x : A) → P x → Q x) → IfOk r P → IfOk r Q
 if-ok (Ok x) f p = f x p
 if-ok (Err e) f p = p
-
-pub copied-next : (xs : List TypeArgument) (i : ℕ) (x y : TypeArgument) (ys : List TypeArgument) → i < length xs → x ≡ get_or xs i x → CopiesArguments (take i xs) ys → CopiesArgument x y → CopiesArguments (take (i + 1) xs) (ys ++ y ∷ [])
-copied-next xs i x y ys within is h k =
-    let last : take (i + 1) xs ≡ take i xs ++ x ∷ [] = take_more xs i x within ∙ ap (λ z. take i xs ++ z ∷ []) (sym is) in
-    subst (λ (zs : List TypeArgument). CopiesArguments zs (ys ++ y ∷ [])) (sym last) (copied-more (take i xs) ys x y h k)
 
 -- 3.9.3: an array of an element without its cv
 pub stripped : (old mid new : List CxxType) (n : ℕ) (x : TypeNode) (element bare : TypeId) (bound copy : Bound) (one : ℕ) → type_over old x ≡ type_at old n → x ≡ node.Array element bound → n < length old → IsNodeBelow n x → CopiesBound bound copy → Keeps old mid → type_at mid bare.0 ≡ unqualified (type_at old element.0) → type_at new one ≡ array_of (type_at mid bare.0) (bound_at mid copy) → type_at new one ≡ unqualified (type_at old n)

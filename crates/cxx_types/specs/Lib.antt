@@ -1,4 +1,3 @@
-pub mod Copies
 pub mod Free
 pub mod Sizes
 pub mod Table

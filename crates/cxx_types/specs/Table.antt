@@ -3,7 +3,7 @@ use Rattle.std.specs.Prelude.{ℕ, ◌≡◌, ◌<◌, List, [], ◌∷◌, ◌+
 use Rattle.std.specs.List.{slice_get}
 use Rattle.cxx_model.specs.declared.types.TypeNode.{TypeNode}
 use Rattle.cxx_model.specs.Types.{CxxType, IsNormal}
-use Rattle.cxx_model.specs.TypeTrees.{type_at, type_over, IsNodeBelow}
+use Rattle.cxx_model.specs.TypeTrees.{type_at, type_over, AreApart, IsNodeBelow}
 
 abbrev pub types_after : List CxxType → List TypeNode → List CxxType
 types_after done [] = done
@@ -11,10 +11,6 @@ types_after done (node ∷ nodes) = types_after (done ++ type_over done node ∷
 
 abbrev pub types_of : List TypeNode → List CxxType
 types_of nodes = types_after [] nodes
-
--- no type has two numbers
-abbrev pub AreApart : List CxxType → Type 0
-AreApart types = (i j : ℕ) → i < length types → j < length types → type_at types i ≡ type_at types j → i ≡ j
 
 abbrev pub AreNormal : List CxxType → Type 0
 AreNormal types = (i : ℕ) → i < length types → IsNormal (type_at types i)

@@ -2,9 +2,8 @@ ghost use Rattle.std.specs.Prelude.{◌≡◌, ◌<◌, length, IfOk, IsTrue, fa
 ghost use Rattle.cxx_model.specs.Types.{adjusted, any_cv, array_of, layered, merged, takes_cv, unqualified};
 ghost use Rattle.cxx_model.specs.TypeTrees.{type_at, bound_at, IsBoundBelow, Keeps};
 
-use crate::copies::copy_bound;
 use crate::table::TypeTable;
-use cxx_model::{Bound, Cv, OutOfMemory, TypeId, TypeNode};
+use cxx_model::{Bound, Cv, OutOfMemory, TypeId, TypeNode, copy_bound};
 
 pub(crate) fn no_cv() -> Cv
     ensures { any_cv result ≡ false }

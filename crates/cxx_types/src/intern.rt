@@ -4,13 +4,9 @@ ghost use Rattle.cxx_model.specs.TypeTrees.{type_at, types_at, tree_at, type_ove
 ghost use Rattle.cxx_types.specs.Table.{AreNormal};
 ghost use Rattle.cxx_types.specs.Trees.{trees_at, AreTreesBelow};
 
-use crate::copies::{copy_arguments, copy_bound};
 use crate::form::{merge, no_cv};
 use crate::table::TypeTable;
-use cxx_model::{
-    Bound, Cv, Listed, OutOfMemory, Signature, TemplateId, TypeArgument, TypeId, TypeIdList,
-    TypeNode, TypeTree, Word,
-};
+use cxx_model::{Bound, Cv, Listed, OutOfMemory, Signature, TemplateArgument, TemplateId, TypeId, TypeIdList, TypeNode, TypeTree, Word, copy_arguments, copy_bound};
 
 impl TypeTable {
     // A node, with a layer of cv where there is a word.
@@ -43,7 +39,7 @@ impl TypeTable {
     fn insert_special(
         &mut self,
         template: TemplateId,
-        arguments: &[TypeArgument],
+        arguments: &[TemplateArgument],
         cv: Cv,
     ) -> Result<TypeId, OutOfMemory>
         requires { AreArgumentsBelow (length self.old) arguments.now }

@@ -1,7 +1,6 @@
 //! A table that gives each type a number: two numbers are the same exactly where the types are.
 #![tactic(auto)]
 
-mod copies;
 mod form;
 mod intern;
 pub mod laws;

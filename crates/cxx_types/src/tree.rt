@@ -2,9 +2,8 @@ ghost use Rattle.std.specs.Prelude.{◌≡◌, ◌<◌, ◌≤◌, length, IfOk}
 ghost use Rattle.cxx_model.specs.TypeTrees.{type_at, types_at, tree_at, AreTypesBelow, IsTreeBelow};
 ghost use Rattle.cxx_types.specs.Trees.{trees_at, AreTreesBelow};
 
-use crate::copies::{copy_arguments, copy_bound};
 use crate::table::TypeTable;
-use cxx_model::{Listed, OutOfMemory, Signature, TypeId, TypeList, TypeNode, TypeTree};
+use cxx_model::{Listed, OutOfMemory, Signature, TypeId, TypeList, TypeNode, TypeTree, copy_arguments, copy_bound};
 use std::alloc::Global;
 
 impl TypeTable {

@@ -10,16 +10,16 @@ use Rattle.cxx_model.specs.declared.first.Declaration.{Declaration}
 use Rattle.cxx_model.specs.declared.first.Declared.{Declared}
 use Rattle.cxx_model.specs.declared.first.Declared.TheVariants.{Function, Object}
 use Rattle.cxx_model.specs.declared.first.Initializer.{Initializer}
-use Rattle.cxx_model.specs.declared.first.Outcome.{Outcome}
-use Rattle.cxx_model.specs.declared.first.Outcome.TheVariants.{Viable, NotViable}
+use Rattle.cxx_model.specs.declared.overload.Outcome.{Outcome}
+use Rattle.cxx_model.specs.declared.overload.Outcome.TheVariants.{Viable, NotViable}
 use Rattle.cxx_model.specs.declared.limits.TheConstants as limits
-use Rattle.cxx_model.specs.declared.sequence.StandardSequence.{StandardSequence}
-use Rattle.cxx_model.specs.declared.stop.Evidence.{Evidence}
-use Rattle.cxx_model.specs.declared.stop.Evidence.TheVariants.{DoesNotBeat, Refused}
+use Rattle.cxx_model.specs.declared.first.ArithmeticSequence.{ArithmeticSequence}
+use Rattle.cxx_model.specs.declared.evidence.Evidence.{Evidence}
+use Rattle.cxx_model.specs.declared.evidence.Evidence.TheVariants.{DoesNotBeat, Refused}
 use Rattle.cxx_model.specs.declared.stop.LimitKind.TheVariants.{Candidates}
-use Rattle.cxx_model.specs.declared.stop.Reason.TheVariants.{TooFewArguments, TooManyArguments}
-use Rattle.cxx_model.specs.declared.stop.Shown.{Shown}
-use Rattle.cxx_model.specs.declared.stop.Shown.TheVariants.{Declared as ShownAt}
+use Rattle.cxx_model.specs.declared.evidence.Reason.TheVariants.{TooFewArguments, TooManyArguments}
+use Rattle.cxx_model.specs.declared.evidence.Shown.{Shown}
+use Rattle.cxx_model.specs.declared.evidence.Shown.TheVariants.{Declared as ShownAt}
 use Rattle.cxx_model.specs.Better.{is_better, best, counter}
 use Rattle.cxx_model.specs.Standard.{standard_sequence}
 use Rattle.cxx_model.specs.StandardOrder.{compare}
@@ -78,7 +78,7 @@ is_viable arguments candidate = by (outcome arguments candidate)
 -- ---- choice
 
 -- 13.3.3.1: the sequence of each argument to its parameter
-abbrev pub sequences : List Base → List Base → List StandardSequence
+abbrev pub sequences : List Base → List Base → List ArithmeticSequence
 sequences [] parameters = []
 sequences (argument ∷ arguments) [] = []
 sequences (argument ∷ arguments) (parameter ∷ parameters) = standard_sequence argument parameter ∷ sequences arguments parameters

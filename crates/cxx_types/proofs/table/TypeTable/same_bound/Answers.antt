@@ -1,6 +1,6 @@
 use Rattle.std.proofs.Common.{sym, subst, ◌∙◌}
 use Rattle.cxx_types.specs.Table.{AreApart}
-use Rattle.cxx_types.proofs.Equal.{bound_from, bound_to}
+use Rattle.cxx_model.proofs.Equal.{bound_from, bound_to}
 use Rattle.cxx_types.proofs.table.TypeTable.same_bound.Goals as goal
 
 pub returns : goal.returns

@@ -1,5 +1,5 @@
-use Rattle.cxx_types.proofs.Copied.{boxed, copied-cast, copied-unary, copied-binary, copied-conditional}
-use Rattle.cxx_types.proofs.copies.+copy_formula.Goals as goal
+use Rattle.cxx_model.proofs.Copied.{boxed, copied-cast, copied-unary, copied-binary, copied-conditional}
+use Rattle.cxx_model.proofs.copies.+copy_formula.Goals as goal
 
 pub returns-in_ok-operand-in-Cast : goal.returns-in_ok-operand-in-Cast
 returns-in_ok-operand-in-Cast t c =

@@ -1,7 +1,7 @@
-use Rattle.cxx_types.proofs.Copied.{boxed, copied-argument}
-use Rattle.cxx_types.proofs.copies.copy_argument.Goals as goal
+use Rattle.cxx_model.proofs.Copied.{boxed, copied-bound}
+use Rattle.cxx_model.proofs.copies.copy_bound.Goals as goal
 
 pub returns-in_ok-formula-in-Computed : goal.returns-in_ok-formula-in-Computed
 returns-in_ok-formula-in-Computed c =
-    copied-argument _ c.in-Computed.formula c.in_ok-formula-in-Computed.formula c.in-Computed.is
+    copied-bound _ c.in-Computed.formula c.in_ok-formula-in-Computed.formula c.in-Computed.is
     (boxed _ _ c.in-Computed.formula c.in_ok-formula-in-Computed.formula c.in_ok-copy_formula-in-Computed.ensures c.deref.ensures c.in_ok-formula-in-Computed.ensures.ok)

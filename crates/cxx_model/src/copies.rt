@@ -1,10 +1,14 @@
-ghost use Rattle.std.specs.Prelude.{IfOk};
-ghost use Rattle.cxx_types.specs.Copies.{CopiesFormula, CopiesBound, CopiesArgument, CopiesArguments};
+//! Copies of what holds a formula.
 
-use cxx_model::{Bound, Formula, Listed, OutOfMemory, TypeArgument, TypeArgumentList};
+ghost use Rattle.std.specs.Prelude.{IfOk};
+ghost use Rattle.cxx_model.specs.Copies.{CopiesFormula, CopiesBound, CopiesArgument, CopiesArguments};
+
+use crate::listed::Listed;
+use crate::memory::OutOfMemory;
+use crate::types::{Bound, Formula, TemplateArgument, TemplateArgumentList};
 use std::alloc::Global;
 
-pub(crate) fn copy_formula(alloc: Global, formula: &Formula) -> Result<Formula, OutOfMemory>
+fn copy_formula(alloc: Global, formula: &Formula) -> Result<Formula, OutOfMemory>
     ensures { IfOk result (CopiesFormula formula.now) }
 {
     match formula {
@@ -37,7 +41,8 @@ pub(crate) fn copy_formula(alloc: Global, formula: &Formula) -> Result<Formula, 
     }
 }
 
-pub(crate) fn copy_bound(alloc: Global, bound: &Bound) -> Result<Bound, OutOfMemory>
+/// A copy of a bound: the same bound, whatever types its numbers name.
+pub fn copy_bound(alloc: Global, bound: &Bound) -> Result<Bound, OutOfMemory>
     ensures { IfOk result (CopiesBound bound.now) }
 {
     match bound {
@@ -50,23 +55,27 @@ pub(crate) fn copy_bound(alloc: Global, bound: &Bound) -> Result<Bound, OutOfMem
     }
 }
 
-fn copy_argument(alloc: Global, argument: &TypeArgument) -> Result<TypeArgument, OutOfMemory>
+fn copy_argument(
+    alloc: Global,
+    argument: &TemplateArgument,
+) -> Result<TemplateArgument, OutOfMemory>
     ensures { IfOk result (CopiesArgument argument.now) }
 {
     match argument {
-        TypeArgument::OfType(of) => Ok(TypeArgument::OfType(*of)),
-        TypeArgument::Value(value, of) => Ok(TypeArgument::Value(*value, *of)),
-        TypeArgument::Computed(formula) => {
+        TemplateArgument::OfType(of) => Ok(TemplateArgument::OfType(*of)),
+        TemplateArgument::Value(value, of) => Ok(TemplateArgument::Value(*value, *of)),
+        TemplateArgument::Computed(formula) => {
             let formula = Box::new(alloc, copy_formula(alloc, formula)?)?;
-            Ok(TypeArgument::Computed(formula))
+            Ok(TemplateArgument::Computed(formula))
         }
     }
 }
 
-pub(crate) fn copy_arguments(
+/// A copy of arguments: the same ones, whatever types their numbers name.
+pub fn copy_arguments(
     alloc: Global,
-    arguments: &[TypeArgument],
-) -> Result<TypeArgumentList, OutOfMemory>
+    arguments: &[TemplateArgument],
+) -> Result<TemplateArgumentList, OutOfMemory>
     ensures { IfOk result (CopiesArguments arguments.now) }
 {
     let mut copies = Listed::new(alloc);

@@ -1,0 +1,6 @@
+/// What the user chooses for a run.
+#[derive(Clone, Copy, Debug, PartialEq, Eq)]
+pub struct Options {
+    /// How deep instances of templates may nest.
+    pub depth: u32,
+}
