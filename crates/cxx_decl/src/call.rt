@@ -11,10 +11,8 @@ use crate::fault::{fault_with, not_built, undeclared};
 use crate::numbers::Seen;
 use crate::scope::{Candidate, candidates, is_declared, names_object};
 use crate::viable::{Contender, contenders, outcome, refusals};
-use cxx_model::{
-    Argument, ArgumentList, Base, BaseList, Call, Fault, Initializer, LimitKind, NumberList,
-    OutcomeList, Place, Stop, Text, Word, limits,
-};
+use cxx_model::first::{Argument, ArgumentList, BaseList, Call, Initializer};
+use cxx_model::{Base, Fault, LimitKind, NumberList, OutcomeList, Place, Stop, Text, Word, limits};
 use std::alloc::{AllocError, Global};
 
 /// The type of an argument: that of its outermost cast, and else that of its literal.

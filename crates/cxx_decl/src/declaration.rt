@@ -16,10 +16,10 @@ use crate::expression::initializer;
 use crate::fault::not_built;
 use crate::numbers::{Numbers, Seen};
 use crate::standard::is_same;
-use cxx_model::{
-    Base, BaseList, CallList, Declaration, DeclarationList, Declared, Item, ItemList, LimitKind,
-    Options, Reading, Stop, Token, TokenKind, Word, limits, punct,
+use cxx_model::first::{
+    BaseList, CallList, Declaration, DeclarationList, Declared, Item, ItemList, Reading,
 };
+use cxx_model::{Base, LimitKind, Options, Stop, Token, TokenKind, Word, limits, punct};
 use std::alloc::Global;
 
 fn begins_type(kind: TokenKind) -> bool

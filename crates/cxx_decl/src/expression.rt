@@ -11,10 +11,8 @@ use crate::cursor::{Cursor, is_keyword, is_punct};
 use crate::fault::undeclared;
 use crate::numbers::Seen;
 use crate::scope::is_declared;
-use cxx_model::{
-    Argument, ArgumentList, Base, BaseList, Call, Fault, Initializer, LimitKind, Stop, TokenKind,
-    Word, keyword, limits, punct,
-};
+use cxx_model::first::{Argument, ArgumentList, BaseList, Call, Initializer};
+use cxx_model::{Base, Fault, LimitKind, Stop, TokenKind, Word, keyword, limits, punct};
 use cxx_tokens::literal_type;
 use std::alloc::{AllocError, Global};
 

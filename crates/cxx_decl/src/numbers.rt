@@ -4,7 +4,7 @@ ghost use Rattle.std.specs.Prelude.{◌≡◌, ℕ, ◌++◌, ◌∷◌, [], Lis
 ghost use Rattle.std.specs.Str.{bytes_eq};
 ghost use Rattle.cxx_decl.specs.Numbers.{those_in, kept, numbers_from, Keeps};
 
-use cxx_model::Declaration;
+use cxx_model::first::Declaration;
 use indexmap::IndexMap;
 use std::alloc::{AllocError, Global};
 

@@ -7,7 +7,8 @@ ghost use Rattle.cxx_decl.specs.Numbers.{is_some_number as is_some, passes_at, f
 ghost use Rattle.cxx_decl.specs.Views.{candidate_at, with_option};
 
 use crate::numbers::Seen;
-use cxx_model::{Base, Declaration, Declared, Place};
+use cxx_model::first::{Declaration, Declared};
+use cxx_model::{Base, Place};
 use std::alloc::{AllocError, Global};
 
 /// A function that a call may mean: the number of its declaration, and what that says.

@@ -5,7 +5,8 @@ ghost use Rattle.cxx_model.specs.Standard.{row as standard_row, same_base, promo
 ghost use Rattle.cxx_model.specs.StandardOrder.{compare as order_of, number_of_rank as standard_number, is_proper_subsequence as is_proper, has_better_rank as has_better};
 ghost use Rattle.cxx_decl.specs.Views.{row_of};
 
-use cxx_model::{Base, Order, Rank, Second, ArithmeticSequence};
+use cxx_model::first::ArithmeticSequence;
+use cxx_model::{Base, Order, Rank, Second};
 
 /// What the standard says of an arithmetic type by itself.
 #[derive(Clone, Copy)]
@@ -136,7 +137,9 @@ fn rank_of_step(second: Second) -> Rank
         Second::Integral => Rank::Conversion,
         Second::Floating => Rank::Conversion,
         Second::FloatingIntegral => Rank::Conversion,
+        Second::Pointer => Rank::Conversion,
         Second::Boolean => Rank::Conversion,
+        Second::DerivedToBase => Rank::Conversion,
     }
 }
 

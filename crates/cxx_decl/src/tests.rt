@@ -1,5 +1,6 @@
 use super::*;
-use cxx_model::{Evidence, Fault, Item, Options, Place, Reading, Reason, Shown, Stop};
+use cxx_model::first::{Item, Reading};
+use cxx_model::{Evidence, Fault, Options, Place, Reason, Shown, Stop};
 use cxx_tokens::tokens;
 use std::alloc::Global;
 use std::process::Abort;

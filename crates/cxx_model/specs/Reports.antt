@@ -50,7 +50,7 @@ reason_text ObjectNoConversion = codes "object argument: no conversion"
 reason_text (NoConversion number) = codes "argument " ++ decimal number ++ codes ": no conversion"
 
 -- each number after a space
-abbrev spaced_numbers : List ℕ → List ℕ
+abbrev pub spaced_numbers : List ℕ → List ℕ
 spaced_numbers [] = []
 spaced_numbers (number ∷ others) = codes " " ++ decimal number ++ spaced_numbers others
 
@@ -60,11 +60,11 @@ path_text [] = codes "by no base"
 path_text (number ∷ others) = codes "by bases" ++ spaced_numbers (number ∷ others)
 
 -- the place of a member before the path to it; a base has none
-abbrev by_bases_text : Option Place → List ℕ → List ℕ
+abbrev pub by_bases_text : Option Place → List ℕ → List ℕ
 by_bases_text (Some place) path = place_text place ++ codes " " ++ path_text path
 by_bases_text None path = path_text path
 
-abbrev instance_text : Bool → List ℕ
+abbrev pub instance_text : Bool → List ℕ
 instance_text true = codes " class at "
 instance_text false = codes " function at "
 

@@ -11,7 +11,7 @@ mod reports;
 mod sections;
 mod words;
 
-use cxx_model::Reading;
+use cxx_model::first::Reading;
 use cxx_model::limits::MOST_OUTPUT;
 pub use fault::PlainFault;
 use page::Page;

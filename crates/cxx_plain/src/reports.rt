@@ -1,8 +1,8 @@
 //! The texts of reports.
-ghost use Rattle.std.specs.Prelude.{◌≡◌, ◌++◌, OnOk, IfOk, decimal, codes, flat_map};
-ghost use Rattle.cxx_model.specs.Reports.{place_text, shown_text, reason_text, evidence_text, report, limit_name, limit_report};
+ghost use Rattle.std.specs.Prelude.{◌≡◌, ◌<◌, ◌++◌, OnOk, IfOk, codes, decimal};
+ghost use Rattle.cxx_model.specs.Reports.{by_bases_text, evidence_lines, evidence_text, limit_name, limit_report, link_text, number_after, path_text, place_text, reason_text, report, shown_text, substitution_text};
 
-use cxx_model::{Evidence, Fault, LimitKind, Place, Reason, Shown};
+use cxx_model::{Evidence, Fault, LimitKind, Link, Place, Reason, Shown, SubstitutionText};
 use itoa::Buffer;
 use std::alloc::{AllocError, Global};
 
@@ -19,6 +19,13 @@ fn write_number(out: &mut Vec<u8>, number: u32) -> Result<(), AllocError>
     write(out, digits.format(number).as_bytes())
 }
 
+fn write_count(out: &mut Vec<u8>, number: u64) -> Result<(), AllocError>
+    ensures { OnOk result (out.new.items ≡ out.old.items ++ decimal number) }
+{
+    let mut digits = Buffer::new();
+    write(out, digits.format(number).as_bytes())
+}
+
 fn write_place(out: &mut Vec<u8>, place: Place) -> Result<(), AllocError>
     ensures { OnOk result (out.new.items ≡ out.old.items ++ place_text place) }
 {
@@ -27,23 +34,126 @@ fn write_place(out: &mut Vec<u8>, place: Place) -> Result<(), AllocError>
     write_number(out, place.column)
 }
 
+/// Writes a text and a number behind it.
+fn write_before(out: &mut Vec<u8>, front: &[u8], number: u32) -> Result<(), AllocError>
+    ensures { OnOk result (out.new.items ≡ out.old.items ++ (front.now ++ decimal number)) }
+{
+    write(out, front)?;
+    write_number(out, number)
+}
+
 fn write_shown(out: &mut Vec<u8>, shown: Shown) -> Result<(), AllocError>
     ensures { OnOk result (out.new.items ≡ out.old.items ++ shown_text shown) }
 {
-    let Shown::Declared(number, place) = shown;
-    write(out, b"candidate ")?;
-    write_number(out, number)?;
-    write(out, b" at ")?;
-    write_place(out, place)
+    match shown {
+        Shown::Declared(number, place) => {
+            write(out, b"candidate ")?;
+            write_number(out, number)?;
+            write(out, b" at ")?;
+            write_place(out, place)
+        }
+        Shown::BuiltIn(number) => write_before(out, b"built-in candidate ", number),
+    }
 }
 
-fn reason_name(reason: Reason) -> &'static [u8]
-    ensures { result.now ≡ reason_text reason }
+fn substitution_name(text: SubstitutionText) -> &'static [u8]
+    ensures { result.now ≡ substitution_text text }
+{
+    match text {
+        SubstitutionText::ForbiddenElement => b"array of a forbidden element",
+        SubstitutionText::SizeBelowOne => b"array size below 1",
+        SubstitutionText::NoMemberType => b"no such member type",
+        SubstitutionText::MemberNoType => b"member is not a type",
+        SubstitutionText::QualifierNoClass => b"qualifier is not a class",
+        SubstitutionText::PointerToReference => b"pointer to reference",
+        SubstitutionText::ReferenceToReference => b"reference to reference",
+        SubstitutionText::ReferenceToVoid => b"reference to void",
+        SubstitutionText::VoidParameter => b"parameter of type void",
+        SubstitutionText::InvalidArgument => b"invalid template argument",
+    }
+}
+
+/// Writes a number between two texts.
+fn write_numbered(
+    out: &mut Vec<u8>,
+    front: &[u8],
+    number: u32,
+    back: &[u8],
+) -> Result<(), AllocError>
+    ensures { OnOk result (out.new.items ≡ out.old.items ++ (front.now ++ decimal number ++ back.now)) }
+{
+    write(out, front)?;
+    write_number(out, number)?;
+    write(out, back)
+}
+
+fn write_reason(out: &mut Vec<u8>, reason: Reason) -> Result<(), AllocError>
+    ensures { OnOk result (out.new.items ≡ out.old.items ++ reason_text reason) }
 {
     match reason {
-        Reason::TooFewArguments => b"too few arguments",
-        Reason::TooManyArguments => b"too many arguments",
+        Reason::TooFewArguments => write(out, b"too few arguments"),
+        Reason::TooManyArguments => write(out, b"too many arguments"),
+        Reason::TooManyTemplateArguments => write(out, b"too many template arguments"),
+        Reason::WrongKind(number) => {
+            write_numbered(out, b"template argument ", number, b" has the wrong kind")
+        }
+        Reason::Substitution(text) => write(out, substitution_name(text)),
+        Reason::NoMatch(number) => write_numbered(out, b"argument ", number, b" does not match"),
+        Reason::TwoBases(number) => {
+            write_numbered(out, b"argument ", number, b" matches two bases")
+        }
+        Reason::Twice(number) => write_numbered(out, b"parameter ", number, b" deduced twice"),
+        Reason::NotDeduced(number) => {
+            write_numbered(out, b"parameter ", number, b" not deduced")
+        }
+        Reason::ObjectNoConversion => write(out, b"object argument: no conversion"),
+        Reason::NoConversion(number) => {
+            write_numbered(out, b"argument ", number, b": no conversion")
+        }
     }
+}
+
+/// Writes the positions of the bases that lead to a member.
+fn write_path(out: &mut Vec<u8>, path: &[u32]) -> Result<(), AllocError>
+    ensures { OnOk result (out.new.items ≡ out.old.items ++ path_text path.now) }
+{
+    if path.is_empty() {
+        return write(out, b"by no base");
+    }
+    write(out, b"by bases")?;
+    for number in path {
+        write(out, b" ")?;
+        write_number(out, *number)?;
+    }
+    Ok(())
+}
+
+fn write_by_bases(out: &mut Vec<u8>, place: Option<Place>, path: &[u32]) -> Result<(), AllocError>
+    ensures { OnOk result (out.new.items ≡ out.old.items ++ by_bases_text place path.now) }
+{
+    match place {
+        Some(place) => {
+            write_place(out, place)?;
+            write(out, b" ")?;
+            write_path(out, path)
+        }
+        None => write_path(out, path),
+    }
+}
+
+/// Writes a line of a chain, with its number.
+fn write_link(out: &mut Vec<u8>, number: u64, link: Link) -> Result<(), AllocError>
+    ensures { OnOk result (out.new.items ≡ out.old.items ++ link_text number link) }
+{
+    write_count(out, number)?;
+    if link.of_class {
+        write(out, b" class at ")?;
+    } else {
+        write(out, b" function at ")?;
+    }
+    write_place(out, link.template)?;
+    write(out, b" needed at ")?;
+    write_place(out, link.needed)
 }
 
 /// Writes which candidate does not beat which.
@@ -55,22 +165,82 @@ fn write_pair(out: &mut Vec<u8>, one: Shown, two: Shown) -> Result<(), AllocErro
     write_shown(out, two)
 }
 
-fn write_evidence(out: &mut Vec<u8>, evidence: Evidence) -> Result<(), AllocError>
-    ensures { OnOk result (out.new.items ≡ out.old.items ++ evidence_text evidence) }
+/// Writes a candidate, a text and a number behind it.
+fn write_shown_before(
+    out: &mut Vec<u8>,
+    shown: Shown,
+    between: &[u8],
+    number: u32,
+) -> Result<(), AllocError>
+    ensures { OnOk result (out.new.items ≡ out.old.items ++ (shown_text shown ++ between.now ++ decimal number)) }
 {
-    write(out, b"  ")?;
+    write_shown(out, shown)?;
+    write_before(out, between, number)
+}
+
+/// Writes two numbers, each behind a text.
+fn write_both(
+    out: &mut Vec<u8>,
+    front: &[u8],
+    one: u32,
+    between: &[u8],
+    two: u32,
+) -> Result<(), AllocError>
+    ensures { OnOk result (out.new.items ≡ out.old.items ++ (front.now ++ decimal one ++ between.now ++ decimal two)) }
+{
+    write_before(out, front, one)?;
+    write_before(out, between, two)
+}
+
+/// Writes what a piece of evidence says, where it would be the line of a chain with this number.
+fn write_evidence(out: &mut Vec<u8>, number: u64, evidence: &Evidence) -> Result<(), AllocError>
+    ensures { OnOk result (out.new.items ≡ out.old.items ++ evidence_text number evidence.now) }
+{
     match evidence {
-        Evidence::DoesNotBeat(one, two) => {
-            write_pair(out, one, two)?;
-            write(out, b"\n")
+        Evidence::Found(place) => {
+            write(out, b"found at ")?;
+            write_place(out, *place)
         }
+        Evidence::ByBases(place, path) => write_by_bases(out, *place, path.as_slice()),
+        Evidence::DoesNotBeat(one, two) => write_pair(out, *one, *two),
         Evidence::Refused(candidate, reason) => {
-            write_shown(out, candidate)?;
+            write_shown(out, *candidate)?;
             write(out, b": ")?;
-            write(out, reason_name(reason))?;
-            write(out, b"\n")
+            write_reason(out, *reason)
         }
+        Evidence::Uses(candidate, argument) => {
+            write_shown_before(out, *candidate, b" uses it for argument ", *argument)
+        },
+        Evidence::Chain(link) => write_link(out, number, *link),
+        Evidence::RowDoesNotBeat(one, two) => {
+            write_both(out, b"row ", *one, b" does not beat row ", *two)
+        },
     }
+}
+
+/// The number of the next line of a chain.
+fn number_after(number: u64, evidence: &Evidence) -> u64
+    requires { number < 18446744073709551615 }
+    ensures { result ≡ number_after number evidence.now }
+{
+    match evidence {
+        Evidence::Chain(_) => number + 1,
+        _ => number,
+    }
+}
+
+/// Writes a line for each piece of evidence.
+fn write_lines(out: &mut Vec<u8>, evidence: &[Evidence]) -> Result<(), AllocError>
+    ensures { OnOk result (out.new.items ≡ out.old.items ++ evidence_lines 1 evidence.now) }
+{
+    let mut number = 1;
+    for one in evidence {
+        write(out, b"  ")?;
+        write_evidence(out, number, one)?;
+        write(out, b"\n")?;
+        number = number_after(number, one);
+    }
+    Ok(())
 }
 
 /// The report of a fault: where it is and what it says, and a line for each piece of evidence.
@@ -83,9 +253,7 @@ pub fn report(alloc: Global, fault: &Fault) -> Result<Vec<u8>, AllocError>
     write(&mut out, b": ")?;
     write(&mut out, fault.text.as_slice())?;
     write(&mut out, b"\n")?;
-    for evidence in fault.evidence.as_slice() {
-        write_evidence(&mut out, *evidence)?;
-    }
+    write_lines(&mut out, fault.evidence.as_slice())?;
     Ok(out)
 }
 

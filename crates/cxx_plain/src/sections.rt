@@ -7,8 +7,8 @@ ghost use Rattle.cxx_plain.specs.Texts.{section_text};
 use crate::fault::PlainFault;
 use crate::page::Page;
 use crate::words::write_line;
+use cxx_model::first::{Declaration, Declared, Item};
 use cxx_model::limits::MOST_OUTPUT;
-use cxx_model::{Declaration, Declared, Item};
 use std::alloc::{AllocError, Global};
 
 /// Whether a declaration stands among the objects, or among the functions.

@@ -1,7 +1,7 @@
 use super::*;
+use cxx_model::first::{Argument, Declaration, Declared, Initializer, Item};
 use cxx_model::{
-    Argument, Base, Declaration, Declared, Evidence, Fault, Initializer, Item, LimitKind, Listed,
-    Options, Place, Reason, Shown,
+    Base, Evidence, Fault, LimitKind, Link, Listed, Options, Place, Reason, Shown, SubstitutionText,
 };
 use std::alloc::AllocError;
 use std::process::Abort;
@@ -209,12 +209,12 @@ fn fault(
     alloc: Global,
     place: Place,
     text: &[u8],
-    evidence: &[Evidence],
+    evidence: Vec<Evidence>,
 ) -> Result<Fault, AllocError> {
     Ok(Fault {
         place,
         text: Listed::from_slice(alloc, text)?,
-        evidence: Listed::from_slice(alloc, evidence)?,
+        evidence: Listed::from_vec(evidence),
     })
 }
 
@@ -223,18 +223,18 @@ fn reports_show_evidence(rt: HostRuntime) -> Result<(), Fail> {
     let alloc = rt.alloc();
     let one = Shown::Declared(1, at(1, 5));
     let two = Shown::Declared(2, at(1, 18));
-    let both = [
+    let both = vec![in alloc;
         Evidence::DoesNotBeat(one, two),
         Evidence::DoesNotBeat(two, one),
-    ];
-    let ambiguous = fault(alloc, at(1, 37), b"ambiguous call", &both)?;
+    ]?;
+    let ambiguous = fault(alloc, at(1, 37), b"ambiguous call", both)?;
     expect(
         &rt,
         &report(alloc, &ambiguous)?,
         "1:37: ambiguous call\n  candidate 1 at 1:5 does not beat candidate 2 at 1:18\n  candidate 2 at 1:18 does not beat candidate 1 at 1:5\n",
     );
-    let few = [Evidence::Refused(one, Reason::TooFewArguments)];
-    let none = fault(alloc, at(1, 26), b"no viable function", &few)?;
+    let few = vec![in alloc; Evidence::Refused(one, Reason::TooFewArguments)]?;
+    let none = fault(alloc, at(1, 26), b"no viable function", few)?;
     expect(
         &rt,
         &report(alloc, &none)?,
@@ -245,5 +245,166 @@ fn reports_show_evidence(rt: HostRuntime) -> Result<(), Fail> {
         &limit_report(alloc, LimitKind::Bytes)?,
         "limit: bytes\n",
     );
+    Ok(())
+}
+
+// A declaration, members by their bases, and a row that does not beat another.
+#[test]
+fn reports_show_declarations_and_bases(rt: HostRuntime) -> Result<(), Fail> {
+    let alloc = rt.alloc();
+    let found = vec![in alloc; Evidence::Found(at(1, 24))]?;
+    expect(
+        &rt,
+        &report(
+            alloc,
+            &fault(alloc, at(2, 21), b"result does not fit", found)?,
+        )?,
+        "2:21: result does not fit\n  found at 1:24\n",
+    );
+    let member = Some(at(1, 16));
+    let members = vec![in alloc;
+        Evidence::ByBases(member, Listed::from_slice(alloc, &[1, 1])?),
+        Evidence::ByBases(member, Listed::from_slice(alloc, &[2, 1])?),
+    ]?;
+    expect(
+        &rt,
+        &report(
+            alloc,
+            &fault(alloc, at(6, 24), b"ambiguous name n", members)?,
+        )?,
+        "6:24: ambiguous name n\n  1:16 by bases 1 1\n  1:16 by bases 2 1\n",
+    );
+    let bases = vec![in alloc;
+        Evidence::ByBases(None, Listed::from_slice(alloc, &[12])?),
+        Evidence::ByBases(member, Listed::from_slice(alloc, &[])?),
+    ]?;
+    expect(
+        &rt,
+        &report(alloc, &fault(alloc, at(6, 24), b"ambiguous base", bases)?)?,
+        "6:24: ambiguous base\n  by bases 12\n  1:16 by no base\n",
+    );
+    let rows = vec![in alloc; Evidence::RowDoesNotBeat(1, 2)]?;
+    expect(
+        &rt,
+        &report(alloc, &fault(alloc, at(2, 1), b"not best", rows)?)?,
+        "2:1: not best\n  row 1 does not beat row 2\n",
+    );
+    let uses = vec![in alloc; Evidence::Uses(Shown::BuiltIn(3), 2)]?;
+    expect(
+        &rt,
+        &report(
+            alloc,
+            &fault(alloc, at(2, 1), b"ambiguous conversion", uses)?,
+        )?,
+        "2:1: ambiguous conversion\n  built-in candidate 3 uses it for argument 2\n",
+    );
+    Ok(())
+}
+
+// The lines of a chain are numbered from 1, whatever stands before them.
+#[test]
+fn reports_number_a_chain(rt: HostRuntime) -> Result<(), Fail> {
+    let alloc = rt.alloc();
+    let outer = Link {
+        of_class: true,
+        template: at(1, 24),
+        needed: at(2, 15),
+    };
+    let inner = Link {
+        of_class: false,
+        template: at(1, 24),
+        needed: at(1, 58),
+    };
+    let lines = vec![in alloc;
+        Evidence::Found(at(1, 1)),
+        Evidence::Chain(outer),
+        Evidence::Chain(inner),
+    ]?;
+    expect(
+        &rt,
+        &report(alloc, &fault(alloc, at(1, 58), b"depth limit 2", lines)?)?,
+        "1:58: depth limit 2\n  found at 1:1\n  1 class at 1:24 needed at 2:15\n  2 function at 1:24 needed at 1:58\n",
+    );
+    Ok(())
+}
+
+// Why a candidate is not viable, in words.
+#[test]
+fn reports_say_reasons(rt: HostRuntime) -> Result<(), Fail> {
+    let alloc = rt.alloc();
+    for (reason, expected) in [
+        (Reason::TooManyArguments, "too many arguments"),
+        (
+            Reason::TooManyTemplateArguments,
+            "too many template arguments",
+        ),
+        (
+            Reason::WrongKind(2),
+            "template argument 2 has the wrong kind",
+        ),
+        (Reason::NoMatch(1), "argument 1 does not match"),
+        (Reason::TwoBases(1), "argument 1 matches two bases"),
+        (Reason::Twice(3), "parameter 3 deduced twice"),
+        (Reason::NotDeduced(10), "parameter 10 not deduced"),
+        (Reason::ObjectNoConversion, "object argument: no conversion"),
+        (Reason::NoConversion(1), "argument 1: no conversion"),
+        (
+            Reason::Substitution(SubstitutionText::ForbiddenElement),
+            "array of a forbidden element",
+        ),
+        (
+            Reason::Substitution(SubstitutionText::SizeBelowOne),
+            "array size below 1",
+        ),
+        (
+            Reason::Substitution(SubstitutionText::NoMemberType),
+            "no such member type",
+        ),
+        (
+            Reason::Substitution(SubstitutionText::MemberNoType),
+            "member is not a type",
+        ),
+        (
+            Reason::Substitution(SubstitutionText::QualifierNoClass),
+            "qualifier is not a class",
+        ),
+        (
+            Reason::Substitution(SubstitutionText::PointerToReference),
+            "pointer to reference",
+        ),
+        (
+            Reason::Substitution(SubstitutionText::ReferenceToReference),
+            "reference to reference",
+        ),
+        (
+            Reason::Substitution(SubstitutionText::ReferenceToVoid),
+            "reference to void",
+        ),
+        (
+            Reason::Substitution(SubstitutionText::VoidParameter),
+            "parameter of type void",
+        ),
+        (
+            Reason::Substitution(SubstitutionText::InvalidArgument),
+            "invalid template argument",
+        ),
+    ] {
+        let shown = Shown::Declared(1, at(3, 24));
+        let refused = vec![in alloc; Evidence::Refused(shown, reason)]?;
+        let mut text = String::from_str(
+            alloc,
+            "4:15: no viable function\n  candidate 1 at 3:24: ",
+        )?;
+        text.push_str(expected)?;
+        text.push_str("\n")?;
+        expect(
+            &rt,
+            &report(
+                alloc,
+                &fault(alloc, at(4, 15), b"no viable function", refused)?,
+            )?,
+            &text,
+        );
+    }
     Ok(())
 }

@@ -9,8 +9,9 @@ ghost use Rattle.cxx_plain.specs.Numbers.{number_at};
 use crate::fault::PlainFault;
 use crate::names::stem;
 use crate::page::Page;
+use cxx_model::Base;
+use cxx_model::first::{Argument, Declaration, Declared, Initializer, Item};
 use cxx_model::limits::MOST_OUTPUT;
-use cxx_model::{Argument, Base, Declaration, Declared, Initializer, Item};
 use itoa::Buffer;
 
 #[tactic(auto, unfolding(crate::specs::Texts::base_text))]

@@ -6,7 +6,10 @@ ghost use Rattle.cxx_types.specs.Trees.{trees_at, AreTreesBelow};
 
 use crate::form::{merge, no_cv};
 use crate::table::TypeTable;
-use cxx_model::{Bound, Cv, Listed, OutOfMemory, Signature, TemplateArgument, TemplateId, TypeId, TypeIdList, TypeNode, TypeTree, Word, copy_arguments, copy_bound};
+use cxx_model::{
+    Bound, Cv, Listed, OutOfMemory, Signature, TemplateArgument, TemplateId, TypeId, TypeIdList,
+    TypeNode, TypeTree, Word, copy_arguments, copy_bound,
+};
 
 impl TypeTable {
     // A node, with a layer of cv where there is a word.

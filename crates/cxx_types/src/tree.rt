@@ -3,7 +3,10 @@ ghost use Rattle.cxx_model.specs.TypeTrees.{type_at, types_at, tree_at, AreTypes
 ghost use Rattle.cxx_types.specs.Trees.{trees_at, AreTreesBelow};
 
 use crate::table::TypeTable;
-use cxx_model::{Listed, OutOfMemory, Signature, TypeId, TypeList, TypeNode, TypeTree, copy_arguments, copy_bound};
+use cxx_model::{
+    Listed, OutOfMemory, Signature, TypeId, TypeList, TypeNode, TypeTree, copy_arguments,
+    copy_bound,
+};
 use std::alloc::Global;
 
 impl TypeTable {
