@@ -44,11 +44,11 @@ same_id = id_test.eq-value.it
 abbrev pub same_node : TypeNode → TypeNode → Bool
 same_node = node_test.eq-value.it
 
-both : (a b : Bool) → (a && b) ≡ true → (a ≡ true) × (b ≡ true)
+pub both : (a b : Bool) → (a && b) ≡ true → (a ≡ true) × (b ≡ true)
 both true b e = (refl, e)
 both false b e = cc
 
-join : (a b : Bool) → a ≡ true → b ≡ true → (a && b) ≡ true
+pub join : (a b : Bool) → a ≡ true → b ≡ true → (a && b) ≡ true
 join a b p q = cc
 
 bool_told : (a b : Bool) → beq a b ≡ true → a ≡ b
@@ -60,16 +60,16 @@ bool_told false false e = refl
 bool_tells : (a b : Bool) → a ≡ b → beq a b ≡ true
 bool_tells a b e = ap (beq a) (sym e) ∙ bool_eq_equiv.refl a
 
-int_told : (a b : ℤ) → int_eq a b ≡ true → a ≡ b
+pub int_told : (a b : ℤ) → int_eq a b ≡ true → a ≡ b
 int_told a b e = (Decides-int_eq a b).0 e
 
-int_tells : (a b : ℤ) → a ≡ b → int_eq a b ≡ true
+pub int_tells : (a b : ℤ) → a ≡ b → int_eq a b ≡ true
 int_tells a b e = ap (int_eq a) (sym e) ∙ int_eq_equiv.refl a
 
-word_told : (a b : List ℕ) → pointwise nat_eq a b ≡ true → a ≡ b
+pub word_told : (a b : List ℕ) → pointwise nat_eq a b ≡ true → a ≡ b
 word_told a b e = same_text a b (sym e)
 
-word_tells : (a b : List ℕ) → a ≡ b → pointwise nat_eq a b ≡ true
+pub word_tells : (a b : List ℕ) → a ≡ b → pointwise nat_eq a b ≡ true
 word_tells a b e = ap (pointwise nat_eq a) (sym e) ∙ nat_list_eq_equiv.refl a
 
 cv_told : (a b : Cv) → (beq a.is_const b.is_const && beq a.is_volatile b.is_volatile) ≡ true → a ≡ b

@@ -1,5 +1,5 @@
 -- A graph in range stays in range.
-use Rattle.std.specs.Prelude.{ℕ, ◌≡◌, ◌<◌, ◌≤◌, ◌+◌, refl, Bool, true, false, List, [], ◌∷◌, ◌++◌, length, Option, Some, None}
+use Rattle.std.specs.Prelude.{◌≡◌, ◌<◌, ◌≤◌, refl, Bool, true, false, List, [], ◌∷◌, ◌++◌, length, Option, Some, None}
 use Rattle.std.proofs.Common.{subst, sym, append_assoc, append-nil, arith, length-append}
 use Rattle.cxx_model.specs.declared.facts.Entity.{Entity}
 use Rattle.cxx_model.specs.declared.facts.Entity.TheVariants as entity
@@ -12,12 +12,11 @@ use Rattle.cxx_model.specs.declared.facts.ScopeKind.TheVariants as kind
 use Rattle.cxx_model.specs.declared.facts.Specialisation.{Specialisation}
 use Rattle.cxx_model.specs.declared.facts.TemplateParameter.{TemplateParameter}
 use Rattle.cxx_model.specs.declared.types.ClassId.{ClassId}
-use Rattle.cxx_model.specs.declared.types.FactId.{FactId}
 use Rattle.cxx_model.specs.declared.types.ScopeId.{ScopeId}
 use Rattle.cxx_model.specs.declared.types.TemplateId.{TemplateId}
 use Rattle.cxx_model.specs.declared.types.TypeTree as tree
 use Rattle.cxx_model.specs.declared.types.TypeTree.{TypeTree}
-use Rattle.cxx_model.specs.Graph.{Graph, InRange, MayFollow, EachMayFollow, appended, counted, enumerations, is_enumeration, with_class, with_pattern, IsClassInRange, AreClassesInRange, IsClassNumberInRange, IsEntityInRange, IsKindInRange, IsKindOfParameterInRange, AreParametersInRange, IsPatternInRange, ArePatternsInRange, IsRowInRange, IsScopeInRange, IsTemplateInRange, IsTreeInRange, IsUnitScope}
+use Rattle.cxx_model.specs.Graph.{Graph, InRange, MayFollow, EachMayFollow, appended, counted, enumerations, is_enumeration, with_class, with_pattern, IsClassInRange, AreClassesInRange, IsClassNumberInRange, IsEntityInRange, IsKindInRange, IsKindOfParameterInRange, AreParametersInRange, IsPatternInRange, ArePatternsInRange, IsRowInRange, IsScopeInRange, IsTemplateInRange, IsTreeInRange}
 
 -- ---- facts
 
@@ -162,13 +161,13 @@ enumerations-more (x ∷ xs) fact = (let more : enumerations xs ≤ enumerations
     by true more = omega arith
     by false more = more
 
-grows-fact : (graph : Graph) (fact : Fact) → Grows graph (appended graph fact)
+pub grows-fact : (graph : Graph) (fact : Fact) → Grows graph (appended graph fact)
 grows-fact graph fact = record { classes = omega arith; patterns = omega arith; enums = enumerations-more graph.facts fact }
 
-grows-class : (graph : Graph) (class : Option Specialisation) → Grows graph (with_class graph class)
+pub grows-class : (graph : Graph) (class : Option Specialisation) → Grows graph (with_class graph class)
 grows-class graph class = record { classes = omega (arith, length-append graph.classes (class ∷ [])); patterns = omega arith; enums = omega arith }
 
-grows-pattern : (graph : Graph) (pattern : Pattern) → Grows graph (with_pattern graph pattern)
+pub grows-pattern : (graph : Graph) (pattern : Pattern) → Grows graph (with_pattern graph pattern)
 grows-pattern graph pattern = record { classes = omega arith; patterns = omega (arith, length-append graph.patterns (pattern ∷ [])); enums = omega arith }
 
 pub appended-in-range : (graph : Graph) (fact : Fact) → InRange graph → MayFollow graph fact → InRange (appended graph fact)

@@ -2,6 +2,7 @@ pub mod Lexemes
 pub mod Spelling
 pub mod Tokens
 pub mod Continuing
+pub mod Bases
 pub mod Standard
 pub mod StandardOrder
 pub mod Better
@@ -18,3 +19,8 @@ pub mod TypeCode
 pub mod Copies
 pub mod Integral
 pub mod Graph
+pub mod SameType
+pub mod Facts
+pub mod Fitted
+pub mod Entities
+pub mod Conflicts

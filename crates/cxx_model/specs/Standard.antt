@@ -1,14 +1,15 @@
 -- Standard conversion sequences between arithmetic types (clause 4, 13.3.3.1.1).
-use Rattle.std.specs.Prelude.{ℕ, Bool, true, false, ◌&&◌, ◌||◌, if◌then◌else◌, ◌==◌, List, [], ◌∷◌, Option, Some, None}
+use Rattle.std.specs.Prelude.{ℕ, Bool, ◌&&◌, ◌||◌, if◌then◌else◌, ◌==◌, List, [], ◌∷◌, Option, Some, None}
 use Rattle.cxx_model.specs.declared.base.Base.{Base}
-use Rattle.cxx_model.specs.declared.base.Base.TheVariants.{Bool as BoolType, Char, SignedChar, UnsignedChar, Short, UnsignedShort, Int, Unsigned, Long, UnsignedLong, WideChar, Float, Double, LongDouble, Void}
+use Rattle.cxx_model.specs.declared.base.Base.TheVariants.{Bool as BoolType}
 use Rattle.cxx_model.specs.declared.sequence.Second.{Second}
 use Rattle.cxx_model.specs.declared.sequence.Second.TheVariants.{IntegralPromotion, FloatingPromotion, Integral, Floating, FloatingIntegral, Pointer, Boolean, DerivedToBase}
 use Rattle.cxx_model.specs.declared.first.ArithmeticSequence.{ArithmeticSequence}
 use Rattle.cxx_model.specs.declared.sequence.Rank.{Rank}
 use Rattle.cxx_model.specs.declared.sequence.Rank.TheVariants.{Exact, Promotion, Conversion}
+use Rattle.cxx_model.specs.Bases.{base_row}
 
--- What the standard says of a fundamental type by itself.
+-- What conversions ask of a fundamental type by itself.
 pub record Row : Type 0 where
   -- its place in the table, by which two types are told apart
   pub number : ℕ
@@ -17,23 +18,9 @@ pub record Row : Type 0 where
   -- 4.5, 4.6: the type to which it is promoted, and else itself
   pub promoted : Base
 
--- one row for each type
+-- the row of a type in the table of all
 abbrev pub row : Base → Row
-row BoolType = record { number = 0; is_floating = false; promoted = Int }
-row Char = record { number = 1; is_floating = false; promoted = Int }
-row SignedChar = record { number = 2; is_floating = false; promoted = Int }
-row UnsignedChar = record { number = 3; is_floating = false; promoted = Int }
-row Short = record { number = 4; is_floating = false; promoted = Int }
-row UnsignedShort = record { number = 5; is_floating = false; promoted = Int }
-row Int = record { number = 6; is_floating = false; promoted = Int }
-row Unsigned = record { number = 7; is_floating = false; promoted = Unsigned }
-row Long = record { number = 8; is_floating = false; promoted = Long }
-row UnsignedLong = record { number = 9; is_floating = false; promoted = UnsignedLong }
-row WideChar = record { number = 10; is_floating = false; promoted = Int }
-row Float = record { number = 11; is_floating = true; promoted = Double }
-row Double = record { number = 12; is_floating = true; promoted = Double }
-row LongDouble = record { number = 13; is_floating = true; promoted = LongDouble }
-row Void = record { number = 14; is_floating = false; promoted = Void }
+row of = record { number = (base_row of).number; is_floating = (base_row of).is_floating; promoted = (base_row of).promoted }
 
 abbrev pub same_base : Base → Base → Bool
 same_base one two = (row one).number == (row two).number
