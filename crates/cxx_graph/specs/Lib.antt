@@ -1,2 +1,3 @@
 pub mod Ended
+pub mod Reserved
 pub mod Stored
