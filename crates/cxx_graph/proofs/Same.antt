@@ -1,5 +1,5 @@
 -- What the derived test of specialisations says: the same template and the same arguments, whatever types their numbers name.
-use Rattle.std.specs.Prelude.{ℕ, zero, suc, ◌≡◌, ◌<◌, ◌≤◌, ◌+◌, Bool, true, false, ◌&&◌, nat_eq, List, [], ◌∷◌, length, refl}
+use Rattle.std.specs.Prelude.{ℕ, zero, suc, ◌≡◌, ◌<◌, ◌+◌, Bool, true, false, ◌&&◌, nat_eq, List, [], ◌∷◌, length, refl}
 use Rattle.std.specs.Cmp.Lexicographic.{pointwise}
 use Rattle.std.proofs.Common.{ap, sym, ◌∙◌, arith}
 use Rattle.std.proofs.lemmas.Bool.{eqb-true, eq-eqb}
@@ -11,7 +11,7 @@ use Rattle.cxx_model.specs.declared.types.TemplateArgument.TheVariants as argume
 use Rattle.cxx_model.specs.declared.types.TemplateId.{TemplateId}
 use Rattle.cxx_model.specs.contracts.facts.SpecialisationPartialEq.TheImpl as specialisation_test
 use Rattle.cxx_model.specs.Types.{CxxType, fundamental, pointer_to}
-use Rattle.cxx_model.specs.TypeTrees.{AreApart, type_at, arguments_at, IsFormulaBelow, IsArgumentBelow, AreArgumentsBelow}
+use Rattle.cxx_model.specs.TypeTrees.{AreApart, type_at, IsFormulaBelow, IsArgumentBelow, AreArgumentsBelow}
 use Rattle.cxx_model.specs.Graph.{AreSameArguments}
 use Rattle.cxx_model.proofs.Equal.{same_argument, arguments_from, arguments_to}
 use Rattle.cxx_model.proofs.TypeTrees.{formula_later, argument_later, arguments_later}

@@ -162,12 +162,16 @@ impl Graph {
         ensures is { IfOk result (λ class. IsReservedFor self.new template arguments.now class.0) }
 
         // A specialisation that has a class keeps it.
-        ensures already { (n : ℕ) → IsReservedAlready self.old template arguments.now n → IfOk result (λ class. class.0 ≡ n) }
-        ensures kept { (n : ℕ) → IsReservedAlready self.old template arguments.now n → OnOk result (self.new ≡ self.old) }
+        ensures already { (n : ℕ) → IsReservedAlready self.old template arguments.now n
+            → IfOk result (λ class. class.0 ≡ n) }
+        ensures kept { (n : ℕ) → IsReservedAlready self.old template arguments.now n
+            → OnOk result (self.new ≡ self.old) }
 
         // Else the class is a new one.
-        ensures fresh { IsUnknown self.old template arguments.now → IfOk result (λ class. class.0 ≡ length self.old.classes) }
-        ensures grown { IsUnknown self.old template arguments.now → OnOk result (IsOneClassMore self.old self.new) }
+        ensures fresh { IsUnknown self.old template arguments.now
+            → IfOk result (λ class. class.0 ≡ length self.old.classes) }
+        ensures grown { IsUnknown self.old template arguments.now
+            → OnOk result (IsOneClassMore self.old self.new) }
 
         ensures reserved { IfOk result (λ class. class.0 < length self.new.classes) }
         ensures at_most_one { OnOk result ((self.new ≡ self.old) ⊎ IsOneClassMore self.old self.new) }
@@ -175,10 +179,14 @@ impl Graph {
         ensures unchanged { OnErr result (self.new ≡ self.old) }
 
         // The limit is met by a new class alone.
-        ensures limit_when_full { result ≡ Err AddFault.Limit → length self.old.facts + length self.old.classes ≡ 2097152 }
+        ensures limit_when_full { result ≡ Err AddFault.Limit
+            → length self.old.facts + length self.old.classes ≡ 2097152 }
         ensures limit_when_new { result ≡ Err AddFault.Limit → IsUnknown self.old template arguments.now }
-        ensures full { length self.old.facts + length self.old.classes ≡ 2097152 → IsUnknown self.old template arguments.now → (result ≡ Err AddFault.Limit) ⊎ (result ≡ Err AddFault.OutOfMemory) }
-        ensures full_alone { length self.old.facts + length self.old.classes ≡ 2097152 → template ≡ None → result ≡ Err AddFault.Limit }
+        ensures full { length self.old.facts + length self.old.classes ≡ 2097152
+            → IsUnknown self.old template arguments.now
+            → (result ≡ Err AddFault.Limit) ⊎ (result ≡ Err AddFault.OutOfMemory) }
+        ensures full_alone { length self.old.facts + length self.old.classes ≡ 2097152
+            → template ≡ None → result ≡ Err AddFault.Limit }
     {
         match template {
             None => self.reserve(None),
@@ -232,7 +240,8 @@ impl Graph {
     // The class of a specialisation, where it has one.
     fn class_of(&self, of: &Specialisation) -> Option<ClassId>
         ensures found { IfSome result (λ class. IsSpecialisationOf self.now of.now.template of.now.arguments class.0) }
-        ensures only { (n : ℕ) → IsSpecialisationOf self.now of.now.template of.now.arguments n → IfSome result (λ class. class.0 ≡ n) }
+        ensures only { (n : ℕ) → IsSpecialisationOf self.now of.now.template of.now.arguments n
+            → IfSome result (λ class. class.0 ≡ n) }
         ensures missing { IfNone result (IsUnknown self.now (Some of.now.template) of.now.arguments) }
     {
         self.specialisations.get(of).copied()

@@ -1,5 +1,5 @@
 //! What a reader expects of graphs, as contracts of functions that do nothing, or only call the graph.
-ghost use Rattle.std.specs.Prelude.{◌≡◌, ◌<◌, ℕ, List, length, Option, Some, IfOk, IsTrue};
+ghost use Rattle.std.specs.Prelude.{◌≡◌, ◌<◌, ◌+◌, ℕ, List, length, Option, Some, Err, IfOk, IsTrue};
 ghost use Rattle.cxx_model.specs.declared.facts.Fact.{Fact};
 ghost use Rattle.cxx_model.specs.declared.facts.Pattern.{Pattern};
 ghost use Rattle.cxx_model.specs.declared.facts.Specialisation.{Specialisation};
@@ -32,14 +32,16 @@ pub fn reserved_apart()
     ensures arguments { (graph : Facts) (one two : Template) (given other : List Argument) (class : ℕ) → IsSpecialisationOf graph one given class → IsSpecialisationOf graph two other class → AreSameArguments given other }
 {}
 
-/// A specialisation for which a class is reserved twice has one number.
+/// A specialisation for which a class is reserved twice has one number, and the limit is met no second time.
 pub fn reserved_twice(
     graph: &mut Graph,
     template: TemplateId,
     arguments: &TemplateArgumentList,
 ) -> Result<bool, AddFault>
     requires { template.0 < length graph.old.patterns }
-    ensures { IfOk result IsTrue }
+    ensures same { IfOk result IsTrue }
+    ensures reserved { IfOk result (λ _. (class : ℕ) × IsSpecialisationOf graph.new template arguments.now class) }
+    ensures limit { result ≡ Err AddFault.Limit → length graph.old.facts + length graph.old.classes ≡ 2097152 }
 {
     let one = graph.reserve_class(Some(template), arguments)?;
     let two = graph.reserve_class(Some(template), arguments)?;

@@ -1,4 +1,4 @@
-use Rattle.std.proofs.Common.{ap, sym, subst, refl, [], ◌∷◌, None, Some}
+use Rattle.std.proofs.Common.{ap, sym, subst, refl, [], ◌∷◌, Some}
 use Rattle.cxx_model.specs.declared.facts.Entity.TheVariants as entity
 use Rattle.cxx_model.specs.declared.facts.Fact.{Fact}
 use Rattle.cxx_model.specs.declared.facts.ScopeKind.TheVariants as kind
