@@ -1,1 +1,4 @@
+pub mod Classes
 pub mod Marks
+pub mod Same
+pub mod Sampled

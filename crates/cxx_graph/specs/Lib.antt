@@ -1,2 +1,4 @@
 pub mod Ended
+pub mod Reserved
+pub mod Sample
 pub mod Stored

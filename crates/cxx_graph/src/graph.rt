@@ -1,10 +1,16 @@
-ghost use Rattle.std.specs.Prelude.{◌≡◌, ◌<◌, ◌+◌, ◌++◌, [], ◌∷◌, length, Some, Err, IsTrue, ◌↔◌, IfOk, OnOk, OnErr};
+ghost use Rattle.std.specs.Prelude.{◌≡◌, ◌<◌, ◌+◌, ◌++◌, ◌⊎◌, [], ◌∷◌, length, None, Some, Err, ℕ, false, IsTrue, ◌↔◌, IfErr, IfNone, IfOk, IfSome, OnErr, OnOk};
 ghost use Rattle.std.specs.List.{slice_get};
-ghost use Rattle.cxx_model.specs.Graph.{InRange, appended, is_complete};
+ghost use Rattle.std.specs.Option.{option_copied};
+ghost use Rattle.cxx_model.specs.Graph.{InRange, IsClassInRange, IsOneClassMore, IsPatternInRange, IsReservedAlready, IsReservedFor, IsSpecialisationOf, IsTemplateInRange, appended, is_complete, with_class, with_pattern};
 ghost use Rattle.cxx_graph.specs.Ended.{ended};
+ghost use Rattle.cxx_graph.specs.Reserved.{IsNew, IsUnknown, KeepsClasses};
 
-use cxx_model::{ClassId, Entity, Fact, FactId, Specialisation, Steps};
-use std::alloc::{AllocFailed, Global};
+use cxx_model::{
+    ClassId, Entity, Fact, FactId, OutOfMemory, Pattern, Specialisation, Steps,
+    TemplateArgumentList, TemplateId, copy_arguments,
+};
+use indexmap::IndexMap;
+use std::alloc::{AllocError, AllocFailed, Global};
 use std::marker::Model;
 use std::sync::ledger::Ledger;
 
@@ -14,6 +20,7 @@ const LIMIT: usize = 2_097_152;
 /// Why a graph does not grow.
 #[derive(Clone, Copy, Debug, PartialEq, Eq)]
 pub enum AddFault {
+    /// There are as many facts and reserved classes as there may be.
     Limit,
     OutOfMemory,
 }
@@ -29,47 +36,78 @@ impl<T: Drop> From<AllocFailed<T>> for AddFault {
     }
 }
 
-/// Facts that are only appended, and the classes that were reserved.
+impl From<OutOfMemory> for AddFault {
+    ghost use Rattle.std.specs.Prelude.{◌≡◌};
+    ghost use Rattle.cxx_graph.specs.declared.graph.AddFault.TheVariants.{OutOfMemory as Memory};
+
+    ghost from_gives = { λ _ fault. fault ≡ Memory };
+
+    fn from(_error: OutOfMemory) -> AddFault {
+        AddFault::OutOfMemory
+    }
+}
+
+impl From<AllocError> for AddFault {
+    ghost use Rattle.std.specs.Prelude.{◌≡◌};
+    ghost use Rattle.cxx_graph.specs.declared.graph.AddFault.TheVariants.{OutOfMemory as Memory};
+
+    ghost from_gives = { λ _ fault. fault ≡ Memory };
+
+    fn from(_error: AllocError) -> AddFault {
+        AddFault::OutOfMemory
+    }
+}
+
+/// What a unit declares: facts, which are only appended; the classes that were reserved, some of them for
+/// specialisations of templates; and the templates. Every number in it names something that is there.
 #[derive(Drop)]
 pub struct Graph {
     facts: Vec<Fact>,
-    classes: Vec<Option<Specialisation>>,
+    // For each class, where its specialisation stands among `specialisations`, if it was reserved for one.
+    classes: Vec<Option<u32>>,
     // Whether the end of each class was read.
     completed: Vec<bool>,
+    specialisations: IndexMap<Specialisation, ClassId>,
+    patterns: Vec<Pattern>,
+    alloc: Global,
 }
 
 impl Model for Graph {
-    ghost use Rattle.std.specs.Prelude.{◌≡◌, ◌≤◌, ◌+◌, length};
     ghost use Rattle.std.specs.Coded.{codes};
     ghost use Rattle.cxx_model.specs.Graph as definition;
     ghost use Rattle.cxx_model.specs.contracts.types.Formula as formula;
+    ghost use Rattle.cxx_model.specs.contracts.types.TypeTree as tree;
 
     ghost Value = { definition.Graph };
 
-    ghost coded = { Prim.hlevel (codes, formula.the_row.coded) };
+    ghost coded = { Prim.hlevel (codes, formula.the_row.coded, tree.the_row.coded) };
 
-    ghost use Rattle.cxx_graph.specs.Stored.{IsMarked};
+    ghost use Rattle.cxx_graph.specs.Stored.{IsStored, graph_of};
 
-    ghost view = { λ graph. record { facts = graph.facts.items; classes = graph.classes.items; templates = 0 } };
+    ghost view = { λ graph. graph_of graph.facts.items graph.specialisations.entries graph.classes.items graph.patterns.items };
 
-    ghost invariant = { λ graph. (length graph.completed.items ≡ length graph.classes.items) × IsMarked graph.facts.items graph.completed.items × (length graph.facts.items + length graph.classes.items ≤ 2097152) };
+    ghost invariant = { λ graph. IsStored graph.facts.items graph.specialisations.entries graph.classes.items graph.completed.items graph.patterns.items };
 }
 
 impl Graph {
-    /// A graph of no facts and no classes.
+    /// A graph of no facts, no classes and no templates.
     pub fn new(alloc: Global) -> Graph
-        ensures { result ≡ record { facts = []; classes = []; templates = 0 } }
+        ensures { result ≡ record { facts = []; classes = []; patterns = [] } }
     {
         Graph {
             facts: Vec::new(alloc),
             classes: Vec::new(alloc),
             completed: Vec::new(alloc),
+            specialisations: IndexMap::new(alloc),
+            patterns: Vec::new(alloc),
+            alloc,
         }
     }
 
     /// How many facts there are.
     pub fn length(&self) -> u32
-        ensures { result ≡ length self.now.facts }
+        ensures count { result ≡ length self.now.facts }
+        ensures range { InRange self.now }
     {
         self.facts.len() as u32
     }
@@ -84,7 +122,7 @@ impl Graph {
         &self.facts[number.0 as usize]
     }
 
-    /// Whether the end of a class was read.
+    /// Whether the end of a class was read (9.2).
     pub fn complete(&self, class: ClassId) -> bool
         requires { class.0 < length self.now.classes }
         ensures { result ≡ is_complete self.now.facts class.0 }
@@ -112,6 +150,157 @@ impl Graph {
         }
         Ok(FactId(number))
     }
+
+    /// The number of a class. Without a template it is a new one at each call; with one it is that of the
+    /// specialisation (14.7.1), which has one number however often it is asked for. An `Err` changes nothing.
+    pub fn reserve_class(
+        &mut self,
+        template: Option<TemplateId>,
+        arguments: &TemplateArgumentList,
+    ) -> Result<ClassId, AddFault>
+        requires { IsTemplateInRange self.old template }
+        ensures is { IfOk result (λ class. IsReservedFor self.new template arguments.now class.0) }
+
+        // A specialisation that has a class keeps it.
+        ensures already { (n : ℕ) → IsReservedAlready self.old template arguments.now n
+            → IfOk result (λ class. class.0 ≡ n) }
+        ensures kept { (n : ℕ) → IsReservedAlready self.old template arguments.now n
+            → OnOk result (self.new ≡ self.old) }
+
+        // Else the class is a new one.
+        ensures fresh { IsUnknown self.old template arguments.now
+            → IfOk result (λ class. class.0 ≡ length self.old.classes) }
+        ensures grown { IsUnknown self.old template arguments.now
+            → OnOk result (IsOneClassMore self.old self.new) }
+
+        ensures reserved { IfOk result (λ class. class.0 < length self.new.classes) }
+        ensures at_most_one { OnOk result ((self.new ≡ self.old) ⊎ IsOneClassMore self.old self.new) }
+        ensures keeps { KeepsClasses self.old self.new }
+        ensures unchanged { OnErr result (self.new ≡ self.old) }
+
+        // The limit is met by a new class alone.
+        ensures limit_when_full { result ≡ Err AddFault.Limit
+            → length self.old.facts + length self.old.classes ≡ 2097152 }
+        ensures limit_when_new { result ≡ Err AddFault.Limit → IsUnknown self.old template arguments.now }
+        ensures full { length self.old.facts + length self.old.classes ≡ 2097152
+            → IsUnknown self.old template arguments.now
+            → (result ≡ Err AddFault.Limit) ⊎ (result ≡ Err AddFault.OutOfMemory) }
+        ensures full_alone { length self.old.facts + length self.old.classes ≡ 2097152
+            → template ≡ None → result ≡ Err AddFault.Limit }
+    {
+        match template {
+            None => self.reserve(None),
+            Some(template) => {
+                let arguments = copy_arguments(self.alloc, arguments.as_slice())?;
+                let of = Specialisation {
+                    template,
+                    arguments,
+                };
+                match self.class_of(&of) {
+                    Some(class) => Ok(class),
+                    None => self.reserve(Some(of)),
+                }
+            }
+        }
+    }
+
+    /// For what a class was reserved: the template and the arguments (14.7.1), or nothing.
+    pub fn specialisation(&self, class: ClassId) -> Option<&Specialisation>
+        requires { class.0 < length self.now.classes }
+        ensures { slice_get self.now.classes class.0 ≡ Some (option_copied result) }
+    {
+        let place = self.classes[class.0 as usize]?;
+        let (of, _) = self.specialisations.get_index(place as usize)?;
+        Some(of)
+    }
+
+    /// Appends a template (14). The scope of its parameters is a fact, so there are more facts than templates before.
+    /// An `Err` changes nothing.
+    pub fn add_template(&mut self, pattern: Pattern) -> Result<TemplateId, OutOfMemory>
+        requires fewer { length self.old.patterns < length self.old.facts }
+        requires range { IsPatternInRange self.old pattern }
+        ensures number { IfOk result (λ number. number.0 ≡ length self.old.patterns) }
+        ensures added { OnOk result (self.new ≡ with_pattern self.old pattern) }
+        ensures unchanged { OnErr result (self.new ≡ self.old) }
+    {
+        let _ = &self.facts;
+        let number = self.patterns.len() as u32;
+        self.patterns.push(pattern)?;
+        Ok(TemplateId(number))
+    }
+
+    /// The template with a number.
+    pub fn pattern(&self, number: TemplateId) -> &Pattern
+        requires { number.0 < length self.now.patterns }
+        ensures { slice_get self.now.patterns number.0 ≡ Some result.now }
+    {
+        &self.patterns[number.0 as usize]
+    }
+
+    // The class of a specialisation, where it has one.
+    fn class_of(&self, of: &Specialisation) -> Option<ClassId>
+        ensures found { IfSome result (λ class. IsSpecialisationOf self.now of.now.template of.now.arguments class.0) }
+        ensures only { (n : ℕ) → IsSpecialisationOf self.now of.now.template of.now.arguments n
+            → IfSome result (λ class. class.0 ≡ n) }
+        ensures missing { IfNone result (IsUnknown self.now (Some of.now.template) of.now.arguments) }
+    {
+        self.specialisations.get(of).copied()
+    }
+
+    // The number of the next class.
+    fn next_class(&self) -> Result<ClassId, AddFault>
+        ensures number { IfOk result (λ class. class.0 ≡ length self.now.classes) }
+        ensures room { OnOk result (length self.now.facts + length self.now.classes < 2097152) }
+        ensures limit { IfErr result (λ fault. fault ≡ AddFault.Limit) }
+        ensures full { OnErr result (length self.now.facts + length self.now.classes ≡ 2097152) }
+    {
+        let count = self.classes.len();
+        if self.facts.len() + count < LIMIT {
+            Ok(ClassId(count as u32))
+        } else {
+            Err(AddFault::Limit)
+        }
+    }
+
+    // A new class, for a specialisation that has none or for no template.
+    fn reserve(&mut self, of: Option<Specialisation>) -> Result<ClassId, AddFault>
+        requires range { IsClassInRange self.old of }
+        requires new { IsNew self.old of }
+        ensures number { IfOk result (λ class. class.0 ≡ length self.old.classes) }
+        ensures added { OnOk result (self.new ≡ with_class self.old of) }
+        ensures unchanged { OnErr result (self.new ≡ self.old) }
+        ensures limit { (result ≡ Err AddFault.Limit) ↔ (length self.old.facts + length self.old.classes ≡ 2097152) }
+    {
+        let class = self.next_class()?;
+        match of {
+            None => push_class(&mut self.classes, &mut self.completed, None)?,
+            Some(of) => {
+                let place = self.specialisations.len() as u32;
+                self.specialisations.reserve(1)?;
+                push_class(&mut self.classes, &mut self.completed, Some(place))?;
+                self.specialisations.insert(of, class)?;
+            }
+        }
+        Ok(class)
+    }
+}
+
+// One more class, whose end was not read. An `Err` changes nothing.
+fn push_class(
+    classes: &mut Vec<Option<u32>>,
+    completed: &mut Vec<bool>,
+    place: Option<u32>,
+) -> Result<(), AddFault>
+    ensures class { OnOk result (classes.new.items ≡ classes.old.items ++ place ∷ []) }
+    ensures open { OnOk result (completed.new.items ≡ completed.old.items ++ false ∷ []) }
+    ensures same_classes { OnErr result (classes.new.items ≡ classes.old.items) }
+    ensures same_completed { OnErr result (completed.new.items ≡ completed.old.items) }
+    ensures memory { IfErr result (λ fault. fault ≡ AddFault.OutOfMemory) }
+{
+    completed.reserve(1)?;
+    classes.push(place)?;
+    completed.push(false)?;
+    Ok(())
 }
 
 // The class whose end an entity is.

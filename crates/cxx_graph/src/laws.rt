@@ -1,9 +1,49 @@
-//! What a reader expects of graphs, as contracts of functions that do nothing.
+//! What a reader expects of graphs, as contracts of functions that do nothing, or only call the graph.
+ghost use Rattle.std.specs.Prelude.{◌≡◌, ◌<◌, ◌+◌, ℕ, List, length, Option, Some, Err, IfOk, IsTrue};
 ghost use Rattle.cxx_model.specs.declared.facts.Fact.{Fact};
-ghost use Rattle.cxx_model.specs.Graph.{Graph, InRange, MayFollow, appended};
+ghost use Rattle.cxx_model.specs.declared.facts.Pattern.{Pattern};
+ghost use Rattle.cxx_model.specs.declared.facts.Specialisation.{Specialisation};
+ghost use Rattle.cxx_model.specs.declared.types.TemplateArgument.{TemplateArgument as Argument};
+ghost use Rattle.cxx_model.specs.declared.types.TemplateId.{TemplateId as Template};
+ghost use Rattle.cxx_model.specs.Graph.{Graph as Facts, AreSameArguments, InRange, IsClassInRange, IsPatternInRange, IsSpecialisationOf, MayFollow, appended, with_class, with_pattern};
+
+use crate::graph::{AddFault, Graph};
+use cxx_model::{TemplateArgumentList, TemplateId};
 
 /// A graph in range stays in range with a fact that may follow it, and such a fact alone keeps it so.
 pub fn appending()
-    ensures keeps { (graph : Graph) (fact : Fact) → InRange graph → MayFollow graph fact → InRange (appended graph fact) }
-    ensures only { (graph : Graph) (fact : Fact) → InRange (appended graph fact) → MayFollow graph fact }
+    ensures keeps { (graph : Facts) (fact : Fact) → InRange graph → MayFollow graph fact → InRange (appended graph fact) }
+    ensures only { (graph : Facts) (fact : Fact) → InRange (appended graph fact) → MayFollow graph fact }
 {}
+
+/// A graph in range stays in range with one more class, where it is of a template that is there.
+pub fn reserving()
+    ensures { (graph : Facts) (class : Option Specialisation) → InRange graph → IsClassInRange graph class → InRange (with_class graph class) }
+{}
+
+/// A graph in range stays in range with one more template, where what it names is there.
+pub fn adding_a_template()
+    ensures { (graph : Facts) (pattern : Pattern) → InRange graph → length graph.patterns < length graph.facts → IsPatternInRange graph pattern → InRange (with_pattern graph pattern) }
+{}
+
+/// What has one class is one specialisation: of the same template for the same arguments.
+pub fn reserved_apart()
+    ensures template { (graph : Facts) (one two : Template) (given other : List Argument) (class : ℕ) → IsSpecialisationOf graph one given class → IsSpecialisationOf graph two other class → one ≡ two }
+    ensures arguments { (graph : Facts) (one two : Template) (given other : List Argument) (class : ℕ) → IsSpecialisationOf graph one given class → IsSpecialisationOf graph two other class → AreSameArguments given other }
+{}
+
+/// A specialisation for which a class is reserved twice has one number, and the limit is met no second time.
+pub fn reserved_twice(
+    graph: &mut Graph,
+    template: TemplateId,
+    arguments: &TemplateArgumentList,
+) -> Result<bool, AddFault>
+    requires { template.0 < length graph.old.patterns }
+    ensures same { IfOk result IsTrue }
+    ensures reserved { IfOk result (λ _. (class : ℕ) × IsSpecialisationOf graph.new template arguments.now class) }
+    ensures limit { result ≡ Err AddFault.Limit → length graph.old.facts + length graph.old.classes ≡ 2097152 }
+{
+    let one = graph.reserve_class(Some(template), arguments)?;
+    let two = graph.reserve_class(Some(template), arguments)?;
+    Ok(one == two)
+}

@@ -1,4 +1,4 @@
-//! The facts of a unit in their order, and the classes that were reserved for them.
+//! The facts of a unit in their order, the classes that were reserved for them, and the templates.
 #![tactic(auto)]
 
 mod graph;

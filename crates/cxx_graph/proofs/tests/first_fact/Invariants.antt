@@ -1,4 +1,4 @@
 use Rattle.cxx_graph.proofs.tests.first_fact.Given as goal
 
-abbrev pub ghosts-line_of : goal.ghosts-line_of
-ghosts-line_of g a = record { name = a.blank.name; parts = a.blank.parts }
+abbrev pub ghosts-entity : goal.ghosts-entity
+ghosts-entity g a = record { name = a.blank.name; parts = a.blank.parts }

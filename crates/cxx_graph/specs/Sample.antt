@@ -1,0 +1,9 @@
+-- Facts of no name at one place, for tests.
+use Rattle.std.specs.Prelude.{[]}
+use Rattle.cxx_model.specs.declared.facts.Access.TheVariants.{Public}
+use Rattle.cxx_model.specs.declared.facts.Entity.{Entity}
+use Rattle.cxx_model.specs.declared.facts.Fact.{Fact}
+use Rattle.cxx_model.specs.declared.types.ScopeId.{ScopeId}
+
+abbrev pub sample : ScopeId → Entity → Fact
+sample scope what = record { place = record { line = 1; column = 1 }; scope = scope; word = []; access = Public; what = what }
