@@ -17,12 +17,14 @@ use Rattle.cxx_model.specs.declared.stop.Fault.{Fault}
 use Rattle.cxx_model.specs.declared.stop.LimitKind.{LimitKind}
 use Rattle.cxx_model.specs.declared.stop.LimitKind.TheVariants.{Facts, Arguments, Nesting}
 use Rattle.cxx_model.specs.declared.token.TokenKind.{TokenKind}
+use Rattle.cxx_model.specs.declared.token.TokenReason.{TokenReason}
+use Rattle.cxx_model.specs.declared.token.TokenReason.TheVariants as reason
 use Rattle.cxx_model.specs.First.Candidates.{is_declared, call_of}
 use Rattle.cxx_model.specs.First.Reading.{is_punct, is_keyword, is_name, is_literal, is_end, type_of_kind, type_by, name_by, literal_by, literal_at, argument_by, argument_opened, arguments_opened, begins_argument, cast_argument, behind, punct_at, type_at, name_at, put_first, more_at, list_at, begins_type, misplaced, cast_at, call_at, cast_initializer, begins_call, initializer_by, initializer_opened, initializer_at, has_clash, added, declare, with_function, with_object, function_at, object_at, item_at, items_at, empty, reading_of}
 use Rattle.cxx_model.specs.First.Told.{IsChoiceText, ReadsTo, none_more, one_more, IsCallFault, with_own, IsToldFault}
 use Rattle.cxx_model.specs.Lexemes.{Lexeme, kind_of, place_of, spelling_ahead}
 use Rattle.cxx_model.specs.Spelling.{literal_type}
-use Rattle.cxx_model.specs.Stops.{Answer, Reads, Stopped, Faulty, Limited, ◌>>=◌, fault, not_built_at, undeclared_at, unread}
+use Rattle.cxx_model.specs.Stops.{Answer, Reads, Stopped, Faulty, Limited, ◌>>=◌, fault, not_built_at, undeclared_at, unread, token_reason_text}
 use Rattle.cxx_model.proofs.Answers.{stopped}
 use Rattle.cxx_model.proofs.FirstForm.CallFaults.{call_fault_is_told}
 use Rattle.cxx_model.proofs.FirstForm.Taken.{punct_taken, type_taken, name_taken, declares}
@@ -45,18 +47,39 @@ fault_only : {A : Type 0} (P : Fault → Type 0) (place : Place) (text : List �
 fault_only {A} P place text other f is e = absurd (other (subst (λ (g : Fault). IsChoiceText g.text) (sym (fault_is {A = A} _ f e)) is))
 
 -- two texts that differ in a byte
-pub other_byte : (k m n : ℕ) (one two : List ℕ) → get_or one k 0 ≡ m → get_or two k 0 ≡ n → eqb m n ≡ false → one ≡ two → ⊥
+other_byte : (k m n : ℕ) (one two : List ℕ) → get_or one k 0 ≡ m → get_or two k 0 ≡ n → eqb m n ≡ false → one ≡ two → ⊥
 other_byte k m n one two is other differs e =
     let same : m ≡ n = sym is ∙ ap (λ text. get_or text k 0) e ∙ other in
     absurd (cc (eq-eqb m n same, differs))
+
+by_first : (m : ℕ) (text : List ℕ) → get_or text 0 0 ≡ m → eqb m 110 ≡ false → eqb m 97 ≡ false → IsChoiceText text → ⊥
+by_first m text is no_n no_a (inl e) = other_byte 0 m 110 text (codes "no viable function") is refl no_n e
+by_first m text is no_n no_a (inr e) = other_byte 0 m 97 text (codes "ambiguous call") is refl no_a e
 
 built_text : IsChoiceText (codes "not built") → ⊥
 built_text (inl e) = other_byte 2 116 32 (codes "not built") (codes "no viable function") refl refl refl e
 built_text (inr e) = other_byte 0 110 97 (codes "not built") (codes "ambiguous call") refl refl refl e
 
 undeclared_text : (word : List ℕ) → IsChoiceText (codes "undeclared name " ++ word) → ⊥
-undeclared_text word (inl e) = other_byte 0 117 110 (codes "undeclared name " ++ word) (codes "no viable function") refl refl refl e
-undeclared_text word (inr e) = other_byte 0 117 97 (codes "undeclared name " ++ word) (codes "ambiguous call") refl refl refl e
+undeclared_text word = by_first 117 (codes "undeclared name " ++ word) refl refl refl
+
+large_text : IsChoiceText (codes "number too large") → ⊥
+large_text (inl e) = other_byte 1 117 111 (codes "number too large") (codes "no viable function") refl refl refl e
+large_text (inr e) = other_byte 0 110 97 (codes "number too large") (codes "ambiguous call") refl refl refl e
+
+-- no bad token has such a text
+pub token_text : (why : TokenReason) → IsChoiceText (token_reason_text why) → ⊥
+token_text reason.StrayByte = by_first 115 (codes "stray byte") refl refl refl
+token_text reason.UnfinishedComment = by_first 117 (codes "unfinished comment") refl refl refl
+token_text reason.UnfinishedLiteral = by_first 117 (codes "unfinished literal") refl refl refl
+token_text reason.BadEscape = by_first 98 (codes "bad escape") refl refl refl
+token_text reason.BadNumber = by_first 98 (codes "bad number") refl refl refl
+token_text reason.NumberTooLarge = large_text
+token_text reason.Directive = by_first 100 (codes "directive") refl refl refl
+token_text reason.MixedStrings = by_first 109 (codes "mixed strings") refl refl refl
+token_text reason.FloatingLiteral = by_first 108 (codes "left out: floating literal") refl refl refl
+token_text reason.MultiCharacter = by_first 108 (codes "left out: multi-character literal") refl refl refl
+token_text reason.UniversalName = by_first 108 (codes "left out: universal character name") refl refl refl
 
 not_built_only : {A : Type 0} (P : Fault → Type 0) (place : Place) → Only {A = A} P (Err (not_built_at place))
 not_built_only P place = fault_only P place (codes "not built") built_text
