@@ -118,10 +118,10 @@ broken_same : (one two : Fault) → Broken one ≡ Broken two → one ≡ two
 broken_same one two is = cc
 
 -- A broken unit whose fault is of the choice of a function: no bad token has its text.
-pub record IsReadBroken (options : Options) (bytes : List ℕ) (tokens : Result (List Token) Unread) (fault : Fault) : Type 0 where
-  pub list : List Token
-  pub lists : tokens ≡ Ok list
-  pub stops : reading_of options (lexemes bytes list) ≡ Err (Faulty fault)
+record IsReadBroken (options : Options) (bytes : List ℕ) (tokens : Result (List Token) Unread) (fault : Fault) : Type 0 where
+  list : List Token
+  lists : tokens ≡ Ok list
+  stops : reading_of options (lexemes bytes list) ≡ Err (Faulty fault)
 
 tokens_broken : (options : Options) (bytes : List ℕ) (tokens : Result (List Token) Unread) (fault : Fault) → IsChoiceText fault.text → tokens_outcome options bytes tokens ≡ Broken fault → IsReadBroken options bytes tokens fault
 tokens_broken options bytes (Ok list) fault text is = record { list = list; lists = refl; stops = read_broken (reading_of options (lexemes bytes list)) fault is }

@@ -1,5 +1,5 @@
 -- A fault of a unit with a text of the choice comes from a call in the initializer of an object.
-use Rattle.std.proofs.Common.{◌≡◌, ℕ, zero, suc, Bool, true, false, cond, not, ◌&&◌, List, [], ◌∷◌, ◌++◌, Option, Some, None, Ok, Err, codes, refl, sym, ap, subst, ◌∙◌, inl, inr, append_assoc, get_or, eqb, eq-eqb}
+use Rattle.std.proofs.Common.{◌≡◌, ℕ, zero, suc, Bool, true, false, cond, not, ◌&&◌, List, [], ◌∷◌, ◌++◌, Option, Some, None, Ok, Err, codes, refl, sym, ap, subst, ◌∙◌, inl, inr, get_or, eqb, eq-eqb}
 use Rattle.cxx_model.specs.declared.base.Base.{Base}
 use Rattle.cxx_model.specs.declared.first.Argument.{Argument}
 use Rattle.cxx_model.specs.declared.first.Call.{Call}
@@ -20,8 +20,8 @@ use Rattle.cxx_model.specs.declared.token.TokenKind.{TokenKind}
 use Rattle.cxx_model.specs.declared.token.TokenReason.{TokenReason}
 use Rattle.cxx_model.specs.declared.token.TokenReason.TheVariants as reason
 use Rattle.cxx_model.specs.First.Candidates.{is_declared, call_of}
-use Rattle.cxx_model.specs.First.Reading.{is_punct, is_keyword, is_name, is_literal, is_end, type_of_kind, type_by, name_by, literal_by, literal_at, argument_by, argument_opened, arguments_opened, begins_argument, cast_argument, behind, punct_at, type_at, name_at, put_first, more_at, list_at, begins_type, misplaced, cast_at, call_at, cast_initializer, begins_call, initializer_by, initializer_opened, initializer_at, has_clash, added, declare, with_function, with_object, function_at, object_at, item_at, items_at, empty, reading_of}
-use Rattle.cxx_model.specs.First.Told.{IsChoiceText, ReadsTo, none_more, one_more, IsCallFault, with_own, IsToldFault}
+use Rattle.cxx_model.specs.First.Reading.{is_punct, is_keyword, is_name, is_literal, is_end, is_some_base, type_of_kind, type_by, name_by, literal_by, literal_at, argument_by, argument_opened, arguments_opened, begins_argument, cast_argument, behind, punct_at, type_at, name_at, put_first, more_at, list_at, begins_type, misplaced, cast_at, call_at, cast_initializer, begins_call, initializer_by, initializer_opened, initializer_at, has_clash, added, declare, with_function, with_object, function_at, object_at, item_at, items_at, empty, reading_of}
+use Rattle.cxx_model.specs.First.Told.{IsChoiceText, ReadsTo, none_more, one_more, IsInCasts, no_cast, one_cast, IsCallFault, with_own, IsToldFault}
 use Rattle.cxx_model.specs.Lexemes.{Lexeme, kind_of, place_of, spelling_ahead}
 use Rattle.cxx_model.specs.Spelling.{literal_type}
 use Rattle.cxx_model.specs.Stops.{Answer, Reads, Stopped, Faulty, Limited, ◌>>=◌, fault, not_built_at, undeclared_at, unread, token_reason_text}
@@ -123,9 +123,9 @@ punct_front : (n : ℕ) (ahead rest : List Lexeme) → punct_at n ahead ≡ Ok r
 punct_front n [] rest e = let t = punct_taken n [] rest e in absurd (cc (t.0))
 punct_front n (token ∷ ahead) rest e = let t = punct_taken n (token ∷ ahead) rest e in (token, t.0, ap (λ ls. token ∷ ls) (sym t.1))
 
-type_front : (ahead : List Lexeme) (x : Base × List Lexeme) → type_at ahead ≡ Ok x → (token : Lexeme) × (ahead ≡ token ∷ x.1)
+type_front : (ahead : List Lexeme) (x : Base × List Lexeme) → type_at ahead ≡ Ok x → (token : Lexeme) × (begins_type token.kind ≡ true) × (ahead ≡ token ∷ x.1)
 type_front [] x e = let t = type_taken [] x e in absurd (cc (t.0))
-type_front (token ∷ ahead) x e = let t = type_taken (token ∷ ahead) x e in (token, ap (λ ls. token ∷ ls) (sym t.1))
+type_front (token ∷ ahead) x e = let t = type_taken (token ∷ ahead) x e in (token, ap is_some_base t.0, ap (λ ls. token ∷ ls) (sym t.1))
 
 -- ---- lists
 
@@ -166,9 +166,39 @@ literal_only : (P : Fault → Type 0) (ahead : List Lexeme) → Only P (literal_
 unfolding literal_at
 literal_only P ahead = literal_by_only P (literal_type (spelling_ahead ahead)) ahead
 
+-- what a cast takes behind its keyword, up to its operand
+record CastFront (ahead opened : List Lexeme) : Type 0 where
+  less : Lexeme
+  target : Lexeme
+  greater : Lexeme
+  bracket : Lexeme
+  is_less : is_punct punct.LESS less.kind ≡ true
+  types : begins_type target.kind ≡ true
+  is_greater : is_punct punct.GREATER greater.kind ≡ true
+  opens : is_punct punct.LEFT_PARENTHESIS bracket.kind ≡ true
+  stands : ahead ≡ less ∷ target ∷ greater ∷ bracket ∷ opened
+
+cast_front : (ahead less : List Lexeme) (target : Base × List Lexeme) (greater opened : List Lexeme) → punct_at punct.LESS ahead ≡ Ok less → type_at less ≡ Ok target → punct_at punct.GREATER target.1 ≡ Ok greater → punct_at punct.LEFT_PARENTHESIS greater ≡ Ok opened → CastFront ahead opened
+cast_front ahead less target greater opened is_less is_target is_greater is_opened =
+    let a = punct_front punct.LESS ahead less is_less in
+    let b = type_front less target is_target in
+    let c = punct_front punct.GREATER target.1 greater is_greater in
+    let d = punct_front punct.LEFT_PARENTHESIS greater opened is_opened in
+    record {
+      less = a.0;
+      target = b.0;
+      greater = c.0;
+      bracket = d.0;
+      is_less = a.1;
+      types = b.1;
+      is_greater = c.1;
+      opens = d.1;
+      stands = a.2 ∙ ap (λ ls. a.0 ∷ ls) (b.2 ∙ ap (λ ls. b.0 ∷ ls) (c.2 ∙ ap (λ ls. c.0 ∷ ls) d.2));
+    }
+
 -- the fault of a cast is that of its operand, which stands behind it
 cast_only : {A : Type 0} (P : Fault → Type 0) (wrap : Base → A → A) (inside : List Lexeme → Reads A) (ahead : List Lexeme)
-    → ((front opened : List Lexeme) → behind ahead ≡ front ++ opened → Only P (inside opened)) → Only P (cast_at wrap inside ahead)
+    → ((opened : List Lexeme) → CastFront (behind ahead) opened → Only P (inside opened)) → Only P (cast_at wrap inside ahead)
 unfolding cast_at
 cast_only {A} P wrap inside ahead each =
     let last = λ (target : Base) (operand : A × List Lexeme). punct_at punct.RIGHT_PARENTHESIS operand.1 >>= λ closed. Ok (wrap target operand.0, closed) in
@@ -176,19 +206,14 @@ cast_only {A} P wrap inside ahead each =
     bind_only P (type_at less) (λ target. punct_at punct.GREATER target.1 >>= λ greater. punct_at punct.LEFT_PARENTHESIS greater >>= λ opened. inside opened >>= λ operand. last target.0 operand) (type_only P less) (λ target is_target.
     bind_only P (punct_at punct.GREATER target.1) (λ greater. punct_at punct.LEFT_PARENTHESIS greater >>= λ opened. inside opened >>= λ operand. last target.0 operand) (punct_only P punct.GREATER target.1) (λ greater is_greater.
     bind_only P (punct_at punct.LEFT_PARENTHESIS greater) (λ opened. inside opened >>= λ operand. last target.0 operand) (punct_only P punct.LEFT_PARENTHESIS greater) (λ opened is_opened.
-    let a = punct_front punct.LESS (behind ahead) less is_less in
-    let b = type_front less target is_target in
-    let c = punct_front punct.GREATER target.1 greater is_greater in
-    let d = punct_front punct.LEFT_PARENTHESIS greater opened is_opened in
-    let stands : behind ahead ≡ (a.0 ∷ b.0 ∷ c.0 ∷ d.0 ∷ []) ++ opened = a.2 ∙ ap (λ ls. a.0 ∷ ls) (b.1 ∙ ap (λ ls. b.0 ∷ ls) (c.2 ∙ ap (λ ls. c.0 ∷ ls) d.2)) in
-    bind_only P (inside opened) (λ operand. last target.0 operand) (each (a.0 ∷ b.0 ∷ c.0 ∷ d.0 ∷ []) opened stands) (λ operand is_operand.
+    bind_only P (inside opened) (λ operand. last target.0 operand) (each opened (cast_front (behind ahead) less target greater opened is_less is_target is_greater is_opened)) (λ operand is_operand.
     bind_only P (punct_at punct.RIGHT_PARENTHESIS operand.1) (λ closed. Ok (wrap target.0 operand.0, closed)) (punct_only P punct.RIGHT_PARENTHESIS operand.1) (λ closed is_closed. value_only P (wrap target.0 operand.0, closed)))))))
 
 argument_by_only : (P : Fault → Type 0) (declarations : List Declaration) (inside : List Lexeme → Reads Argument) (ahead : List Lexeme) → ((ls : List Lexeme) → Only P (inside ls)) → Only P (argument_by declarations inside ahead)
 unfolding argument_by
 argument_by_only P declarations inside ahead each =
     if_only P (is_literal (kind_of ahead)) (literal_at ahead) (cond (is_keyword keyword.STATIC_CAST (kind_of ahead)) (cast_at cast_argument inside ahead) (misplaced declarations ahead)) (λ b. literal_only P ahead)
-    (λ b. if_only P (is_keyword keyword.STATIC_CAST (kind_of ahead)) (cast_at cast_argument inside ahead) (misplaced declarations ahead) (λ b. cast_only P cast_argument inside ahead (λ front opened is. each opened)) (λ b. misplaced_only P declarations ahead))
+    (λ b. if_only P (is_keyword keyword.STATIC_CAST (kind_of ahead)) (cast_at cast_argument inside ahead) (misplaced declarations ahead) (λ b. cast_only P cast_argument inside ahead (λ opened front. each opened)) (λ b. misplaced_only P declarations ahead))
 
 argument_opened_only : (P : Fault → Type 0) (declarations : List Declaration) (room : ℕ) (ahead : List Lexeme) → Only P (argument_opened declarations room ahead)
 unfolding argument_opened
@@ -203,6 +228,28 @@ arguments_opened_only P declarations (suc room) ahead =
 
 -- ---- calls
 
+call_here : (before : List Declaration) (room : ℕ) (ahead : List Lexeme) (name : Lexeme × List Lexeme) (opened : List Lexeme) (arguments : List Argument × List Lexeme) (closed : List Lexeme) (f : Fault)
+    → name_at ahead ≡ Ok name → punct_at punct.LEFT_PARENTHESIS name.1 ≡ Ok opened → arguments_opened before room opened ≡ Ok arguments → punct_at punct.RIGHT_PARENTHESIS arguments.1 ≡ Ok closed
+    → call_of before name.0.place name.0.spelling arguments.0 ≡ Err (Faulty f) → IsCallFault before ahead f
+call_here before room ahead name opened arguments closed f is_name_ahead is_opened are_arguments is_closed e =
+    let a = name_taken ahead name is_name_ahead in
+    let b = punct_front punct.LEFT_PARENTHESIS name.1 opened is_opened in
+    record {
+      call = record {
+        name = name.0;
+        bracket = b.0;
+        opened = opened;
+        in_casts = subst (λ (ls : List Lexeme). IsInCasts ahead ls) (a.1 ∙ ap (λ ls. name.0 ∷ ls) b.2) (no_cast ahead);
+        named = ap (λ ls. is_name (kind_of ls)) (sym a.1) ∙ a.0;
+        opens = b.1;
+        room = room;
+        arguments = arguments;
+        lists = are_arguments;
+        closes = (punct_taken punct.RIGHT_PARENTHESIS arguments.1 closed is_closed).0;
+      };
+      is = call_fault_is_told before name.0.place name.0.spelling arguments.0 f e;
+    }
+
 call_only : (before : List Declaration) (room : ℕ) (ahead : List Lexeme) → Only (IsCallFault before ahead) (call_at before room ahead)
 unfolding call_at
 call_only before room ahead =
@@ -212,49 +259,34 @@ call_only before room ahead =
     bind_only P (punct_at punct.LEFT_PARENTHESIS name.1) (λ opened. arguments_opened before room opened >>= λ arguments. last name.0 arguments) (punct_only P punct.LEFT_PARENTHESIS name.1) (λ opened is_opened.
     bind_only P (arguments_opened before room opened) (λ arguments. last name.0 arguments) (arguments_opened_only P before room opened) (λ arguments are_arguments.
     bind_only P (punct_at punct.RIGHT_PARENTHESIS arguments.1) (λ closed. call_of before name.0.place name.0.spelling arguments.0 >>= λ call. Ok (call, closed)) (punct_only P punct.RIGHT_PARENTHESIS arguments.1) (λ closed is_closed.
-    bind_only P (call_of before name.0.place name.0.spelling arguments.0) (λ call. Ok (call, closed)) (λ f text e.
-    let a = name_taken ahead name is_name_ahead in
-    let b = punct_front punct.LEFT_PARENTHESIS name.1 opened is_opened in
-    record {
-      call = record {
-        front = [];
-        name = name.0;
-        bracket = b.0;
-        opened = opened;
-        stands = a.1 ∙ ap (λ ls. name.0 ∷ ls) b.2;
-        named = ap (λ ls. is_name (kind_of ls)) (sym a.1) ∙ a.0;
-        opens = b.1;
-        room = room;
-        arguments = arguments;
-        lists = are_arguments;
-        closes = (punct_taken punct.RIGHT_PARENTHESIS arguments.1 closed is_closed).0;
-      };
-      is = call_fault_is_told before name.0.place name.0.spelling arguments.0 f e;
-    }) (λ call is_call. value_only P (call, closed))))))
-
--- a call that stands further behind
-call_behind : (before : List Declaration) (front ahead rest : List Lexeme) (f : Fault) → ahead ≡ front ++ rest → IsCallFault before rest f → IsCallFault before ahead f
-call_behind before front ahead rest f is found = record {
-  call = record {
-    front = front ++ found.call.front;
-    name = found.call.name;
-    bracket = found.call.bracket;
-    opened = found.call.opened;
-    stands = is ∙ ap (λ ls. front ++ ls) found.call.stands ∙ sym (append_assoc front found.call.front (found.call.name ∷ found.call.bracket ∷ found.call.opened));
-    named = found.call.named;
-    opens = found.call.opens;
-    room = found.call.room;
-    arguments = found.call.arguments;
-    lists = found.call.lists;
-    closes = found.call.closes;
-  };
-  is = found.is;
-}
+    bind_only P (call_of before name.0.place name.0.spelling arguments.0) (λ call. Ok (call, closed)) (λ f text. call_here before room ahead name opened arguments closed f is_name_ahead is_opened are_arguments is_closed)
+    (λ call is_call. value_only P (call, closed))))))
 
 -- a keyword is some token
-keyword_front : (n : ℕ) (ahead : List Lexeme) → is_keyword n (kind_of ahead) ≡ true → (token : Lexeme) × (ahead ≡ token ∷ behind ahead)
+keyword_front : (n : ℕ) (ahead : List Lexeme) → is_keyword n (kind_of ahead) ≡ true → (token : Lexeme) × (is_keyword n token.kind ≡ true) × (ahead ≡ token ∷ behind ahead)
 keyword_front n [] e = absurd cc
-keyword_front n (token ∷ ahead) e = (token, refl)
+keyword_front n (token ∷ ahead) e = (token, e, refl)
+
+-- a call in one cast more
+call_in_cast : (before : List Declaration) (ahead opened : List Lexeme) (f : Fault) → is_keyword keyword.STATIC_CAST (kind_of ahead) ≡ true → CastFront (behind ahead) opened → IsCallFault before opened f → IsCallFault before ahead f
+call_in_cast before ahead opened f is_cast front found =
+    let k = keyword_front keyword.STATIC_CAST ahead is_cast in
+    let stands : ahead ≡ k.0 ∷ front.less ∷ front.target ∷ front.greater ∷ front.bracket ∷ opened = k.2 ∙ ap (λ ls. k.0 ∷ ls) front.stands in
+    subst (λ (ls : List Lexeme). IsCallFault before ls f) (sym stands) (record {
+      call = record {
+        name = found.call.name;
+        bracket = found.call.bracket;
+        opened = found.call.opened;
+        in_casts = one_cast k.0 front.less front.target front.greater front.bracket opened (found.call.name ∷ found.call.bracket ∷ found.call.opened) k.1 front.is_less front.types front.is_greater front.opens found.call.in_casts;
+        named = found.call.named;
+        opens = found.call.opens;
+        room = found.call.room;
+        arguments = found.call.arguments;
+        lists = found.call.lists;
+        closes = found.call.closes;
+      };
+      is = found.is;
+    })
 
 initializer_by_only : (before : List Declaration) (inside : List Lexeme → Reads (Initializer × Call)) (room : ℕ) (ahead : List Lexeme)
     → ((opened : List Lexeme) → Only (IsCallFault before opened) (inside opened)) → Only (IsCallFault before ahead) (initializer_by before inside room ahead)
@@ -263,9 +295,7 @@ initializer_by_only before inside room ahead each =
     let P : Fault → Type 0 = IsCallFault before ahead in
     if_only P (begins_call ahead) (call_at before room ahead) (cond (is_keyword keyword.STATIC_CAST (kind_of ahead)) (cast_at cast_initializer inside ahead) (misplaced before ahead)) (λ b. call_only before room ahead)
     (λ b. if_only P (is_keyword keyword.STATIC_CAST (kind_of ahead)) (cast_at cast_initializer inside ahead) (misplaced before ahead)
-    (λ is_cast. cast_only P cast_initializer inside ahead (λ front opened is f text e.
-    let k = keyword_front keyword.STATIC_CAST ahead is_cast in
-    call_behind before (k.0 ∷ front) ahead opened f (k.1 ∙ ap (λ ls. k.0 ∷ ls) is) (each opened f text e)))
+    (λ is_cast. cast_only P cast_initializer inside ahead (λ opened front f text e. call_in_cast before ahead opened f is_cast front (each opened f text e)))
     (λ b. misplaced_only P before ahead))
 
 initializer_opened_only : (before : List Declaration) (room : ℕ) (ahead : List Lexeme) → Only (IsCallFault before ahead) (initializer_opened before room ahead)
@@ -297,16 +327,28 @@ function_only P room so_far of name ahead =
     bind_only P (declare room so_far name (Function of parameters.0)) (λ declared. punct_at punct.SEMICOLON closed >>= λ ended. Ok (with_function declared, ended)) (declare_only P room so_far name (Function of parameters.0)) (λ declared is_declared.
     bind_only P (punct_at punct.SEMICOLON closed) (λ ended. Ok (with_function declared, ended)) (punct_only P punct.SEMICOLON closed) (λ ended is_ended. value_only P (with_function declared, ended)))))
 
-object_only : (room : ℕ) (so_far : Reading) (of : Base) (name : Lexeme) (ahead : List Lexeme) → Only (IsCallFault (with_own so_far.declarations of name) ahead) (object_at room so_far of name ahead)
+-- a call behind the `=` of an object
+record IsInitializerFault (before : List Declaration) (ahead : List Lexeme) (f : Fault) : Type 0 where
+  equals : Lexeme
+  init : List Lexeme
+  begins : ahead ≡ equals ∷ init
+  is_equals : is_punct punct.EQUALS equals.kind ≡ true
+  is : IsCallFault before init f
+
+initializer_here : (room : ℕ) (so_far declared : Reading) (of : Base) (name : Lexeme) (ahead init : List Lexeme) (f : Fault) → declare room so_far name (Object of) ≡ Ok declared → punct_at punct.EQUALS ahead ≡ Ok init
+    → IsCallFault declared.declarations init f → IsInitializerFault (with_own so_far.declarations of name) ahead f
+initializer_here room so_far declared of name ahead init f is_declared is_equals is =
+    let own : declared.declarations ≡ with_own so_far.declarations of name = ap (λ (r : Reading). r.declarations) (declares room so_far name (Object of) declared is_declared).made in
+    let t = punct_front punct.EQUALS ahead init is_equals in
+    record { equals = t.0; init = init; begins = t.2; is_equals = t.1; is = subst (λ (ds : List Declaration). IsCallFault ds init f) own is }
+
+object_only : (room : ℕ) (so_far : Reading) (of : Base) (name : Lexeme) (ahead : List Lexeme) → Only (IsInitializerFault (with_own so_far.declarations of name) ahead) (object_at room so_far of name ahead)
 unfolding object_at
 object_only room so_far of name ahead =
-    let P : Fault → Type 0 = IsCallFault (with_own so_far.declarations of name) ahead in
+    let P : Fault → Type 0 = IsInitializerFault (with_own so_far.declarations of name) ahead in
     bind_only P (declare room so_far name (Object of)) (λ declared. punct_at punct.EQUALS ahead >>= λ equals. initializer_at declared.declarations equals >>= λ call. punct_at punct.SEMICOLON call.1 >>= λ ended. Ok (with_object declared call.0, ended)) (declare_only P room so_far name (Object of)) (λ declared is_declared.
     bind_only P (punct_at punct.EQUALS ahead) (λ equals. initializer_at declared.declarations equals >>= λ call. punct_at punct.SEMICOLON call.1 >>= λ ended. Ok (with_object declared call.0, ended)) (punct_only P punct.EQUALS ahead) (λ equals is_equals.
-    bind_only P (initializer_at declared.declarations equals) (λ call. punct_at punct.SEMICOLON call.1 >>= λ ended. Ok (with_object declared call.0, ended)) (λ f text e.
-    let own : declared.declarations ≡ with_own so_far.declarations of name = ap (λ (r : Reading). r.declarations) (declares room so_far name (Object of) declared is_declared).made in
-    let t = punct_front punct.EQUALS ahead equals is_equals in
-    call_behind (with_own so_far.declarations of name) (t.0 ∷ []) ahead equals f t.2 (subst (λ (ds : List Declaration). IsCallFault ds equals f) own (initializer_only declared.declarations equals f text e))) (λ call is_call.
+    bind_only P (initializer_at declared.declarations equals) (λ call. punct_at punct.SEMICOLON call.1 >>= λ ended. Ok (with_object declared call.0, ended)) (λ f text e. initializer_here room so_far declared of name ahead equals f is_declared is_equals (initializer_only declared.declarations equals f text e)) (λ call is_call.
     bind_only P (punct_at punct.SEMICOLON call.1) (λ ended. Ok (with_object declared call.0, ended)) (punct_only P punct.SEMICOLON call.1) (λ ended is_ended. value_only P (with_object declared call.0, ended)))))
 
 -- a call in the initializer of the object that stands ahead
@@ -315,7 +357,7 @@ record IsObjectFault (so_far : Reading) (ahead : List Lexeme) (f : Fault) : Type
   name : Lexeme × List Lexeme
   types : type_at ahead ≡ Ok of
   names : name_at of.1 ≡ Ok name
-  is : IsCallFault (with_own so_far.declarations of.0 name.0) name.1 f
+  is : IsInitializerFault (with_own so_far.declarations of.0 name.0) name.1 f
 
 item_only : (room : ℕ) (so_far : Reading) (ahead : List Lexeme) → Only (IsObjectFault so_far ahead) (item_at room so_far ahead)
 unfolding item_at
@@ -380,13 +422,17 @@ fault_is_told options ahead f e text =
     record {
       room = found.left;
       so_far = found.after;
-      left = found.rest;
+      rest = found.rest;
       reads = found.reads;
       goes_on = found.goes_on;
       stops = found.stops;
       of = found.object.of;
       name = found.object.name;
+      equals = found.object.is.equals;
+      init = found.object.is.init;
       types = found.object.types;
       names = found.object.names;
-      is = found.object.is;
+      begins = found.object.is.begins;
+      is_equals = found.object.is.is_equals;
+      is = found.object.is.is;
     }

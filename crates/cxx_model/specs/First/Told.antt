@@ -10,6 +10,7 @@ use Rattle.cxx_model.specs.declared.first.Argument.{Argument}
 use Rattle.cxx_model.specs.declared.first.Declaration.{Declaration}
 use Rattle.cxx_model.specs.declared.first.Declared.TheVariants.{Object}
 use Rattle.cxx_model.specs.declared.first.Reading.{Reading}
+use Rattle.cxx_model.specs.declared.keyword.TheConstants as keyword
 use Rattle.cxx_model.specs.declared.limits.TheConstants as limits
 use Rattle.cxx_model.specs.declared.options.Options.{Options}
 use Rattle.cxx_model.specs.declared.overload.Outcome.TheVariants.{NotViable}
@@ -18,7 +19,7 @@ use Rattle.cxx_model.specs.declared.punct.TheConstants as punct
 use Rattle.cxx_model.specs.declared.stop.Fault.{Fault}
 use Rattle.cxx_model.specs.Better.{IsBest}
 use Rattle.cxx_model.specs.First.Candidates.{Candidate, Contender, candidates, contenders, contender_beats, outcome, position_of, shown, types_of}
-use Rattle.cxx_model.specs.First.Reading.{is_punct, is_name, is_end, type_at, name_at, arguments_opened, item_at, empty}
+use Rattle.cxx_model.specs.First.Reading.{is_punct, is_keyword, is_name, is_end, begins_type, type_at, name_at, arguments_opened, item_at, empty}
 use Rattle.cxx_model.specs.Lexemes.{Lexeme, kind_of}
 use Rattle.cxx_model.specs.Stops.{Faulty}
 
@@ -31,13 +32,13 @@ pub record IsRival (arguments : List Base) (viable : List Contender) (f g : Cont
   pub unbeaten : contender_beats arguments f g ≡ false
   pub first : (h : Contender) → Contains viable h → position_of h < position_of g → position_of h ≢ position_of f → IsTrue (contender_beats arguments f h)
 
--- a line that says of a viable function which one it is not better than
+-- 13.3.3: a line that says of a viable function which one it is not better than
 pub record IsTie (arguments : List Base) (viable : List Contender) (f : Contender) (line : Evidence) : Type 0 where
   pub rival : Contender
   pub is_rival : IsRival arguments viable f rival
   pub says : line ≡ DoesNotBeat (shown f) (shown rival)
 
--- one line for each viable function, in their order
+-- 13.3.3: exactly one line for each viable function, in their order
 abbrev pub AreTies : List Base → List Contender → List Evidence → Type 0
 AreTies arguments viable lines = AllZip (IsTie arguments viable) viable lines
 
@@ -47,7 +48,7 @@ pub record IsRefusal (arguments : List Base) (candidate : Contender) (line : Evi
   pub is_refused : outcome arguments candidate.1 ≡ NotViable reason
   pub says : line ≡ Refused (shown candidate) reason
 
--- one line for each candidate, in their order and numbered from 1: so none is viable
+-- 13.3.2: exactly one line for each candidate, in their order and numbered from 1. So none is viable.
 abbrev pub AreRefusals : List Base → List Candidate → List Evidence → Type 0
 AreRefusals arguments all lines = AllZip (IsRefusal arguments) (enumerate_from 1 all) lines
 
@@ -73,7 +74,7 @@ pub record IsObject (before : List Declaration) (word : List ℕ) : Type 0 where
 
 -- ---- the fault of one call
 
--- A fault's place and text. No evidence is asked for.
+-- a fault with this place and this text
 pub record Says (place : Place) (text : List ℕ) (fault : Fault) : Type 0 where
   pub is_at : fault.place ≡ place
   pub is_text : fault.text ≡ text
@@ -100,13 +101,13 @@ pub record IsUndeclaredCall (before : List Declaration) (place : Place) (word : 
   pub undeclared : IsUndeclared before word
   pub bare : fault.evidence ≡ []
 
--- an object is called, which is no form that is built
+-- 5.2.2: an object is called, which is no form that is built
 pub record IsObjectCall (before : List Declaration) (place : Place) (word : List ℕ) (fault : Fault) : Type 0 where
   pub says : Says place (codes "not built") fault
   pub object : IsObject before word
   pub bare : fault.evidence ≡ []
 
--- A true fault of a call of this name at this place with arguments of these types, behind these declarations.
+-- 13.3: a true fault of a call of this name, at this place, with arguments of these types, behind these declarations
 pub data IsQuestionFault (before : List Declaration) (place : Place) (word : List ℕ) (arguments : List Base) (fault : Fault) : Type 0 where
   NoViableFunction : IsNoViableFunction before place word arguments fault → IsQuestionFault before place word arguments fault
   AmbiguousCall : IsAmbiguousCall before place word arguments fault → IsQuestionFault before place word arguments fault
@@ -115,23 +116,30 @@ pub data IsQuestionFault (before : List Declaration) (place : Place) (word : Lis
 
 -- ---- the fault of a unit
 
--- the texts that only the choice of a function gives
+-- 13.3: the texts that only the choice of a function gives
 abbrev pub IsChoiceText : List ℕ → Type 0
 IsChoiceText text = (text ≡ codes "no viable function") ⊎ (text ≡ codes "ambiguous call")
 
--- Whole declarations are read one after another, from a reading with this room and these tokens ahead to another.
+-- Clause 7: whole declarations are read one after another, from a reading with this room and these tokens ahead to
+-- another. Each leaves room for one less.
 pub data ReadsTo : ℕ → Reading → List Lexeme → ℕ → Reading → List Lexeme → Type 0 where
   none_more : (room : ℕ) (so_far : Reading) (ahead : List Lexeme) → ReadsTo room so_far ahead room so_far ahead
   one_more : (room : ℕ) (so_far : Reading) (ahead : List Lexeme) (item : Reading × List Lexeme) (left : ℕ) (after : Reading) (rest : List Lexeme)
       → is_end (kind_of ahead) ≡ false → item_at (suc room) so_far ahead ≡ Ok item → ReadsTo room item.0 item.1 left after rest → ReadsTo (suc room) so_far ahead left after rest
 
--- 5.2.2: a call that stands among these tokens, with its arguments up to the bracket that closes it
-pub record HasCall (before : List Declaration) (ahead : List Lexeme) : Type 0 where
-  pub front : List Lexeme
+-- 5.2.9: at these tokens stand so many `static_cast < type > (`, one in the other, and behind them the others
+pub data IsInCasts : List Lexeme → List Lexeme → Type 0 where
+  no_cast : (ahead : List Lexeme) → IsInCasts ahead ahead
+  one_cast : (cast less target greater bracket : Lexeme) (opened rest : List Lexeme)
+      → is_keyword keyword.STATIC_CAST cast.kind ≡ true → is_punct punct.LESS less.kind ≡ true → begins_type target.kind ≡ true → is_punct punct.GREATER greater.kind ≡ true → is_punct punct.LEFT_PARENTHESIS bracket.kind ≡ true
+      → IsInCasts opened rest → IsInCasts (cast ∷ less ∷ target ∷ greater ∷ bracket ∷ opened) rest
+
+-- 5.2.2: these tokens are a call, in so many casts, with its arguments up to the bracket that closes it
+pub record IsCall (before : List Declaration) (ahead : List Lexeme) : Type 0 where
   pub name : Lexeme
   pub bracket : Lexeme
   pub opened : List Lexeme
-  pub stands : ahead ≡ front ++ name ∷ bracket ∷ opened
+  pub in_casts : IsInCasts ahead (name ∷ bracket ∷ opened)
   pub named : is_name name.kind ≡ true
   pub opens : is_punct punct.LEFT_PARENTHESIS bracket.kind ≡ true
   pub room : ℕ
@@ -139,26 +147,31 @@ pub record HasCall (before : List Declaration) (ahead : List Lexeme) : Type 0 wh
   pub lists : arguments_opened before room opened ≡ Ok arguments
   pub closes : is_punct punct.RIGHT_PARENTHESIS (kind_of arguments.1) ≡ true
 
--- a true fault of some call among these tokens
+-- 13.3: these tokens are a call, and the fault is a true one of it
 pub record IsCallFault (before : List Declaration) (ahead : List Lexeme) (fault : Fault) : Type 0 where
-  pub call : HasCall before ahead
+  pub call : IsCall before ahead
   pub is : IsQuestionFault before call.name.place call.name.spelling (types_of call.arguments.0) fault
 
 -- 3.3.1: the declarations before the initializer of an object, which is declared once its name is read
 abbrev pub with_own : List Declaration → Base → Lexeme → List Declaration
 with_own declarations of name = declarations ++ (record { place = name.place; word = name.spelling; what = Object of }) ∷ []
 
--- The declarations up to an object were read, and a call in its initializer has this fault, which is true of it.
+-- 8.5: the declarations before an object were read, reading stops in it, its initializer is a call, and the fault is a
+-- true one of this call
 pub record IsToldFault (options : Options) (ahead : List Lexeme) (fault : Fault) : Type 0 where
   pub room : ℕ
   pub so_far : Reading
-  pub left : List Lexeme
-  pub reads : ReadsTo limits.MOST_DECLARATIONS (empty options) ahead room so_far left
-  pub goes_on : is_end (kind_of left) ≡ false
-  pub stops : item_at room so_far left ≡ Err (Faulty fault)
-  -- the object's type and name, and what stands behind each
+  pub rest : List Lexeme
+  pub reads : ReadsTo limits.MOST_DECLARATIONS (empty options) ahead room so_far rest
+  pub goes_on : is_end (kind_of rest) ≡ false
+  pub stops : item_at room so_far rest ≡ Err (Faulty fault)
+  -- the object's type and name, each with what stands behind it, and the `=` before its initializer
   pub of : Base × List Lexeme
   pub name : Lexeme × List Lexeme
-  pub types : type_at left ≡ Ok of
+  pub equals : Lexeme
+  pub init : List Lexeme
+  pub types : type_at rest ≡ Ok of
   pub names : name_at of.1 ≡ Ok name
-  pub is : IsCallFault (with_own so_far.declarations of.0 name.0) name.1 fault
+  pub begins : name.1 ≡ equals ∷ init
+  pub is_equals : is_punct punct.EQUALS equals.kind ≡ true
+  pub is : IsCallFault (with_own so_far.declarations of.0 name.0) init fault
