@@ -13,6 +13,7 @@ use Rattle.cxx_model.specs.declared.stop.LimitKind.{LimitKind}
 use Rattle.cxx_model.specs.declared.stop.LimitKind.TheVariants.{Bytes, Output}
 use Rattle.cxx_model.specs.First.Bound.{EachCallIsBest}
 use Rattle.cxx_model.specs.First.Plain.{plain}
+use Rattle.cxx_model.specs.First.Told.{IsChoiceText, IsToldFault}
 use Rattle.cxx_model.specs.declared.token.Token.{Token}
 use Rattle.cxx_model.specs.First.Reading.{reading_of}
 use Rattle.cxx_model.specs.Lexemes.{Lexeme, lexemes}
@@ -21,10 +22,11 @@ use Rattle.cxx_model.specs.ReadsBack.{PlainReadsBack}
 use Rattle.cxx_model.specs.Stops.{Answer as Reads, Faulty, Limited}
 use Rattle.cxx_model.specs.Tokens.{Unread, BadAt, PastTokens, tokens_of}
 use Rattle.cxx_model.specs.Reports.{report, limit_report}
+use Rattle.cxx_model.proofs.FirstForm.UnitFaults.{token_text}
 use Rattle.cxx_command.specs.declared.answers.Answer.{Answer}
 use Rattle.cxx_command.specs.declared.answers.Answer.TheVariants as answer
 use Rattle.cxx_command.specs.Answers.{IsInputAnswer, IsRunAnswer, DeliversAnswer}
-use Rattle.cxx_command.specs.Run.{default_options, due, AgreesWith, ForUnit, NotUnderstood, CannotRead, NoMemory, status_of_unit, IsToldTo, IsTold, Delivers, IsUnitDue, IsDue, IsWritten, IsAnswer}
+use Rattle.cxx_command.specs.Run.{default_options, due, AgreesWith, ForUnit, NotUnderstood, CannotRead, NoMemory, status_of_unit, IsToldTo, IsTold, Delivers, IsUnitDue, IsDue, IsWritten, IsTrueFault, IsAnswer}
 use Rattle.cxx_command.specs.Streams.{Change, HasFailed, IsUntouched, TookAll, TookPart}
 
 -- ---- an input past the limit
@@ -92,10 +94,53 @@ whole_read : (options : Options) (bytes : List ℕ) (reading : Reading) → outc
 unfolding outcome_of
 whole_read options bytes reading is = unless_long (nat_lt limits.MOST_BYTES (length bytes)) options bytes (tokens_of bytes) reading is
 
+-- ---- a fault that is reported is that of a broken unit
+
+unreported : (b : Bool) (limit : LimitKind) (text : List ℕ) (fault : Fault) → cond b (Names limit) (Writes text) ≡ Reports fault → ⊥
+unreported true limit text fault is = cc
+unreported false limit text fault is = cc
+
+reports_broken : (o : UnitOutcome) (fault : Fault) → due_of o ≡ Reports fault → o ≡ Broken fault
+reports_broken (Whole reading) fault is = absurd (unreported _ Output (plain reading) fault is)
+reports_broken (Broken found) fault is = let same : found ≡ fault = cc in ap (λ (f : Fault). Broken f) same
+reports_broken (PastLimit limit) fault is = absurd (cc)
+
+broken_of : (input : List ℕ) (fault : Fault) → due input ≡ Reports fault → outcome_of default_options input ≡ Broken fault
+unfolding due_for
+broken_of input fault is = reports_broken (outcome_of default_options input) fault is
+
+read_broken : (answer : Reads Reading) (fault : Fault) → read_outcome answer ≡ Broken fault → answer ≡ Err (Faulty fault)
+read_broken (Ok found) fault is = absurd (cc)
+read_broken (Err (Faulty found)) fault is = cc
+read_broken (Err (Limited limit)) fault is = absurd (cc)
+
+broken_same : (one two : Fault) → Broken one ≡ Broken two → one ≡ two
+broken_same one two is = cc
+
+-- A broken unit whose fault is of the choice of a function: no bad token has its text.
+record IsReadBroken (options : Options) (bytes : List ℕ) (tokens : Result (List Token) Unread) (fault : Fault) : Type 0 where
+  list : List Token
+  lists : tokens ≡ Ok list
+  stops : reading_of options (lexemes bytes list) ≡ Err (Faulty fault)
+
+tokens_broken : (options : Options) (bytes : List ℕ) (tokens : Result (List Token) Unread) (fault : Fault) → IsChoiceText fault.text → tokens_outcome options bytes tokens ≡ Broken fault → IsReadBroken options bytes tokens fault
+tokens_broken options bytes (Ok list) fault text is = record { list = list; lists = refl; stops = read_broken (reading_of options (lexemes bytes list)) fault is }
+tokens_broken options bytes (Err (BadAt place reason)) fault text is = absurd (token_text reason (subst (λ (f : Fault). IsChoiceText f.text) (sym (broken_same _ fault is)) text))
+tokens_broken options bytes (Err PastTokens) fault text is = absurd (cc)
+
+unless_long_broken : (long : Bool) (options : Options) (bytes : List ℕ) (tokens : Result (List Token) Unread) (fault : Fault) → IsChoiceText fault.text → cond long (PastLimit Bytes) (tokens_outcome options bytes tokens) ≡ Broken fault → IsReadBroken options bytes tokens fault
+unless_long_broken true options bytes tokens fault text is = absurd (cc)
+unless_long_broken false options bytes tokens fault text is = tokens_broken options bytes tokens fault text is
+
+read_to_fault : (options : Options) (bytes : List ℕ) (fault : Fault) → IsChoiceText fault.text → outcome_of options bytes ≡ Broken fault → IsReadBroken options bytes (tokens_of bytes) fault
+unfolding outcome_of
+read_to_fault options bytes fault text is = unless_long_broken (nat_lt limits.MOST_BYTES (length bytes)) options bytes (tokens_of bytes) fault text is
+
 -- ---- what is known of every unit
 
 pub record Laws : Type 0 where
   pub best : (options : Options) (tokens : List Lexeme) (reading : Reading) → reading_of options tokens ≡ Ok reading → EachCallIsBest reading
+  pub told : (options : Options) (tokens : List Lexeme) (fault : Fault) → reading_of options tokens ≡ Err (Faulty fault) → IsChoiceText fault.text → IsToldFault options tokens fault
   pub back : (options : Options) (bytes : List ℕ) → PlainReadsBack options bytes
 
 written_of : {K E : Type 0} (laws : Laws) (input text : List ℕ) (out : Change K) (err : Change E) → due input ≡ Writes text → TookAll out text → IsUntouched err → (reading : Reading) × IsWritten input reading out err
@@ -140,6 +185,11 @@ pub no_words : {X : Type 0} (words : List X) → (length words == 0) ≡ true �
 no_words [] is = refl
 no_words (word ∷ words) is = absurd (grind (arith, nat_tests))
 
+true_fault : (laws : Laws) (input : List ℕ) (fault : Fault) → due input ≡ Reports fault → IsTrueFault input fault
+true_fault laws input fault is text =
+    let read = read_to_fault default_options input fault text (broken_of input fault is) in
+    (read.list, read.lists, laws.told default_options (lexemes input read.list) fault read.stops text)
+
 -- ---- each case
 
 writes_same : {text other : List ℕ} → Writes text ≡ Writes other → text ≡ other
@@ -171,14 +221,14 @@ case_writes laws words source out err status text is told = record {
   err_untouched = λ zero. told.1;
 }
 
-case_reports : {X S K E : Type 0} (words : List X) (source : Change S) (out : Change K) (err : Change E) (status : ℕ) (fault : Fault) → IsDue words source (ForUnit (Reports fault)) → Delivers (ForUnit (Reports fault)) out err status → IsAnswer words source out err status
-case_reports words source out err status fault is told = record {
+case_reports : {X S K E : Type 0} (laws : Laws) (words : List X) (source : Change S) (out : Change K) (err : Change E) (status : ℕ) (fault : Fault) → IsDue words source (ForUnit (Reports fault)) → Delivers (ForUnit (Reports fault)) out err status → IsAnswer words source out err status
+case_reports laws words source out err status fault is told = record {
   what = ForUnit (Reports fault);
   is_due = is;
   delivered = told;
   complete = λ input other tells understood writes sound_source sound_out sound_err. absurd (cc (unit_is input tells is.1, writes));
   whole = λ input tells is_0. absurd (no_other err (report fault) 1 status 0 told.0 is_0 (λ e. omega arith) (λ e. omega arith));
-  broken = λ input tells is_1. (fault, unit_is input tells is.1, took_all err (report fault) 1 status told.0 (λ e. absurd (omega arith)));
+  broken = λ input tells is_1. (fault, unit_is input tells is.1, took_all err (report fault) 1 status told.0 (λ e. absurd (omega arith)), true_fault laws input fault (unit_is input tells is.1));
   limited = λ input tells is_5. absurd (no_other err (report fault) 1 status 5 told.0 is_5 (λ e. omega arith) (λ e. omega arith));
   by_input = λ input tells understood. elim (said_or_failed err (report fault) 1 status told.0) [
     | inl said ↦ inl (said ∙ sym (ap status_of_unit (unit_is input tells is.1)))
@@ -292,7 +342,7 @@ pub answered : {X S K E : Type 0} (laws : Laws) (words : List X) (source : Chang
 answered laws words source out err status (answer.Writes text) is told = case_writes laws words source out err status text.items (is.0, as_unit source (answer.Writes text) (Writes text.items) is.1 is.1.is) told
 answered laws words source out err status (answer.Reports text) is told =
     let found = is.1.is in
-    case_reports words source out err status found.0 (is.0, as_unit source (answer.Reports text) (Reports found.0) is.1 found.1) (subst (λ (t : List ℕ). IsTold err out t 1 status) found.2 told)
+    case_reports laws words source out err status found.0 (is.0, as_unit source (answer.Reports text) (Reports found.0) is.1 found.1) (subst (λ (t : List ℕ). IsTold err out t 1 status) found.2 told)
 answered laws words source out err status (answer.PassesLimit limit) is told = case_names words source out err status limit (is.0, as_unit source (answer.PassesLimit limit) (Names limit) is.1 is.1.is) told
 answered laws words source out err status answer.NotUnderstood is told = case_not_understood words source out err status is told
 answered laws words source out err status answer.CannotRead is told = case_cannot_read words source out err status is told

@@ -8,7 +8,7 @@ mod answers;
 mod delivery;
 mod unit;
 
-use cxx_decl::each_call_is_best;
+use cxx_decl::{each_call_is_best, faults_are_told};
 use cxx_edge::{Sink, Source};
 use cxx_read_back::plain_reads_back;
 use std::alloc::Global;
@@ -28,6 +28,7 @@ pub fn run<S: Source, K: Sink, E: Sink>(
         (change K.taken K.faults out.old out.new) (change E.taken E.faults err.old err.new) result }
 {
     each_call_is_best();
+    faults_are_told();
     plain_reads_back();
     let answer = answers::read_and_answer(alloc, words, source);
     delivery::deliver(&answer, out, err)

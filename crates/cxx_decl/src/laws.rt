@@ -1,21 +1,37 @@
 //! Laws of the definitions that the readers keep to.
 
-ghost use Rattle.std.specs.Prelude.{◌≡◌, List, Ok, true, false};
+ghost use Rattle.std.specs.Prelude.{◌≡◌, ℕ, List, Ok, Err, true, false};
 ghost use Rattle.cxx_model.specs.declared.base.Base.{Base};
 ghost use Rattle.cxx_model.specs.declared.first.Argument.{Argument};
 ghost use Rattle.cxx_model.specs.declared.first.Declaration.{Declaration};
 ghost use Rattle.cxx_model.specs.declared.options.Options.{Options};
 ghost use Rattle.cxx_model.specs.declared.first.Reading.{Reading};
+ghost use Rattle.cxx_model.specs.declared.place.Place.{Place};
+ghost use Rattle.cxx_model.specs.declared.stop.Fault.{Fault};
 ghost use Rattle.cxx_model.specs.Lexemes.{Lexeme, kind_of};
-ghost use Rattle.cxx_model.specs.Stops.{Reads};
-ghost use Rattle.cxx_model.specs.First.Candidates.{Candidate, beats};
+ghost use Rattle.cxx_model.specs.Stops.{Reads, Faulty};
+ghost use Rattle.cxx_model.specs.First.Candidates.{Candidate, beats, call_of, types_of};
 ghost use Rattle.cxx_model.specs.First.Reading.{reading_of, item_at, type_at, argument_by, begins_type, begins_argument};
 ghost use Rattle.cxx_model.specs.First.Bound.{EachCallIsBest};
+ghost use Rattle.cxx_model.specs.First.Told.{IsQuestionFault, IsChoiceText, IsToldFault};
 ghost use Rattle.cxx_model.specs.First.Words.{AreSpelled, words_of, words_before_end};
 
 /// Each call of a whole reading means the best of the viable functions of its name that are declared before it.
 pub fn each_call_is_best()
     ensures { (options : Options) (ahead : List Lexeme) (reading : Reading) → reading_of options ahead ≡ Ok reading → EachCallIsBest reading }
+{}
+
+/// The fault of a call is true of it, and so is each line of its evidence: a candidate that is refused is not viable for
+/// the reason that is told; where a call is ambiguous no viable function is better than every other, and each has the
+/// first other one that it is not better than; a name that is not declared is the name of no declaration before.
+pub fn call_faults_are_told()
+    ensures { (before : List Declaration) (place : Place) (word : List ℕ) (arguments : List Argument) (fault : Fault) → call_of before place word arguments ≡ Err (Faulty fault) → IsQuestionFault before place word (types_of arguments) fault }
+{}
+
+/// Where a broken unit's fault is that a call is ambiguous or has no viable function, the declarations before it were
+/// read whole, and it is a true fault of a call in the initializer of the object that follows them.
+pub fn faults_are_told()
+    ensures { (options : Options) (ahead : List Lexeme) (fault : Fault) → reading_of options ahead ≡ Err (Faulty fault) → IsChoiceText fault.text → IsToldFault options ahead fault }
 {}
 
 /// The words of a whole reading are those of its unit.

@@ -17,7 +17,10 @@ mod standard;
 mod viable;
 
 pub use declaration::read_unit;
-pub use laws::{better_is_asymmetric, bounds_are_limits, each_call_is_best, words_are_kept};
+pub use laws::{
+    better_is_asymmetric, bounds_are_limits, call_faults_are_told, each_call_is_best,
+    faults_are_told, words_are_kept,
+};
 
 #[cfg(test)]
 mod tests;

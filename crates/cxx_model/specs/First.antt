@@ -2,5 +2,6 @@
 pub mod Candidates
 pub mod Reading
 pub mod Bound
+pub mod Told
 pub mod Words
 pub mod Plain
