@@ -9,8 +9,8 @@ ghost use Rattle.cxx_command.specs.Run.{due, default_options};
 
 use crate::answers::Answer;
 use cxx_decl::read_unit;
-use cxx_model::{Fault, LimitKind, Listed, Options, Place, Stop, Token, TokenReason};
 use cxx_model::first::Reading;
+use cxx_model::{Fault, LimitKind, Listed, Options, Place, Stop, Token, TokenReason};
 use cxx_plain::{PlainFault, plain, report};
 use cxx_tokens::{TokenFault, tokens};
 use std::alloc::{AllocError, Global};

@@ -1,10 +1,15 @@
 //! What a reader expects of graphs, as contracts of functions that do nothing, or only call the graph.
-ghost use Rattle.std.specs.Prelude.{◌≡◌, ◌<◌, ◌+◌, ℕ, List, length, Option, Some, Err, IfOk, IsTrue};
+ghost use Rattle.std.specs.Prelude.{◌≡◌, ◌<◌, ◌≤◌, ◌+◌, ℕ, List, length, Option, None, Some, Err, IfOk, IsTrue};
 ghost use Rattle.cxx_model.specs.declared.facts.Fact.{Fact};
 ghost use Rattle.cxx_model.specs.declared.facts.Pattern.{Pattern};
 ghost use Rattle.cxx_model.specs.declared.facts.Specialisation.{Specialisation};
 ghost use Rattle.cxx_model.specs.declared.types.TemplateArgument.{TemplateArgument as Argument};
 ghost use Rattle.cxx_model.specs.declared.types.TemplateId.{TemplateId as Template};
+ghost use Rattle.cxx_model.specs.Conflicts.{first_conflict, IsFirstConflict, IsFree};
+ghost use Rattle.cxx_model.specs.Facts.{CxxFact, CxxGraph, graph_at};
+ghost use Rattle.cxx_model.specs.Fitted.{Fitted, IsClassBelow, IsFactBelow, IsGraphBelow, IsPatternBelow, IsTypeInRange};
+ghost use Rattle.cxx_model.specs.Types.{CxxType};
+ghost use Rattle.cxx_model.specs.TypeTrees.{type_at, Keeps};
 ghost use Rattle.cxx_model.specs.Graph.{Graph as Facts, AreSameArguments, InRange, IsClassInRange, IsPatternInRange, IsSpecialisationOf, MayFollow, appended, with_class, with_pattern};
 
 use crate::graph::{AddFault, Graph};
@@ -24,6 +29,26 @@ pub fn reserving()
 /// A graph in range stays in range with one more template, where what it names is there.
 pub fn adding_a_template()
     ensures { (graph : Facts) (pattern : Pattern) → InRange graph → length graph.patterns < length graph.facts → IsPatternInRange graph pattern → InRange (with_pattern graph pattern) }
+{}
+
+/// A graph and a table of types stay fitted while both grow: by what names types of the table, and by types of what is in
+/// the graph.
+pub fn fitting()
+    ensures fact { (graph : Facts) (types : List CxxType) (fact : Fact) → Fitted graph types → IsFactBelow (length types) fact → Fitted (appended graph fact) types }
+    ensures class { (graph : Facts) (types : List CxxType) (class : Option Specialisation) → Fitted graph types → IsClassBelow (length types) class → Fitted (with_class graph class) types }
+    ensures template { (graph : Facts) (types : List CxxType) (pattern : Pattern) → Fitted graph types → IsPatternBelow (length types) pattern → Fitted (with_pattern graph pattern) types }
+    ensures table { (graph : Facts) (old new : List CxxType) → Fitted graph old → Keeps old new → ((i : ℕ) → length old ≤ i → i < length new → IsTypeInRange graph (type_at new i)) → Fitted graph new }
+{}
+
+/// What a graph stands for stays the same while the table grows.
+pub fn meaning_is_kept()
+    ensures { (old new : List CxxType) (graph : Facts) → Keeps old new → IsGraphBelow (length old) graph → graph_at new graph ≡ graph_at old graph }
+{}
+
+/// The conflict that is found is the first one, and where none is found there is none.
+pub fn conflicts_are_found()
+    ensures found { (graph : CxxGraph) (new : CxxFact) (number : ℕ) → first_conflict graph new ≡ Some number → IsFirstConflict graph new number }
+    ensures none { (graph : CxxGraph) (new : CxxFact) → first_conflict graph new ≡ None → IsFree graph new }
 {}
 
 /// What has one class is one specialisation: of the same template for the same arguments.

@@ -1,9 +1,9 @@
 //! What a reader expects of types, as contracts of functions that do nothing, or only call the table.
-ghost use Rattle.std.specs.Prelude.{◌≡◌, ◌<◌, length, IfOk};
+ghost use Rattle.std.specs.Prelude.{◌≡◌, ◌<◌, ◌↔◌, length, IfOk, IsTrue};
 ghost use Rattle.cxx_model.specs.declared.types.Cv.{Cv};
+ghost use Rattle.cxx_model.specs.SameType.{same_type};
 ghost use Rattle.cxx_model.specs.Types.{CxxType, IsNormal, Similar, adjusted, is_adjusted, merged, normal, unqualified, with_cv};
 ghost use Rattle.cxx_model.specs.TypeTrees.{type_at, tree_at, IsTreeBelow};
-ghost use Rattle.std.specs.Prelude.{IsTrue};
 
 use crate::table::TypeTable;
 use cxx_model::{OutOfMemory, TypeId, TypeTree};
@@ -22,6 +22,11 @@ pub fn cv_words()
     ensures with { (cv : Cv) (t : CxxType) → IsNormal t → IsNormal (with_cv cv t) }
     ensures without { (t : CxxType) → IsNormal t → IsNormal (unqualified t) }
     ensures parameters { (t : CxxType) → IsNormal t → IsTrue (is_adjusted (adjusted t)) × IsNormal (adjusted t) }
+{}
+
+/// The test of types tells any two types apart.
+pub fn sameness()
+    ensures { (t u : CxxType) → IsTrue (same_type t u) ↔ (t ≡ u) }
 {}
 
 /// To be similar is an equivalence.

@@ -1,0 +1,5 @@
+use Rattle.cxx_model.proofs.Fitting.{graph-kept}
+use Rattle.cxx_graph.proofs.laws.meaning_is_kept.Goals as goal
+
+pub returns : goal.returns
+returns c = graph-kept
