@@ -1,8 +1,6 @@
-pub mod Amounts
 pub mod Pieces
 pub mod Pushes
 pub mod Scans
 pub mod Steps
-pub mod Escaping
 pub mod Lines
 pub mod Signs

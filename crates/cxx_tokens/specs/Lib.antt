@@ -1,4 +1,3 @@
-pub mod Escapes
 pub mod MarkerWords
 pub mod Pieces
 pub mod Answers

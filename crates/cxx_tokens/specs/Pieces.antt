@@ -1,16 +1,12 @@
 -- The pieces of the code as those of the definitions.
-use Rattle.std.specs.Prelude.{◌≡◌, ℕ, Bool, false, ◌==◌, ◌&&◌, ◌||◌, ◌^◌, min, List, [], ◌∷◌, length, take, nat_le, if◌then◌else◌, Option, Some, None}
-use Rattle.std.specs.Char.{is_ascii_digit, is_ascii_hexdigit}
+use Rattle.std.specs.Prelude.{◌≡◌, ℕ, Bool, false, ◌==◌, ◌&&◌, List, [], ◌∷◌, length, take, nat_le, if◌then◌else◌, Option, Some, None}
 use Rattle.cxx_model.specs.Spelling as spelling
-use Rattle.cxx_model.specs.Spelling.{operator, operators, digraphs, first_of, number_in, number_beside, is_white, begins_word, is_quote, begins_number, IntegerParts, is_octal, is_x, begins_with_hex, with_digits, begins_with_digit, is_floating_suffix, is_exponent_part, after_digits}
+use Rattle.cxx_model.specs.Spelling.{operator, operators, digraphs, first_of, number_in, number_beside, is_white, begins_word, is_quote, begins_number}
 use Rattle.cxx_model.specs.Continuing.{BeginsOperator, starts}
 use Rattle.cxx_model.specs.Tokens as tokens
 use Rattle.cxx_tokens.specs.declared.piece.Spelled.{Spelled}
 use Rattle.cxx_tokens.specs.declared.piece.Spelled.TheVariants.{Blank, Good, Ill}
 use Rattle.cxx_tokens.specs.declared.piece.Piece.{Piece}
-use Rattle.cxx_tokens.specs.declared.integers.IntegerParts as code
-use Rattle.cxx_tokens.specs.declared.integers.Radix.{Radix}
-use Rattle.cxx_tokens.specs.declared.integers.Radix.TheVariants.{Decimal, Octal, Hexadecimal}
 use Rattle.cxx_tokens.specs.declared.width.Width.{Width}
 use Rattle.cxx_tokens.specs.declared.width.Width.TheVariants.{Narrow, Wide}
 
@@ -67,47 +63,6 @@ pub record IsOther (b : ℕ) (rest : List ℕ) : Type 0 where
 abbrev pub IsOtherText : List ℕ → Type 0
 IsOtherText [] = ⊥
 IsOtherText (b ∷ rest) = IsOther b rest
-
--- ---- integer literals
-
-abbrev pub parts_of : code.IntegerParts → IntegerParts
-parts_of parts = record { is_decimal = parts.is_decimal; value = parts.value; has_u = parts.has_u; has_l = parts.has_l }
-
-abbrev pub parts_option : Option code.IntegerParts → Option IntegerParts
-parts_option None = None
-parts_option (Some parts) = Some (parts_of parts)
-
--- a value that no type holds counts as one of them
-abbrev pub capped_parts : IntegerParts → IntegerParts
-capped_parts parts = record { is_decimal = parts.is_decimal; value = min parts.value (2 ^ 64); has_u = parts.has_u; has_l = parts.has_l }
-
-abbrev pub capped_option : Option IntegerParts → Option IntegerParts
-capped_option None = None
-capped_option (Some parts) = Some (capped_parts parts)
-
-abbrev pub base_of : Radix → ℕ
-base_of Decimal = 10
-base_of Octal = 8
-base_of Hexadecimal = 16
-
-abbrev pub test_of : Radix → ℕ → Bool
-test_of Decimal = is_ascii_digit
-test_of Octal = is_octal
-test_of Hexadecimal = is_ascii_hexdigit
-
--- what stands behind `0x`
-abbrev pub hexadecimal_parts : List ℕ → Option IntegerParts
-hexadecimal_parts digits = if begins_with_hex digits then with_digits false 16 is_ascii_hexdigit digits else None
-
--- what stands behind a 0
-abbrev pub zero_parts : List ℕ → Option IntegerParts
-zero_parts [] = with_digits false 8 is_octal []
-zero_parts (x ∷ digits) = if is_x x then hexadecimal_parts digits else with_digits false 8 is_octal (x ∷ digits)
-
--- ---- floating literals
-
-abbrev pub is_fraction : Bool → List ℕ → Bool
-is_fraction has_digits text = (has_digits || begins_with_digit text) && (is_floating_suffix (after_digits text) || is_exponent_part (after_digits text))
 
 -- ---- strings
 

@@ -7,10 +7,7 @@
 mod bytes;
 mod comments;
 mod fault;
-mod floats;
 mod front;
-mod integers;
-mod letters;
 mod literal;
 mod markers;
 mod numbers;
@@ -21,7 +18,6 @@ mod read;
 mod reader;
 mod runs;
 mod tables;
-mod values;
 mod width;
 mod words;
 

@@ -6,10 +6,9 @@ ghost use Rattle.cxx_model.specs.declared.token.TokenKind.TheVariants.{Integer, 
 ghost use Rattle.cxx_model.specs.Spelling as spec;
 
 use crate::front::spelling_of;
-use crate::integers::integer_parts;
-use crate::letters::{Letter, first_letter};
 use crate::numbers::type_of;
 use crate::piece::Spelled;
+use cxx_literals::{Letter, first_letter, integer_parts};
 use cxx_model::{Base, TokenKind};
 
 fn is_wide(text: &[u8]) -> bool

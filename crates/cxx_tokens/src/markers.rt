@@ -7,9 +7,9 @@ ghost use Rattle.cxx_tokens.specs.Pieces.{spelled};
 ghost use Rattle.cxx_tokens.specs.MarkerWords.{makes_marker};
 
 use crate::comments::line_len;
-use crate::floats::begins_with_digit;
 use crate::piece::{Piece, Spelled};
 use crate::runs::{blanks_len, word_len};
+use cxx_literals::begins_with_digit;
 use cxx_model::TokenReason;
 
 /// Whether `#` and this word begin a marker line: the word begins with a digit, or it is `line` or `pragma`.

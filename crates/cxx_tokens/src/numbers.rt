@@ -7,9 +7,8 @@ ghost use Rattle.cxx_model.specs.Tokens.{IsLongest};
 ghost use Rattle.cxx_tokens.specs.Pieces.{spelled, piece_of, begins_numeral};
 
 use crate::bytes::number_goes_on;
-use crate::floats::is_floating;
-use crate::integers::{integer_parts, integer_type};
 use crate::piece::{Piece, Spelled};
+use cxx_literals::{integer_parts, integer_type, is_floating};
 use cxx_model::{Base, TokenKind, TokenReason};
 
 /// Whether a text begins with a digit, or with a dot and a digit.

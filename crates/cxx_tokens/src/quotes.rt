@@ -6,8 +6,8 @@ ghost use Rattle.cxx_model.specs.Continuing.{IsLongestBy};
 ghost use Rattle.cxx_tokens.specs.Pieces.{spelled};
 
 use crate::bytes::is_newline;
-use crate::letters::{any_bad, any_universal, first_letter, is_universal};
 use crate::piece::{Piece, Spelled};
+use cxx_literals::{any_bad, any_universal, first_letter, is_universal};
 use cxx_model::{TokenKind, TokenReason};
 
 /// What a body between single quotes spells: the first reason that holds, in their order.

@@ -1,4 +1,4 @@
-use Rattle.cxx_tokens.specs.Pieces.{parts_of}
+use Rattle.cxx_literals.specs.Integers.{parts_of}
 use Rattle.cxx_tokens.proofs.Signs.{integer_value_is}
 use Rattle.cxx_tokens.proofs.literal.integer_value.Goals as goal
 

@@ -1,5 +1,6 @@
-use Rattle.cxx_tokens.specs.Pieces.{spelled, parts_of}
-use Rattle.cxx_tokens.proofs.Amounts.{kind_some, kind_none}
+use Rattle.cxx_literals.specs.Integers.{parts_of}
+use Rattle.cxx_tokens.specs.Pieces.{spelled}
+use Rattle.cxx_literals.proofs.Amounts.{kind_some, kind_none}
 use Rattle.cxx_tokens.proofs.numbers.number_kind.Goals as goal
 
 pub returns-in-Some : goal.returns-in-Some

@@ -1,6 +1,6 @@
-use Rattle.cxx_tokens.specs.Pieces.{parts_of}
+use Rattle.cxx_literals.specs.Integers.{parts_of}
 use Rattle.cxx_model.specs.Spelling.{integer_parts}
-use Rattle.cxx_tokens.proofs.Amounts.{typed}
+use Rattle.cxx_literals.proofs.Amounts.{typed}
 use Rattle.cxx_tokens.proofs.numbers.type_of.Goals as goal
 
 pub returns-in-Some : goal.returns-in-Some

@@ -1,8 +1,8 @@
 use Rattle.std.proofs.Common.{◌≡◌, ◌<◌, ◌+◌, ◌*◌, ◌^◌, min, length, get_or, take, arith, ◌∙◌, ap}
 use Rattle.std.proofs.lemmas.List.{take_more}
 use Rattle.cxx_model.specs.Spelling.{value_after, digit_value}
-use Rattle.cxx_tokens.proofs.Amounts.{value_after_push, too_much}
-use Rattle.cxx_tokens.proofs.values.value_of.Goals as goal
+use Rattle.cxx_literals.proofs.Amounts.{value_after_push, too_much}
+use Rattle.cxx_literals.proofs.values.value_of.Goals as goal
 
 pub loop-b-preserved : goal.loop-b-preserved
 loop-b-preserved c =

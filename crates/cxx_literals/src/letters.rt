@@ -3,7 +3,7 @@
 ghost use Rattle.std.specs.Prelude.{◌≡◌, ◌≤◌, ◌<◌, ◌||◌, ◌==◌, length};
 ghost use Rattle.std.specs.List.{list_any};
 ghost use Rattle.cxx_model.specs.Spelling as spec;
-ghost use Rattle.cxx_tokens.specs.Escapes.{letter_at, letter_of, capped, escape_seen};
+ghost use Rattle.cxx_literals.specs.Escapes.{letter_at, letter_of, capped, escape_seen};
 
 use crate::bytes::is_octal;
 use crate::runs::{hexadecimal_len, octal_len};
@@ -146,6 +146,7 @@ fn is_bad(wide: bool, letter: Letter) -> bool
     }
 }
 
+/// Whether a character is written by a universal character name.
 pub fn is_universal(letter: Letter) -> bool
     ensures { result ≡ spec.is_universal_letter (letter_of letter) }
 {
@@ -155,6 +156,7 @@ pub fn is_universal(letter: Letter) -> bool
     }
 }
 
+/// Whether some character of a body is an escape that there is not, or has more than a character holds.
 pub fn any_bad(wide: bool, body: &[u8]) -> bool
     ensures { result ≡ list_any (spec.is_bad_letter wide) (spec.letters 0 body.now) }
 {
@@ -169,6 +171,7 @@ pub fn any_bad(wide: bool, body: &[u8]) -> bool
     false
 }
 
+/// Whether some character of a body is written by a universal character name.
 pub fn any_universal(body: &[u8]) -> bool
     ensures { result ≡ list_any spec.is_universal_letter (spec.letters 0 body.now) }
 {

@@ -1,7 +1,7 @@
 use Rattle.std.proofs.Common.{◌≡◌, length}
 use Rattle.std.specs.List.{list_any}
 use Rattle.cxx_model.specs.Spelling.{letters, is_universal_letter}
-use Rattle.cxx_tokens.proofs.letters.any_universal.Given as goal
+use Rattle.cxx_literals.proofs.letters.any_universal.Given as goal
 
 abbrev pub invariant-loop-rest : goal.invariant-loop-rest
 invariant-loop-rest l = list_any is_universal_letter (letters 0 l.rest) ≡ list_any is_universal_letter (letters 0 l.body)

@@ -2,11 +2,12 @@
 
 ghost use Rattle.std.specs.Prelude.{◌≡◌};
 ghost use Rattle.cxx_model.specs.Spelling as spec;
-ghost use Rattle.cxx_tokens.specs.Pieces.{is_fraction};
+ghost use Rattle.cxx_literals.specs.Floats.{is_fraction};
 
 use crate::bytes::{is_exponent, is_l, is_sign};
 use crate::runs::digits_len;
 
+/// Whether a text begins with a digit.
 pub fn begins_with_digit(text: &[u8]) -> bool
     ensures { result ≡ spec.begins_with_digit text.now }
 {
@@ -76,6 +77,7 @@ fn is_floating_rest(has_digits: bool, text: &[u8]) -> bool
     }
 }
 
+/// Whether a whole text is a floating literal (2.13.3).
 pub fn is_floating(text: &[u8]) -> bool
     ensures { result ≡ spec.is_floating text.now }
 {

@@ -2,9 +2,9 @@
 use Rattle.std.specs.Prelude.{ℕ, suc, ◌^◌, ◌==◌, min, if◌then◌else◌, List, [], ◌∷◌}
 use Rattle.cxx_model.specs.Spelling as spec
 use Rattle.cxx_model.specs.Spelling.{Escape, escape}
-use Rattle.cxx_tokens.specs.declared.letters.Letter.{Letter}
-use Rattle.cxx_tokens.specs.declared.letters.Letter.TheVariants.{Value, Unknown, Universal}
-use Rattle.cxx_tokens.specs.declared.letters.Found.{Found}
+use Rattle.cxx_literals.specs.declared.letters.Letter.{Letter}
+use Rattle.cxx_literals.specs.declared.letters.Letter.TheVariants.{Value, Unknown, Universal}
+use Rattle.cxx_literals.specs.declared.letters.Found.{Found}
 
 abbrev pub letter_of : Letter → spec.Letter
 letter_of (Value value) = spec.Value value
