@@ -15,7 +15,7 @@ use cxx_model::first::Reading;
 use cxx_model::limits::MOST_OUTPUT;
 pub use fault::PlainFault;
 use page::Page;
-pub use reports::{limit_report, report};
+pub use reports::report;
 use sections::{count_functions, numbers_of, write_section};
 use std::alloc::Global;
 

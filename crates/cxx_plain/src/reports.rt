@@ -1,8 +1,8 @@
 //! The texts of reports.
 ghost use Rattle.std.specs.Prelude.{◌≡◌, ◌<◌, ◌++◌, OnOk, IfOk, codes, decimal};
-ghost use Rattle.cxx_model.specs.Reports.{by_bases_text, evidence_lines, evidence_text, limit_name, limit_report, link_text, number_after, path_text, place_text, reason_text, report, shown_text, substitution_text};
+ghost use Rattle.cxx_model.specs.Reports.{by_bases_text, evidence_lines, evidence_text, link_text, number_after, path_text, place_text, reason_text, report, shown_text, substitution_text};
 
-use cxx_model::{Evidence, Fault, LimitKind, Link, Place, Reason, Shown, SubstitutionText};
+use cxx_model::{Evidence, Fault, Link, Place, Reason, Shown, SubstitutionText};
 use itoa::Buffer;
 use std::alloc::{AllocError, Global};
 
@@ -254,33 +254,5 @@ pub fn report(alloc: Global, fault: &Fault) -> Result<Vec<u8>, AllocError>
     write(&mut out, fault.text.as_slice())?;
     write(&mut out, b"\n")?;
     write_lines(&mut out, fault.evidence.as_slice())?;
-    Ok(out)
-}
-
-fn limit_name(kind: LimitKind) -> &'static [u8]
-    ensures { result.now ≡ limit_name kind }
-{
-    match kind {
-        LimitKind::Bytes => b"bytes",
-        LimitKind::Tokens => b"tokens",
-        LimitKind::Nesting => b"nesting",
-        LimitKind::Facts => b"facts",
-        LimitKind::Candidates => b"candidates",
-        LimitKind::Arguments => b"arguments",
-        LimitKind::TemplateArguments => b"template arguments",
-        LimitKind::Instances => b"instances",
-        LimitKind::Nodes => b"nodes",
-        LimitKind::Output => b"output",
-    }
-}
-
-/// The report of a limit that a unit passes.
-#[tactic(auto, unfolding(cxx_model::specs::Reports::limit_report))]
-pub fn limit_report(alloc: Global, kind: LimitKind) -> Result<Vec<u8>, AllocError>
-    ensures { IfOk result (λ text. text.items ≡ limit_report kind) }
-{
-    let mut out = Vec::from_slice(alloc, b"limit: ")?;
-    write(&mut out, limit_name(kind))?;
-    write(&mut out, b"\n")?;
     Ok(out)
 }

@@ -1,7 +1,7 @@
 use super::*;
 use cxx_model::first::{Argument, Declaration, Declared, Initializer, Item};
 use cxx_model::{
-    Base, Evidence, Fault, LimitKind, Link, Listed, Options, Place, Reason, Shown, SubstitutionText,
+    Base, Evidence, Fault, Link, Listed, Options, Place, Reason, Shown, SubstitutionText,
 };
 use std::alloc::AllocError;
 use std::process::Abort;
@@ -239,11 +239,6 @@ fn reports_show_evidence(rt: HostRuntime) -> Result<(), Fail> {
         &rt,
         &report(alloc, &none)?,
         "1:26: no viable function\n  candidate 1 at 1:5: too few arguments\n",
-    );
-    expect(
-        &rt,
-        &limit_report(alloc, LimitKind::Bytes)?,
-        "limit: bytes\n",
     );
     Ok(())
 }
