@@ -2,6 +2,5 @@ pub mod Bounds
 pub mod Items
 pub mod Kept
 pub mod Lists
-pub mod Loops
 pub mod Productions
 pub mod Whole

@@ -1,18 +1,14 @@
 -- What the values of the code stand for.
-use Rattle.std.specs.Prelude.{List, [], ◌∷◌, ◌++◌, ◌&&◌, not, if◌then◌else◌, Option, Some, None, Ok}
+use Rattle.std.specs.Prelude.{List, ◌&&◌, not, if◌then◌else◌, Ok}
 use Rattle.cxx_model.specs.declared.base.Base.{Base}
 use Rattle.cxx_model.specs.declared.first.Declaration.{Declaration}
 use Rattle.cxx_model.specs.declared.punct.TheConstants as punct
 use Rattle.cxx_model.specs.Lexemes.{Lexeme, lexemes, kind_of, place_of, spelling_ahead}
 use Rattle.cxx_model.specs.Stops.{Reads, Stopped, ◌>>=◌, not_built_at, undeclared_at}
-use Rattle.cxx_model.specs.First.Candidates.{Candidate as CandidateMeant, Contender as ContenderMeant, is_declared}
+use Rattle.cxx_model.specs.First.Candidates.{is_declared}
 use Rattle.cxx_model.specs.First.Reading.{is_name, is_punct, behind, punct_at, type_at}
-use Rattle.cxx_model.specs.Standard.{Row as StandardRow}
 use Rattle.cxx_decl.specs.declared.cursor.Cursor.{Cursor}
 use Rattle.cxx_decl.specs.declared.cursor.Spelled.{Spelled}
-use Rattle.cxx_decl.specs.declared.scope.Candidate.{Candidate}
-use Rattle.cxx_decl.specs.declared.standard.Row.{Row}
-use Rattle.cxx_decl.specs.declared.viable.Contender.{Contender}
 
 -- the tokens ahead
 abbrev pub left : Cursor → List Lexeme
@@ -20,20 +16,6 @@ left cursor = lexemes cursor.bytes.now cursor.rest.now
 
 abbrev pub lexeme : Spelled → Lexeme
 lexeme token = record { kind = token.kind; place = token.place; spelling = token.spelling.now }
-
-abbrev pub row_of : Row → StandardRow
-row_of row = record { number = row.number; is_floating = row.is_floating; promoted = row.promoted }
-
-abbrev pub candidate_at : Candidate → CandidateMeant
-candidate_at candidate = record { fact = candidate.fact; place = candidate.place; result = candidate.of; parameters = candidate.parameters.now }
-
-abbrev pub contender_at : Contender → ContenderMeant
-contender_at contender = (contender.number, candidate_at contender.candidate)
-
--- a list with what is there at its end
-abbrev pub with_option : {A : Type 0} → List A → Option A → List A
-with_option xs None = xs
-with_option xs (Some x) = xs ++ x ∷ []
 
 -- ---- parts of productions that the code has in functions of their own
 

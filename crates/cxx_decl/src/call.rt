@@ -4,13 +4,12 @@ ghost use Rattle.std.specs.Prelude.{◌≡◌, ◌≤◌, map, length, IfOk};
 ghost use Rattle.cxx_model.specs.declared.limits.TheConstants as limits;
 ghost use Rattle.cxx_model.specs.Stops.{Gives, Faulty};
 ghost use Rattle.cxx_model.specs.First.Candidates.{no_viable_at, ambiguous_at, outcome as outcome_of, type_of_argument as argument_type, types_of as argument_types, bound as bound_call, refusals as refusals_of, ties as ties_of, choice as choice_of, call_of as call_meant};
-ghost use Rattle.cxx_decl.specs.Views.{candidate_at, contender_at};
+ghost use Rattle.cxx_choice.specs.Views.{candidate_at, contender_at};
 
-use crate::champion::{chosen, ties};
 use crate::fault::{fault_with, not_built, undeclared};
 use crate::numbers::Seen;
-use crate::scope::{Candidate, candidates, is_declared, names_object};
-use crate::viable::{Contender, contenders, outcome, refusals};
+use crate::scope::{candidates, is_declared, names_object};
+use cxx_choice::{Candidate, Contender, chosen, contenders, outcome, refusals, ties};
 use cxx_model::first::{Argument, ArgumentList, BaseList, Call, Initializer};
 use cxx_model::{Base, Fault, LimitKind, NumberList, OutcomeList, Place, Stop, Text, Word, limits};
 use std::alloc::{AllocError, Global};

@@ -15,7 +15,7 @@ use crate::cursor::{Cursor, Spelled, is_punct, type_of_kind};
 use crate::expression::initializer;
 use crate::fault::not_built;
 use crate::numbers::{Numbers, Seen};
-use crate::standard::is_same;
+use cxx_choice::is_same;
 use cxx_model::first::{
     BaseList, CallList, Declaration, DeclarationList, Declared, Item, ItemList, Reading,
 };

@@ -5,7 +5,6 @@
 #![tactic(auto)]
 
 mod call;
-mod champion;
 mod cursor;
 mod declaration;
 mod expression;
@@ -13,8 +12,6 @@ mod fault;
 mod laws;
 mod numbers;
 mod scope;
-mod standard;
-mod viable;
 
 pub use declaration::read_unit;
 pub use laws::{

@@ -1,24 +1,15 @@
 //! What the names of a unit are declared as (3.4.1), and the functions that a call may mean (13.3.1).
 
-ghost use Rattle.std.specs.Prelude.{◌≡◌, map, option_map, OnOk, IfOk};
+ghost use Rattle.std.specs.Prelude.{◌≡◌, map, option_map, IfOk};
 ghost use Rattle.std.specs.List.{list_any, filter_map};
 ghost use Rattle.cxx_model.specs.First.Candidates.{is_object as is_object_declared, is_declared as is_name_declared, names_object as is_object_named, candidates as candidates_of};
 ghost use Rattle.cxx_decl.specs.Numbers.{is_some_number as is_some, passes_at, function_at as function_with};
-ghost use Rattle.cxx_decl.specs.Views.{candidate_at, with_option};
+ghost use Rattle.cxx_choice.specs.Views.{candidate_at};
 
 use crate::numbers::Seen;
+use cxx_choice::{Candidate, push_some};
 use cxx_model::first::{Declaration, Declared};
-use cxx_model::{Base, Place};
 use std::alloc::{AllocError, Global};
-
-/// A function that a call may mean: the number of its declaration, and what that says.
-#[derive(Clone, Copy)]
-pub(crate) struct Candidate<'a> {
-    pub fact: u32,
-    pub place: Place,
-    pub of: Base,
-    pub parameters: &'a [Base],
-}
 
 fn is_object(what: &Declared) -> bool
     ensures { result ≡ is_object_declared what.now }
@@ -84,16 +75,6 @@ fn function_at<'s>(declarations: &'s [Declaration], number: u32) -> Option<Candi
             parameters: parameters.as_slice(),
         }),
         Declared::Object(_) => None,
-    }
-}
-
-/// Adds what is there, at the end.
-pub(crate) fn push_some<T: Drop>(items: &mut Vec<T>, item: Option<T>) -> Result<(), AllocError>
-    ensures { OnOk result (items.new.items ≡ with_option items.old.items item) }
-{
-    match item {
-        None => Ok(()),
-        Some(item) => Ok(items.push(item)?),
     }
 }
 

@@ -1,5 +1,5 @@
 use Rattle.std.proofs.Common.{◌≡◌, take, map}
-use Rattle.cxx_decl.specs.Views.{candidate_at}
+use Rattle.cxx_choice.specs.Views.{candidate_at}
 use Rattle.cxx_decl.proofs.call.numbers.Given as goal
 
 abbrev pub invariant-loop-candidate : goal.invariant-loop-candidate

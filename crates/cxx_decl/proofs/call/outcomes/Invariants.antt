@@ -1,6 +1,6 @@
 use Rattle.std.proofs.Common.{◌≡◌, take, map}
 use Rattle.cxx_model.specs.First.Candidates.{outcome}
-use Rattle.cxx_decl.specs.Views.{candidate_at}
+use Rattle.cxx_choice.specs.Views.{candidate_at}
 use Rattle.cxx_decl.proofs.call.outcomes.Given as goal
 
 abbrev pub invariant-loop-candidate : goal.invariant-loop-candidate

@@ -2,7 +2,7 @@ use Rattle.std.proofs.Common.{◌≡◌, map, ap, subst, ◌∙◌}
 use Rattle.std.specs.List.{filter_map}
 use Rattle.std.specs.Prelude.{IfOk}
 use Rattle.cxx_decl.specs.Numbers.{function_at}
-use Rattle.cxx_decl.specs.Views.{candidate_at}
+use Rattle.cxx_choice.specs.Views.{candidate_at}
 use Rattle.cxx_decl.proofs.Kept.{functions_of_word}
 use Rattle.cxx_decl.proofs.scope.candidates.Goals as goal
 

@@ -1,7 +1,7 @@
 use Rattle.std.proofs.Common.{◌≡◌, ◌++◌, drop, map}
 use Rattle.std.specs.List.{filter_map}
 use Rattle.cxx_decl.specs.Numbers.{function_at}
-use Rattle.cxx_decl.specs.Views.{candidate_at}
+use Rattle.cxx_choice.specs.Views.{candidate_at}
 use Rattle.cxx_decl.proofs.scope.functions_at.Given as goal
 
 abbrev pub invariant-loop-number : goal.invariant-loop-number

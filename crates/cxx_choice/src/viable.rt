@@ -5,22 +5,23 @@ ghost use Rattle.cxx_model.specs.declared.limits.TheConstants as limits;
 ghost use Rattle.cxx_model.specs.Better.{is_better as is_better_function, is_better_order, is_worse_order};
 ghost use Rattle.cxx_model.specs.StandardOrder.{compare as compare_sequences};
 ghost use Rattle.cxx_model.specs.First.Candidates.{outcome as outcome_of, is_viable as is_viable_candidate, sequences, beats as beats_candidate, contenders as contenders_of, shown as shown_contender, refusal as refusal_of, refusals as refusals_of};
-ghost use Rattle.cxx_decl.specs.Views.{candidate_at, contender_at};
+ghost use Rattle.cxx_choice.specs.Views.{candidate_at, contender_at};
 
-use crate::scope::{Candidate, push_some};
+use crate::candidate::Candidate;
+use crate::push::push_some;
 use crate::standard::{compare, standard_sequence};
 use cxx_model::{Base, Evidence, EvidenceList, Order, Outcome, Reason, Shown};
 use std::alloc::{AllocError, Global};
 
 /// A candidate with its number among all candidates of the call, from 1.
 #[derive(Clone, Copy)]
-pub(crate) struct Contender<'a> {
+pub struct Contender<'a> {
     pub number: u32,
     pub candidate: Candidate<'a>,
 }
 
 /// A candidate is viable where the count of the arguments is that of its parameters.
-pub(crate) fn outcome(arguments: &[Base], candidate: &Candidate) -> Outcome
+pub fn outcome(arguments: &[Base], candidate: &Candidate) -> Outcome
     ensures { result ≡ outcome_of arguments.now (candidate_at candidate.now) }
 {
     if arguments.len() < candidate.parameters.len() {
@@ -49,7 +50,7 @@ fn viable_contender<'a>(
 }
 
 /// The viable candidates.
-pub(crate) fn contenders<'a>(
+pub fn contenders<'a>(
     alloc: Global,
     arguments: &[Base],
     all: &[Candidate<'a>],
@@ -84,7 +85,7 @@ fn refusal(arguments: &[Base], contender: &Contender) -> Option<Evidence>
 
 /// Why each candidate is not viable.
 #[tactic(auto, unfolding(cxx_model::specs::First::Candidates::refusals))]
-pub(crate) fn refusals(
+pub fn refusals(
     alloc: Global,
     arguments: &[Base],
     all: &[Candidate],

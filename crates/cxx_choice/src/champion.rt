@@ -4,9 +4,9 @@ ghost use Rattle.std.specs.Prelude.{◌≡◌, map, option_map, IfOk};
 ghost use Rattle.std.specs.List.{list_all};
 ghost use Rattle.cxx_model.specs.Better.{beats_if_other as beats_any_other, counter as counter_of};
 ghost use Rattle.cxx_model.specs.First.Candidates.{position_of, contender_beats, chosen as chosen_of, tie as tie_of, ties as ties_of};
-ghost use Rattle.cxx_decl.specs.Views.{contender_at};
+ghost use Rattle.cxx_choice.specs.Views.{contender_at};
 
-use crate::scope::push_some;
+use crate::push::push_some;
 use crate::viable::{Contender, beats, shown};
 use cxx_model::{Base, Evidence, EvidenceList};
 use std::alloc::{AllocError, Global};
@@ -32,7 +32,7 @@ fn is_best(arguments: &[Base], viable: &[Contender], one: &Contender) -> bool
 
 /// The contender that is better than every other.
 #[tactic(auto, unfolding(cxx_model::specs::First::Candidates::chosen))]
-pub(crate) fn chosen<'a>(arguments: &[Base], viable: &[Contender<'a>]) -> Option<Contender<'a>>
+pub fn chosen<'a>(arguments: &[Base], viable: &[Contender<'a>]) -> Option<Contender<'a>>
     ensures { option_map contender_at result ≡ chosen_of arguments.now (map contender_at viable.now) }
 {
     for one in viable {
@@ -70,7 +70,7 @@ fn tie(arguments: &[Base], viable: &[Contender], one: &Contender) -> Option<Evid
 
 /// For each contender the first other one that it does not beat.
 #[tactic(auto, unfolding(cxx_model::specs::First::Candidates::ties))]
-pub(crate) fn ties(
+pub fn ties(
     alloc: Global,
     arguments: &[Base],
     viable: &[Contender],

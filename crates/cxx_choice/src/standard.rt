@@ -3,7 +3,7 @@
 ghost use Rattle.std.specs.Prelude.{◌≡◌, true, false};
 ghost use Rattle.cxx_model.specs.Standard.{row as standard_row, same_base, promotion as standard_promotion, conversion as standard_conversion, second_step as standard_step, standard_sequence as sequence_of, rank_of_step as standard_rank, rank as rank_of_sequence};
 ghost use Rattle.cxx_model.specs.StandardOrder.{compare as order_of, number_of_rank as standard_number, is_proper_subsequence as is_proper, has_better_rank as has_better};
-ghost use Rattle.cxx_decl.specs.Views.{row_of};
+ghost use Rattle.cxx_choice.specs.Views.{row_of};
 
 use cxx_model::first::ArithmeticSequence;
 use cxx_model::{Base, Order, Rank, Second};
@@ -61,7 +61,8 @@ fn row_of_type(base: Base) -> Row
     }
 }
 
-pub(crate) fn is_same(one: Base, two: Base) -> bool
+/// Whether two arithmetic types are the same.
+pub fn is_same(one: Base, two: Base) -> bool
     ensures { result ≡ same_base one two }
 {
     row_of_type(one).number == row_of_type(two).number

@@ -2,8 +2,8 @@ use Rattle.std.proofs.Common.{◌≡◌, false, length}
 use Rattle.cxx_model.specs.Better.{compared}
 use Rattle.cxx_model.specs.StandardOrder.{compare}
 use Rattle.cxx_model.specs.First.Candidates.{sequences}
-use Rattle.cxx_decl.proofs.Loops.{verdict}
-use Rattle.cxx_decl.proofs.viable.is_better_function.Given as goal
+use Rattle.cxx_choice.proofs.Loops.{verdict}
+use Rattle.cxx_choice.proofs.viable.is_better_function.Given as goal
 
 abbrev pub invariant-loop-arguments : goal.invariant-loop-arguments
 invariant-loop-arguments l = verdict l.has_better (compared compare (sequences l.arguments l.ones) (sequences l.arguments l.twos)) ≡ verdict false (compared compare (sequences l.fn.arguments l.fn.one) (sequences l.fn.arguments l.fn.two))
