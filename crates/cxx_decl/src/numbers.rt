@@ -43,7 +43,6 @@ impl<'a> Numbers<'a> {
     }
 
     /// Adds the number of a further declaration of a word.
-
     pub fn add(&mut self, alloc: Global, word: &'a [u8], number: u32) -> Result<(), AllocError>
         ensures { OnOk result ((other : List ℕ) → kept self.new other ≡ (if bytes_eq word.now other then kept self.old word.now ++ number ∷ [] else kept self.old other)) }
     {
