@@ -49,10 +49,3 @@ pub fn number_goes_on(last: u8, b: u8) -> bool
 {
     is_word(b) || b == b'.' || (is_sign(b) && is_exponent(last))
 }
-
-/// Whether a byte makes a comment of the slash before it.
-pub fn begins_comment(b: u8) -> bool
-    ensures { result ≡ goes.begins_comment b }
-{
-    b == b'/' || b == b'*'
-}
