@@ -1,5 +1,5 @@
 -- The contract of a run follows from what is due and where it was told.
-use Rattle.std.proofs.Common.{◌≡◌, ◌≢◌, ◌⊎◌, inl, inr, ◌∙◌, ℕ, suc, ◌<◌, Bool, true, false, cond, List, [], length, replicate, nat_lt, ◌∷◌, arith, refl, sym, ap, subst}
+use Rattle.std.proofs.Common.{◌≡◌, ◌≢◌, ◌⊎◌, inl, inr, ◌∙◌, ℕ, suc, ◌<◌, Bool, true, false, cond, List, [], ◌++◌, length, replicate, nat_lt, ◌∷◌, arith, refl, sym, ap, subst}
 use Rattle.std.proofs.lemmas.Bool.{lt-ltb}
 use Rattle.std.proofs.lemmas.Bool.Decides.{nat_tests}
 use Rattle.std.proofs.lemmas.List.{length-replicate}
@@ -13,16 +13,17 @@ use Rattle.cxx_model.specs.declared.stop.LimitKind.{LimitKind}
 use Rattle.cxx_model.specs.declared.stop.LimitKind.TheVariants.{Bytes, Output}
 use Rattle.cxx_model.specs.First.Bound.{EachCallIsBest}
 use Rattle.cxx_model.specs.First.Plain.{plain}
-use Rattle.cxx_model.specs.First.Told.{IsChoiceText, IsToldFault}
+use Rattle.cxx_model.specs.First.Told.{IsChoiceText, IsToldFault, IsUndeclaredFault}
 use Rattle.cxx_model.specs.declared.token.Token.{Token}
+use Rattle.cxx_model.specs.declared.token.TokenReason.{TokenReason}
 use Rattle.cxx_model.specs.First.Reading.{reading_of}
 use Rattle.cxx_model.specs.Lexemes.{Lexeme, lexemes}
 use Rattle.cxx_model.specs.Outcome.{UnitDue, Writes, Reports, Names, UnitOutcome, Whole, Broken, PastLimit, outcome_of, read_outcome, tokens_outcome, due_of, due_for}
 use Rattle.cxx_model.specs.ReadsBack.{PlainReadsBack}
-use Rattle.cxx_model.specs.Stops.{Answer as Reads, Faulty, Limited}
+use Rattle.cxx_model.specs.Stops.{Answer as Reads, Faulty, Limited, token_reason_text}
 use Rattle.cxx_model.specs.Tokens.{Unread, BadAt, PastTokens, tokens_of}
 use Rattle.cxx_model.specs.Reports.{report, limit_report}
-use Rattle.cxx_model.proofs.FirstForm.UnitFaults.{token_text}
+use Rattle.cxx_model.proofs.FirstForm.UnitFaults.{IsNameText, token_text, token_name_text}
 use Rattle.cxx_command.specs.declared.answers.Answer.{Answer}
 use Rattle.cxx_command.specs.declared.answers.Answer.TheVariants as answer
 use Rattle.cxx_command.specs.Answers.{IsInputAnswer, IsRunAnswer, DeliversAnswer}
@@ -117,30 +118,35 @@ read_broken (Err (Limited limit)) fault is = absurd (cc)
 broken_same : (one two : Fault) → Broken one ≡ Broken two → one ≡ two
 broken_same one two is = cc
 
--- A broken unit whose fault is of the choice of a function: no bad token has its text.
+-- a broken unit whose fault is none of its tokens
 record IsReadBroken (options : Options) (bytes : List ℕ) (tokens : Result (List Token) Unread) (fault : Fault) : Type 0 where
   list : List Token
   lists : tokens ≡ Ok list
   stops : reading_of options (lexemes bytes list) ≡ Err (Faulty fault)
 
-tokens_broken : (options : Options) (bytes : List ℕ) (tokens : Result (List Token) Unread) (fault : Fault) → IsChoiceText fault.text → tokens_outcome options bytes tokens ≡ Broken fault → IsReadBroken options bytes tokens fault
-tokens_broken options bytes (Ok list) fault text is = record { list = list; lists = refl; stops = read_broken (reading_of options (lexemes bytes list)) fault is }
-tokens_broken options bytes (Err (BadAt place reason)) fault text is = absurd (token_text reason (subst (λ (f : Fault). IsChoiceText f.text) (sym (broken_same _ fault is)) text))
-tokens_broken options bytes (Err PastTokens) fault text is = absurd (cc)
+-- no bad token has such a text
+abbrev NoToken : (List ℕ → Type 0) → Type 0
+NoToken T = (why : TokenReason) → T (token_reason_text why) → ⊥
 
-unless_long_broken : (long : Bool) (options : Options) (bytes : List ℕ) (tokens : Result (List Token) Unread) (fault : Fault) → IsChoiceText fault.text → cond long (PastLimit Bytes) (tokens_outcome options bytes tokens) ≡ Broken fault → IsReadBroken options bytes tokens fault
-unless_long_broken true options bytes tokens fault text is = absurd (cc)
-unless_long_broken false options bytes tokens fault text is = tokens_broken options bytes tokens fault text is
+tokens_broken : (T : List ℕ → Type 0) → NoToken T → (options : Options) (bytes : List ℕ) (tokens : Result (List Token) Unread) (fault : Fault) → T fault.text → tokens_outcome options bytes tokens ≡ Broken fault → IsReadBroken options bytes tokens fault
+tokens_broken T other options bytes (Ok list) fault text is = record { list = list; lists = refl; stops = read_broken (reading_of options (lexemes bytes list)) fault is }
+tokens_broken T other options bytes (Err (BadAt place reason)) fault text is = absurd (other reason (subst (λ (f : Fault). T f.text) (sym (broken_same _ fault is)) text))
+tokens_broken T other options bytes (Err PastTokens) fault text is = absurd (cc)
 
-read_to_fault : (options : Options) (bytes : List ℕ) (fault : Fault) → IsChoiceText fault.text → outcome_of options bytes ≡ Broken fault → IsReadBroken options bytes (tokens_of bytes) fault
+unless_long_broken : (long : Bool) (T : List ℕ → Type 0) → NoToken T → (options : Options) (bytes : List ℕ) (tokens : Result (List Token) Unread) (fault : Fault) → T fault.text → cond long (PastLimit Bytes) (tokens_outcome options bytes tokens) ≡ Broken fault → IsReadBroken options bytes tokens fault
+unless_long_broken true T other options bytes tokens fault text is = absurd (cc)
+unless_long_broken false T other options bytes tokens fault text is = tokens_broken T other options bytes tokens fault text is
+
+read_to_fault : (T : List ℕ → Type 0) → NoToken T → (options : Options) (bytes : List ℕ) (fault : Fault) → T fault.text → outcome_of options bytes ≡ Broken fault → IsReadBroken options bytes (tokens_of bytes) fault
 unfolding outcome_of
-read_to_fault options bytes fault text is = unless_long_broken (nat_lt limits.MOST_BYTES (length bytes)) options bytes (tokens_of bytes) fault text is
+read_to_fault T other options bytes fault text is = unless_long_broken (nat_lt limits.MOST_BYTES (length bytes)) T other options bytes (tokens_of bytes) fault text is
 
 -- ---- what is known of every unit
 
 pub record Laws : Type 0 where
   pub best : (options : Options) (tokens : List Lexeme) (reading : Reading) → reading_of options tokens ≡ Ok reading → EachCallIsBest reading
   pub told : (options : Options) (tokens : List Lexeme) (fault : Fault) → reading_of options tokens ≡ Err (Faulty fault) → IsChoiceText fault.text → IsToldFault options tokens fault
+  pub undeclared : (options : Options) (tokens : List Lexeme) (fault : Fault) → reading_of options tokens ≡ Err (Faulty fault) → (word : List ℕ) → fault.text ≡ codes "undeclared name " ++ word → IsUndeclaredFault options tokens fault word
   pub back : (options : Options) (bytes : List ℕ) → PlainReadsBack options bytes
 
 written_of : {K E : Type 0} (laws : Laws) (input text : List ℕ) (out : Change K) (err : Change E) → due input ≡ Writes text → TookAll out text → IsUntouched err → (reading : Reading) × IsWritten input reading out err
@@ -186,9 +192,14 @@ no_words [] is = refl
 no_words (word ∷ words) is = absurd (grind (arith, nat_tests))
 
 true_fault : (laws : Laws) (input : List ℕ) (fault : Fault) → due input ≡ Reports fault → IsTrueFault input fault
-true_fault laws input fault is text =
-    let read = read_to_fault default_options input fault text (broken_of input fault is) in
-    (read.list, read.lists, laws.told default_options (lexemes input read.list) fault read.stops text)
+true_fault laws input fault is = record {
+  choice = λ text.
+      let read = read_to_fault IsChoiceText token_text default_options input fault text (broken_of input fault is) in
+      (read.list, read.lists, laws.told default_options (lexemes input read.list) fault read.stops text);
+  undeclared = λ word text.
+      let read = read_to_fault (IsNameText word) (token_name_text word) default_options input fault text (broken_of input fault is) in
+      (read.list, read.lists, laws.undeclared default_options (lexemes input read.list) fault read.stops word text);
+}
 
 -- ---- each case
 

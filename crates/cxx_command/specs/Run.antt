@@ -1,5 +1,5 @@
 -- What a run owes, and what its status says.
-use Rattle.std.specs.Prelude.{◌≡◌, ◌≢◌, ◌⊎◌, ℕ, List, [], Option, Some, None, Ok, ⊤, codes}
+use Rattle.std.specs.Prelude.{◌≡◌, ◌≢◌, ◌⊎◌, ◌++◌, ℕ, List, [], Option, Some, None, Ok, ⊤, codes}
 use Rattle.cxx_model.specs.declared.options.Options.{Options}
 use Rattle.cxx_model.specs.declared.first.Reading.{Reading}
 use Rattle.cxx_model.specs.declared.stop.Fault.{Fault}
@@ -7,7 +7,7 @@ use Rattle.cxx_model.specs.declared.stop.LimitKind.{LimitKind}
 use Rattle.cxx_model.specs.declared.token.Token.{Token}
 use Rattle.cxx_model.specs.First.Bound.{EachCallIsBest}
 use Rattle.cxx_model.specs.First.Plain.{plain}
-use Rattle.cxx_model.specs.First.Told.{IsChoiceText, IsToldFault}
+use Rattle.cxx_model.specs.First.Told.{IsChoiceText, IsToldFault, IsUndeclaredFault}
 use Rattle.cxx_model.specs.Lexemes.{lexemes}
 use Rattle.cxx_model.specs.Outcome.{UnitDue, Writes, Reports, Names, Whole, outcome_of, due_for}
 use Rattle.cxx_model.specs.ReadsBack.{ReadsBack, IsTooLarge}
@@ -99,9 +99,11 @@ pub record IsWritten {K E : Type 0} (input : List ℕ) (reading : Reading) (out 
   pub best : EachCallIsBest reading
   pub reads_back : ReadsBack default_options (plain reading) reading ⊎ IsTooLarge default_options (plain reading)
 
--- where the fault is of the choice of a function, the input is tokens, and it is a true fault of a call among them
-abbrev pub IsTrueFault : List ℕ → Fault → Type 0
-IsTrueFault input fault = IsChoiceText fault.text → (tokens : List Token) × (tokens_of input ≡ Ok tokens) × IsToldFault default_options (lexemes input tokens) fault
+-- Where the fault is of the choice of a function, the input is tokens, and it is a true fault of a call among them. Where
+-- it is an undeclared name, the input is tokens, and this name stands among them with no declaration before.
+pub record IsTrueFault (input : List ℕ) (fault : Fault) : Type 0 where
+  pub choice : IsChoiceText fault.text → (tokens : List Token) × (tokens_of input ≡ Ok tokens) × IsToldFault default_options (lexemes input tokens) fault
+  pub undeclared : (word : List ℕ) → fault.text ≡ codes "undeclared name " ++ word → (tokens : List Token) × (tokens_of input ≡ Ok tokens) × IsUndeclaredFault default_options (lexemes input tokens) fault word
 
 pub record IsAnswer {X S K E : Type 0} (words : List X) (source : Change S) (out : Change K) (err : Change E) (status : ℕ) : Type 0 where
   -- What is due is delivered. The rest follows from this, and says it status by status.
@@ -116,7 +118,8 @@ pub record IsAnswer {X S K E : Type 0} (words : List X) (source : Change S) (out
   -- the text that was written reads back, or is too large to be read again
   pub whole : (input : List ℕ) → Tells source input → status ≡ 0 → (reading : Reading) × IsWritten input reading out err
   -- 1: exactly where the unit is broken, with the report of its first fault; a call that is ambiguous or has no viable
-  -- function is so among the declarations before it, and each line of its evidence is true
+  -- function is so among the declarations before it, and each line of its evidence is true; an undeclared name stands
+  -- where the fault is, and no declaration before it has it
   pub broken : (input : List ℕ) → Tells source input → status ≡ 1 → (fault : Fault) × (due input ≡ Reports fault) × TookAll err (report fault) × IsTrueFault input fault
   -- 5: exactly where a limit is passed, with its name
   pub limited : (input : List ℕ) → Tells source input → status ≡ 5 → (limit : LimitKind) × (due input ≡ Names limit) × TookAll err (limit_report limit)

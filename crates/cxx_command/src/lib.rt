@@ -8,7 +8,7 @@ mod answers;
 mod delivery;
 mod unit;
 
-use cxx_decl::{each_call_is_best, faults_are_told};
+use cxx_decl::{each_call_is_best, faults_are_told, undeclared_names_are_told};
 use cxx_edge::{Sink, Source};
 use cxx_read_back::plain_reads_back;
 use std::alloc::Global;
@@ -29,6 +29,7 @@ pub fn run<S: Source, K: Sink, E: Sink>(
 {
     each_call_is_best();
     faults_are_told();
+    undeclared_names_are_told();
     plain_reads_back();
     let answer = answers::read_and_answer(alloc, words, source);
     delivery::deliver(&answer, out, err)

@@ -1,6 +1,6 @@
 //! Laws of the definitions that the readers keep to.
 
-ghost use Rattle.std.specs.Prelude.{◌≡◌, ℕ, List, Ok, Err, true, false};
+ghost use Rattle.std.specs.Prelude.{◌≡◌, ◌++◌, ℕ, List, Ok, Err, true, false, codes};
 ghost use Rattle.cxx_model.specs.declared.base.Base.{Base};
 ghost use Rattle.cxx_model.specs.declared.first.Argument.{Argument};
 ghost use Rattle.cxx_model.specs.declared.first.Declaration.{Declaration};
@@ -13,7 +13,7 @@ ghost use Rattle.cxx_model.specs.Stops.{Reads, Faulty};
 ghost use Rattle.cxx_model.specs.First.Candidates.{Candidate, beats, call_of, types_of};
 ghost use Rattle.cxx_model.specs.First.Reading.{reading_of, item_at, type_at, argument_by, begins_type, begins_argument};
 ghost use Rattle.cxx_model.specs.First.Bound.{EachCallIsBest};
-ghost use Rattle.cxx_model.specs.First.Told.{IsQuestionFault, IsChoiceText, IsToldFault};
+ghost use Rattle.cxx_model.specs.First.Told.{IsQuestionFault, IsChoiceText, IsToldFault, IsUndeclaredFault};
 ghost use Rattle.cxx_model.specs.First.Words.{AreSpelled, words_of, words_before_end};
 
 /// Each call of a whole reading means the best of the viable functions of its name that are declared before it.
@@ -32,6 +32,12 @@ pub fn call_faults_are_told()
 /// read whole, and it is a true fault of a call in the initializer of the object that follows them.
 pub fn faults_are_told()
     ensures { (options : Options) (ahead : List Lexeme) (fault : Fault) → reading_of options ahead ≡ Err (Faulty fault) → IsChoiceText fault.text → IsToldFault options ahead fault }
+{}
+
+/// Where a broken unit's fault is an undeclared name, the declarations before it were read whole, a name with this
+/// spelling stands where the fault is, behind the `=` of the object that follows them, and no declaration before has it.
+pub fn undeclared_names_are_told()
+    ensures { (options : Options) (ahead : List Lexeme) (fault : Fault) → reading_of options ahead ≡ Err (Faulty fault) → (word : List ℕ) → fault.text ≡ codes "undeclared name " ++ word → IsUndeclaredFault options ahead fault word }
 {}
 
 /// The words of a whole reading are those of its unit.

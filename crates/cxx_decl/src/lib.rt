@@ -16,7 +16,7 @@ mod scope;
 pub use declaration::read_unit;
 pub use laws::{
     better_is_asymmetric, bounds_are_limits, call_faults_are_told, each_call_is_best,
-    faults_are_told, words_are_kept,
+    faults_are_told, undeclared_names_are_told, words_are_kept,
 };
 
 #[cfg(test)]

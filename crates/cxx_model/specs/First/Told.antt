@@ -1,5 +1,5 @@
--- What is true of a fault that a call leads to, in the words of 3.4.1, 5.2.2 and 13.3: its text and its evidence say no
--- more than holds of the declarations before it.
+-- What is true of a fault that a call or a name leads to, in the words of 3.4.1, 5.2.2 and 13.3: its text and its evidence
+-- say no more than holds of the declarations before it.
 use Rattle.std.specs.Prelude.{◌≡◌, ◌≢◌, ◌⊎◌, ℕ, suc, ◌<◌, true, false, List, [], ◌∷◌, ◌++◌, Ok, Err, IsTrue, codes}
 use Rattle.std.specs.List.{Contains, AllZip, enumerate_from}
 use Rattle.cxx_model.specs.declared.base.Base.{Base}
@@ -156,9 +156,8 @@ pub record IsCallFault (before : List Declaration) (ahead : List Lexeme) (fault 
 abbrev pub with_own : List Declaration → Base → Lexeme → List Declaration
 with_own declarations of name = declarations ++ (record { place = name.place; word = name.spelling; what = Object of }) ∷ []
 
--- 8.5: the declarations before an object were read, reading stops in it, its initializer is a call, and the fault is a
--- true one of this call
-pub record IsToldFault (options : Options) (ahead : List Lexeme) (fault : Fault) : Type 0 where
+-- 8.5: the declarations before an object were read, and reading stops in it with this fault
+pub record StopsInObject (options : Options) (ahead : List Lexeme) (fault : Fault) : Type 0 where
   pub room : ℕ
   pub so_far : Reading
   pub rest : List Lexeme
@@ -174,4 +173,28 @@ pub record IsToldFault (options : Options) (ahead : List Lexeme) (fault : Fault)
   pub names : name_at of.1 ≡ Ok name
   pub begins : name.1 ≡ equals ∷ init
   pub is_equals : is_punct punct.EQUALS equals.kind ≡ true
-  pub is : IsCallFault (with_own so_far.declarations of.0 name.0) init fault
+
+-- 3.3.1: what is declared before the initializer in which reading stops
+abbrev pub before_initializer : {options : Options} {ahead : List Lexeme} {fault : Fault} → StopsInObject options ahead fault → List Declaration
+before_initializer object = with_own object.so_far.declarations object.of.0 object.name.0
+
+-- 8.5: the initializer in which reading stops is a call, and the fault is a true one of this call
+pub record IsToldFault (options : Options) (ahead : List Lexeme) (fault : Fault) : Type 0 where
+  pub object : StopsInObject options ahead fault
+  pub is : IsCallFault (before_initializer object) object.init fault
+
+-- 3.4.1: where the fault is stands a name with this spelling, which no declaration before has
+pub record IsUndeclaredName (before : List Declaration) (ahead : List Lexeme) (fault : Fault) (word : List ℕ) : Type 0 where
+  pub lexeme : Lexeme
+  pub stands : Contains ahead lexeme
+  pub named : is_name lexeme.kind ≡ true
+  pub spelled : lexeme.spelling ≡ word
+  pub is_at : lexeme.place ≡ fault.place
+  pub undeclared : IsUndeclared before word
+  pub is_text : fault.text ≡ codes "undeclared name " ++ word
+  pub bare : fault.evidence ≡ []
+
+-- 3.4.1, 8.5: behind the `=` of the object in which reading stops stands a name that is not declared
+pub record IsUndeclaredFault (options : Options) (ahead : List Lexeme) (fault : Fault) (word : List ℕ) : Type 0 where
+  pub object : StopsInObject options ahead fault
+  pub is : IsUndeclaredName (before_initializer object) object.init fault word
