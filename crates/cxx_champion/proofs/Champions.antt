@@ -77,7 +77,7 @@ none_where_beaten beats size champion counter standing found =
     )
 
 -- there are no two best members
-best_same : (beats : ℕ → ℕ → Bool) (size one two : ℕ) → IsAsymmetric beats size → IsBest beats size one → IsBest beats size two → one ≡ two
+pub best_same : (beats : ℕ → ℕ → Bool) (size one two : ℕ) → IsAsymmetric beats size → IsBest beats size one → IsBest beats size two → one ≡ two
 best_same beats size one two asymmetric best other =
     elim (cases_order one two) [
       | inl same ↦ same

@@ -24,9 +24,6 @@ pub trait Contest {
     /// That no memory is left to compare two members.
     ghost lacks_memory: { Self → ℕ → ℕ → Type 0 };
 
-    /// Never do two members beat each other.
-    ghost asymmetric: { (contest : Self) → IsAsymmetric (wins contest) (count contest) };
-
     fn size(&self) -> usize
         ensures { result ≡ count self.now };
 
@@ -42,6 +39,9 @@ pub trait Contest {
         ensures answer { IfOk result (λ beaten. beaten ≡ wins self.now first second) }
         ensures memory { OnErr result (lacks_memory self.now first second) }
         ensures step { steps.new ≡ steps.old + 1 };
+
+    /// Never do two members beat each other.
+    ghost asymmetric: { (contest : Self) → IsAsymmetric (wins contest) (count contest) };
 }
 
 /// The outcome of a contest.

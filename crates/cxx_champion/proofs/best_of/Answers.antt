@@ -12,5 +12,5 @@ returns-in-Some-clause-verdict g c =
 
 pub returns-in-Some-clause-best : goal.returns-in-Some-clause-best
 returns-in-Some-clause-best g c =
-    best_answered (g.C.Contest.wins c.args.contest.now) (g.C.Contest.count c.args.contest.now) (NoBest c.in_ok-champion.champion c.in-Some.counter) (g.C.Contest.asymmetric c.args.contest.now)
+    best_answered (g.C.Contest.wins c.args.contest.now) (g.C.Contest.count c.args.contest.now) (NoBest c.in_ok-champion.champion c.in-Some.counter) (g.met.C.Contest.asymmetric c.args.contest.now)
     (returns-in-Some-clause-verdict g c)

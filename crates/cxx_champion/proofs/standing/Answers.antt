@@ -11,7 +11,7 @@ loop-challenger-preserved g c =
     record {
       stands =
           subst (IsStanding beats size (c.loop-challenger.challenger + 1)) (sym c.in_ok-champion.ensures.answer)
-          (standing_more beats size c.loop-challenger.challenger c.loop-challenger.champion (g.C.Contest.asymmetric c.args.contest.now) below c.loop-challenger.invariant.stands);
+          (standing_more beats size c.loop-challenger.challenger c.loop-challenger.champion (g.met.C.Contest.asymmetric c.args.contest.now) below c.loop-challenger.invariant.stands);
       counted = omega arith;
     }
 
