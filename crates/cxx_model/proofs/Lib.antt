@@ -18,3 +18,4 @@ mod ConflictRows
 pub mod Fitting
 pub mod GraphRange
 pub mod SameTypes
+pub mod Clashing

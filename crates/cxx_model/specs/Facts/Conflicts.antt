@@ -11,13 +11,14 @@ use Rattle.cxx_model.specs.declared.facts.MemberKind.TheVariants as member
 use Rattle.cxx_model.specs.declared.facts.ScopeKind.{ScopeKind}
 use Rattle.cxx_model.specs.declared.facts.ScopeKind.TheVariants as kind
 use Rattle.cxx_model.specs.declared.types.ClassId.{ClassId}
+use Rattle.cxx_model.specs.declared.types.Cv.{Cv}
 use Rattle.cxx_model.specs.declared.types.TemplateId.{TemplateId}
 use Rattle.cxx_model.specs.Facts.Declarations as facts
 use Rattle.cxx_model.specs.Facts.Declarations.{CxxFact, CxxGraph, CxxName, CxxParameter, CxxPattern, Declares, unnamed, spelled, operator_function, conversion_to, destructor}
-use Rattle.cxx_model.specs.Facts.Entities.{CxxEntity, of_type, of_space, Meant, meant_by, entity_by, entity_of, same_entity, has_end, has_no_bound, scope_kinds}
-use Rattle.cxx_model.specs.Types.Same.{same_bool, same_bound, same_cv, same_type, same_types, same_word}
+use Rattle.cxx_model.specs.Facts.Entities.{CxxEntity, of_type, of_space, Meant, meant_by, entity_by, entity_of, same_entity, has_end, scope_kinds}
+use Rattle.cxx_model.specs.Types.Same.{same_bool, same_cv, same_type, same_types, same_word}
 use Rattle.cxx_model.specs.Types.Trees as types
-use Rattle.cxx_model.specs.Types.Trees.{CxxType}
+use Rattle.cxx_model.specs.Types.Trees.{CxxType, CxxTypes, CxxBound}
 
 -- ---- names
 
@@ -35,16 +36,50 @@ has_name _ = true
 
 -- ---- types of objects and functions
 
+-- 8.3.4: the element and the bound of an array
+abbrev pub array_parts : CxxType → Option (CxxType × CxxBound)
+array_parts (types.array_of t bound) = Some (t, bound)
+array_parts _ = None
+
+abbrev pub is_unknown : CxxBound → Bool
+is_unknown types.unknown_bound = true
+is_unknown _ = false
+
+-- two arrays of one element, of which one has no bound
+abbrev pub same_but_bound : Option (CxxType × CxxBound) → Option (CxxType × CxxBound) → Bool
+same_but_bound (Some one) (Some two) = same_type one.0 two.0 && (is_unknown one.1 || is_unknown two.1)
+same_but_bound _ _ = false
+
 -- 3.5: an array with a bound and one without are one type for declarations of one object
 abbrev pub agree : CxxType → CxxType → Bool
-agree (types.array_of one bound) (types.array_of two other) = same_type one two && (same_bound bound other || (has_no_bound (types.array_of one bound) || has_no_bound (types.array_of two other)))
-agree one two = same_type one two
+agree one two = same_type one two || same_but_bound (array_parts one) (array_parts two)
+
+-- 8.3.5: what the type of a function says
+pub record FunctionParts : Type 0 where
+  pub result : CxxType
+  pub parameters : CxxTypes
+  pub ellipsis : Bool
+  pub cv : Cv
+
+abbrev pub function_parts : CxxType → Option FunctionParts
+function_parts (types.function_of r ts ellipsis cv) = Some (record { result = r; parameters = ts; ellipsis = ellipsis; cv = cv })
+function_parts _ = None
+
+abbrev pub are_parameters_same : Bool → Option FunctionParts → Option FunctionParts → Bool
+are_parameters_same any_static (Some one) (Some two) = same_types one.parameters two.parameters && (same_bool one.ellipsis two.ellipsis && (any_static || same_cv one.cv two.cv))
+are_parameters_same any_static _ _ = false
 
 -- 13.1: The parameters and the ellipsis are the same, and the words behind the parameter list, which are not looked at
 -- where one of the two functions is static.
 abbrev pub same_parameters : Bool → CxxType → CxxType → Bool
-same_parameters any_static (types.function_of r ts ellipsis cv) (types.function_of r' ts' ellipsis' cv') = same_types ts ts' && (same_bool ellipsis ellipsis' && (any_static || same_cv cv cv'))
-same_parameters any_static _ _ = false
+same_parameters any_static one two = are_parameters_same any_static (function_parts one) (function_parts two)
+
+abbrev pub are_results_same : Option FunctionParts → Option FunctionParts → Bool
+are_results_same (Some one) (Some two) = same_type one.result two.result
+are_results_same _ _ = false
+
+abbrev pub same_result : CxxType → CxxType → Bool
+same_result one two = are_results_same (function_parts one) (function_parts two)
 
 abbrev pub is_static : MemberKind → Bool
 is_static member.Static = true
@@ -66,7 +101,7 @@ same_member one two = nat_eq (number_of_member one) (number_of_member two)
 
 -- ---- templates
 
-abbrev same_parameter : Option CxxType → Option CxxType → Bool
+abbrev pub same_parameter : Option CxxType → Option CxxType → Bool
 same_parameter None None = true
 same_parameter (Some of) (Some other) = same_type of other
 same_parameter _ _ = false
@@ -148,20 +183,15 @@ functions_agree closed one kind two other =
 abbrev pub objects_agree : Bool → CxxType → MemberKind → CxxType → MemberKind → Bool
 objects_agree closed one kind two other = agree one two && (same_member kind other && may_repeat closed kind other)
 
-abbrev same_result : CxxType → CxxType → Bool
-same_result (types.function_of r ts ellipsis cv) (types.function_of r' ts' ellipsis' cv') = same_type r r'
-same_result _ _ = false
-
 -- Two function templates of one name. With other template parameters or another type they are overloads (14.5.5.1), but
 -- where one is static the words behind the parameter lists tell them not apart (13.1); else they are declarations of
 -- one template.
 abbrev pub function_templates_agree : Bool → List CxxParameter → CxxType → MemberKind → List CxxParameter → CxxType → MemberKind → Bool
 function_templates_agree closed ones one kind twos two other =
-    if same_parameter_lists ones twos then by (any_static kind other) else true
-  where
-    by : Bool → Bool
-    by true = if same_result one two && same_parameters true one two then same_type one two && (same_member kind other && closed) else true
-    by false = if same_type one two then may_repeat closed kind other else true
+    if same_parameter_lists ones twos then (
+        if any_static kind other then (if same_result one two && same_parameters true one two then same_type one two && (same_member kind other && closed) else true) else
+        (if same_type one two then may_repeat closed kind other else true))
+    else true
 
 -- 7.1.5.3: a class that is declared as a union is no other class
 abbrev pub unions_agree : Option Bool → Option Bool → Bool
@@ -195,7 +225,7 @@ declares_name _ = true
 
 -- ---- using-declarations
 
-abbrev is_using : Declares → Bool
+abbrev pub is_using : Declares → Bool
 is_using (facts.using target) = true
 is_using _ = false
 
@@ -251,11 +281,11 @@ is_closed all scope = by (class_of_scope all scope)
     by None = false
     by (Some class) = has_end class.0 all
 
-abbrev is_outermost : Declares → Bool
+abbrev pub is_outermost : Declares → Bool
 is_outermost (facts.scope parent (kind.Block (Some function))) = true
 is_outermost _ = false
 
-abbrev are_parameters : Option ScopeKind → Bool
+abbrev pub are_parameters : Option ScopeKind → Bool
 are_parameters (Some kind.Parameters) = true
 are_parameters _ = false
 
@@ -273,7 +303,7 @@ is_one_scope all one two = nat_eq one two || (is_of_parameters all one two || is
 
 -- ---- conflicts
 
-abbrev is_constructor : Declares → Bool
+abbrev pub is_constructor : Declares → Bool
 is_constructor (facts.function of member.Constructor flags defaults first) = true
 is_constructor (facts.template template member.Constructor defaults is_explicit first) = true
 is_constructor _ = false
