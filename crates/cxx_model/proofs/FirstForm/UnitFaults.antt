@@ -1,6 +1,6 @@
 -- A fault of a unit with a text of the choice comes from a call in the initializer of an object, and one that names what is
 -- not declared comes from a name there.
-use Rattle.std.proofs.Common.{◌≡◌, ℕ, zero, suc, Bool, true, false, cond, not, ◌&&◌, List, [], ◌∷◌, ◌++◌, Option, Some, None, Ok, Err, codes, refl, sym, ap, subst, ◌∙◌, inl, inr, get_or, eqb, eq-eqb, drop}
+use Rattle.std.proofs.Common.{◌≡◌, ℕ, zero, suc, Bool, true, false, cond, not, ◌&&◌, List, [], ◌∷◌, ◌++◌, Option, Some, None, Ok, Err, refl, sym, ap, subst, ◌∙◌, inl, inr}
 use Rattle.std.specs.List.{Contains}
 use Rattle.cxx_model.specs.declared.base.Base.{Base}
 use Rattle.cxx_model.specs.declared.first.Argument.{Argument}
@@ -22,7 +22,6 @@ use Rattle.cxx_model.specs.declared.stop.LimitKind.{LimitKind}
 use Rattle.cxx_model.specs.declared.stop.LimitKind.TheVariants.{Facts, Arguments, Nesting}
 use Rattle.cxx_model.specs.declared.token.TokenKind.{TokenKind}
 use Rattle.cxx_model.specs.declared.token.TokenReason.{TokenReason}
-use Rattle.cxx_model.specs.declared.token.TokenReason.TheVariants as reason
 use Rattle.cxx_model.specs.First.Candidates.{is_declared, call_of, types_of}
 use Rattle.cxx_model.specs.First.Reading.{is_punct, is_keyword, is_name, is_literal, is_end, is_some_base, type_of_kind, type_by, name_by, literal_by, literal_at, argument_by, argument_opened, arguments_opened, begins_argument, cast_argument, behind, punct_at, type_at, name_at, put_first, more_at, list_at, begins_type, misplaced, cast_at, call_at, cast_initializer, begins_call, initializer_by, initializer_opened, initializer_at, has_clash, added, declare, with_function, with_object, function_at, object_at, item_at, items_at, empty, reading_of}
 use Rattle.cxx_model.specs.First.Told.{IsUndeclared, IsQuestionFault, NoViableFunction, AmbiguousCall, UndeclaredCall, ObjectCall, IsChoiceText, ReadsTo, none_more, one_more, IsInCasts, no_cast, one_cast, IsCallFault, with_own, StopsInObject, before_initializer, IsToldFault, IsUndeclaredName, IsUndeclaredFault}

@@ -1,6 +1,6 @@
 -- What is true of a fault that a call or a name leads to, in the words of 3.4.1, 5.2.2 and 13.3: its text and its evidence
 -- say no more than holds of the declarations before it.
-use Rattle.std.specs.Prelude.{◌≡◌, ◌≢◌, ◌⊎◌, ℕ, suc, ◌<◌, true, false, List, [], ◌∷◌, ◌++◌, Ok, Err, IsTrue, codes}
+use Rattle.std.specs.Prelude.{◌≡◌, ◌≢◌, ◌⊎◌, ℕ, suc, ◌<◌, true, false, List, [], ◌∷◌, ◌++◌, Ok, Err, IsTrue}
 use Rattle.std.specs.List.{Contains, AllZip, enumerate_from}
 use Rattle.cxx_model.specs.declared.base.Base.{Base}
 use Rattle.cxx_model.specs.declared.evidence.Evidence.{Evidence}

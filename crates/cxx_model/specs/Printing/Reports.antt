@@ -1,5 +1,5 @@
 -- The texts of reports.
-use Rattle.std.specs.Prelude.{ℕ, suc, true, false, Bool, List, [], ◌∷◌, ◌++◌, Option, Some, None, codes, decimal}
+use Rattle.std.specs.Prelude.{ℕ, suc, true, false, Bool, if◌then◌else◌, nat_eq, List, [], ◌∷◌, ◌++◌, Option, Some, None, codes, decimal}
 use Rattle.cxx_model.specs.declared.evidence.Evidence.{Evidence}
 use Rattle.cxx_model.specs.declared.evidence.Evidence.TheVariants.{Found, ByBases, DoesNotBeat, Refused, Uses, Chain, RowDoesNotBeat}
 use Rattle.cxx_model.specs.declared.evidence.Link.{Link}
@@ -14,11 +14,15 @@ use Rattle.cxx_model.specs.declared.fault.FaultText.TheVariants as says
 use Rattle.cxx_model.specs.declared.fault.LeftOut.{LeftOut}
 use Rattle.cxx_model.specs.declared.fault.LeftOut.TheVariants as form
 use Rattle.cxx_model.specs.declared.place.Place.{Place}
+use Rattle.cxx_model.specs.declared.punct.TheConstants as punct
 use Rattle.cxx_model.specs.declared.stop.Fault.{Fault}
 use Rattle.cxx_model.specs.declared.stop.LimitKind.{LimitKind}
 use Rattle.cxx_model.specs.declared.token.TokenReason.{TokenReason}
 use Rattle.cxx_model.specs.declared.token.TokenReason.TheVariants as reason
 use Rattle.cxx_model.specs.declared.stop.LimitKind.TheVariants.{Bytes, Tokens, Nesting, Facts, Candidates, Arguments, TemplateArguments, Instances, Nodes, Output}
+use Rattle.cxx_model.specs.Facts.Declarations.{CxxName, unnamed, spelled, operator_function, conversion_to, destructor}
+use Rattle.cxx_model.specs.Text.Spelling.{operators}
+use Rattle.std.specs.List.{slice_get}
 
 -- ---- what is wrong
 
@@ -69,6 +73,26 @@ form_text form.ExplicitCopyConstructor = codes "explicit copy constructor"
 form_text form.ConstructorOfEllipsis = codes "constructor of ellipsis"
 form_text form.DefaultedPart = codes "defaulted part"
 form_text form.ConditionNameInStep = codes "condition name in step"
+
+-- 13.5: the spelling of an operator; those of a call and of a subscript have two brackets
+abbrev operator_text : ℕ → List ℕ
+operator_text operator =
+    if nat_eq operator punct.LEFT_PARENTHESIS then codes "()" else (
+    if nat_eq operator punct.LEFT_BRACKET then codes "[]" else
+    spelling (slice_get operators operator))
+  where
+    spelling : Option (List ℕ) → List ℕ
+    spelling None = []
+    spelling (Some text) = text
+
+-- How a report spells a declared name: an operator function by the spelling of its operator, a conversion function
+-- without its type. A constructor stands under the name of its class, which is no name of its own.
+abbrev pub name_text : CxxName → List ℕ
+name_text unnamed = []
+name_text (spelled word) = word
+name_text (operator_function operator) = codes "operator" ++ operator_text operator
+name_text (conversion_to t) = codes "operator"
+name_text destructor = codes "~"
 
 -- what the first line of a report says behind the place
 abbrev pub fault_text : FaultText → List ℕ

@@ -6,11 +6,11 @@ use Rattle.std.proofs.Math.Bool.{and_comm, or_comm}
 use Rattle.std.proofs.lemmas.Bool.{eqb-true, eq-eqb}
 use Rattle.cxx_model.specs.declared.facts.MemberKind.{MemberKind}
 use Rattle.cxx_model.specs.declared.types.Cv.{Cv}
-use Rattle.cxx_model.specs.Facts.Conflicts.{Standing, a_function, a_function_template, a_class_template, an_object, an_enumerator, a_hidden_name, a_name, alone, agree, any_static, are_overloads, brought_may_stand, clash, function_templates_agree, functions_agree, hides, is_class_scope, is_closed, is_function, is_hidden, is_member, is_of_parameters, is_one_scope, is_static, is_using, may_repeat, may_stand, objects_agree, of_one_name, one_hides, same_member, same_name, same_parameter_lists, same_parameters, stand_together, standing, unions_agree, FunctionParts, are_parameters_same, are_results_same, array_parts, function_parts, is_constructor, is_unknown, same_but_bound, same_parameter, same_result, are_parameters, declares_name, has_name, number_of_member}
+use Rattle.cxx_model.specs.Facts.Conflicts.{Standing, a_function, a_function_template, a_class_template, an_object, an_enumerator, a_hidden_name, a_name, alone, agree, any_static, are_overloads, brought_may_stand, clash, function_templates_agree, functions_agree, hides, is_class_scope, is_closed, is_function, is_hidden, is_member, is_of_parameters, is_one_scope, is_static, is_using, may_repeat, may_stand, objects_agree, of_one_name, one_hides, same_member, same_name, same_parameter_lists, same_parameters, stand_together, standing, unions_agree, FunctionParts, are_parameters_same, are_results_same, array_parts, function_parts, is_constructor, is_unknown, same_but_bound, same_parameter, are_parameters, declares_name, has_name, number_of_member}
 use Rattle.cxx_model.specs.Facts.Declarations.{CxxFact, CxxGraph, CxxName, CxxParameter, unnamed, spelled, operator_function, conversion_to, destructor}
-use Rattle.cxx_model.specs.Facts.Entities.{CxxEntity, of_fact, of_type, of_space, Meant, meant_by, entity_by, same_entity, scope_kinds}
+use Rattle.cxx_model.specs.Facts.Entities.{CxxEntity, of_fact, of_type, of_space, meant_by, entity_by, same_entity, scope_kinds}
 use Rattle.cxx_model.specs.Types.Same.{same_bool, same_bound, same_cv, same_type, same_types, same_word}
-use Rattle.cxx_model.specs.Types.Trees.{CxxType, CxxTypes, CxxBound, fundamental, class_type, enumeration, pointer_to, reference_to, array_of, function_of, qualified, type_parameter, specialisation, nested_in}
+use Rattle.cxx_model.specs.Types.Trees.{CxxType, CxxTypes, CxxBound}
 use Rattle.cxx_model.proofs.Equal.{word_told, word_tells}
 use Rattle.cxx_model.proofs.SameTypes.{bound_told, bound_itself, bool_told, bool_itself, cv_told, cv_itself, type_told, type_itself, types_told, types_itself}
 
