@@ -129,7 +129,7 @@ fn is_better(order: Order) -> bool
 
 /// Whether the first function is better than the second: no argument has a worse sequence, and some argument has a
 /// better one.
-#[tactic(auto, using(crate::proofs::Loops::verdict_more, crate::proofs::Loops::verdict_worse), unfolding(cxx_model::specs::Better::is_better))]
+#[tactic(auto, using(crate::proofs::Loops::verdict_more, crate::proofs::Loops::verdict_worse), unfolding(cxx_model::specs::Choice::Better::is_better))]
 fn is_better_function(arguments: &[Base], one: &[Base], two: &[Base]) -> bool
     ensures { result ≡ is_better_function compare_sequences (sequences arguments.now one.now) (sequences arguments.now two.now) }
 {

@@ -19,7 +19,7 @@ use Rattle.cxx_model.specs.Facts.Fitted.{IsEntityBelow, IsNameBelow, IsFactBelow
 use Rattle.cxx_model.specs.Facts.Graph.{Graph, appended, with_class, with_pattern, IsTypeInRange}
 use Rattle.cxx_model.specs.Types.Trees.{CxxType, CxxArgument, CxxArguments}
 use Rattle.cxx_model.specs.Types.Numbers.{arguments_at, type_at, Keeps}
-use Rattle.cxx_model.proofs.GraphRange.{grows-fact, grows-class, grows-pattern, type-in-range-later}
+use Rattle.cxx_graph.proofs.GraphRange.{grows-fact, grows-class, grows-pattern, type-in-range-later}
 use Rattle.cxx_model.proofs.TypeTrees.{argument_kept, argument_later, arguments_kept, arguments_later, tree_kept, tree_later}
 
 -- ---- what a graph stands for
