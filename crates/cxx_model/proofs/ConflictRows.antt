@@ -9,11 +9,11 @@ use Rattle.cxx_model.specs.declared.facts.ScopeKind.{ScopeKind}
 use Rattle.cxx_model.specs.declared.facts.ScopeKind.TheVariants as kind
 use Rattle.cxx_model.specs.declared.types.ClassId.{ClassId}
 use Rattle.cxx_model.specs.declared.types.Cv.{Cv}
-use Rattle.cxx_model.specs.Conflicts.{first_conflict}
-use Rattle.cxx_model.specs.Entities.{object_type, object_value}
-use Rattle.cxx_model.specs.Facts as facts
-use Rattle.cxx_model.specs.Facts.{CxxFact, CxxGraph, CxxName, CxxParameter, CxxPattern, Declares, spelled, conversion_to}
-use Rattle.cxx_model.specs.Types.{CxxType, CxxTypes, fundamental, class_type, pointer_to, array_of, function_of, qualified, type_parameter, no_types, type_then, unknown_bound, number_bound, no_arguments, normal}
+use Rattle.cxx_model.specs.Facts.Conflicts.{defined_before, first_conflict, given_before}
+use Rattle.cxx_model.specs.Facts.Entities.{of_fact, object_type, object_value}
+use Rattle.cxx_model.specs.Facts.Declarations as facts
+use Rattle.cxx_model.specs.Facts.Declarations.{CxxFact, CxxGraph, CxxName, CxxParameter, CxxPattern, Declares, unnamed, spelled, conversion_to}
+use Rattle.cxx_model.specs.Types.Trees.{CxxType, CxxTypes, fundamental, class_type, pointer_to, array_of, function_of, qualified, type_parameter, no_types, type_then, unknown_bound, number_bound, argument_then, no_arguments, type_argument, normal}
 
 -- ---- how rows are written
 
@@ -40,25 +40,22 @@ abbrev from_to : CxxType → CxxType → CxxType
 from_to t r = normal (function_of r (one t) false no_cv)
 
 abbrev no_flags : FunctionFlags
-no_flags = record { is_virtual = false; is_pure = false; is_explicit = false }
+no_flags = record { is_virtual = false; is_pure = false; is_explicit = false; is_implicit = false }
 
 abbrev fn : MemberKind → CxxType → Declares
 fn kind of = facts.function of kind no_flags 0 None
 
 abbrev obj : CxxType → Declares
-obj of = facts.object of member.Free None None
+obj of = facts.object of member.Free false None None
 
 abbrev data_member : MemberKind → Declares
-data_member kind = facts.object int kind None None
+data_member kind = facts.object int kind false None None
 
 abbrev put : ℕ → CxxName → Declares → CxxFact
 put scope name what = record { place = record { line = 1; column = 1 }; scope = scope; name = name; access = Public; what = what }
 
 abbrev x : CxxName
 x = spelled (codes "x")
-
-abbrev unnamed : CxxName
-unnamed = spelled []
 
 -- scope 0 is that of the unit
 abbrev unit : CxxFact
@@ -191,11 +188,15 @@ class_of None = Some (record { 0 = 0 })
 class_of (Some of) = None
 
 abbrev pattern : Option CxxType → CxxPattern
-pattern of = record { parameters = type_parameters; primary = None; arguments = no_arguments; of = of; class = class_of of; tree = record { 0 = 0 } }
+pattern of = record { parameters = type_parameters; primary = None; arguments = no_arguments; of = of; class = class_of of }
 
--- a class template; `void x(T)`, `int x(T)` and `void x(T *)`
+abbrev constant_template : CxxType
+constant_template = normal (function_of void (one (type_parameter 0 0)) false const_cv)
+
+-- a class template; `void x(T)`, `int x(T)`, `void x(T *)` and `void x(T) const`; a partial specialisation of the first
 abbrev patterns : List CxxPattern
-patterns = pattern None ∷ pattern (Some (from_to (type_parameter 0 0) void)) ∷ pattern (Some (from_to (type_parameter 0 0) int)) ∷ pattern (Some (from_to (pointer_to (type_parameter 0 0)) void)) ∷ []
+patterns = pattern None ∷ pattern (Some (from_to (type_parameter 0 0) void)) ∷ pattern (Some (from_to (type_parameter 0 0) int)) ∷ pattern (Some (from_to (pointer_to (type_parameter 0 0)) void)) ∷ pattern (Some constant_template)
+    ∷ record { parameters = type_parameters; primary = Some (record { 0 = 0 }); arguments = argument_then (type_argument (pointer_to (type_parameter 0 0))) no_arguments; of = None; class = Some (record { 0 = 1 }) } ∷ []
 
 abbrev template : MemberKind → ℕ → Declares
 template kind n = facts.template (record { 0 = n }) kind 0 false None
@@ -230,6 +231,66 @@ member-template-twice = refl
 -- struct A { template<class T> void x(T); template<class T> void x(T *); };
 member-template-overload : with_templates (template member.Nonstatic 1 ∷ []) (template member.Nonstatic 3) ≡ None
 member-template-overload = refl
+
+-- struct A { template<class T> static void x(T); template<class T> void x(T) const; };
+static-and-const-member-template : with_templates (template member.Static 1 ∷ []) (template member.Nonstatic 4) ≡ Some 1
+static-and-const-member-template = refl
+
+-- struct A { template<class T> static void x(T); template<class T> void x(T); };
+static-and-member-template : with_templates (template member.Static 1 ∷ []) (template member.Nonstatic 1) ≡ Some 1
+static-and-member-template = refl
+
+-- struct A { template<class T> void x(T); template<class T> void x(T) const; };
+member-and-const-member-template : with_templates (template member.Nonstatic 1 ∷ []) (template member.Nonstatic 4) ≡ None
+member-and-const-member-template = refl
+
+-- struct A { template<class T> static void x(T); template<class T> int x(T); };
+static-template-of-other-result : with_templates (template member.Static 1 ∷ []) (template member.Nonstatic 2) ≡ None
+static-template-of-other-result = refl
+
+-- struct x { }; template<class T> void x(T);
+class-then-function-template : with_templates (facts.class (record { 0 = 0 }) false ∷ []) (template member.Free 1) ≡ None
+class-then-function-template = refl
+
+-- template<class T> void x(T); struct x { };
+function-template-then-class : with_templates (template member.Free 1 ∷ []) (facts.class (record { 0 = 0 }) false) ≡ None
+function-template-then-class = refl
+
+-- enum x { }; template<class T> void x(T);
+enumeration-then-function-template : with_templates (facts.enumeration 0 ∷ []) (template member.Free 1) ≡ None
+enumeration-then-function-template = refl
+
+-- template<class T> struct x { }; template<class T> void x(T);
+class-template-and-function-template : with_templates (template member.Free 0 ∷ []) (template member.Free 1) ≡ Some 1
+class-template-and-function-template = refl
+
+-- struct x { }; template<class T> struct x { };
+class-then-class-template : with_templates (facts.class (record { 0 = 0 }) false ∷ []) (template member.Free 0) ≡ Some 1
+class-then-class-template = refl
+
+-- extern int x; template<class T> void x(T);
+object-then-function-template : with_templates (obj int ∷ []) (template member.Free 1) ≡ Some 1
+object-then-function-template = refl
+
+-- namespace x { } template<class T> void x(T);
+namespace-then-function-template : with_templates (facts.namespace (record { 0 = 1 }) ∷ []) (template member.Free 1) ≡ Some 1
+namespace-then-function-template = refl
+
+-- typedef int x; template<class T> void x(T);
+synonym-then-function-template : with_templates (facts.synonym int ∷ []) (template member.Free 1) ≡ Some 1
+synonym-then-function-template = refl
+
+-- template<class T> struct x { }; template<class T> struct x<T *> { };
+partial-specialisation : first_conflict (graph_of (unit ∷ put 0 x (template member.Free 0) ∷ []) patterns) (put 0 unnamed (template member.Free 5)) ≡ None
+partial-specialisation = refl
+
+-- struct x; union x;
+class-then-union : after (facts.class (record { 0 = 0 }) false ∷ []) (facts.class (record { 0 = 0 }) true) ≡ Some 1
+class-then-union = refl
+
+-- union x; union x { };
+union-again : after (facts.class (record { 0 = 0 }) true ∷ []) (facts.class (record { 0 = 0 }) true) ≡ None
+union-again = refl
 
 -- template<class T, int T> void f();
 parameter-twice : after (facts.synonym (type_parameter 0 0) ∷ []) (facts.value_parameter 0 1 int) ≡ Some 1
@@ -290,6 +351,53 @@ conversion-twice = refl
 -- void f(int, int);
 unnamed-parameters : first_conflict (graph_of (unit ∷ put 0 unnamed (obj int) ∷ []) []) (put 0 unnamed (obj long)) ≡ None
 unnamed-parameters = refl
+
+-- ---- behind the end of a class
+
+-- scope 1 is that of a class, whose end was read
+abbrev ended_class : Declares → List CxxFact
+ended_class of = unit ∷ put 0 unnamed (facts.scope (Some (record { 0 = 0 })) (kind.Class (record { 0 = 0 }))) ∷ put 1 x of ∷ put 0 unnamed (facts.complete (record { 0 = 0 })) ∷ []
+
+abbrev behind_class : Declares → Declares → Option ℕ
+behind_class of new = first_conflict (graph_of (ended_class of) patterns) (put 1 x new)
+
+-- struct A { void x(int); }; void A::x(int) { }
+member-defined-outside : behind_class (fn member.Nonstatic (from_to int void)) (fn member.Nonstatic (from_to int void)) ≡ None
+member-defined-outside = refl
+
+-- struct A { void x(int); }; long A::x(int) { }
+member-defined-with-other-result : behind_class (fn member.Nonstatic (from_to int void)) (fn member.Nonstatic (from_to int long)) ≡ Some 2
+member-defined-with-other-result = refl
+
+-- struct A { static int x; }; int A::x = 1;
+static-member-defined-outside : behind_class (data_member member.Static) (data_member member.Static) ≡ None
+static-member-defined-outside = refl
+
+-- struct A { template<class T> static void x(T); }; template<class T> void A::x(T) { }
+member-template-defined-outside : behind_class (template member.Static 1) (template member.Static 1) ≡ None
+member-template-defined-outside = refl
+
+-- ---- what is given twice
+
+-- void x(int) { } is fact 1, void x(long) { } fact 2
+abbrev two_defined : List CxxFact
+two_defined = unit ∷ put 0 x (fn member.Free (from_to int void)) ∷ put 0 x (fn member.Free (from_to long void)) ∷ []
+
+-- void x(int) { } void x(long) { } void x(int) { }
+defined-twice : defined_before two_defined (1 ∷ 2 ∷ []) (of_fact 1) ≡ Some 1
+defined-twice = refl
+
+-- void x(int) { } void x(long); void x(long) { }
+defined-once : defined_before two_defined (1 ∷ []) (of_fact 2) ≡ None
+defined-once = refl
+
+-- void x(int = 1); void x(int = 1);
+given-twice : given_before two_defined (record { declaration = 1; index = 0 } ∷ []) (of_fact 1) 0 0 ≡ Some 1
+given-twice = refl
+
+-- void x(int = 1); void f() { void x(int = 1); }
+given-in-another-scope : given_before two_defined (record { declaration = 1; index = 0 } ∷ []) (of_fact 1) 3 0 ≡ None
+given-in-another-scope = refl
 
 -- ---- using-declarations
 
@@ -396,7 +504,7 @@ object-outside = refl
 
 -- extern int x[]; extern int x[3];
 abbrev array : List CxxFact
-array = unit ∷ put 0 x (facts.object (array_of int unknown_bound) member.Free None None) ∷ put 0 x (facts.object (array_of int (number_bound 3)) member.Free None (Some (record { 0 = 1 }))) ∷ []
+array = unit ∷ put 0 x (facts.object (array_of int unknown_bound) member.Free false None None) ∷ put 0 x (facts.object (array_of int (number_bound 3)) member.Free false None (Some (record { 0 = 1 }))) ∷ []
 
 array-without-bound : object_type array 1 2 ≡ Some (array_of int unknown_bound)
 array-without-bound = refl
@@ -406,7 +514,7 @@ array-with-bound = refl
 
 -- extern const int x; const int x = 5;
 abbrev constant : List CxxFact
-constant = unit ∷ put 0 x (facts.object (qualified const_cv int) member.Free None None) ∷ put 0 x (facts.object (qualified const_cv int) member.Free (Some (pos 5)) (Some (record { 0 = 1 }))) ∷ []
+constant = unit ∷ put 0 x (facts.object (qualified const_cv int) member.Free false None None) ∷ put 0 x (facts.object (qualified const_cv int) member.Free false (Some (pos 5)) (Some (record { 0 = 1 }))) ∷ []
 
 value-not-yet : object_value constant 1 2 ≡ None
 value-not-yet = refl

@@ -10,7 +10,7 @@ use crate::types::{ClassId, EnumId, FactId, ScopeId, TreeId, TypeId};
 pub type TreeIdList = Listed<TreeId>;
 
 /// One name of a path, with the trees of its template arguments where some are written (14.2).
-#[derive(Debug, Drop)]
+#[derive(Drop)]
 pub struct PathPart {
     pub word: Word,
     pub place: Place,
@@ -20,7 +20,7 @@ pub struct PathPart {
 pub type PathPartList = Listed<PathPart>;
 
 /// A name as it is written, with its qualifiers (3.4.3).
-#[derive(Debug, Drop)]
+#[derive(Drop)]
 pub struct Path {
     /// Whether `::` stands before it.
     pub global: bool,
@@ -28,7 +28,7 @@ pub struct Path {
 }
 
 /// What a name is to a reader of tokens.
-#[derive(Clone, Copy, Debug, PartialEq, Eq)]
+#[derive(Clone, Copy, PartialEq, Eq)]
 pub enum Kind {
     OfType,
     OfTemplate,
@@ -39,7 +39,7 @@ pub enum Kind {
 }
 
 /// A part of a reading: a production, what it covers, and what it means.
-#[derive(Debug, Drop)]
+#[derive(Drop)]
 pub struct Node {
     /// The number of the production.
     pub production: u8,
@@ -66,7 +66,7 @@ pub struct Node {
 }
 
 /// How an object is initialized (8.5).
-#[derive(Clone, Copy, Debug, PartialEq, Eq)]
+#[derive(Clone, Copy, PartialEq, Eq)]
 pub enum Form {
     Copy,
     Direct,
@@ -75,7 +75,7 @@ pub enum Form {
 }
 
 /// What a statement converts an expression to (6.4, 6.6.3).
-#[derive(Clone, Copy, Debug, PartialEq, Eq)]
+#[derive(Clone, Copy, PartialEq, Eq)]
 pub enum Target {
     Condition,
     Switch,
@@ -85,7 +85,7 @@ pub enum Target {
 }
 
 /// Where an expression stands.
-#[derive(Clone, Copy, Debug, PartialEq, Eq)]
+#[derive(Clone, Copy, PartialEq, Eq)]
 pub struct Here {
     pub scope: ScopeId,
     /// What stands before it is seen: the count of the facts.
@@ -99,7 +99,7 @@ pub struct Here {
 }
 
 /// A name that was bound, in the order of reading.
-#[derive(Debug, Drop)]
+#[derive(Drop)]
 pub struct Use {
     /// The scope in which the name was looked up.
     pub scope: ScopeId,
@@ -114,7 +114,7 @@ pub struct Use {
 pub type UseList = Listed<Use>;
 
 /// What is read by itself: a declaration of a namespace, a body, a default argument or an instance.
-#[derive(Debug, Drop)]
+#[derive(Drop)]
 pub struct Part {
     pub tree: TreeId,
     pub scope: ScopeId,

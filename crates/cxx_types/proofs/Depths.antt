@@ -6,8 +6,8 @@ use Rattle.cxx_model.specs.declared.base.Base.TheVariants.{Void}
 use Rattle.cxx_model.specs.declared.types.TypeId.{TypeId}
 use Rattle.cxx_model.specs.declared.types.TypeNode.{TypeNode}
 use Rattle.cxx_model.specs.declared.types.TypeNode.TheVariants as node
-use Rattle.cxx_model.specs.Types.{CxxType, fundamental}
-use Rattle.cxx_model.specs.TypeTrees.{type_at, types_at, type_over, AreTypesBelow, IsNodeBelow}
+use Rattle.cxx_model.specs.Types.Trees.{CxxType, fundamental}
+use Rattle.cxx_model.specs.Types.Numbers.{type_at, types_at, type_over, AreTypesBelow, IsNodeBelow}
 use Rattle.cxx_types.specs.Levels.{level_count, level_counts}
 
 each-shallow : (types : List CxxType) (n : ℕ) (numbers : List TypeId) → 0 < n → AreTypesBelow n numbers → ((i : ℕ) → i < n → level_count (type_at types i) ≤ i) → level_counts (types_at types numbers) < n

@@ -7,16 +7,15 @@ use Rattle.cxx_model.specs.declared.memory.OutOfMemory.{OutOfMemory}
 use Rattle.cxx_model.specs.declared.types.Bound.{Bound}
 use Rattle.cxx_model.specs.declared.types.Cv.{Cv}
 use Rattle.cxx_model.specs.declared.types.Signature.{Signature}
-use Rattle.cxx_model.specs.declared.types.TemplateArgument.{TemplateArgument}
+use Rattle.cxx_model.specs.declared.types.Argument.{Argument}
 use Rattle.cxx_model.specs.declared.types.TemplateId.{TemplateId}
 use Rattle.cxx_model.specs.declared.types.TypeId.{TypeId}
 use Rattle.cxx_model.specs.declared.types.TypeTree as tree
 use Rattle.cxx_model.specs.declared.types.TypeTree.{TypeTree}
-use Rattle.cxx_model.specs.Copies.{CopiesArguments, CopiesBound}
-use Rattle.cxx_model.specs.Fitted.{IsTypeInRange, AreTypesInRange}
-use Rattle.cxx_model.specs.Graph.{Graph}
-use Rattle.cxx_model.specs.Types.{CxxType, CxxTypes, no_types, type_then, array_of, function_of, specialisation, adjusted, normal, normal_arguments, normal_bound, normal_parameters, with_cv}
-use Rattle.cxx_model.specs.TypeTrees.{type_at, types_at, tree_at, arguments_at, bound_at, IsTreeBelow, AreArgumentsBelow, IsBoundBelow, AreTypesBelow, Keeps}
+use Rattle.cxx_model.specs.Types.Copies.{CopiesArguments, CopiesBound}
+use Rattle.cxx_model.specs.Facts.Graph.{Graph, IsTypeInRange, AreTypesInRange}
+use Rattle.cxx_model.specs.Types.Trees.{CxxType, CxxTypes, no_types, type_then, array_of, function_of, specialisation, adjusted, normal, normal_arguments, normal_bound, normal_parameters, with_cv}
+use Rattle.cxx_model.specs.Types.Numbers.{type_at, types_at, tree_at, arguments_at, bound_at, IsTreeBelow, AreArgumentsBelow, IsBoundBelow, AreTypesBelow, Keeps}
 use Rattle.cxx_model.proofs.TypeForm.{normal_arguments_fixed, normal_bound_fixed}
 use Rattle.cxx_model.proofs.TypeTrees.{arguments_normal, bound_kept, bound_later, bound_normal, tree_kept, tree_later, types_kept, Keeps-trans}
 use Rattle.cxx_types.specs.Makes.{AreInRange, Makes, MakesEach}
@@ -63,11 +62,11 @@ stopped-qualified old mid t cv of inner first result form same step stopped =
 
 -- ---- a specialisation
 
-pub special-below : (old : List CxxType) (t : TypeTree) (template : TemplateId) (given list copies : List TemplateArgument) → t ≡ tree.Special template given → list ≡ given → IsTreeBelow (length old) t → CopiesArguments list copies → AreArgumentsBelow (length old) copies
+pub special-below : (old : List CxxType) (t : TypeTree) (template : TemplateId) (given list copies : List Argument) → t ≡ tree.Special template given → list ≡ given → IsTreeBelow (length old) t → CopiesArguments list copies → AreArgumentsBelow (length old) copies
 special-below old t template given list copies form same ok copied =
-    copied.below (length old) (subst (λ (xs : List TemplateArgument). AreArgumentsBelow (length old) xs) (sym same) (subst (λ (x : TypeTree). IsTreeBelow (length old) x) form ok))
+    copied.below (length old) (subst (λ (xs : List Argument). AreArgumentsBelow (length old) xs) (sym same) (subst (λ (x : TypeTree). IsTreeBelow (length old) x) form ok))
 
-pub interned-special : (old new : List CxxType) (t : TypeTree) (template : TemplateId) (given list copies : List TemplateArgument) (result : Result TypeId OutOfMemory) → t ≡ tree.Special template given → list ≡ given → IsTreeBelow (length old) t → AreNormal old → CopiesArguments list copies → Makes old new result (specialisation template.0 (arguments_at old copies)) → Makes old new result (normal (tree_at old t))
+pub interned-special : (old new : List CxxType) (t : TypeTree) (template : TemplateId) (given list copies : List Argument) (result : Result TypeId OutOfMemory) → t ≡ tree.Special template given → list ≡ given → IsTreeBelow (length old) t → AreNormal old → CopiesArguments list copies → Makes old new result (specialisation template.0 (arguments_at old copies)) → Makes old new result (normal (tree_at old t))
 interned-special old new t template given list copies result form same ok each copied makes =
     let below : AreArgumentsBelow (length old) given = subst (λ (x : TypeTree). IsTreeBelow (length old) x) form ok in
     let are : arguments_at old copies ≡ normal_arguments (arguments_at old given) = copied.at old ∙ ap (arguments_at old) same ∙ sym (normal_arguments_fixed (arguments_at old given) (arguments_normal old given each below)) in
@@ -84,8 +83,8 @@ pub interned-function : (old new : List CxxType) (t : TypeTree) (s : Box Signatu
 interned-function old new t s inner result form same makes =
     makes_same old new result (function_of (normal (tree_at old inner.result)) (normal_parameters (trees_at old inner.parameters.items)) inner.ellipsis inner.cv) (normal (tree_at old t))
     (ap (λ (x : Signature). function_of (normal (tree_at old x.result)) (normal_parameters (trees_at old x.parameters.items)) x.ellipsis x.cv) same
-      ∙ sym (ap normal (function-at old s))
-      ∙ sym (ap (λ x. normal (tree_at old x)) form))
+    ∙ sym (ap normal (function-at old s))
+    ∙ sym (ap (λ x. normal (tree_at old x)) form))
     makes
 
 -- the adjusted types of the one forms
@@ -112,7 +111,7 @@ made-signature old one two new s r ns list items result these same form ok first
       fits = λ graph all within.
           made.fits graph
           (each.fits graph (first.fits graph all within.0)
-            (subst (λ (ts : CxxTypes). AreTypesInRange graph (normal_types ts)) (sym are) (parameters-range graph old s.parameters.items all form ok within.1)))
+          (subst (λ (ts : CxxTypes). AreTypesInRange graph (normal_types ts)) (sym are) (parameters-range graph old s.parameters.items all form ok within.1)))
           within;
     }
 

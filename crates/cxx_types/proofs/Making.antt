@@ -4,10 +4,10 @@ use Rattle.std.proofs.Common.{ap, sym, subst, ◌∙◌, arith}
 use Rattle.std.proofs.lemmas.Bool.{ltb-true, ltb-false}
 use Rattle.cxx_model.specs.declared.memory.OutOfMemory.{OutOfMemory}
 use Rattle.cxx_model.specs.declared.types.TypeId.{TypeId}
-use Rattle.cxx_model.specs.Fitted.{Fitted, IsTypeInRange, AreTypesInRange}
-use Rattle.cxx_model.specs.Graph.{Graph}
-use Rattle.cxx_model.specs.Types.{CxxType, CxxTypes, no_types, type_then}
-use Rattle.cxx_model.specs.TypeTrees.{type_at, types_at, AreTypesBelow, Keeps}
+use Rattle.cxx_model.specs.Facts.Fitted.{Fitted}
+use Rattle.cxx_model.specs.Facts.Graph.{Graph, IsTypeInRange, AreTypesInRange}
+use Rattle.cxx_model.specs.Types.Trees.{CxxType, CxxTypes, no_types, type_then}
+use Rattle.cxx_model.specs.Types.Numbers.{type_at, types_at, AreTypesBelow, Keeps}
 use Rattle.cxx_model.proofs.Fitting.{fitted-table}
 use Rattle.cxx_model.proofs.TypeTrees.{types_kept, types_later, Keeps-refl, Keeps-trans}
 use Rattle.cxx_types.specs.Makes.{AreInRange, AreMade, Fits, FitsEach, IsMade, Makes, MakesEach}

@@ -9,15 +9,14 @@ use Rattle.std.proofs.lemmas.Option.{slice_get-get_or}
 use Rattle.std.proofs.lemmas.List.Folds.{list_any_at}
 use Rattle.cxx_model.specs.declared.types.TypeNode.{TypeNode}
 use Rattle.cxx_model.specs.declared.base.Base.TheVariants.{Void}
-use Rattle.cxx_model.specs.Types.{CxxType, IsNormal, fundamental}
-use Rattle.cxx_model.specs.TypeTrees.{AreApart, type_at, type_over, IsNodeBelow, Keeps}
+use Rattle.cxx_model.specs.Types.Trees.{CxxType, IsNormal, fundamental}
+use Rattle.cxx_model.specs.Types.Numbers.{AreApart, type_at, type_over, IsNodeBelow, Keeps}
 use Rattle.cxx_model.proofs.TypeTrees.{node_kept, node_later, Keeps-refl, Keeps-trans}
 use Rattle.std.proofs.lemmas.Bool.{ltb-true, ltb-false}
 use Rattle.indexmap.specs.IndexSet.{insert_key}
 use Rattle.cxx_model.proofs.Equal.{same_node, node_from, node_to}
 use Rattle.cxx_model.specs.declared.types.TypeId.{TypeId}
-use Rattle.cxx_model.specs.Fitted.{IsTypeInRange}
-use Rattle.cxx_model.specs.Graph.{Graph}
+use Rattle.cxx_model.specs.Facts.Graph.{Graph, IsTypeInRange}
 use Rattle.cxx_types.specs.Levels.{level_count}
 use Rattle.cxx_types.specs.Makes.{AreInRange, Fits, Makes}
 use Rattle.cxx_types.specs.Table.{types_after, types_of, AreNormal, AreShallow, IsTable}

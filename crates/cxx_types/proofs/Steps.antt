@@ -6,11 +6,11 @@ use Rattle.cxx_model.specs.declared.types.TypeId.{TypeId}
 use Rattle.cxx_model.specs.declared.types.TypeNode.{TypeNode}
 use Rattle.cxx_model.specs.declared.types.TypeNode.TheVariants as node
 use Rattle.cxx_model.specs.declared.memory.OutOfMemory.{OutOfMemory}
-use Rattle.cxx_model.specs.Fitted.{IsTypeInRange}
-use Rattle.cxx_model.specs.Types.{CxxType, CxxBound, array_of}
-use Rattle.cxx_model.specs.TypeTrees.{type_at, bound_at, type_over, IsNodeBelow, IsBoundBelow, Keeps}
+use Rattle.cxx_model.specs.Facts.Graph.{IsTypeInRange}
+use Rattle.cxx_model.specs.Types.Trees.{CxxType, CxxBound, array_of}
+use Rattle.cxx_model.specs.Types.Numbers.{type_at, bound_at, type_over, IsNodeBelow, IsBoundBelow, Keeps}
 use Rattle.cxx_model.proofs.TypeTrees.{bound_kept, bound_later}
-use Rattle.cxx_model.specs.Copies.{CopiesBound}
+use Rattle.cxx_model.specs.Types.Copies.{CopiesBound}
 use Rattle.cxx_types.specs.Makes.{Makes}
 use Rattle.cxx_types.proofs.Making.{makes_same, makes_then}
 

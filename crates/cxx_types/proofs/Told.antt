@@ -1,8 +1,8 @@
 -- A test that tells whether two types are the same is the test of types.
 use Rattle.std.specs.Prelude.{Bool, true, false, IsTrue, ◌≡◌, ◌↔◌, refl}
 use Rattle.std.proofs.Common.{sym, ◌∙◌}
-use Rattle.cxx_model.specs.SameType.{same_type}
-use Rattle.cxx_model.specs.Types.{CxxType}
+use Rattle.cxx_model.specs.Types.Same.{same_type}
+use Rattle.cxx_model.specs.Types.Trees.{CxxType}
 use Rattle.cxx_model.proofs.SameTypes.{type_told, type_tells}
 
 pub told : (b : Bool) (t u : CxxType) → IsTrue b ↔ (t ≡ u) → b ≡ same_type t u

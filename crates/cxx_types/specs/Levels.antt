@@ -1,6 +1,6 @@
 -- How deep a type is.
 use Rattle.std.specs.Prelude.{ℕ, ◌+◌, max}
-use Rattle.cxx_model.specs.Types.{CxxType, fundamental, class_type, enumeration, pointer_to, reference_to, array_of, function_of, qualified, type_parameter, specialisation, nested_in, CxxTypes, no_types, type_then}
+use Rattle.cxx_model.specs.Types.Trees.{CxxType, fundamental, class_type, enumeration, pointer_to, reference_to, array_of, function_of, qualified, type_parameter, specialisation, nested_in, CxxTypes, no_types, type_then}
 
 -- The pointers, references, arrays, functions and nested names (8.3.1, 8.3.2, 8.3.4, 8.3.5, 14.6) on the longest way down a
 -- type. Cv adds none, and neither does what stands in the arguments of a specialisation.

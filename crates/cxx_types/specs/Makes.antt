@@ -2,10 +2,9 @@
 use Rattle.std.specs.Prelude.{ℕ, ◌≡◌, ◌<◌, List, length, Result, Ok, Err}
 use Rattle.cxx_model.specs.declared.memory.OutOfMemory.{OutOfMemory}
 use Rattle.cxx_model.specs.declared.types.TypeId.{TypeId}
-use Rattle.cxx_model.specs.Fitted.{IsTypeInRange, AreTypesInRange}
-use Rattle.cxx_model.specs.Graph.{Graph}
-use Rattle.cxx_model.specs.Types.{CxxType, CxxTypes}
-use Rattle.cxx_model.specs.TypeTrees.{type_at, types_at, AreTypesBelow, Keeps}
+use Rattle.cxx_model.specs.Facts.Graph.{Graph, IsTypeInRange, AreTypesInRange}
+use Rattle.cxx_model.specs.Types.Trees.{CxxType, CxxTypes}
+use Rattle.cxx_model.specs.Types.Numbers.{type_at, types_at, AreTypesBelow, Keeps}
 
 -- what the types of a list name is in a graph
 abbrev pub AreInRange : Graph → List CxxType → Type 0

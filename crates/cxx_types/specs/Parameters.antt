@@ -1,5 +1,5 @@
 -- The types of a list, each in the one form, and as parameters.
-use Rattle.cxx_model.specs.Types.{CxxTypes, no_types, type_then, adjusted, normal}
+use Rattle.cxx_model.specs.Types.Trees.{CxxTypes, no_types, type_then, adjusted, normal}
 
 -- 8.3.5: each type as that of a parameter
 abbrev pub adjusted_types : CxxTypes → CxxTypes

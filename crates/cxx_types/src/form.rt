@@ -1,14 +1,14 @@
 ghost use Rattle.std.specs.Prelude.{◌≡◌, ◌<◌, length, IsTrue};
-ghost use Rattle.cxx_model.specs.Types.{adjusted, any_cv, decayed, fundamental, class_type, enumeration, layered, merged, takes_cv, type_parameter, unqualified};
-ghost use Rattle.cxx_model.specs.Types as definition;
-ghost use Rattle.cxx_model.specs.TypeTrees.{type_at, types_at, arguments_at, bound_at, AreArgumentsBelow, AreTypesBelow, IsBoundBelow};
+ghost use Rattle.cxx_model.specs.Types.Trees.{adjusted, any_cv, decayed, fundamental, class_type, enumeration, layered, merged, takes_cv, type_parameter, unqualified};
+ghost use Rattle.cxx_model.specs.Types.Trees as definition;
+ghost use Rattle.cxx_model.specs.Types.Numbers.{type_at, types_at, arguments_at, bound_at, AreArgumentsBelow, AreTypesBelow, IsBoundBelow};
 ghost use Rattle.cxx_types.specs.Makes.{Makes, MakesEach};
 ghost use Rattle.cxx_types.specs.Parameters.{adjusted_types};
 
 use crate::table::TypeTable;
 use cxx_model::{
-    Base, Bound, ClassId, Cv, EnumId, Listed, OutOfMemory, TemplateArgumentList, TemplateId,
-    TypeId, TypeIdList, TypeNode, Word, copy_bound,
+    ArgumentList, Base, Bound, ClassId, Cv, EnumId, Listed, OutOfMemory, TemplateId, TypeId,
+    TypeIdList, TypeNode, Word, copy_bound,
 };
 
 /// The words of both.
@@ -106,7 +106,7 @@ impl TypeTable {
     pub fn specialisation(
         &mut self,
         template: TemplateId,
-        arguments: TemplateArgumentList,
+        arguments: ArgumentList,
     ) -> Result<TypeId, OutOfMemory>
         requires { AreArgumentsBelow (length self.old) arguments }
         ensures { Makes self.old self.new result (definition.specialisation template.0 (arguments_at self.old arguments)) }

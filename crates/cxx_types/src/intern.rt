@@ -1,6 +1,6 @@
 ghost use Rattle.std.specs.Prelude.{length};
-ghost use Rattle.cxx_model.specs.Types.{function_of, normal, normal_parameters};
-ghost use Rattle.cxx_model.specs.TypeTrees.{tree_at, type_over, IsNodeBelow, IsTreeBelow};
+ghost use Rattle.cxx_model.specs.Types.Trees.{function_of, normal, normal_parameters};
+ghost use Rattle.cxx_model.specs.Types.Numbers.{tree_at, type_over, IsNodeBelow, IsTreeBelow};
 ghost use Rattle.cxx_types.specs.Makes.{Makes, MakesEach};
 ghost use Rattle.cxx_types.specs.Parameters.{normal_types};
 ghost use Rattle.cxx_types.specs.Trees.{trees_at, AreTreesBelow};

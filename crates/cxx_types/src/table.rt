@@ -1,7 +1,7 @@
 ghost use Rattle.std.specs.Prelude.{◌≡◌, ◌<◌, ◌≤◌, ◌+◌, ◌^◌, [], length, max, IsTrue, ◌↔◌};
-ghost use Rattle.cxx_model.specs.SameType.{same_type};
-ghost use Rattle.cxx_model.specs.Types.{IsNormal};
-ghost use Rattle.cxx_model.specs.TypeTrees.{type_at, types_at, type_over, AreTypesBelow, IsNodeBelow};
+ghost use Rattle.cxx_model.specs.Types.Same.{same_type};
+ghost use Rattle.cxx_model.specs.Types.Trees.{IsNormal};
+ghost use Rattle.cxx_model.specs.Types.Numbers.{type_at, types_at, type_over, AreTypesBelow, IsNodeBelow};
 ghost use Rattle.cxx_types.specs.Levels.{level_count, level_counts};
 ghost use Rattle.cxx_types.specs.Makes.{Makes};
 
@@ -22,8 +22,8 @@ pub struct TypeTable {
 impl Model for TypeTable {
     ghost use Rattle.std.specs.Prelude.{List};
     ghost use Rattle.std.specs.Coded.{coded_list};
-    ghost use Rattle.cxx_model.specs.Types.{CxxType};
-    ghost use Rattle.cxx_model.specs.TypeCode.{coded_type};
+    ghost use Rattle.cxx_model.specs.Types.Trees.{CxxType};
+    ghost use Rattle.cxx_model.specs.Types.Code.{coded_type};
 
     ghost Value = { List CxxType };
 
@@ -132,7 +132,9 @@ impl TypeTable {
             TypeNode::Reference(of) => self.levels(*of) + 1,
             TypeNode::Array(element, _) => self.levels(*element) + 1,
             TypeNode::Function {
-                result, parameters, ..
+                result,
+                parameters,
+                ..
             } => {
                 self.levels(*result)
                     .max(self.most_levels(parameters.as_slice()))

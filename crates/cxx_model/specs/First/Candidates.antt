@@ -3,6 +3,7 @@ use Rattle.std.specs.Prelude.{ℕ, Bool, true, false, not, ◌&&◌, if◌then�
 use Rattle.std.specs.List.{list_any, enumerate_from}
 use Rattle.std.specs.Str.{bytes_eq}
 use Rattle.cxx_model.specs.declared.base.Base.{Base}
+use Rattle.cxx_model.specs.declared.fault.FaultText.TheVariants as says
 use Rattle.cxx_model.specs.declared.place.Place.{Place}
 use Rattle.cxx_model.specs.declared.first.Argument.{Argument}
 use Rattle.cxx_model.specs.declared.first.Call.{Call}
@@ -20,9 +21,9 @@ use Rattle.cxx_model.specs.declared.stop.LimitKind.TheVariants.{Candidates}
 use Rattle.cxx_model.specs.declared.evidence.Reason.TheVariants.{TooFewArguments, TooManyArguments}
 use Rattle.cxx_model.specs.declared.evidence.Shown.{Shown}
 use Rattle.cxx_model.specs.declared.evidence.Shown.TheVariants.{Declared as ShownAt}
-use Rattle.cxx_model.specs.Better.{is_better, best, counter}
-use Rattle.cxx_model.specs.Standard.{standard_sequence}
-use Rattle.cxx_model.specs.StandardOrder.{compare}
+use Rattle.cxx_model.specs.Choice.Better.{is_better, best, counter}
+use Rattle.cxx_model.specs.Choice.Standard.{standard_sequence}
+use Rattle.cxx_model.specs.Choice.StandardOrder.{compare}
 use Rattle.cxx_model.specs.Stops.{Answer, Stopped, Faulty, Limited, not_built_at, undeclared_at}
 
 -- ---- names
@@ -129,10 +130,10 @@ ties arguments viable = filter_map (tie arguments viable) viable
 -- ---- the call
 
 abbrev pub no_viable_at : Place → List Evidence → Stopped
-no_viable_at place evidence = Faulty (record { place = place; text = codes "no viable function"; evidence = evidence })
+no_viable_at place evidence = Faulty (record { place = place; text = says.NoViableFunction; evidence = evidence })
 
 abbrev pub ambiguous_at : Place → List Evidence → Stopped
-ambiguous_at place evidence = Faulty (record { place = place; text = codes "ambiguous call"; evidence = evidence })
+ambiguous_at place evidence = Faulty (record { place = place; text = says.AmbiguousCall; evidence = evidence })
 
 -- outermost first: the type of what stands in these casts
 abbrev pub outermost : List Base → Base → Base

@@ -1,8 +1,8 @@
 use Rattle.std.proofs.Common.{ap, sym, subst, ◌∙◌, length, List, ◌≡◌, ◌<◌, ◌≤◌, ◌+◌, ◌*◌, take, get_or, arith}
 use Rattle.cxx_model.specs.declared.types.Signature.{Signature}
 use Rattle.cxx_model.specs.declared.types.TypeTree.{TypeTree}
-use Rattle.cxx_model.specs.Types.{normal}
-use Rattle.cxx_model.specs.TypeTrees.{tree_at}
+use Rattle.cxx_model.specs.Types.Trees.{normal}
+use Rattle.cxx_model.specs.Types.Numbers.{tree_at}
 use Rattle.cxx_model.proofs.TypeTrees.{tree_later}
 use Rattle.cxx_types.specs.Parameters.{normal_types}
 use Rattle.cxx_types.specs.Sizes.{tree_size, trees_size}

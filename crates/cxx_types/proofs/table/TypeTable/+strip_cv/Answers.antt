@@ -1,5 +1,5 @@
 use Rattle.std.proofs.Common.{refl}
-use Rattle.cxx_model.specs.Types.{unqualified}
+use Rattle.cxx_model.specs.Types.Trees.{unqualified}
 use Rattle.cxx_types.proofs.Steps.{made-array, bound-inside}
 use Rattle.cxx_types.proofs.table.TypeTable.+strip_cv.Goals as goal
 

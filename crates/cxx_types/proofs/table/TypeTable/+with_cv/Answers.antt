@@ -1,5 +1,5 @@
 use Rattle.std.proofs.Common.{refl}
-use Rattle.cxx_model.specs.Types.{with_cv}
+use Rattle.cxx_model.specs.Types.Trees.{with_cv}
 use Rattle.cxx_types.proofs.Steps.{made-array, bound-inside}
 use Rattle.cxx_types.proofs.table.TypeTable.+with_cv.Goals as goal
 

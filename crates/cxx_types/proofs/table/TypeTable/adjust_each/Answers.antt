@@ -1,5 +1,5 @@
-use Rattle.cxx_model.specs.Types.{adjusted}
-use Rattle.cxx_model.specs.TypeTrees.{type_at, types_at}
+use Rattle.cxx_model.specs.Types.Trees.{adjusted}
+use Rattle.cxx_model.specs.Types.Numbers.{type_at, types_at}
 use Rattle.std.proofs.Common.{get_or, take}
 use Rattle.cxx_types.specs.Parameters.{adjusted_types}
 use Rattle.cxx_types.proofs.Building.{adjusted-part, next-adjusted, number-later}

@@ -1,5 +1,5 @@
 use Rattle.std.proofs.Common.{take}
-use Rattle.cxx_model.specs.TypeTrees.{types_at}
+use Rattle.cxx_model.specs.Types.Numbers.{types_at}
 use Rattle.cxx_types.specs.Parameters.{adjusted_types}
 use Rattle.cxx_types.proofs.Making.{AreMadeSoFar}
 use Rattle.cxx_types.proofs.table.TypeTable.adjust_each.Given as goal

@@ -1,7 +1,7 @@
 use Rattle.std.proofs.Common.{ap, sym, subst, ◌∙◌, length, List, [], ◌∷◌, ◌++◌, ◌≡◌, ℕ}
 use Rattle.cxx_model.specs.declared.types.TypeNode.{TypeNode}
-use Rattle.cxx_model.specs.Types.{CxxType, IsNormal}
-use Rattle.cxx_model.specs.TypeTrees.{type_over, IsNodeBelow}
+use Rattle.cxx_model.specs.Types.Trees.{CxxType, IsNormal}
+use Rattle.cxx_model.specs.Types.Numbers.{type_over, IsNodeBelow}
 use Rattle.cxx_model.proofs.Equal.{same_node}
 use Rattle.indexmap.specs.IndexSet.{insert_key}
 use Rattle.cxx_types.specs.Levels.{level_count}
@@ -17,7 +17,7 @@ grown c =
     c.in_ok-push.ensures.items ∙ ap (λ (cs : List ℕ). cs ++ c.levels_over-levels.result ∷ []) c.reserve.ensures.items ∙ ap (λ (n : ℕ). c.self.inside.level_counts.items ++ n ∷ []) (c.levels_over-levels.ensures ∙ sym (ap (λ (ts : List CxxType). level_count (type_over ts c.args.node)) c.self.view_is)) in
     subst (λ (keys : List TypeNode). IsTable keys c.push.new.self.items) (sym c.in_ok-index.ensures.keys)
     (subst (λ (cs : List ℕ). IsTable (insert_key same_node c.self.inside.nodes.keys c.args.node) cs) (sym counts)
-      (table-grows c.self.inside.nodes.keys c.self.inside.level_counts.items c.args.node c.in_ok-index.is_new c.self.invariant below normal c.in_ok-index.ensures.added c.if-is_new.true))
+    (table-grows c.self.inside.nodes.keys c.self.inside.level_counts.items c.args.node c.in_ok-index.is_new c.self.invariant below normal c.in_ok-index.ensures.added c.if-is_new.true))
 
 pub invariant_of-self-in-Continue-branch-3 : goal.invariant_of-self-in-Continue-branch-3
 invariant_of-self-in-Continue-branch-3 c = grown c

@@ -1,6 +1,6 @@
 use Rattle.std.proofs.Common.{◌≤◌, ◌≡◌, ◌<◌, length, map, arith, ap, sym, ◌∙◌}
 use Rattle.std.proofs.Math.ListN.{length-map}
-use Rattle.cxx_model.specs.TypeTrees.{type_at}
+use Rattle.cxx_model.specs.Types.Numbers.{type_at}
 use Rattle.cxx_types.specs.Levels.{level_count}
 use Rattle.cxx_types.specs.Table.{types_of}
 use Rattle.cxx_types.proofs.Depths.{level-stored}

@@ -1,5 +1,5 @@
 use Rattle.std.proofs.Common.{◌≡◌, ◌<◌, ◌+◌, ◌^◌, drop, max}
-use Rattle.cxx_model.specs.TypeTrees.{types_at}
+use Rattle.cxx_model.specs.Types.Numbers.{types_at}
 use Rattle.cxx_types.specs.Levels.{level_counts}
 use Rattle.cxx_types.proofs.table.TypeTable.most_levels.Given as goal
 

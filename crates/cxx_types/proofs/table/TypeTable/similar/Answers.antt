@@ -1,5 +1,5 @@
-use Rattle.cxx_model.specs.Types.{without_levels}
-use Rattle.cxx_model.specs.TypeTrees.{type_at}
+use Rattle.cxx_model.specs.Types.Trees.{without_levels}
+use Rattle.cxx_model.specs.Types.Numbers.{type_at}
 use Rattle.cxx_types.proofs.Told.{told}
 use Rattle.cxx_types.proofs.table.TypeTable.similar.Goals as goal
 

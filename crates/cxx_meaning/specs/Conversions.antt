@@ -1,0 +1,1 @@
+-- Standard conversions, their order, and built-in operators (clauses 4, 5 and 13.3.3).
