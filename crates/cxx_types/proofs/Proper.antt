@@ -1,6 +1,5 @@
 -- No type of a table holds a specialisation that is a class of its own.
-use Rattle.std.specs.Prelude.{ℕ, ◌≡◌, ◌<◌, ◌≤◌, IsTrue, List, [], ◌∷◌, length, refl}
-use Rattle.std.proofs.Common.{ap, sym, subst, ◌∙◌, arith}
+use Rattle.std.specs.Prelude.{List, [], ◌∷◌, length}
 use Rattle.cxx_model.specs.declared.types.Argument.{Argument}
 use Rattle.cxx_model.specs.declared.types.Argument.TheVariants as argument
 use Rattle.cxx_model.specs.declared.types.Bound.{Bound}
@@ -9,7 +8,7 @@ use Rattle.cxx_model.specs.declared.types.Formula.{Formula, Value, Parameter, Me
 use Rattle.cxx_model.specs.declared.types.TypeId.{TypeId}
 use Rattle.cxx_model.specs.declared.types.TypeNode.{TypeNode}
 use Rattle.cxx_model.specs.declared.types.TypeNode.TheVariants as node
-use Rattle.cxx_model.specs.Types.Numbers.{type_at, types_at, formula_at, bound_at, argument_at, arguments_at, type_over, IsFormulaBelow, IsBoundBelow, IsArgumentBelow, AreArgumentsBelow, AreTypesBelow, IsNodeBelow}
+use Rattle.cxx_model.specs.Types.Numbers.{types_at, formula_at, bound_at, argument_at, arguments_at, type_over, IsFormulaBelow, IsBoundBelow, IsArgumentBelow, AreArgumentsBelow, AreTypesBelow, IsNodeBelow}
 use Rattle.cxx_model.specs.Types.Proper.{IsProper, AreTypesProper, IsBoundProper, IsArgumentProper, AreArgumentsProper, IsFormulaProper}
 use Rattle.cxx_model.specs.Types.Trees.{CxxType}
 use Rattle.cxx_types.specs.Table.{AreProper, IsNodeProper}
