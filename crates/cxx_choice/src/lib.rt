@@ -17,6 +17,3 @@ pub use champion::{chosen, ties};
 pub use push::push_some;
 pub use standard::is_same;
 pub use viable::{Contender, contenders, outcome, refusals};
-
-#[cfg(test)]
-mod tests;

@@ -1,4 +1,6 @@
-use super::*;
+//! `cxx_edge`: streams in memory, some of whose calls fail.
+
+use cxx_edge::{Failed, MemorySink, MemorySource, ReadFault, Sink, read_all, write_all};
 use std::test::Fail;
 
 const TEXT: &[u8] = b"twenty bytes of text";

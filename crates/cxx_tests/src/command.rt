@@ -1,6 +1,8 @@
+//! `cxx_command`: runs over streams in memory.
+
 ghost use Rattle.std.specs.Prelude.{◌≤◌};
 
-use super::run;
+use cxx_command::run;
 use cxx_edge::{MemorySink, MemorySource};
 use std::alloc::Global;
 use std::test::Fail;

@@ -1,5 +1,7 @@
-use crate::{TokenFault, literal_type, literal_value, tokens};
+//! `cxx_tokens`: the tokens of texts, and what literals say.
+
 use cxx_model::{Base, LimitKind, Place, Token, TokenKind, TokenReason, keyword, limits, punct};
+use cxx_tokens::{TokenFault, literal_type, literal_value, tokens};
 use std::alloc::{AllocError, Global};
 
 const MOST: usize = 4_294_967_295;

@@ -1,15 +1,14 @@
-use super::*;
-use cxx_model::first::{Argument, Declaration, Declared, Initializer, Item};
+//! `cxx_plain`: plain forms, and reports with every kind of line.
+
+use crate::places::at;
+use cxx_model::first::{Argument, Declaration, Declared, Initializer, Item, Reading};
 use cxx_model::{
-    Base, Evidence, Fault, Link, Listed, Options, Place, Reason, Shown, SubstitutionText,
+    Base, Evidence, Fault, FaultText, Link, Listed, Options, Place, Reason, Shown, SubstitutionText,
 };
-use std::alloc::AllocError;
+use cxx_plain::{plain, report};
+use std::alloc::{AllocError, Global};
 use std::process::Abort;
 use std::test::Fail;
-
-fn at(line: u32, column: u32) -> Place {
-    Place { line, column }
-}
 
 fn no_reading(alloc: Global) -> Reading {
     Reading {
@@ -206,16 +205,15 @@ fn names_lose_their_tags(rt: HostRuntime) -> Result<(), Fail> {
 }
 
 fn fault(
-    alloc: Global,
     place: Place,
-    text: &[u8],
+    text: FaultText,
     evidence: Vec<Evidence>,
-) -> Result<Fault, AllocError> {
-    Ok(Fault {
+) -> Fault {
+    Fault {
         place,
-        text: Listed::from_slice(alloc, text)?,
+        text,
         evidence: Listed::from_vec(evidence),
-    })
+    }
 }
 
 #[test]
@@ -227,14 +225,14 @@ fn reports_show_evidence(rt: HostRuntime) -> Result<(), Fail> {
         Evidence::DoesNotBeat(one, two),
         Evidence::DoesNotBeat(two, one),
     ]?;
-    let ambiguous = fault(alloc, at(1, 37), b"ambiguous call", both)?;
+    let ambiguous = fault(at(1, 37), FaultText::AmbiguousCall, both);
     expect(
         &rt,
         &report(alloc, &ambiguous)?,
         "1:37: ambiguous call\n  candidate 1 at 1:5 does not beat candidate 2 at 1:18\n  candidate 2 at 1:18 does not beat candidate 1 at 1:5\n",
     );
     let few = vec![in alloc; Evidence::Refused(one, Reason::TooFewArguments)]?;
-    let none = fault(alloc, at(1, 26), b"no viable function", few)?;
+    let none = fault(at(1, 26), FaultText::NoViableFunction, few);
     expect(
         &rt,
         &report(alloc, &none)?,
@@ -252,9 +250,9 @@ fn reports_show_declarations_and_bases(rt: HostRuntime) -> Result<(), Fail> {
         &rt,
         &report(
             alloc,
-            &fault(alloc, at(2, 21), b"result does not fit", found)?,
+            &fault(at(2, 21), FaultText::ConflictingDeclaration(Listed::from_slice(alloc, b"s")?), found),
         )?,
-        "2:21: result does not fit\n  found at 1:24\n",
+        "2:21: conflicting declaration of s\n  found at 1:24\n",
     );
     let member = Some(at(1, 16));
     let members = vec![in alloc;
@@ -265,7 +263,7 @@ fn reports_show_declarations_and_bases(rt: HostRuntime) -> Result<(), Fail> {
         &rt,
         &report(
             alloc,
-            &fault(alloc, at(6, 24), b"ambiguous name n", members)?,
+            &fault(at(6, 24), FaultText::AmbiguousName(Listed::from_slice(alloc, b"n")?), members),
         )?,
         "6:24: ambiguous name n\n  1:16 by bases 1 1\n  1:16 by bases 2 1\n",
     );
@@ -275,21 +273,21 @@ fn reports_show_declarations_and_bases(rt: HostRuntime) -> Result<(), Fail> {
     ]?;
     expect(
         &rt,
-        &report(alloc, &fault(alloc, at(6, 24), b"ambiguous base", bases)?)?,
+        &report(alloc, &fault(at(6, 24), FaultText::AmbiguousBase, bases))?,
         "6:24: ambiguous base\n  by bases 12\n  1:16 by no base\n",
     );
     let rows = vec![in alloc; Evidence::RowDoesNotBeat(1, 2)]?;
     expect(
         &rt,
-        &report(alloc, &fault(alloc, at(2, 1), b"not best", rows)?)?,
-        "2:1: not best\n  row 1 does not beat row 2\n",
+        &report(alloc, &fault(at(2, 1), FaultText::AmbiguousCall, rows))?,
+        "2:1: ambiguous call\n  row 1 does not beat row 2\n",
     );
     let uses = vec![in alloc; Evidence::Uses(Shown::BuiltIn(3), 2)]?;
     expect(
         &rt,
         &report(
             alloc,
-            &fault(alloc, at(2, 1), b"ambiguous conversion", uses)?,
+            &fault(at(2, 1), FaultText::AmbiguousConversion, uses),
         )?,
         "2:1: ambiguous conversion\n  built-in candidate 3 uses it for argument 2\n",
     );
@@ -317,7 +315,7 @@ fn reports_number_a_chain(rt: HostRuntime) -> Result<(), Fail> {
     ]?;
     expect(
         &rt,
-        &report(alloc, &fault(alloc, at(1, 58), b"depth limit 2", lines)?)?,
+        &report(alloc, &fault(at(1, 58), FaultText::DepthLimit(2), lines))?,
         "1:58: depth limit 2\n  found at 1:1\n  1 class at 1:24 needed at 2:15\n  2 function at 1:24 needed at 1:58\n",
     );
     Ok(())
@@ -396,7 +394,7 @@ fn reports_say_reasons(rt: HostRuntime) -> Result<(), Fail> {
             &rt,
             &report(
                 alloc,
-                &fault(alloc, at(4, 15), b"no viable function", refused)?,
+                &fault(at(4, 15), FaultText::NoViableFunction, refused),
             )?,
             &text,
         );
