@@ -1,4 +1,6 @@
 pub mod Ended
+pub mod Numbered
 pub mod Reserved
+pub mod Rows
 pub mod Sample
 pub mod Stored

@@ -3,6 +3,8 @@
 
 mod graph;
 pub mod laws;
+mod rows;
+pub mod laws;
 #[cfg(test)]
 mod tests;
 

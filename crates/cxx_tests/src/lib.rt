@@ -1,2 +1,7 @@
 //! Tests of the crates below through their public calls, a module for each crate.
 #![tactic(auto)]
+
+#[cfg(test)]
+mod stopped;
+#[cfg(test)]
+mod types;
