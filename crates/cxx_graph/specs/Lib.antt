@@ -1,4 +1,5 @@
 pub mod Ended
+pub mod Kept
 pub mod Numbered
 pub mod Reserved
 pub mod Rows

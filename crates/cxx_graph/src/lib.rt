@@ -2,9 +2,10 @@
 #![tactic(auto)]
 
 mod graph;
+mod kept;
 pub mod laws;
+mod promotion;
 mod rows;
-pub mod laws;
 #[cfg(test)]
 mod tests;
 

@@ -1,4 +1,4 @@
-ghost use Rattle.std.specs.Prelude.{◌≡◌, ◌<◌, ◌≤◌, [], ◌∷◌, List, length, OnOk, OnErr};
+ghost use Rattle.std.specs.Prelude.{◌≡◌, ◌<◌, [], List, length, OnOk, OnErr};
 ghost use Rattle.cxx_model.specs.declared.types.FactId.{FactId as Number};
 ghost use Rattle.cxx_graph.specs.Rows.{row_at, AreSameRows, IsRowMore};
 
@@ -66,11 +66,12 @@ impl Rows {
         Ok(())
     }
 
-    /// Takes the last number from a row.
+    /// Takes the last number from a row, where there is one.
     pub(crate) fn pop(&mut self, number: u32)
         ensures { (before : List (List Number)) (fact : Number) → IsRowMore before self.old number fact → AreSameRows before self.new }
     {
-        if let Some(row) = self.rows.get_mut(number as usize) {
+        if (number as usize) < self.rows.len() {
+            let row = &mut self.rows[number as usize];
             let _ = row.pop();
         }
     }

@@ -280,9 +280,9 @@ fn deep_type(rt: HostRuntime) -> Result<(), Fail> {
 
 fn interns_deep(alloc: Global) -> Result<bool, Stopped> {
     let mut table = TypeTable::new(alloc);
+    let built = built_chain(&mut table, 1024)?;
     let number = table.intern(&chain(alloc, 1024)?)?;
     let less = table.intern(&chain(alloc, 1023)?)?;
-    let built = built_chain(&mut table, 1024)?;
     Ok(
         built == number
             && less != number
