@@ -16,4 +16,8 @@ mod places;
 #[cfg(test)]
 mod plain;
 #[cfg(test)]
+mod stopped;
+#[cfg(test)]
 mod tokens;
+#[cfg(test)]
+mod types;

@@ -1,10 +1,11 @@
-ghost use Rattle.std.specs.Prelude.{IfOk};
-ghost use Rattle.cxx_types.specs.Free.{IsFree};
+ghost use Rattle.std.specs.Prelude.{◌<◌, length, IfOk};
+ghost use Rattle.cxx_tests.specs.Free.{IsFree};
 
-use crate::table::TypeTable;
+use crate::stopped::Stopped;
 use cxx_model::{
-    Base, Bound, ClassId, Cv, OutOfMemory, Signature, TypeId, TypeList, TypeNode, TypeTree,
+    Base, Bound, ClassId, Cv, Listed, Signature, TypeId, TypeList, TypeNode, TypeTree,
 };
+use cxx_types::TypeTable;
 use std::alloc::Global;
 use std::test::Fail;
 
@@ -28,7 +29,7 @@ const NONE: Cv = Cv {
     is_volatile: false,
 };
 
-type Made = Result<TypeTree, OutOfMemory>;
+type Made = Result<TypeTree, Stopped>;
 
 fn int() -> Made
     ensures { IfOk result IsFree }
@@ -87,7 +88,7 @@ fn function(alloc: Global, parameter: Made) -> Made
 }
 
 // Whether two trees are of one type.
-fn same_type(alloc: Global, one: Made, two: Made) -> Result<bool, OutOfMemory>
+fn same_type(alloc: Global, one: Made, two: Made) -> Result<bool, Stopped>
     requires one_free { IfOk one IsFree }
     requires two_free { IfOk two IsFree }
 {
@@ -97,7 +98,7 @@ fn same_type(alloc: Global, one: Made, two: Made) -> Result<bool, OutOfMemory>
     Ok(table.same(one, two))
 }
 
-fn similar_types(alloc: Global, one: Made, two: Made) -> Result<bool, OutOfMemory>
+fn similar_types(alloc: Global, one: Made, two: Made) -> Result<bool, Stopped>
     requires one_free { IfOk one IsFree }
     requires two_free { IfOk two IsFree }
 {
@@ -108,7 +109,7 @@ fn similar_types(alloc: Global, one: Made, two: Made) -> Result<bool, OutOfMemor
 }
 
 // Whether the first type without cv is the second.
-fn stripped(alloc: Global, one: Made, two: Made) -> Result<bool, OutOfMemory>
+fn stripped(alloc: Global, one: Made, two: Made) -> Result<bool, Stopped>
     requires one_free { IfOk one IsFree }
     requires two_free { IfOk two IsFree }
 {
@@ -222,19 +223,25 @@ fn without_cv(rt: HostRuntime) -> Result<(), Fail> {
 
 #[test]
 fn nodes_and_trees(rt: HostRuntime) -> Result<(), Fail> {
-    let a = rt.alloc();
-    let mut table = TypeTable::new(a);
-    let number = table.intern(&array(a, int(), 3)?)?;
-    assert!(rt; matches!(table.node(number), TypeNode::Array(_, Bound::Number(3))));
-    let tree = table.tree_of(a, number)?;
-    assert!(rt; matches!(tree, TypeTree::Array(_, Bound::Number(3))));
+    assert!(rt; reads_rows(rt.alloc())?);
     Ok(())
 }
 
+fn reads_rows(alloc: Global) -> Result<bool, Stopped> {
+    let mut table = TypeTable::new(alloc);
+    let number = table.intern(&array(alloc, int(), 3)?)?;
+    let tree = table.tree_of(alloc, number)?;
+    let node = table.node(number);
+    Ok(
+        matches!(node, TypeNode::Array(_, Bound::Number(3)))
+            && matches!(tree, TypeTree::Array(_, Bound::Number(3))),
+    )
+}
+
 // The number of a row of pointers to a class of its own.
-fn row_number(alloc: Global, table: &mut TypeTable, class: u32) -> Result<TypeId, OutOfMemory> {
+fn row_number(alloc: Global, table: &mut TypeTable, class: u32) -> Result<TypeId, Stopped> {
     let class = Ok(TypeTree::Class(ClassId(class)));
-    table.intern(&array(alloc, pointer(alloc, class), 3)?)
+    Ok(table.intern(&array(alloc, pointer(alloc, class), 3)?)?)
 }
 
 #[test]
@@ -264,10 +271,137 @@ fn chain(alloc: Global, levels: u32) -> Made
     tree
 }
 
+// 8.3.1: pointers to pointers to `int`, as many as the limit on levels.
 #[test]
 fn deep_type(rt: HostRuntime) -> Result<(), Fail> {
-    let alloc = rt.alloc();
-    assert!(rt; same_type(alloc, chain(alloc, 1000), chain(alloc, 1000))?);
-    assert!(rt; !same_type(alloc, chain(alloc, 1000), chain(alloc, 999))?);
+    assert!(rt; interns_deep(rt.alloc())?);
     Ok(())
+}
+
+fn interns_deep(alloc: Global) -> Result<bool, Stopped> {
+    let mut table = TypeTable::new(alloc);
+    let built = built_chain(&mut table, 1024)?;
+    let number = table.intern(&chain(alloc, 1024)?)?;
+    let less = table.intern(&chain(alloc, 1023)?)?;
+    Ok(
+        built == number
+            && less != number
+            && table.levels(built) == 1024
+            && table.similar(built, built)
+            && !table.similar(built, less),
+    )
+}
+
+// A chain of pointers, from nodes.
+fn built_chain(table: &mut TypeTable, levels: u32) -> Result<TypeId, Stopped>
+    ensures { IfOk result (λ number. number.0 < length table.new) }
+{
+    let mut number = table.plain(Base::Int)?;
+    for _ in 0..levels {
+        number = table.build(TypeNode::Pointer(number))?;
+    }
+    Ok(number)
+}
+
+// 8.3.4: arrays of arrays of `int`, as many as the limit on levels, with and without cv.
+#[test]
+fn deep_array(rt: HostRuntime) -> Result<(), Fail> {
+    assert!(rt; builds_arrays(rt.alloc())?);
+    Ok(())
+}
+
+fn builds_arrays(alloc: Global) -> Result<bool, Stopped> {
+    let mut table = TypeTable::new(alloc);
+    let rows = built_array(&mut table, 1024)?;
+    let constant = table.with_cv(rows, CONST)?;
+    let same = table.same_unqualified(rows, constant) && rows != constant;
+    let levels = table.levels(constant);
+    let bare = table.strip_cv(constant)?;
+    Ok(bare == rows && same && levels == 1024)
+}
+
+fn built_array(table: &mut TypeTable, levels: u32) -> Result<TypeId, Stopped>
+    ensures { IfOk result (λ number. number.0 < length table.new) }
+{
+    let mut number = table.plain(Base::Int)?;
+    for _ in 0..levels {
+        number = table.array_of(number, Bound::Number(2))?;
+    }
+    Ok(number)
+}
+
+// 8.3.5: `typedef int f0();` and then forty times `typedef void fK(fJ, fJ);`, whose parameters become pointers.
+#[test]
+fn doubling_type(rt: HostRuntime) -> Result<(), Fail> {
+    assert!(rt; builds_doubling(rt.alloc())?);
+    Ok(())
+}
+
+fn builds_doubling(alloc: Global) -> Result<bool, Stopped> {
+    let mut table = TypeTable::new(alloc);
+    let number = doubled(alloc, &mut table, 40)?;
+    let levels = table.levels(number);
+    let again = doubled(alloc, &mut table, 40)?;
+    Ok(number == again && levels == 81)
+}
+
+fn doubled(alloc: Global, table: &mut TypeTable, times: u32) -> Result<TypeId, Stopped>
+    ensures { IfOk result (λ number. number.0 < length table.new) }
+{
+    let int = table.plain(Base::Int)?;
+    let mut number = table.function_to(int, &[], false, NONE)?;
+    for _ in 0..times {
+        number = void_function(alloc, table, number)?;
+    }
+    Ok(number)
+}
+
+// A function of two parameters of a type.
+fn void_function(alloc: Global, table: &mut TypeTable, parameter: TypeId) -> Result<TypeId, Stopped>
+    requires { parameter.0 < length table.old }
+    ensures { IfOk result (λ number. number.0 < length table.new) }
+{
+    let void = table.plain(Base::Void)?;
+    let parameters = Listed::from_slice(alloc, &[parameter, parameter])?;
+    let number = table.build(TypeNode::Function {
+        result: void,
+        parameters,
+        ellipsis: false,
+        cv: NONE,
+    })?;
+    Ok(number)
+}
+
+// 3.9.3: the one form of a type that is built is that of its tree.
+#[test]
+fn built_types(rt: HostRuntime) -> Result<(), Fail> {
+    assert!(rt; builds_with_cv(rt.alloc())?);
+    Ok(())
+}
+
+fn builds_with_cv(alloc: Global) -> Result<bool, Stopped> {
+    let mut table = TypeTable::new(alloc);
+    let rows = table.intern(&array(alloc, int(), 3)?)?;
+    let levels = table.levels(rows);
+    let constant = table.build(TypeNode::Qualified(CONST, rows))?;
+    let tree = array(alloc, with(alloc, CONST, int()), 3)?;
+    let again = table.intern(&tree)?;
+    Ok(again == constant && constant != rows && levels == 1)
+}
+
+// 4.2, 4.3, 8.3.5: an array and a function become pointers, and a parameter loses its cv.
+#[test]
+fn decayed_types(rt: HostRuntime) -> Result<(), Fail> {
+    assert!(rt; decays(rt.alloc())?);
+    Ok(())
+}
+
+fn decays(alloc: Global) -> Result<bool, Stopped> {
+    let mut table = TypeTable::new(alloc);
+    let number = table.plain(Base::Int)?;
+    let constant = table.with_cv(number, CONST)?;
+    let kept = table.decay(constant)?;
+    let adjusted = table.adjust(constant)?;
+    let expected = table.intern(&TypeTree::Plain(Base::Int))?;
+    Ok(kept == constant && adjusted == expected && constant != expected)
 }
