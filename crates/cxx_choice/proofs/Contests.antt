@@ -115,6 +115,7 @@ best_passes arguments viable i f at_i best = all_from (beats_if_other position_o
   where
     beaten : (k : ℕ) (g : Contender) → slice_get viable k ≡ Some g → k ≢ i → contender_beats arguments f g ≡ true
     beaten k g at_k ne = sym (wins_of arguments viable i k f g at_i at_k) ∙ best.beats_others k (there_below viable k g at_k) ne
+
     by : (k : ℕ) (g : Contender) → slice_get viable k ≡ Some g → (k ≡ i) ⊎ ((k < i) ⊎ (i < k)) → beats_if_other position_of (contender_beats arguments) f g ≡ true
     by k g at_k (inl same) =
         let both : Some g ≡ Some f = sym at_k ∙ ap (λ n. slice_get viable n) same ∙ at_i in
@@ -127,15 +128,15 @@ passes_best : (arguments : List Base) (viable : List Contender) → AreNumbered 
 passes_best arguments viable n i f at_i passes = record {
   within = there_below viable i f at_i;
   beats_others = λ k below ne.
-    let there = below_there viable k below in
-    wins_of arguments viable i k f there.0 at_i there.1
-    ∙ or_false (eqb (there.0).0 f.0) (contender_beats arguments f there.0)
-        (all_at (beats_if_other position_of (contender_beats arguments) f) viable passes k there.0 there.1)
-        (eqb_of_other (there.0).0 f.0 (apart 1 viable n i k f there.0 at_i there.1 (λ e. ne (sym e))));
+      let there = below_there viable k below in
+      wins_of arguments viable i k f there.0 at_i there.1
+      ∙ or_false (eqb (there.0).0 f.0) (contender_beats arguments f there.0)
+      (all_at (beats_if_other position_of (contender_beats arguments) f) viable passes k there.0 there.1)
+      (eqb_of_other (there.0).0 f.0 (apart 1 viable n i k f there.0 at_i there.1 (λ e. ne (sym e))));
 }
 
 by_found : (arguments : List Base) (viable : List Contender) → AreNumbered 1 viable → (verdict : Verdict) → IsVerdict (wins_at arguments viable) (length viable) verdict
-  → (found : Option Contender) → find (beats_all arguments viable) viable ≡ found → found ≡ member_of viable verdict
+    → (found : Option Contender) → find (beats_all arguments viable) viable ≡ found → found ≡ member_of viable verdict
 unfolding Found
 by_found arguments viable n (Best member) is (Some f) e =
     let h = found_at (beats_all arguments viable) viable f e in

@@ -1,23 +1,20 @@
 //! Which function a call means (3.4.1, 13.3).
 
-ghost use Rattle.std.specs.Prelude.{◌≡◌, ◌<◌, ◌≤◌, map, option_map, length, IfOk};
+ghost use Rattle.std.specs.Prelude.{◌≡◌, ◌≤◌, map, length, IfOk};
 ghost use Rattle.cxx_model.specs.declared.limits.TheConstants as limits;
 ghost use Rattle.cxx_model.specs.Stops.{Gives, Faulty};
-ghost use Rattle.cxx_model.specs.First.Candidates.{no_viable_at, ambiguous_at, outcome as outcome_of, type_of_argument as argument_type, types_of as argument_types, bound as bound_call, refusals as refusals_of, ties as ties_of, choice as choice_of, chosen as chosen_of, call_of as call_meant};
-ghost use Rattle.cxx_choice.specs.Contests.{AreNumbered};
+ghost use Rattle.cxx_model.specs.First.Candidates.{no_viable_at, ambiguous_at, outcome as outcome_of, type_of_argument as argument_type, types_of as argument_types, bound as bound_call, refusals as refusals_of, ties as ties_of, choice as choice_of, call_of as call_meant};
 ghost use Rattle.cxx_choice.specs.Views.{candidate_at, contender_at};
 
 use crate::fault::{fault_with, not_built, undeclared};
 use crate::numbers::Seen;
 use crate::scope::{candidates, is_declared, names_object};
-use cxx_choice::{Candidate, Contender, chosen, contenders, outcome, refusals, ties};
+use cxx_choice::{Candidate, Contender, contenders, outcome, refusals, ties, uncounted};
 use cxx_model::first::{Argument, ArgumentList, BaseList, Call, Initializer};
 use cxx_model::{
-    Base, Fault, FaultText, LimitKind, NumberList, OutcomeList, Place, Steps, Stop, Word, limits,
+    Base, Fault, FaultText, LimitKind, NumberList, OutcomeList, Place, Stop, Word, limits,
 };
 use std::alloc::{AllocError, Global};
-use std::marker::Brand;
-use std::sync::ledger::{Blank, Ledger};
 
 /// The type of an argument: that of its outermost cast, and else that of its literal.
 fn type_of_argument(argument: &Argument) -> Base
@@ -113,29 +110,6 @@ fn bound(
     Ok((init, call))
 }
 
-/// The best of the contenders, by comparisons that are counted for no one.
-fn best_by<'a, L: Ledger>(
-    types: &[Base],
-    viable: &[Contender<'a>],
-    blank: Blank,
-) -> Option<Contender<'a>>
-    requires numbered { AreNumbered 1 (map contender_at viable.now) }
-    requires name { blank.name ≡ L.name }
-    requires parts { blank.parts ≡ L.parts }
-    requires some { 0 < blank.parts }
-    ensures { option_map contender_at result ≡ chosen_of types.now (map contender_at viable.now) }
-{
-    chosen(types, viable, &mut Steps::<L>::new(blank))
-}
-
-/// The best of the contenders.
-fn best<'a>(types: &[Base], viable: &[Contender<'a>]) -> Option<Contender<'a>>
-    requires { AreNumbered 1 (map contender_at viable.now) }
-    ensures { option_map contender_at result ≡ chosen_of types.now (map contender_at viable.now) }
-{
-    best_by::<Brand>(types, viable, Blank::new(1))
-}
-
 /// The call that means the best of the viable candidates.
 #[tactic(auto, unfolding(cxx_model::specs::First::Candidates::choice))]
 fn choice(
@@ -150,7 +124,7 @@ fn choice(
 {
     let types = types_of(alloc, arguments.as_slice())?;
     let viable = contenders(alloc, types.as_slice(), all)?;
-    match best(types.as_slice(), viable.as_slice()) {
+    match uncounted(types.as_slice(), viable.as_slice()) {
         Some(best) => Ok(bound(alloc, place, word, arguments, all, &best.candidate)?),
         None => match viable.as_slice() {
             [] => Err(Stop::Fault(no_viable(alloc, place, types.as_slice(), all)?)),

@@ -1,15 +1,9 @@
 //! `cxx_choice`: which of some candidates is chosen, and why none is.
 
-ghost use Rattle.std.specs.Prelude.{◌≡◌, ◌<◌, map};
-ghost use Rattle.cxx_choice.specs.Contests.{AreNumbered};
-ghost use Rattle.cxx_choice.specs.Views.{contender_at};
-
 use crate::places::at;
-use cxx_choice::{Candidate, Contender, chosen, contenders, outcome, refusals, ties};
-use cxx_model::{Base, Evidence, Outcome, Reason, Shown, Steps};
+use cxx_choice::{Candidate, contenders, outcome, refusals, ties, uncounted};
+use cxx_model::{Base, Evidence, Outcome, Reason, Shown};
 use std::alloc::AllocError;
-use std::marker::Brand;
-use std::sync::ledger::{Blank, Ledger};
 
 fn candidate<'a>(fact: u32, column: u32, parameters: &'a [Base]) -> Candidate<'a> {
     Candidate {
@@ -24,32 +18,13 @@ fn shown(number: u32, column: u32) -> Shown {
     Shown::Declared(number, at(1, column))
 }
 
-fn best_by<'a, L: Ledger>(
-    arguments: &[Base],
-    viable: &[Contender<'a>],
-    blank: Blank,
-) -> Option<Contender<'a>>
-    requires numbered { AreNumbered 1 (map contender_at viable.now) }
-    requires name { blank.name ≡ L.name }
-    requires parts { blank.parts ≡ L.parts }
-    requires some { 0 < blank.parts }
-{
-    chosen(arguments, viable, &mut Steps::<L>::new(blank))
-}
-
-fn best<'a>(arguments: &[Base], viable: &[Contender<'a>]) -> Option<Contender<'a>>
-    requires { AreNumbered 1 (map contender_at viable.now) }
-{
-    best_by::<Brand>(arguments, viable, Blank::new(1))
-}
-
 #[test]
 fn a_character_prefers_char(rt: HostRuntime) -> Result<(), AllocError> {
     let (int, char) = ([Base::Int], [Base::Char]);
     let all = [candidate(0, 5, &int), candidate(1, 17, &char)];
     let viable = contenders(rt.alloc(), &[Base::Char], &all)?;
     assert_eq!(rt; viable.len(), 2);
-    let best = best(&[Base::Char], &viable).map(|best| best.candidate.fact);
+    let best = uncounted(&[Base::Char], &viable).map(|best| best.candidate.fact);
     assert_eq!(rt; best, Some(1));
     Ok(())
 }
@@ -79,7 +54,7 @@ fn each_tied_candidate_has_its_counter(rt: HostRuntime) -> Result<(), AllocError
     let (long, double) = ([Base::Long], [Base::Double]);
     let all = [candidate(0, 5, &long), candidate(1, 18, &double)];
     let viable = contenders(rt.alloc(), &[Base::Int], &all)?;
-    assert!(rt; best(&[Base::Int], &viable).is_none());
+    assert!(rt; uncounted(&[Base::Int], &viable).is_none());
     let evidence = ties(rt.alloc(), &[Base::Int], &viable)?;
     assert_eq!(rt;
         evidence.as_slice(),

@@ -17,11 +17,17 @@ fn read(rt: &impl Abort, alloc: Global, text: &[u8]) -> Result<Reading, Stop> {
     read_unit(alloc, text, tokens.as_slice(), OPTIONS)
 }
 
+fn whole(rt: &impl Abort, alloc: Global, text: &[u8]) -> Result<Reading, Fail> {
+    match read(rt, alloc, text) {
+        Ok(reading) => Ok(reading),
+        Err(_) => Err(Fail::from("the unit is whole")),
+    }
+}
+
 fn fault(rt: &impl Abort, alloc: Global, text: &[u8]) -> Result<Box<Fault>, Fail> {
     match read(rt, alloc, text) {
         Err(Stop::Fault(fault)) => Ok(fault),
-        Err(stop) => Err(Fail::from(stop)),
-        Ok(_) => Err(Fail::from("the unit has a fault")),
+        _ => Err(Fail::from("the unit has a fault")),
     }
 }
 
@@ -38,7 +44,7 @@ fn is_undeclared(text: &FaultText, word: &[u8]) -> bool {
 
 #[test]
 fn a_character_prefers_char(rt: HostRuntime) -> Result<(), Fail> {
-    let reading = read(&rt, rt.alloc(), b"int f(int); int f(char); int x = f('a');")?;
+    let reading = whole(&rt, rt.alloc(), b"int f(int); int f(char); int x = f('a');")?;
     let [one, two, three] = reading.declarations.as_slice() else {
         return Err(Fail::from("three declarations"));
     };

@@ -204,11 +204,7 @@ fn names_lose_their_tags(rt: HostRuntime) -> Result<(), Fail> {
     Ok(())
 }
 
-fn fault(
-    place: Place,
-    text: FaultText,
-    evidence: Vec<Evidence>,
-) -> Fault {
+fn fault(place: Place, text: FaultText, evidence: Vec<Evidence>) -> Fault {
     Fault {
         place,
         text,
@@ -250,7 +246,11 @@ fn reports_show_declarations_and_bases(rt: HostRuntime) -> Result<(), Fail> {
         &rt,
         &report(
             alloc,
-            &fault(at(2, 21), FaultText::ConflictingDeclaration(Listed::from_slice(alloc, b"s")?), found),
+            &fault(
+                at(2, 21),
+                FaultText::ConflictingDeclaration(Listed::from_slice(alloc, b"s")?),
+                found,
+            ),
         )?,
         "2:21: conflicting declaration of s\n  found at 1:24\n",
     );
@@ -263,7 +263,11 @@ fn reports_show_declarations_and_bases(rt: HostRuntime) -> Result<(), Fail> {
         &rt,
         &report(
             alloc,
-            &fault(at(6, 24), FaultText::AmbiguousName(Listed::from_slice(alloc, b"n")?), members),
+            &fault(
+                at(6, 24),
+                FaultText::AmbiguousName(Listed::from_slice(alloc, b"n")?),
+                members,
+            ),
         )?,
         "6:24: ambiguous name n\n  1:16 by bases 1 1\n  1:16 by bases 2 1\n",
     );
