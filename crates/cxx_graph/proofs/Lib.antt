@@ -3,7 +3,6 @@ pub mod Keeping
 pub mod Marks
 pub mod Rowed
 pub mod Same
-pub mod Sampled
 mod Clashing
 mod ConflictRows
 mod Conflicting

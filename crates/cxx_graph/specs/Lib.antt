@@ -3,5 +3,4 @@ pub mod Kept
 pub mod Numbered
 pub mod Reserved
 pub mod Rows
-pub mod Sample
 pub mod Stored

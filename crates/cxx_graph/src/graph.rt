@@ -8,6 +8,7 @@ ghost use Rattle.cxx_graph.specs.Numbered.{is_ancestor_of, is_in_scope, numbers_
 ghost use Rattle.cxx_graph.specs.Reserved.{IsNew, IsUnknown, KeepsClasses};
 
 use crate::kept::Kept;
+use cxx_hash::Key;
 use cxx_model::{
     ArgumentList, Base, ClassId, Entity, EnumId, Fact, FactId, OutOfMemory, Pattern, ScopeId,
     Specialisation, Steps, TemplateId, copy_arguments,
@@ -70,7 +71,7 @@ pub struct Graph {
     classes: Vec<Option<u32>>,
     // Whether the end of each class was read.
     completed: Vec<bool>,
-    specialisations: IndexMap<Specialisation, ClassId>,
+    specialisations: IndexMap<Specialisation, ClassId, Key>,
     patterns: Vec<Pattern>,
     kept: Kept,
     alloc: Global,
@@ -94,15 +95,15 @@ impl Model for Graph {
 }
 
 impl Graph {
-    /// A graph of no facts, no classes and no templates.
-    pub fn new(alloc: Global) -> Graph
+    /// A graph of no facts, no classes and no templates. Specialisations are hashed by the key.
+    pub fn new(alloc: Global, key: Key) -> Graph
         ensures { result ≡ record { facts = []; classes = []; patterns = [] } }
     {
         Graph {
             facts: Vec::new(alloc),
             classes: Vec::new(alloc),
             completed: Vec::new(alloc),
-            specialisations: IndexMap::new(alloc),
+            specialisations: IndexMap::with_hasher(alloc, key),
             patterns: Vec::new(alloc),
             kept: Kept::new(alloc),
             alloc,

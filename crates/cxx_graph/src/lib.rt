@@ -6,7 +6,5 @@ mod kept;
 pub mod laws;
 mod promotion;
 mod rows;
-#[cfg(test)]
-mod tests;
 
 pub use graph::{AddFault, Graph};

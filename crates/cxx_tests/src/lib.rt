@@ -12,6 +12,8 @@ mod decl;
 #[cfg(test)]
 mod edge;
 #[cfg(test)]
+mod graph;
+#[cfg(test)]
 mod places;
 #[cfg(test)]
 mod plain;

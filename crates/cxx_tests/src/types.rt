@@ -2,6 +2,7 @@ ghost use Rattle.std.specs.Prelude.{◌<◌, length, IfOk};
 ghost use Rattle.cxx_tests.specs.Free.{IsFree};
 
 use crate::stopped::Stopped;
+use cxx_hash::Key;
 use cxx_model::{
     Base, Bound, ClassId, Cv, Listed, Signature, TypeId, TypeList, TypeNode, TypeTree,
 };
@@ -92,7 +93,7 @@ fn same_type(alloc: Global, one: Made, two: Made) -> Result<bool, Stopped>
     requires one_free { IfOk one IsFree }
     requires two_free { IfOk two IsFree }
 {
-    let mut table = TypeTable::new(alloc);
+    let mut table = TypeTable::new(alloc, Key::of(&[]));
     let one = table.intern(&one?)?;
     let two = table.intern(&two?)?;
     Ok(table.same(one, two))
@@ -102,7 +103,7 @@ fn similar_types(alloc: Global, one: Made, two: Made) -> Result<bool, Stopped>
     requires one_free { IfOk one IsFree }
     requires two_free { IfOk two IsFree }
 {
-    let mut table = TypeTable::new(alloc);
+    let mut table = TypeTable::new(alloc, Key::of(&[]));
     let one = table.intern(&one?)?;
     let two = table.intern(&two?)?;
     Ok(table.similar(one, two))
@@ -113,7 +114,7 @@ fn stripped(alloc: Global, one: Made, two: Made) -> Result<bool, Stopped>
     requires one_free { IfOk one IsFree }
     requires two_free { IfOk two IsFree }
 {
-    let mut table = TypeTable::new(alloc);
+    let mut table = TypeTable::new(alloc, Key::of(&[]));
     let one = table.intern(&one?)?;
     let one = table.strip_cv(one)?;
     let two = table.intern(&two?)?;
@@ -228,7 +229,7 @@ fn nodes_and_trees(rt: HostRuntime) -> Result<(), Fail> {
 }
 
 fn reads_rows(alloc: Global) -> Result<bool, Stopped> {
-    let mut table = TypeTable::new(alloc);
+    let mut table = TypeTable::new(alloc, Key::of(&[]));
     let number = table.intern(&array(alloc, int(), 3)?)?;
     let tree = table.tree_of(alloc, number)?;
     let node = table.node(number);
@@ -247,7 +248,7 @@ fn row_number(alloc: Global, table: &mut TypeTable, class: u32) -> Result<TypeId
 #[test]
 fn many_types(rt: HostRuntime) -> Result<(), Fail> {
     let alloc = rt.alloc();
-    let mut table = TypeTable::new(alloc);
+    let mut table = TypeTable::new(alloc, Key::of(&[]));
     let mut numbers = Vec::new(alloc);
     for class in 0..100_000u32 {
         numbers.push(row_number(alloc, &mut table, class)?)?;
@@ -279,7 +280,7 @@ fn deep_type(rt: HostRuntime) -> Result<(), Fail> {
 }
 
 fn interns_deep(alloc: Global) -> Result<bool, Stopped> {
-    let mut table = TypeTable::new(alloc);
+    let mut table = TypeTable::new(alloc, Key::of(&[]));
     let built = built_chain(&mut table, 1024)?;
     let number = table.intern(&chain(alloc, 1024)?)?;
     let less = table.intern(&chain(alloc, 1023)?)?;
@@ -311,7 +312,7 @@ fn deep_array(rt: HostRuntime) -> Result<(), Fail> {
 }
 
 fn builds_arrays(alloc: Global) -> Result<bool, Stopped> {
-    let mut table = TypeTable::new(alloc);
+    let mut table = TypeTable::new(alloc, Key::of(&[]));
     let rows = built_array(&mut table, 1024)?;
     let constant = table.with_cv(rows, CONST)?;
     let same = table.same_unqualified(rows, constant) && rows != constant;
@@ -338,7 +339,7 @@ fn doubling_type(rt: HostRuntime) -> Result<(), Fail> {
 }
 
 fn builds_doubling(alloc: Global) -> Result<bool, Stopped> {
-    let mut table = TypeTable::new(alloc);
+    let mut table = TypeTable::new(alloc, Key::of(&[]));
     let number = doubled(alloc, &mut table, 40)?;
     let levels = table.levels(number);
     let again = doubled(alloc, &mut table, 40)?;
@@ -380,7 +381,7 @@ fn built_types(rt: HostRuntime) -> Result<(), Fail> {
 }
 
 fn builds_with_cv(alloc: Global) -> Result<bool, Stopped> {
-    let mut table = TypeTable::new(alloc);
+    let mut table = TypeTable::new(alloc, Key::of(&[]));
     let rows = table.intern(&array(alloc, int(), 3)?)?;
     let levels = table.levels(rows);
     let constant = table.build(TypeNode::Qualified(CONST, rows))?;
@@ -397,7 +398,7 @@ fn decayed_types(rt: HostRuntime) -> Result<(), Fail> {
 }
 
 fn decays(alloc: Global) -> Result<bool, Stopped> {
-    let mut table = TypeTable::new(alloc);
+    let mut table = TypeTable::new(alloc, Key::of(&[]));
     let number = table.plain(Base::Int)?;
     let constant = table.with_cv(number, CONST)?;
     let kept = table.decay(constant)?;

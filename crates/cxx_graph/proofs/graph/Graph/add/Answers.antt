@@ -24,9 +24,9 @@ invariant_of-self-in-Some c =
     let facts : c.push.new.self.items ≡ c.self.inside.facts.items ++ c.args.fact ∷ [] = c.in_ok-push.ensures.items ∙ ap (λ (fs : List Fact). fs ++ c.args.fact ∷ []) c.reserve.ensures.items in
     record {
       stored = subst (λ (facts : List Fact). IsStored facts c.self.inside.specialisations.entries c.self.inside.classes.items (slice_set c.self.inside.completed.items c.in-Some.class.0 true) c.self.inside.patterns.items) (sym facts)
-    (stored-fact c.self.inside.facts.items c.self.inside.specialisations.entries c.self.inside.classes.items c.self.inside.completed.items c.self.inside.patterns.items c.self.invariant.stored c.args.fact (slice_set c.self.inside.completed.items c.in-Some.class.0 true) room ok
-    (simp length-set)
-    (marked-ended c.self.inside.facts.items c.args.fact c.self.inside.completed.items c.in-Some.class (sym c.ended_by-ended.ensures ∙ c.in-Some.is) c.self.invariant.stored.marked));
+          (stored-fact c.self.inside.facts.items c.self.inside.specialisations.entries c.self.inside.classes.items c.self.inside.completed.items c.self.inside.patterns.items c.self.invariant.stored c.args.fact (slice_set c.self.inside.completed.items c.in-Some.class.0 true) room ok
+          (simp length-set)
+          (marked-ended c.self.inside.facts.items c.args.fact c.self.inside.completed.items c.in-Some.class (sym c.ended_by-ended.ensures ∙ c.in-Some.is) c.self.invariant.stored.marked));
       kept = subst (λ (fs : List Fact). IsKept fs c.note.new.self.members c.note.new.self.bases c.note.new.self.holders.items) (sym facts) (c.in_ok-note.ensures.noted c.self.inside.facts.items c.self.invariant.kept (omega (arith, c.len-3.ensures, c.self.inside.facts.ok.0)));
     }
 
@@ -38,8 +38,8 @@ invariant_of-self-in_default c =
     let facts : c.push.new.self.items ≡ c.self.inside.facts.items ++ c.args.fact ∷ [] = c.in_ok-push.ensures.items ∙ ap (λ (fs : List Fact). fs ++ c.args.fact ∷ []) c.reserve.ensures.items in
     record {
       stored = subst (λ (facts : List Fact). IsStored facts c.self.inside.specialisations.entries c.self.inside.classes.items c.self.inside.completed.items c.self.inside.patterns.items) (sym facts)
-    (stored-fact c.self.inside.facts.items c.self.inside.specialisations.entries c.self.inside.classes.items c.self.inside.completed.items c.self.inside.patterns.items c.self.invariant.stored c.args.fact c.self.inside.completed.items room ok
-    refl
-    (marked-same c.self.inside.facts.items c.args.fact c.self.inside.completed.items (sym c.ended_by-ended.ensures ∙ c.in_default.is) c.self.invariant.stored.marked));
+          (stored-fact c.self.inside.facts.items c.self.inside.specialisations.entries c.self.inside.classes.items c.self.inside.completed.items c.self.inside.patterns.items c.self.invariant.stored c.args.fact c.self.inside.completed.items room ok
+          refl
+          (marked-same c.self.inside.facts.items c.args.fact c.self.inside.completed.items (sym c.ended_by-ended.ensures ∙ c.in_default.is) c.self.invariant.stored.marked));
       kept = subst (λ (fs : List Fact). IsKept fs c.note.new.self.members c.note.new.self.bases c.note.new.self.holders.items) (sym facts) (c.in_ok-note.ensures.noted c.self.inside.facts.items c.self.invariant.kept (omega (arith, c.len-3.ensures, c.self.inside.facts.ok.0)));
     }

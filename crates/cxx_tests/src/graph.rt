@@ -2,12 +2,13 @@ ghost use Rattle.std.specs.Prelude.{◌≡◌, ◌<◌, ◌≤◌, ◌+◌, [], 
 ghost use Rattle.std.specs.List.{slice_get};
 ghost use Rattle.cxx_model.specs.Facts.Graph.{IsEntityInRange, scopes};
 ghost use Rattle.cxx_graph.specs.Reserved.{KeepsClasses};
-ghost use Rattle.cxx_graph.specs.Sample.{sample};
+ghost use Rattle.cxx_tests.specs.Sample.{sample};
 
-use crate::graph::{AddFault, Graph};
+use cxx_graph::{AddFault, Graph};
+use cxx_hash::Key;
 use cxx_model::{
-    Access, Argument, ArgumentList, ClassId, Entity, Fact, FactId, Formula, Listed, MemberKind,
-    Name, OutOfMemory, Pattern, Place, ScopeId, ScopeKind, Steps, TemplateId, TreeId, TypeId,
+    Access, Argument, ArgumentList, Base, ClassId, Entity, EnumId, Fact, FactId, Formula, Listed,
+    MemberKind, Name, Pattern, Place, ScopeId, ScopeKind, Steps, TemplateId, TreeId, TypeId,
 };
 use std::alloc::Global;
 use std::marker::Brand;
@@ -34,7 +35,7 @@ fn unit(alloc: Global) -> Result<Graph, AddFault>
     ensures classes { IfOk result (λ graph. graph.classes ≡ []) }
     ensures patterns { IfOk result (λ graph. graph.patterns ≡ []) }
 {
-    let mut graph = Graph::new(alloc);
+    let mut graph = Graph::new(alloc, Key::of(&[]));
     let what = Entity::Scope {
         parent: None,
         kind: ScopeKind::Space,
@@ -168,7 +169,7 @@ fn classes_that_name_one_another(rt: HostRuntime) -> Result<(), Fail> {
 }
 
 // 14: a template of no parameters.
-fn add_sample(graph: &mut Graph, alloc: Global, tree: u32) -> Result<TemplateId, OutOfMemory>
+fn add_sample(graph: &mut Graph, alloc: Global, tree: u32) -> Result<TemplateId, AddFault>
     requires { length graph.old.patterns < length graph.old.facts }
     ensures number { IfOk result (λ template. template.0 ≡ length graph.old.patterns) }
     ensures patterns { OnOk result (length graph.new.patterns ≡ length graph.old.patterns + 1) }
@@ -183,7 +184,7 @@ fn add_sample(graph: &mut Graph, alloc: Global, tree: u32) -> Result<TemplateId,
         class: None,
         tree: TreeId(tree),
     };
-    graph.add_template(pattern)
+    Ok(graph.add_template(pattern)?)
 }
 
 // The class of a specialisation with one argument.
@@ -205,7 +206,7 @@ fn special(
 }
 
 // Seven arguments, no two of which are the same.
-fn argument(alloc: Global, number: u32) -> Result<Argument, OutOfMemory> {
+fn argument(alloc: Global, number: u32) -> Result<Argument, AddFault> {
     let formula = match number {
         0 => return Ok(Argument::OfType(TypeId(3))),
         1 => return Ok(Argument::Value(3, TypeId(2))),
@@ -334,5 +335,26 @@ fn limit(rt: HostRuntime) -> Result<(), Fail> {
     let new = special(&mut graph, alloc, template, argument(alloc, 1)?);
     assert!(rt; new == Err(AddFault::Limit));
     assert!(rt; graph.length() == 1_048_576);
+    Ok(())
+}
+
+// 3.3, 10: the facts of a scope and of the bases of a class, in order.
+#[test]
+fn kept_lists(rt: HostRuntime) -> Result<(), Fail> {
+    let alloc = rt.alloc();
+    let mut graph = unit(alloc)?;
+    let parent = graph.reserve_class(None, &Listed::new(alloc))?;
+    let child = graph.reserve_class(None, &Listed::new(alloc))?;
+    let named = Entity::Class {
+        class: parent,
+        is_union: false,
+    };
+    assert!(rt; declare(&mut graph, alloc, ScopeId(0), named)? == FactId(1));
+    assert!(rt; graph.facts_of(ScopeId(0)) == [FactId(0), FactId(1)].as_slice());
+    assert!(rt; graph.facts_of(ScopeId(7)).is_empty());
+    assert!(rt; graph.ancestors(child).is_empty());
+    assert!(rt; graph.facts().len() == 2);
+    // 7.2: with no enumerator as with the value 0.
+    assert!(rt; graph.promoted(EnumId(0)) == Some(Base::Int));
     Ok(())
 }
