@@ -5,7 +5,7 @@ ghost use Rattle.cxx_model.specs.Types.Copies.{CopiesFormula, CopiesBound, Copie
 
 use crate::listed::Listed;
 use crate::memory::OutOfMemory;
-use crate::types::{Bound, Formula, Argument, ArgumentList};
+use crate::types::{Argument, ArgumentList, Bound, Formula};
 use std::alloc::Global;
 
 fn copy_formula(alloc: Global, formula: &Formula) -> Result<Formula, OutOfMemory>
@@ -55,10 +55,7 @@ pub fn copy_bound(alloc: Global, bound: &Bound) -> Result<Bound, OutOfMemory>
     }
 }
 
-fn copy_argument(
-    alloc: Global,
-    argument: &Argument,
-) -> Result<Argument, OutOfMemory>
+fn copy_argument(alloc: Global, argument: &Argument) -> Result<Argument, OutOfMemory>
     ensures { IfOk result (CopiesArgument argument.now) }
 {
     match argument {
@@ -72,10 +69,7 @@ fn copy_argument(
 }
 
 /// A copy of arguments: the same ones, whatever types their numbers name.
-pub fn copy_arguments(
-    alloc: Global,
-    arguments: &[Argument],
-) -> Result<ArgumentList, OutOfMemory>
+pub fn copy_arguments(alloc: Global, arguments: &[Argument]) -> Result<ArgumentList, OutOfMemory>
     ensures { IfOk result (CopiesArguments arguments.now) }
 {
     let mut copies = Listed::new(alloc);

@@ -3,8 +3,7 @@
 use crate::listed::{Listed, Word};
 use crate::place::Place;
 use crate::types::{
-    ClassId, EnumId, FactId, ScopeId, Argument, ArgumentList, TemplateId, TreeId,
-    TypeId, TypeTree,
+    Argument, ArgumentList, ClassId, EnumId, FactId, ScopeId, TemplateId, TreeId, TypeId, TypeTree,
 };
 
 /// How a function, an object or a template stands to a class (9.2, 9.3, 9.4, 12).

@@ -2,7 +2,7 @@
 
 use crate::listed::NumberList;
 use crate::overload::CounterList;
-use crate::types::{ClassId, FactId, ArgumentList, TemplateId};
+use crate::types::{ArgumentList, ClassId, FactId, TemplateId};
 
 /// What an instance is of (14.7.1).
 #[derive(PartialEq, Eq, Hash, Drop)]

@@ -4,7 +4,7 @@ use crate::evidence::Reason;
 use crate::listed::{Listed, NumberList, Word};
 use crate::place::Place;
 use crate::sequence::{Operand, OperandList, SequenceList};
-use crate::types::{ClassId, FactId, FactList, ScopeId, ArgumentList, TypeId, TypeIdList};
+use crate::types::{ArgumentList, ClassId, FactId, FactList, ScopeId, TypeId, TypeIdList};
 
 /// What is asked (13.3.1).
 #[derive(Clone, Copy, PartialEq, Eq)]

@@ -6,7 +6,7 @@ ghost use Rattle.cxx_model.specs.declared.stop.Stop.TheVariants as stop;
 use crate::evidence::EvidenceList;
 use crate::fault::FaultText;
 use crate::place::Place;
-use crate::types::{ClassId, FactId, ArgumentList};
+use crate::types::{ArgumentList, ClassId, FactId};
 use std::alloc::{AllocError, AllocFailed};
 
 /// Which quantity was passed.

@@ -189,8 +189,8 @@ objects_agree closed one kind two other = agree one two && (same_member kind oth
 abbrev pub function_templates_agree : Bool → List CxxParameter → CxxType → MemberKind → List CxxParameter → CxxType → MemberKind → Bool
 function_templates_agree closed ones one kind twos two other =
     if same_parameter_lists ones twos then (
-        if any_static kind other then (if same_result one two && same_parameters true one two then same_type one two && (same_member kind other && closed) else true) else
-        (if same_type one two then may_repeat closed kind other else true))
+    if any_static kind other then (if same_result one two && same_parameters true one two then same_type one two && (same_member kind other && closed) else true) else
+    (if same_type one two then may_repeat closed kind other else true))
     else true
 
 -- 7.1.5.3: a class that is declared as a union is no other class

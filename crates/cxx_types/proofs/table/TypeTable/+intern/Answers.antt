@@ -79,9 +79,13 @@ intern_each-intern-requires t c =
     let whole : t ≡ 3 * trees_size c.args.trees.now = sym c.decreases in
     let part : tree_size (get_or c.args.trees.now c.loop-tree.tree-index c.tree-item.result) + 1 ≤ trees_size c.args.trees.now = item-size c.args.trees.now c.loop-tree.tree-index c.tree-item.result c.loop-tree-test.true in
     let same : tree_size c.tree-item.result ≡ tree_size (get_or c.args.trees.now c.loop-tree.tree-index c.tree-item.result) = ap tree_size c.tree-item.is in
-    let small : 3 * tree_size c.tree-item.result + 2 < t = omega arith in
-    (small, (item-below c.args.self.now c.loop-tree.self c.args.trees.now c.loop-tree.tree-index c.tree-item.result c.loop-tree.invariant.keeps c.loop-tree-test.true c.tree-item.is c.requires.below,
-      item-proper c.args.self.now c.loop-tree.self c.args.trees.now c.loop-tree.tree-index c.tree-item.result c.loop-tree.invariant.keeps c.loop-tree-test.true c.tree-item.is c.requires.below c.requires.proper))
+    let small : 3 * tree_size c.tree-item.result + 2 < t = omega arith in (
+      small,
+      (
+        item-below c.args.self.now c.loop-tree.self c.args.trees.now c.loop-tree.tree-index c.tree-item.result c.loop-tree.invariant.keeps c.loop-tree-test.true c.tree-item.is c.requires.below,
+        item-proper c.args.self.now c.loop-tree.self c.args.trees.now c.loop-tree.tree-index c.tree-item.result c.loop-tree.invariant.keeps c.loop-tree-test.true c.tree-item.is c.requires.below c.requires.proper,
+      ),
+    )
 
 pub intern_each-returns-in_err-intern : goal.intern_each-returns-in_err-intern
 intern_each-returns-in_err-intern t c =
