@@ -112,6 +112,13 @@ impl Graph {
         self.facts.len() as u32
     }
 
+    /// All facts, in order. Reading them here takes no steps.
+    pub fn facts(&self) -> &[Fact]
+        ensures { result.now ≡ self.now.facts }
+    {
+        self.facts.as_slice()
+    }
+
     /// The fact with a number. It takes one step.
     pub fn fact<L: Ledger>(&self, number: FactId, steps: &mut Steps<L>) -> &Fact
         requires { number.0 < length self.now.facts }

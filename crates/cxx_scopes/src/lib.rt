@@ -1,13 +1,9 @@
-// A library with one function.
+//! What a name means where it stands: unqualified, qualified and member lookup (3.4, 7.3, 10.2).
 #![tactic(auto)]
 
-ghost use Rattle.std.specs.Prelude.{◌≡◌};
-ghost use Rattle.cxx_scopes.specs.Echo.{echo_of};
+mod directives;
+mod index;
+mod lists;
+mod looking;
 
-// The `ensures` clause is the contract: what `echo` returns is `echo_of` of its argument, a definition
-// in `specs/Echo.antt`, which a caller's clause can cite too.
-pub fn echo(x: usize) -> usize
-    ensures { result ≡ echo_of x }
-{
-    x
-}
+pub use index::ScopeIndex;

@@ -1,0 +1,4 @@
+pub mod Gathering
+pub mod Noted
+pub mod Placed
+pub mod Scanned
