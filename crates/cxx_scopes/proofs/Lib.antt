@@ -2,3 +2,4 @@ pub mod Gathering
 pub mod Noted
 pub mod Placed
 pub mod Scanned
+pub mod Spreading

@@ -1,5 +1,5 @@
 -- The scopes that an index keeps are those of its facts.
-use Rattle.std.proofs.Common.{◌≡◌, ℕ, zero, suc, ◌+◌, ◌-◌, ◌<◌, true, false, cond, eqb, List, [], ◌∷◌, ◌++◌, length, Option, Some, None, Bool, refl, ap, sym, ◌∙◌, subst, eq-eqb, arith}
+use Rattle.std.proofs.Common.{◌≡◌, ℕ, zero, suc, ◌+◌, ◌-◌, ◌<◌, ◌≤◌, append_assoc, true, false, cond, eqb, List, [], ◌∷◌, ◌++◌, length, Option, Some, None, Bool, refl, ap, sym, ◌∙◌, subst, eq-eqb, arith}
 use Rattle.std.specs.List.{slice_get}
 use Rattle.std.proofs.lemmas.Bool.{eqb-true}
 use Rattle.cxx_model.specs.declared.facts.Entity.{Entity}
@@ -112,8 +112,12 @@ up_unit all room done scope lt e =
     let h : eqb scope.0 0 ≡ true = eq-eqb scope.0 0 e in
     rw (k, h) refl
 
-pub up_last : (all : List CxxFact) (room : ℕ) (scope : ScopeId) → up all (room - room) scope ≡ scope ∷ []
+pub up_last : (all : List CxxFact) (room done : ℕ) (scope : ScopeId) → room ≤ done → up all (room - done) scope ≡ scope ∷ []
 unfolding up
-up_last all room scope =
-    let k : room - room ≡ 0 = omega arith in
+up_last all room done scope le =
+    let k : room - done ≡ 0 = omega arith in
     rw k refl
+
+-- one scope more of a chain, after some
+pub chain_more : (all : List CxxFact) (room done : ℕ) (found : List ScopeId) (scope : ScopeId) → done < room → (scope.0 ≡ 0 → ⊥) → found ++ up all (room - done) scope ≡ (found ++ scope ∷ []) ++ up all (room - (done + 1)) (parent_of all scope)
+chain_more all room done found scope lt ne = ap (λ xs. found ++ xs) (up_more all room done scope lt ne) ∙ sym (append_assoc found (scope ∷ []) (up all (room - (done + 1)) (parent_of all scope)))

@@ -7,6 +7,8 @@ use Rattle.cxx_model.specs.declared.types.ScopeId.{ScopeId}
 use Rattle.cxx_model.specs.Facts.Declarations.{CxxFact, CxxGraph, graph_at, facts_at}
 use Rattle.cxx_model.specs.Facts.Fitted.{IsGraphBelow}
 use Rattle.cxx_meaning.specs.Lookups.Gathered.{before}
+use Rattle.cxx_meaning.specs.Lookups.Directives.{Shown as ShownMeant}
+use Rattle.cxx_scopes.specs.declared.directives.Shown.{Shown}
 use Rattle.cxx_scopes.specs.declared.looking.Looking.{Looking}
 use Rattle.cxx_scopes.specs.declared.index.Noted.{Noted}
 use Rattle.cxx_scopes.specs.declared.index.ScopeIndex.{ScopeIndex}
@@ -35,6 +37,9 @@ graph_of looking = graph_at looking.types.now looking.graph.now
 
 abbrev pub facts_of : Looking → List CxxFact
 facts_of looking = facts_at looking.types.now looking.graph.now.facts
+
+abbrev pub shown_of : Shown → ShownMeant
+shown_of shown = record { there = shown.there; space = shown.space }
 
 -- The scopes are those of the graph, and each type that it names stands in the table.
 pub record IsLooking (looking : Looking) : Type 0 where

@@ -1,7 +1,7 @@
 //! Lists without repetition.
 
 ghost use Rattle.std.specs.Prelude.{◌≡◌, OnOk};
-ghost use Rattle.std.specs.List.{insert};
+ghost use Rattle.std.specs.List.{slice_get};
 ghost use Rattle.cxx_meaning.specs.Lookups.Gathered.{holds_scope as holds, with_scope as joined, with_scopes as joined_all, with_fact as placed, with_facts as placed_all};
 ghost use Rattle.cxx_scopes.specs.Places.{place_in};
 
@@ -17,6 +17,13 @@ pub(crate) fn holds_scope(scopes: &[ScopeId], scope: ScopeId) -> bool
         }
     }
     false
+}
+
+/// The scope at a place of a list.
+pub(crate) fn scope_at(scopes: &[ScopeId], place: usize) -> Option<ScopeId>
+    ensures { result ≡ slice_get scopes.now place }
+{
+    scopes.get(place).copied()
 }
 
 /// Adds a scope at the end, where it is not there yet.

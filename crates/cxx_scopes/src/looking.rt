@@ -95,7 +95,7 @@ impl Looking<'_> {
     }
 
     /// A scope and those around it, to that of the unit.
-    #[tactic(auto, using(crate::proofs::Noted::up_more, crate::proofs::Noted::up_unit, crate::proofs::Noted::up_last))]
+    #[tactic(auto, using(crate::proofs::Noted::chain_more, crate::proofs::Noted::up_unit, crate::proofs::Noted::up_last))]
     pub fn chain(&self, scope: ScopeId) -> Result<Vec<ScopeId>, AllocError>
         requires { IsLooking self.now }
         ensures { IfOk result (λ scopes. scopes.items ≡ chain_of (facts_of self.now) scope) }

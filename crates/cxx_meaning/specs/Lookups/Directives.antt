@@ -29,10 +29,11 @@ pub record Shown : Type 0 where
   pub there : ScopeId
   pub space : ScopeId
 
-abbrev pub shown_from : List CxxFact → ScopeId → ScopeId → Shown
-shown_from all scope space = record { there = first_common all (chain all scope) (chain all space); space = space }
+-- a namespace, seen from a scope by its chain
+abbrev pub shown_from : List CxxFact → List ScopeId → ScopeId → Shown
+shown_from all scopes space = record { there = first_common all scopes (chain all space); space = space }
 
 -- 7.3.4: What is reached from a scope shows in the nearest namespace that encloses the scope and what is reached,
 -- whatever stands between the two.
 unfoldable pub shows : List CxxFact → ℕ → ScopeId → List Shown
-shows all cut scope = map (shown_from all scope) (reached all cut scope)
+shows all cut scope = map (shown_from all (chain all scope)) (reached all cut scope)
