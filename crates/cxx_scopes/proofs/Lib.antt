@@ -3,3 +3,4 @@ pub mod Noted
 pub mod Placed
 pub mod Scanned
 pub mod Spreading
+pub mod Patterns

@@ -9,6 +9,9 @@ use Rattle.cxx_model.specs.Facts.Fitted.{IsGraphBelow}
 use Rattle.cxx_meaning.specs.Lookups.Gathered.{before}
 use Rattle.cxx_meaning.specs.Lookups.Directives.{Shown as ShownMeant}
 use Rattle.cxx_scopes.specs.declared.directives.Shown.{Shown}
+use Rattle.cxx_meaning.specs.Lookups.Wanted.{Wanted as WantedMeant, any_name, types_only, namespaces_only, before_colons}
+use Rattle.cxx_scopes.specs.declared.wanted.Wanted.{Wanted}
+use Rattle.cxx_scopes.specs.declared.wanted.Wanted.TheVariants as wanted
 use Rattle.cxx_scopes.specs.declared.looking.Looking.{Looking}
 use Rattle.cxx_scopes.specs.declared.index.Noted.{Noted}
 use Rattle.cxx_scopes.specs.declared.index.ScopeIndex.{ScopeIndex}
@@ -45,3 +48,9 @@ shown_of shown = record { there = shown.there; space = shown.space }
 pub record IsLooking (looking : Looking) : Type 0 where
   pub scopes : looking.scopes.now ≡ scopes_of looking.graph.now.facts
   pub below : IsGraphBelow (length looking.types.now) looking.graph.now
+
+abbrev pub wanted_at : Wanted → WantedMeant
+wanted_at wanted.Any = any_name
+wanted_at wanted.Types = types_only
+wanted_at wanted.Spaces = namespaces_only
+wanted_at wanted.Holders = before_colons

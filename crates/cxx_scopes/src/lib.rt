@@ -5,5 +5,7 @@ mod directives;
 mod index;
 mod lists;
 mod looking;
+mod wanted;
 
 pub use index::ScopeIndex;
+pub use wanted::Wanted;

@@ -63,7 +63,7 @@ not_redeclared sightings = filter (λ one. not (is_redeclared sightings one)) si
 
 -- what the name means among the declarations of one class
 unfoldable pub declared_in : CxxGraph → Wanted → CxxName → ClassId → List Sighting
-declared_in graph wanted name class = unhidden (not_redeclared (members_in graph wanted name class))
+declared_in graph wanted name class = unhidden graph (not_redeclared (members_in graph wanted name class))
 
 -- ---- subobjects
 

@@ -5,13 +5,13 @@ use Rattle.cxx_model.specs.declared.lookup.Found.{Found}
 use Rattle.cxx_model.specs.declared.lookup.Found.TheVariants as found
 use Rattle.cxx_model.specs.declared.types.FactId.{FactId}
 use Rattle.cxx_model.specs.declared.types.ScopeId.{ScopeId}
-use Rattle.cxx_model.specs.Facts.Conflicts.{Meant, declares_name, has_name, hides, is_hidden, meant_by, same_name}
-use Rattle.cxx_model.specs.Facts.Entities.{CxxEntity, entity_by, is_seen, is_space, of_fact, of_space, of_type, same_entity}
+use Rattle.cxx_model.specs.Facts.Conflicts.{declares_name, has_name, same_name}
+use Rattle.cxx_model.specs.Facts.Entities.{CxxEntity, meant_by, entity_by, is_seen, is_space, of_fact, of_space, of_type, same_entity}
 use Rattle.cxx_model.specs.Facts.Declarations as facts
 use Rattle.cxx_model.specs.Facts.Declarations.{CxxFact, CxxGraph, CxxName, Declares}
 use Rattle.cxx_meaning.specs.Lookups.Gathered.{gathered, same_scope, with_facts}
 use Rattle.cxx_meaning.specs.Lookups.Scopes.{kind_of}
-use Rattle.cxx_meaning.specs.Lookups.Wanted.{Wanted, is_function, is_wanted}
+use Rattle.cxx_meaning.specs.Lookups.Wanted.{Wanted, hides_types, is_function, is_hideable, is_wanted}
 
 -- A declaration of a name: its scope, the fact itself, and the fact for which it stands, which is another one where it
 -- is a using-declaration (7.3.3).
@@ -64,15 +64,15 @@ standing graph cut wanted name scope = gathered (sighting_in graph cut wanted na
 
 -- ---- 3.3.7
 
-abbrev pub is_hidden_by : Sighting → Sighting → Bool
-is_hidden_by one two = hides two.what && same_scope one.scope two.scope
+abbrev pub is_hidden_by : CxxGraph → Sighting → Sighting → Bool
+is_hidden_by graph one two = hides_types graph two.what && same_scope one.scope two.scope
 
 -- the name of a class or an enumeration that another declaration of its scope hides
-abbrev pub is_hidden_among : List Sighting → Sighting → Bool
-is_hidden_among sightings one = is_hidden one.what && list_any (is_hidden_by one) sightings
+abbrev pub is_hidden_among : CxxGraph → List Sighting → Sighting → Bool
+is_hidden_among graph sightings one = is_hideable one.what && list_any (is_hidden_by graph one) sightings
 
-unfoldable pub unhidden : List Sighting → List Sighting
-unhidden sightings = filter (λ one. not (is_hidden_among sightings one)) sightings
+unfoldable pub unhidden : CxxGraph → List Sighting → List Sighting
+unhidden graph sightings = filter (λ one. not (is_hidden_among graph sightings one)) sightings
 
 -- ---- entities
 
@@ -123,4 +123,4 @@ found_of graph (one ∷ others) = by (find (λ two. not (both_functions graph on
 
 -- what a lookup finds in the declarations that it sees
 abbrev pub looked_up : CxxGraph → List Sighting → Found
-looked_up graph sightings = found_of graph (entities (unhidden sightings))
+looked_up graph sightings = found_of graph (entities (unhidden graph sightings))

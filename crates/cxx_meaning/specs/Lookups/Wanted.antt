@@ -42,6 +42,20 @@ names_type graph (facts.synonym of) = true
 names_type graph (facts.template template member defaults is_explicit first) = not (is_of_functions (slice_get graph.patterns template.0))
 names_type graph _ = false
 
+-- 3.3.7: the names of classes and enumerations, which others of their scope hide; the name of a class in its own scope is
+-- one (9)
+abbrev pub is_hideable : Declares → Bool
+is_hideable (facts.injected class) = true
+is_hideable (facts.class class is_union) = true
+is_hideable (facts.enumeration n) = true
+is_hideable _ = false
+
+-- 3.3.7: an object, a function, a function template or an enumerator
+abbrev pub hides_types : CxxGraph → Declares → Bool
+hides_types graph (facts.object of member is_mutable value first) = true
+hides_types graph (facts.enumerator n value) = true
+hides_types graph what = is_function graph what
+
 -- 3.4.6
 abbrev pub names_space : Declares → Bool
 names_space (facts.namespace inner) = true
