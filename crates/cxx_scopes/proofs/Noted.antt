@@ -1,5 +1,5 @@
 -- The scopes that an index keeps are those of its facts.
-use Rattle.std.proofs.Common.{◌≡◌, ℕ, zero, suc, ◌+◌, ◌-◌, ◌<◌, ◌≤◌, append_assoc, true, false, cond, eqb, List, [], ◌∷◌, ◌++◌, length, Option, Some, None, Bool, refl, ap, sym, ◌∙◌, subst, eq-eqb, arith}
+use Rattle.std.proofs.Common.{◌≡◌, ℕ, zero, suc, ◌+◌, ◌-◌, ◌<◌, ◌≤◌, append_assoc, true, false, cond, eqb, List, [], ◌∷◌, ◌++◌, length, Option, Some, None, option_map, Bool, refl, ap, sym, ◌∙◌, subst, eq-eqb, arith}
 use Rattle.std.specs.List.{slice_get}
 use Rattle.std.proofs.lemmas.Bool.{eqb-true}
 use Rattle.cxx_model.specs.declared.facts.Entity.{Entity}
@@ -26,6 +26,11 @@ fact_below count (one ∷ facts) zero fact below at = subst (λ f. IsFactBelow c
     some_is : (x y : Fact) → Some x ≡ Some y → x ≡ y
     some_is x y e = cc
 fact_below count (one ∷ facts) (suc number) fact below at = fact_below count facts number fact below.1 at
+
+pub fact_is : (types : List CxxType) (facts : List Fact) (n : ℕ) → slice_get (facts_at types facts) n ≡ option_map (fact_at types) (slice_get facts n)
+fact_is types [] n = refl
+fact_is types (fact ∷ facts) zero = refl
+fact_is types (fact ∷ facts) (suc n) = fact_is types facts n
 
 -- ---- kinds
 

@@ -5,6 +5,7 @@ mod directives;
 mod index;
 mod lists;
 mod looking;
+mod sightings;
 mod wanted;
 
 pub use index::ScopeIndex;

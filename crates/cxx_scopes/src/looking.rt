@@ -28,13 +28,13 @@ pub(crate) struct Looking<'a> {
 impl Looking<'_> {
     /// The fact with a number, where there is one.
     #[tactic(auto, using(crate::proofs::Noted::fact_below))]
-    pub fn fact<L: Ledger>(&self, number: u32, steps: &mut Steps<L>) -> Option<&Fact>
+    pub fn fact<L: Ledger>(&self, number: u64, steps: &mut Steps<L>) -> Option<&Fact>
         requires { IsLooking self.now }
         ensures is { option_copied result ≡ slice_get self.now.graph.now.facts number }
         ensures below { IfSome result (λ fact. IsFactBelow (length self.now.types.now) fact.now) }
     {
-        if number < self.graph.length() {
-            Some(self.graph.fact(FactId(number), steps))
+        if number < u64::from(self.graph.length()) {
+            Some(self.graph.fact(FactId(number as u32), steps))
         } else {
             None
         }

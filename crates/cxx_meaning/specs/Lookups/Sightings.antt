@@ -1,5 +1,5 @@
 -- The declarations of a name that a lookup sees, and what it finds in them (3.3.7, 3.4, 7.3.3).
-use Rattle.std.specs.Prelude.{ℕ, ◌+◌, Bool, true, false, not, ◌&&◌, nat_eq, nat_lt, if◌then◌else◌, List, [], ◌∷◌, map, filter, find, Option, Some, None}
+use Rattle.std.specs.Prelude.{ℕ, ◌+◌, Bool, true, false, not, ◌&&◌, nat_eq, nat_lt, if◌then◌else◌, List, [], ◌∷◌, map, filter, find, Option, Some, None, option_map}
 use Rattle.std.specs.List.{slice_get, list_any}
 use Rattle.cxx_model.specs.declared.lookup.Found.{Found}
 use Rattle.cxx_model.specs.declared.lookup.Found.TheVariants as found
@@ -31,18 +31,18 @@ sighting_of all number fact = record { scope = record { 0 = fact.scope }; itself
 abbrev pub is_named : CxxName → CxxFact → Bool
 is_named name fact = declares_name fact.what && (has_name name && same_name fact.name name)
 
+abbrev pub befriends : ℕ → Declares → Bool
+befriends number (facts.friend class target) = nat_eq target.0 number
+befriends number _ = false
+
 -- 7.3.1.2, 11.4: a declaration of a namespace that only a friend declaration makes, which stands directly behind it. It
 -- is not seen until the namespace itself declares the name.
 unfoldable pub is_by_friend : List CxxFact → ℕ → CxxFact → Bool
 is_by_friend all number fact = is_space (kind_of all (record { 0 = fact.scope })) && names (slice_get all (number + 1))
   where
-    by : Declares → Bool
-    by (facts.friend class target) = nat_eq target.0 number
-    by _ = false
-
     names : Option CxxFact → Bool
     names None = false
-    names (Some next) = by next.what
+    names (Some next) = befriends number next.what
 
 abbrev pub when : {A : Type 0} → Bool → A → Option A
 when true x = Some x
@@ -111,15 +111,19 @@ is_function_at graph number = by (slice_get graph.facts number.0)
 abbrev pub both_functions : CxxGraph → FactId → FactId → Bool
 both_functions graph one two = is_function_at graph one && is_function_at graph two
 
--- 3.4: Several functions are a set. Of other entities there has to be one alone: the two shown are the least, and the
--- least other that is no overload of it.
+-- The least of some facts, and the least other one that is no overload of it.
+unfoldable pub odd_pair : CxxGraph → List FactId → Option (FactId × FactId)
+odd_pair graph [] = None
+odd_pair graph (one ∷ others) = option_map (λ two. (one, two)) (find (λ two. not (both_functions graph one two)) others)
+
+-- 3.4: Several functions are a set; of other entities there has to be one alone.
 unfoldable pub found_of : CxxGraph → List FactId → Found
-found_of graph [] = found.Empty
-found_of graph (one ∷ others) = by (find (λ two. not (both_functions graph one two)) others)
+found_of graph facts = by facts (odd_pair graph facts)
   where
-    by : Option FactId → Found
-    by None = found.Set (one ∷ others)
-    by (Some two) = found.Ambiguous one two
+    by : List FactId → Option (FactId × FactId) → Found
+    by [] odd = found.Empty
+    by (one ∷ others) None = found.Set (one ∷ others)
+    by (one ∷ others) (Some odd) = found.Ambiguous odd.0 odd.1
 
 -- what a lookup finds in the declarations that it sees
 abbrev pub looked_up : CxxGraph → List Sighting → Found

@@ -1,0 +1,25 @@
+-- What the sightings of the code stand for.
+use Rattle.std.specs.Prelude.{ℕ, ◌≡◌, ◌++◌, List, [], ◌∷◌, length, map}
+use Rattle.cxx_model.specs.Types.Trees.{CxxType}
+use Rattle.cxx_model.specs.Facts.Declarations.{declares_at}
+use Rattle.cxx_model.specs.Facts.Entities.{Meant as MeantMeant}
+use Rattle.cxx_model.specs.Facts.Fitted.{IsEntityBelow}
+use Rattle.cxx_meaning.specs.Lookups.Sightings.{Sighting as SightingMeant}
+use Rattle.cxx_scopes.specs.declared.sightings.Meant.{Meant}
+use Rattle.cxx_scopes.specs.declared.sightings.Sighting.{Sighting}
+
+abbrev pub meant_at : List CxxType → Meant → MeantMeant
+meant_at types meant = record { number = meant.number.0; what = declares_at types meant.what }
+
+abbrev pub sighting_at : List CxxType → Sighting → SightingMeant
+sighting_at types one = record { scope = one.scope; itself = one.itself; meant = one.meant; what = declares_at types one.what }
+
+-- Each type that a sighting names stands in the table.
+abbrev pub AreBelow : ℕ → List Sighting → Type 0
+AreBelow count [] = Unit {0}
+AreBelow count (one ∷ others) = IsEntityBelow count one.what × AreBelow count others
+
+-- A list of sightings grew by these.
+pub record Adds (types : List CxxType) (old new : List Sighting) (more : List SightingMeant) : Type 0 where
+  pub seen : map (sighting_at types) new ≡ map (sighting_at types) old ++ more
+  pub below : AreBelow (length types) old → AreBelow (length types) new
