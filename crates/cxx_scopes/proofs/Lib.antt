@@ -4,3 +4,4 @@ pub mod Placed
 pub mod Scanned
 pub mod Spreading
 pub mod Patterns
+pub mod Sighting

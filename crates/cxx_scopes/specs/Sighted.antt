@@ -1,9 +1,10 @@
 -- What the sightings of the code stand for.
-use Rattle.std.specs.Prelude.{ℕ, ◌≡◌, ◌++◌, List, [], ◌∷◌, length, map}
+use Rattle.std.specs.Prelude.{ℕ, ◌≡◌, ◌++◌, List, [], ◌∷◌, length, map, Option, Some, None}
 use Rattle.cxx_model.specs.Types.Trees.{CxxType}
-use Rattle.cxx_model.specs.Facts.Declarations.{declares_at}
+use Rattle.cxx_model.specs.Facts.Declarations.{CxxFact, declares_at}
 use Rattle.cxx_model.specs.Facts.Entities.{Meant as MeantMeant}
 use Rattle.cxx_model.specs.Facts.Fitted.{IsEntityBelow}
+use Rattle.cxx_meaning.specs.Lookups.Gathered.{before}
 use Rattle.cxx_meaning.specs.Lookups.Sightings.{Sighting as SightingMeant}
 use Rattle.cxx_scopes.specs.declared.sightings.Meant.{Meant}
 use Rattle.cxx_scopes.specs.declared.sightings.Sighting.{Sighting}
@@ -23,3 +24,8 @@ AreBelow count (one ∷ others) = IsEntityBelow count one.what × AreBelow count
 pub record Adds (types : List CxxType) (old new : List Sighting) (more : List SightingMeant) : Type 0 where
   pub seen : map (sighting_at types) new ≡ map (sighting_at types) old ++ more
   pub below : AreBelow (length types) old → AreBelow (length types) new
+
+-- what a function of a fact and its number gives, where there is a fact
+abbrev pub given_at : {A : Type 0} → (ℕ → CxxFact → Option A) → ℕ → Option CxxFact → List A
+given_at give number None = []
+given_at give number (Some fact) = before (give number fact) []

@@ -6,9 +6,10 @@ ghost use Rattle.cxx_model.specs.Facts.Declarations.{declares_at, name_at, fact_
 ghost use Rattle.cxx_model.specs.Facts.Fitted.{IsNameBelow, IsFactBelow, IsEntityBelow};
 ghost use Rattle.cxx_model.specs.Facts.Entities.{meant_by};
 ghost use Rattle.cxx_meaning.specs.Lookups.Gathered.{before};
+ghost use Rattle.std.specs.List.{slice_get};
 ghost use Rattle.cxx_meaning.specs.Lookups.Sightings.{is_by_friend as is_made_by_friend, befriends as befriends_by, sighting_in as sighted_in, sighting_of, standing, wanted_one as wanted_alone};
 ghost use Rattle.cxx_scopes.specs.Views.{IsLooking, graph_of, facts_of, wanted_at};
-ghost use Rattle.cxx_scopes.specs.Sighted.{Adds, meant_at, sighting_at};
+ghost use Rattle.cxx_scopes.specs.Sighted.{Adds, given_at, meant_at, sighting_at};
 
 use crate::looking::Looking;
 use crate::wanted::Wanted;
@@ -110,11 +111,11 @@ impl Looking<'_> {
 
     // A declaration of a name in a scope that is seen at a cut.
     #[tactic(auto, unfolding(cxx_meaning::specs::Lookups::Sightings::sighting_in))]
-    fn sighting_in<L: Ledger>(&self, cut: u32, sought: Sought, scope: ScopeId, number: u32, fact: &Fact, steps: &mut Steps<L>) -> Option<Sighting>
+    fn sighting_in<L: Ledger>(&self, cut: u32, sought: &Sought, scope: ScopeId, number: u32, fact: &Fact, steps: &mut Steps<L>) -> Option<Sighting>
         requires looking { IsLooking self.now }
-        requires name { IsNameBelow (length self.now.types.now) sought.name.now }
+        requires name { IsNameBelow (length self.now.types.now) sought.now.name.now }
         requires fact { IsFactBelow (length self.now.types.now) fact.now }
-        ensures is { option_map (sighting_at self.now.types.now) result ≡ sighted_in (graph_of self.now) cut (wanted_at sought.wanted) (name_at self.now.types.now sought.name.now) scope number (fact_at self.now.types.now fact.now) }
+        ensures is { option_map (sighting_at self.now.types.now) result ≡ sighted_in (graph_of self.now) cut (wanted_at sought.now.wanted) (name_at self.now.types.now sought.now.name.now) scope number (fact_at self.now.types.now fact.now) }
         ensures below { IfSome result (λ one. IsEntityBelow (length self.now.types.now) one.what) }
     {
         if fact.scope.0 == scope.0
@@ -129,28 +130,44 @@ impl Looking<'_> {
     }
 
     /// Adds a sighting, where there is one.
+    #[tactic(auto, using(crate::proofs::Sighting::adds_one, crate::proofs::Sighting::adds_none))]
     pub fn add_sighting(&self, found: &mut Vec<Sighting>, one: Option<Sighting>) -> Result<(), AllocError>
         requires { IfSome one (λ one. IsEntityBelow (length self.now.types.now) one.what) }
         ensures { OnOk result (Adds self.now.types.now found.old.items found.new.items (before (option_map (sighting_at self.now.types.now) one) [])) }
     {
         let _ = self.alloc;
-        if let Some(one) = one {
-            found.push(one)?;
+        match one {
+            None => Ok(()),
+            Some(one) => {
+                found.push(one)?;
+                Ok(())
+            }
         }
-        Ok(())
+    }
+
+    // Adds a fact, where it is a declaration of the name in the scope that is seen at the cut.
+    #[tactic(auto, using(crate::proofs::Noted::fact_is))]
+    fn add_if_standing<L: Ledger>(&self, cut: u32, sought: &Sought, scope: ScopeId, number: u32, found: &mut Vec<Sighting>, steps: &mut Steps<L>) -> Result<(), AllocError>
+        requires looking { IsLooking self.now }
+        requires name { IsNameBelow (length self.now.types.now) sought.now.name.now }
+        ensures { OnOk result (Adds self.now.types.now found.old.items found.new.items (given_at (sighted_in (graph_of self.now) cut (wanted_at sought.now.wanted) (name_at self.now.types.now sought.now.name.now) scope) number (slice_get (facts_of self.now) number))) }
+    {
+        let one = match self.fact(u64::from(number), steps) {
+            None => None,
+            Some(fact) => self.sighting_in(cut, sought, scope, number, fact, steps),
+        };
+        self.add_sighting(found, one)
     }
 
     /// Adds the declarations of a name in a scope that are seen at a cut.
-    pub fn add_standing<L: Ledger>(&self, cut: u32, sought: Sought, scope: ScopeId, found: &mut Vec<Sighting>, steps: &mut Steps<L>) -> Result<(), AllocError>
+    #[tactic(auto, using(crate::proofs::Sighting::adds_more, crate::proofs::Sighting::adds_all), unfolding(cxx_meaning::specs::Lookups::Sightings::standing))]
+    pub fn add_standing<L: Ledger>(&self, cut: u32, sought: &Sought, scope: ScopeId, found: &mut Vec<Sighting>, steps: &mut Steps<L>) -> Result<(), AllocError>
         requires looking { IsLooking self.now }
-        requires name { IsNameBelow (length self.now.types.now) sought.name.now }
-        ensures { OnOk result (Adds self.now.types.now found.old.items found.new.items (standing (graph_of self.now) cut (wanted_at sought.wanted) (name_at self.now.types.now sought.name.now) scope)) }
+        requires name { IsNameBelow (length self.now.types.now) sought.now.name.now }
+        ensures { OnOk result (Adds self.now.types.now found.old.items found.new.items (standing (graph_of self.now) cut (wanted_at sought.now.wanted) (name_at self.now.types.now sought.now.name.now) scope)) }
     {
         for number in 0..self.graph.length() {
-            if let Some(fact) = self.fact(u64::from(number), steps) {
-                let one = self.sighting_in(cut, sought, scope, number, fact, steps);
-                self.add_sighting(found, one)?;
-            }
+            self.add_if_standing(cut, sought, scope, number, found, steps)?;
         }
         Ok(())
     }

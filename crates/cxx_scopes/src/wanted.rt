@@ -2,6 +2,7 @@
 
 ghost use Rattle.std.specs.Prelude.{◌≡◌, ◌+◌, ◌<◌, List, length};
 ghost use Rattle.std.specs.List.{slice_get};
+ghost use Rattle.std.specs.Option.{option_copied};
 ghost use Rattle.cxx_model.specs.Types.Trees.{CxxType};
 ghost use Rattle.cxx_model.specs.Facts.Declarations.{declares_at, name_at, fact_at};
 ghost use Rattle.cxx_model.specs.Facts.Fitted.{IsNameBelow, IsFactBelow};
@@ -11,7 +12,7 @@ ghost use Rattle.cxx_meaning.specs.Lookups.Sightings.{is_named as is_one_named};
 ghost use Rattle.cxx_scopes.specs.Views.{IsLooking, graph_of, wanted_at};
 
 use crate::looking::Looking;
-use cxx_model::{Entity, Fact, MemberKind, Name, TemplateId};
+use cxx_model::{Entity, Fact, MemberKind, Name, Pattern, TemplateId};
 
 /// What a name is looked up for; a lookup passes over what is not wanted.
 #[derive(Clone, Copy, PartialEq, Eq)]
@@ -93,12 +94,18 @@ fn names_space(what: Entity) -> bool
     }
 }
 
+fn pattern_at(patterns: &[Pattern], template: TemplateId) -> Option<&Pattern>
+    ensures { option_copied result ≡ slice_get patterns.now template.0 }
+{
+    patterns.get(template.0 as usize)
+}
+
 impl Looking<'_> {
-    #[tactic(auto, using(crate::proofs::Patterns::pattern_is))]
+    #[tactic(auto, using(crate::proofs::Patterns::functions_some, crate::proofs::Patterns::functions_none))]
     fn is_of_functions(&self, template: TemplateId) -> bool
         ensures { result ≡ is_one_of_functions (slice_get (graph_of self.now).patterns template.0) }
     {
-        match self.graph.patterns().get(template.0 as usize) {
+        match pattern_at(self.graph.patterns(), template) {
             Some(pattern) => pattern.of.is_some(),
             None => false,
         }
