@@ -5,3 +5,4 @@ pub mod Scanned
 pub mod Spreading
 pub mod Patterns
 pub mod Sighting
+pub mod Nodes

@@ -42,7 +42,7 @@ given_first give types (fact ∷ facts) k (suc n) = given_first give types facts
 -- one fact more was looked at
 pub adds_more : (types : List CxxType) (give : ℕ → CxxFact → Option SightingMeant) (facts : List Fact) (number : ℕ) (old new : List Sighting) → Adds types old new (given_at give number (slice_get (facts_at types facts) number)) → map (sighting_at types) old ++ gathered give number (facts_at types (drop number facts)) ≡ map (sighting_at types) new ++ gathered give (number + 1) (facts_at types (drop (number + 1) facts))
 adds_more types give facts number old new adds =
-    let step : gathered give number (facts_at types (drop number facts)) ≡ given_at give number (slice_get (facts_at types facts) number) ++ gathered give (number + 1) (facts_at types (drop (number + 1) facts)) = rw add-one (given_first give types facts number number) in
+    let step = given_first give types facts number number ∙ ap (λ m. given_at give number (slice_get (facts_at types facts) number) ++ gathered give (number + 1) (facts_at types (drop m facts))) (sym (add-one number)) in
     ap (λ xs. map (sighting_at types) old ++ xs) step ∙ (sym (append_assoc (map (sighting_at types) old) (given_at give number (slice_get (facts_at types facts) number)) (gathered give (number + 1) (facts_at types (drop (number + 1) facts)))) ∙ ap (λ xs. xs ++ gathered give (number + 1) (facts_at types (drop (number + 1) facts))) (sym adds.seen))
 
 -- past the last fact

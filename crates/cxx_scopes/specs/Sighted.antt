@@ -1,11 +1,14 @@
 -- What the sightings of the code stand for.
-use Rattle.std.specs.Prelude.{ℕ, ◌≡◌, ◌++◌, List, [], ◌∷◌, length, map, Option, Some, None}
-use Rattle.cxx_model.specs.Types.Trees.{CxxType}
+use Rattle.std.specs.Prelude.{ℕ, ◌≡◌, ◌++◌, ◌<◌, List, [], ◌∷◌, length, map, Option, Some, None}
+use Rattle.cxx_model.specs.Types.Trees.{CxxType, class_type, enumeration}
+use Rattle.cxx_model.specs.Types.Numbers.{type_at}
 use Rattle.cxx_model.specs.Facts.Declarations.{CxxFact, declares_at}
-use Rattle.cxx_model.specs.Facts.Entities.{Meant as MeantMeant}
+use Rattle.cxx_model.specs.Facts.Entities.{CxxEntity, Meant as MeantMeant, of_fact, of_type, of_space}
 use Rattle.cxx_model.specs.Facts.Fitted.{IsEntityBelow}
 use Rattle.cxx_meaning.specs.Lookups.Gathered.{before}
 use Rattle.cxx_meaning.specs.Lookups.Sightings.{Sighting as SightingMeant}
+use Rattle.cxx_scopes.specs.declared.entities.Meaning.{Meaning}
+use Rattle.cxx_scopes.specs.declared.entities.Meaning.TheVariants as meaning
 use Rattle.cxx_scopes.specs.declared.sightings.Meant.{Meant}
 use Rattle.cxx_scopes.specs.declared.sightings.Sighting.{Sighting}
 
@@ -29,3 +32,15 @@ pub record Adds (types : List CxxType) (old new : List Sighting) (more : List Si
 abbrev pub given_at : {A : Type 0} → (ℕ → CxxFact → Option A) → ℕ → Option CxxFact → List A
 given_at give number None = []
 given_at give number (Some fact) = before (give number fact) []
+
+-- what a meaning of the code is
+abbrev pub meaning_at : List CxxType → Meaning → CxxEntity
+meaning_at types (meaning.Fact fact) = of_fact fact.0
+meaning_at types (meaning.Class class) = of_type (class_type class.0)
+meaning_at types (meaning.Enumeration number) = of_type (enumeration number.0)
+meaning_at types (meaning.Type of) = of_type (type_at types of.0)
+meaning_at types (meaning.Space space) = of_space space.0
+
+abbrev pub IsMeaningBelow : ℕ → Meaning → Type 0
+IsMeaningBelow count (meaning.Type of) = of.0 < count
+IsMeaningBelow count _ = Unit {0}

@@ -2,6 +2,7 @@
 #![tactic(auto)]
 
 mod directives;
+mod entities;
 mod index;
 mod lists;
 mod looking;
