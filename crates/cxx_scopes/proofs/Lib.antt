@@ -6,3 +6,5 @@ pub mod Spreading
 pub mod Patterns
 pub mod Sighting
 pub mod Nodes
+pub mod Shows
+pub mod Searching

@@ -1,5 +1,6 @@
 -- Types that are a class or an enumeration.
-use Rattle.std.proofs.Common.{◌≡◌, ℕ, false, eqb, List, refl, ap, ◌∙◌, sym}
+use Rattle.std.proofs.Common.{◌≡◌, ℕ, Bool, true, false, eqb, eq-eqb, List, refl, ap, ◌∙◌, sym, subst}
+use Rattle.std.proofs.lemmas.Bool.{eqb-true, false≢true}
 use Rattle.cxx_model.specs.declared.types.ClassId.{ClassId}
 use Rattle.cxx_model.specs.declared.types.EnumId.{EnumId}
 use Rattle.cxx_model.specs.declared.types.TypeNode.{TypeNode}
@@ -23,7 +24,13 @@ pub is_no_enumeration : (types : List CxxType) (n : TypeNode) (t : CxxType) (num
 is_no_enumeration types n t number e h = subst (λ u. (same_type u (enumeration number) ≡ false) × (same_type (enumeration number) u ≡ false)) e (no_enumeration types n number h)
 
 eqb_turned : (m n : ℕ) → eqb m n ≡ eqb n m
-eqb_turned m n = ?
+eqb_turned m n = by (eqb m n) (eqb n m) refl refl
+  where
+    by : (t u : Bool) → eqb m n ≡ t → eqb n m ≡ u → t ≡ u
+    by true true e f = refl
+    by true false e f = absurd (false≢true (sym f ∙ eq-eqb n m (sym (eqb-true m n e))))
+    by false true e f = absurd (false≢true (sym e ∙ eq-eqb m n (sym (eqb-true n m f))))
+    by false false e f = refl
 
 pub is_the_class : (types : List CxxType) (other class : ClassId) (t : CxxType) → type_over types (node.Class other) ≡ t → (same_type t (class_type class.0) ≡ eqb other.0 class.0) × (same_type (class_type class.0) t ≡ eqb other.0 class.0)
 is_the_class types other class t e = subst (λ u. (same_type u (class_type class.0) ≡ eqb other.0 class.0) × (same_type (class_type class.0) u ≡ eqb other.0 class.0)) e (refl, eqb_turned class.0 other.0)

@@ -1,6 +1,6 @@
 -- Lists of sightings that grow.
-use Rattle.std.proofs.Common.{◌≡◌, ℕ, ◌+◌, ◌<◌, ◌≤◌, List, [], ◌∷◌, ◌++◌, length, map, drop, Option, Some, None, refl, ap, sym, ◌∙◌, subst, arith, append_assoc, add-one, zero, suc}
-use Rattle.std.specs.List.{slice_get}
+use Rattle.std.proofs.Common.{◌≡◌, ℕ, ◌+◌, ◌<◌, ◌≤◌, List, [], ◌∷◌, ◌++◌, length, map, drop, Option, Some, None, refl, ap, sym, ◌∙◌, subst, arith, append_assoc, add-one, zero, suc, Bool, true, false, cond}
+use Rattle.std.specs.List.{slice_get, filter}
 use Rattle.std.proofs.lemmas.List.{append-nil, map-append}
 use Rattle.cxx_model.specs.declared.facts.Fact.{Fact}
 use Rattle.cxx_model.specs.Types.Trees.{CxxType}
@@ -48,3 +48,15 @@ adds_more types give facts number old new adds =
 -- past the last fact
 pub adds_all : (types : List CxxType) (give : ℕ → CxxFact → Option SightingMeant) (facts : List Fact) (number : ℕ) (found : List Sighting) → length facts ≤ number → map (sighting_at types) found ++ gathered give number (facts_at types (drop number facts)) ≡ map (sighting_at types) found
 adds_all types give facts number found le = gathered_all give types facts number (map (sighting_at types) found) le
+
+filter_first : {A : Type 0} (test : A → Bool) (x : A) (xs : List A) → filter test (x ∷ xs) ≡ filter test (x ∷ []) ++ filter test xs
+filter_first test x xs = by (test x)
+  where
+    by : (t : Bool) → cond t (x ∷ filter test xs) (filter test xs) ≡ cond t (x ∷ []) [] ++ filter test xs
+    by true = refl
+    by false = refl
+
+-- one more was let through, or not
+pub adds_filtered : (types : List CxxType) (test : SightingMeant → Bool) (old new : List Sighting) (one : SightingMeant) (others : List SightingMeant) → Adds types old new (filter test (one ∷ [])) → map (sighting_at types) old ++ filter test (one ∷ others) ≡ map (sighting_at types) new ++ filter test others
+adds_filtered types test old new one others adds =
+    ap (λ xs. map (sighting_at types) old ++ xs) (filter_first test one others) ∙ (sym (append_assoc (map (sighting_at types) old) (filter test (one ∷ [])) (filter test others)) ∙ ap (λ xs. xs ++ filter test others) (sym adds.seen))

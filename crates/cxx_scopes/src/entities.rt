@@ -1,6 +1,6 @@
 //! The entities that declarations name, and what a lookup finds in them.
 
-ghost use Rattle.std.specs.Prelude.{◌≡◌, ◌<◌, ◌&&◌, ℕ, nat_lt, if◌then◌else◌, List, length, map, find, not, IfOk};
+ghost use Rattle.std.specs.Prelude.{◌≡◌, ◌<◌, ◌&&◌, [], ◌∷◌, filter, OnOk, ℕ, nat_lt, if◌then◌else◌, List, length, map, find, not, IfOk};
 ghost use Rattle.std.specs.List.{list_any};
 ghost use Rattle.cxx_model.specs.Types.Trees.{CxxType, class_type, enumeration};
 ghost use Rattle.cxx_model.specs.Types.Numbers.{type_at};
@@ -9,7 +9,7 @@ ghost use Rattle.cxx_model.specs.Facts.Fitted.{IsEntityBelow};
 ghost use Rattle.cxx_model.specs.Facts.Entities.{first_or as first_fact, same_entity as same_entities};
 ghost use Rattle.cxx_meaning.specs.Lookups.Sightings.{both_functions as are_both_functions, entities as entities_of, entity_meant, found_of, is_function_at as is_a_function_at, is_hidden_among as is_hidden_in, is_hidden_by, least_of as least_fact, looked_up as looked_up_in, named_by as named_in, odd_pair as odd_pair_of, unhidden as unhidden_of};
 ghost use Rattle.cxx_scopes.specs.Views.{IsLooking, graph_of};
-ghost use Rattle.cxx_scopes.specs.Sighted.{AreBelow, IsMeaningBelow, meaning_at, sighting_at};
+ghost use Rattle.cxx_scopes.specs.Sighted.{Adds, AreBelow, IsMeaningBelow, meaning_at, sighting_at};
 
 use crate::lists::add_fact;
 use crate::looking::Looking;
@@ -75,8 +75,21 @@ impl Looking<'_> {
         is_hideable(one.what) && self.any_hides(sightings, one)
     }
 
+    // Adds a declaration, where no other hides it.
+    #[tactic(auto, using(crate::proofs::Sighting::adds_one, crate::proofs::Sighting::adds_none))]
+    fn keep_unhidden(&self, sightings: &[Sighting], one: Sighting, kept: &mut Vec<Sighting>) -> Result<(), AllocError>
+        requires { IsEntityBelow (length self.now.types.now) one.what }
+        ensures { OnOk result (Adds self.now.types.now kept.old.items kept.new.items (filter (λ other. not (is_hidden_in (graph_of self.now) (map (sighting_at self.now.types.now) sightings.now) other)) (sighting_at self.now.types.now one ∷ []))) }
+    {
+        if self.is_hidden_among(sightings, &one) {
+            return Ok(());
+        }
+        kept.push(one)?;
+        Ok(())
+    }
+
     /// The declarations that no other of them hides.
-    #[tactic(auto, using(crate::proofs::Sighting::below_push), unfolding(cxx_meaning::specs::Lookups::Sightings::unhidden))]
+    #[tactic(auto, using(crate::proofs::Sighting::adds_filtered), unfolding(cxx_meaning::specs::Lookups::Sightings::unhidden))]
     pub fn unhidden(&self, sightings: &[Sighting]) -> Result<Vec<Sighting>, AllocError>
         requires { AreBelow (length self.now.types.now) sightings.now }
         ensures is { IfOk result (λ kept. map (sighting_at self.now.types.now) kept.items ≡ unhidden_of (graph_of self.now) (map (sighting_at self.now.types.now) sightings.now)) }
@@ -84,9 +97,7 @@ impl Looking<'_> {
     {
         let mut kept = Vec::new(self.alloc);
         for one in sightings {
-            if !self.is_hidden_among(sightings, one) {
-                kept.push(*one)?;
-            }
+            self.keep_unhidden(sightings, *one, &mut kept)?;
         }
         Ok(kept)
     }

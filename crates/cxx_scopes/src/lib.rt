@@ -6,6 +6,8 @@ mod entities;
 mod index;
 mod lists;
 mod looking;
+mod ordinary;
+mod qualified;
 mod sightings;
 mod wanted;
 

@@ -15,10 +15,14 @@ use Rattle.cxx_meaning.specs.Lookups.Scopes.{chain}
 use Rattle.cxx_meaning.specs.Lookups.Sightings.{Sighting, looked_up, standing}
 use Rattle.cxx_meaning.specs.Lookups.Wanted.{Wanted}
 
+-- the declarations in a namespace, where it shows in a scope
+abbrev pub standing_if : CxxGraph → ℕ → Wanted → CxxName → ScopeId → Shown → List Sighting
+standing_if graph cut wanted name scope one = if same_scope one.there scope then standing graph cut wanted name one.space else []
+
 -- 7.3.4: the declarations in the namespaces that show in a scope
 unfoldable pub standing_shown : CxxGraph → ℕ → Wanted → CxxName → ScopeId → List Shown → List Sighting
 standing_shown graph cut wanted name scope [] = []
-standing_shown graph cut wanted name scope (one ∷ others) = (if same_scope one.there scope then standing graph cut wanted name one.space else []) ++ standing_shown graph cut wanted name scope others
+standing_shown graph cut wanted name scope (one ∷ others) = standing_if graph cut wanted name scope one ++ standing_shown graph cut wanted name scope others
 
 -- the declarations of a scope: those in it, and those that show there
 unfoldable pub sightings_at : CxxGraph → ℕ → Wanted → CxxName → List Shown → ScopeId → List Sighting

@@ -41,6 +41,9 @@ brought_by (found.Member class of) sightings = found.Member class of
 brought_by (found.Ambiguous one two) sightings = found.Ambiguous one two
 brought_by found.Empty sightings = found.Empty
 
+abbrev pub brought_in : CxxGraph → List Sighting → Found
+brought_in graph sightings = brought_by (looked_up graph sightings) sightings
+
 -- 7.3.3: what a using-declaration of a namespace or a block brings
-unfoldable pub brought : CxxGraph → ScopeId → CxxName → ℕ → Asked Found
-brought graph space name cut = Ok (brought_by (looked_up graph (sightings_of graph cut any_name name space)) (sightings_of graph cut any_name name space))
+abbrev pub brought : CxxGraph → ScopeId → CxxName → ℕ → Asked Found
+brought graph space name cut = Ok (brought_in graph (sightings_of graph cut any_name name space))
