@@ -47,14 +47,14 @@ found_at : {X : Type 0} (p : X → Bool) (xs : List X) (y : X) → find p xs ≡
 found_at p [] y e = absurd cc
 found_at p (x ∷ xs) y e = found_step p x xs (p x) refl (λ y e. found_at p xs y e) y e
 
+missed_step : {X : Type 0} (p : X → Bool) (x : X) (xs : List X) (b : Bool) → p x ≡ b → cond b (Some x) (find p xs) ≡ None → (find p xs ≡ None → (k : ℕ) (y : X) → slice_get xs k ≡ Some y → p y ≡ false) → (k : ℕ) (y : X) → slice_get (x ∷ xs) k ≡ Some y → p y ≡ false
+missed_step p x xs true is none later k y e = absurd cc
+missed_step p x xs false is none later zero y e = let same : x ≡ y = cc in ap p (sym same) ∙ is
+missed_step p x xs false is none later (suc k) y e = later none k y e
+
 missed : {X : Type 0} (p : X → Bool) (xs : List X) → find p xs ≡ None → (k : ℕ) (y : X) → slice_get xs k ≡ Some y → p y ≡ false
 missed p [] none k y e = absurd cc
-missed p (x ∷ xs) none k y e = by (p x) refl none k e
-  where
-    by : (b : Bool) → p x ≡ b → cond b (Some x) (find p xs) ≡ None → (k : ℕ) → slice_get (x ∷ xs) k ≡ Some y → p y ≡ false
-    by true is none k e = absurd cc
-    by false is none zero e = let same : x ≡ y = cc in ap p (sym same) ∙ is
-    by false is none (suc k) e = missed p xs none k y e
+missed p (x ∷ xs) none k y e = missed_step p x xs (p x) refl none (λ none k y e. missed p xs none k y e) k y e
 
 -- ---- numbers
 
@@ -62,15 +62,13 @@ numbered_from : (least other : ℕ) (viable : List Contender) → other ≤ leas
 numbered_from least other [] h n = tt
 numbered_from least other (contender ∷ contenders) h n = let up : other ≤ contender.0 = omega (arith, n.0) in (up, n.1)
 
+numbered_step : (least : ℕ) (candidate : Candidate) (rest : List Contender) (b : Bool) → AreNumbered (least + 1) rest → AreNumbered least (cond b ((least, candidate) ∷ rest) rest)
+numbered_step least candidate rest true n = (omega arith, n)
+numbered_step least candidate rest false n = numbered_from (least + 1) least rest (omega arith) n
+
 numbered_kept : (p : Contender → Bool) (least : ℕ) (all : List Candidate) → AreNumbered least (filter p (enumerate_from least all))
 numbered_kept p least [] = tt
-numbered_kept p least (candidate ∷ all) = by (p (least, candidate))
-  where
-    rest : AreNumbered (least + 1) (filter p (enumerate_from (least + 1) all))
-    rest = numbered_kept p (least + 1) all
-    by : (b : Bool) → AreNumbered least (cond b ((least, candidate) ∷ filter p (enumerate_from (least + 1) all)) (filter p (enumerate_from (least + 1) all)))
-    by true = (omega arith, rest)
-    by false = numbered_from (least + 1) least (filter p (enumerate_from (least + 1) all)) (omega arith) rest
+numbered_kept p least (candidate ∷ all) = numbered_step least candidate (filter p (enumerate_from (least + 1) all)) (p (least, candidate)) (numbered_kept p (least + 1) all)
 
 pub contenders_numbered : (arguments : List Base) (all : List Candidate) → AreNumbered 1 (contenders arguments all)
 contenders_numbered arguments all = numbered_kept (λ c. is_viable arguments c.1) 1 all
@@ -117,6 +115,7 @@ best_passes arguments viable i f at_i best = all_from (beats_if_other position_o
   where
     beaten : (k : ℕ) (g : Contender) → slice_get viable k ≡ Some g → k ≢ i → contender_beats arguments f g ≡ true
     beaten k g at_k ne = sym (wins_of arguments viable i k f g at_i at_k) ∙ best.beats_others k (there_below viable k g at_k) ne
+
     by : (k : ℕ) (g : Contender) → slice_get viable k ≡ Some g → (k ≡ i) ⊎ ((k < i) ⊎ (i < k)) → beats_if_other position_of (contender_beats arguments) f g ≡ true
     by k g at_k (inl same) =
         let both : Some g ≡ Some f = sym at_k ∙ ap (λ n. slice_get viable n) same ∙ at_i in
@@ -129,15 +128,15 @@ passes_best : (arguments : List Base) (viable : List Contender) → AreNumbered 
 passes_best arguments viable n i f at_i passes = record {
   within = there_below viable i f at_i;
   beats_others = λ k below ne.
-    let there = below_there viable k below in
-    wins_of arguments viable i k f there.0 at_i there.1
-    ∙ or_false (eqb (there.0).0 f.0) (contender_beats arguments f there.0)
-        (all_at (beats_if_other position_of (contender_beats arguments) f) viable passes k there.0 there.1)
-        (eqb_of_other (there.0).0 f.0 (apart 1 viable n i k f there.0 at_i there.1 (λ e. ne (sym e))));
+      let there = below_there viable k below in
+      wins_of arguments viable i k f there.0 at_i there.1
+      ∙ or_false (eqb (there.0).0 f.0) (contender_beats arguments f there.0)
+      (all_at (beats_if_other position_of (contender_beats arguments) f) viable passes k there.0 there.1)
+      (eqb_of_other (there.0).0 f.0 (apart 1 viable n i k f there.0 at_i there.1 (λ e. ne (sym e))));
 }
 
 by_found : (arguments : List Base) (viable : List Contender) → AreNumbered 1 viable → (verdict : Verdict) → IsVerdict (wins_at arguments viable) (length viable) verdict
-  → (found : Option Contender) → find (beats_all arguments viable) viable ≡ found → found ≡ member_of viable verdict
+    → (found : Option Contender) → find (beats_all arguments viable) viable ≡ found → found ≡ member_of viable verdict
 unfolding Found
 by_found arguments viable n (Best member) is (Some f) e =
     let h = found_at (beats_all arguments viable) viable f e in

@@ -1,6 +1,6 @@
 //! The best of the viable functions (13.3.3), and what shows that none is.
 
-ghost use Rattle.std.specs.Prelude.{◌≡◌, ◌+◌, ◌-◌, ◌*◌, ◌≤◌, length, map, option_map, IfOk};
+ghost use Rattle.std.specs.Prelude.{◌≡◌, ◌+◌, ◌-◌, ◌*◌, ◌<◌, ◌≤◌, length, map, option_map, IfOk};
 ghost use Rattle.cxx_model.specs.Choice.Better.{beats_if_other as beats_any_other, counter as counter_of};
 ghost use Rattle.cxx_model.specs.First.Candidates.{position_of, contender_beats, chosen as chosen_of, tie as tie_of, ties as ties_of};
 ghost use Rattle.cxx_choice.specs.Contests.{wins_at, AreNumbered, member_of};
@@ -11,7 +11,8 @@ use crate::viable::{Contender, beats, shown};
 use cxx_champion::{Contest, Verdict, best_of};
 use cxx_model::{Base, Evidence, EvidenceList, Steps};
 use std::alloc::{AllocError, Global};
-use std::sync::ledger::Ledger;
+use std::marker::Brand;
+use std::sync::ledger::{Blank, Ledger};
 
 /// Whether the second is no other than the first, or is beaten by it.
 fn beats_if_other(arguments: &[Base], one: &Contender, two: &Contender) -> bool
@@ -100,6 +101,28 @@ pub fn chosen<'a, L: Ledger>(
         Ok(verdict) => member(viable, verdict),
         Err(_) => unreachable!(),
     }
+}
+
+fn chosen_by<'a, L: Ledger>(
+    arguments: &[Base],
+    viable: &[Contender<'a>],
+    blank: Blank,
+) -> Option<Contender<'a>>
+    requires numbered { AreNumbered 1 (map contender_at viable.now) }
+    requires name { blank.name ≡ L.name }
+    requires parts { blank.parts ≡ L.parts }
+    requires some { 0 < blank.parts }
+    ensures { option_map contender_at result ≡ chosen_of arguments.now (map contender_at viable.now) }
+{
+    chosen(arguments, viable, &mut Steps::<L>::new(blank))
+}
+
+/// What `chosen` gives, for a caller that counts no steps.
+pub fn uncounted<'a>(arguments: &[Base], viable: &[Contender<'a>]) -> Option<Contender<'a>>
+    requires { AreNumbered 1 (map contender_at viable.now) }
+    ensures { option_map contender_at result ≡ chosen_of arguments.now (map contender_at viable.now) }
+{
+    chosen_by::<Brand>(arguments, viable, Blank::new(1))
 }
 
 /// The first other contender that this one does not beat.

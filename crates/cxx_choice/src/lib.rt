@@ -13,10 +13,7 @@ mod standard;
 mod viable;
 
 pub use candidate::Candidate;
-pub use champion::{chosen, ties};
+pub use champion::{chosen, ties, uncounted};
 pub use push::push_some;
 pub use standard::is_same;
 pub use viable::{Contender, contenders, outcome, refusals};
-
-#[cfg(test)]
-mod tests;

@@ -43,21 +43,21 @@ fn row_of_type(base: Base) -> Row
     ensures { row_of result ≡ standard_row base }
 {
     match base {
-        Base::Bool => integral(0, Base::Int),
-        Base::Char => integral(1, Base::Int),
-        Base::SignedChar => integral(2, Base::Int),
-        Base::UnsignedChar => integral(3, Base::Int),
-        Base::Short => integral(4, Base::Int),
-        Base::UnsignedShort => integral(5, Base::Int),
-        Base::Int => integral(6, Base::Int),
-        Base::Unsigned => integral(7, Base::Unsigned),
-        Base::Long => integral(8, Base::Long),
-        Base::UnsignedLong => integral(9, Base::UnsignedLong),
-        Base::WideChar => integral(10, Base::Int),
-        Base::Float => floating(11, Base::Double),
-        Base::Double => floating(12, Base::Double),
-        Base::LongDouble => floating(13, Base::LongDouble),
-        Base::Void => integral(14, Base::Void),
+        Base::Void => integral(0, Base::Void),
+        Base::Bool => integral(1, Base::Int),
+        Base::Char => integral(2, Base::Int),
+        Base::SignedChar => integral(3, Base::Int),
+        Base::UnsignedChar => integral(4, Base::Int),
+        Base::Short => integral(5, Base::Int),
+        Base::UnsignedShort => integral(6, Base::Int),
+        Base::Int => integral(7, Base::Int),
+        Base::Unsigned => integral(8, Base::Unsigned),
+        Base::Long => integral(9, Base::Long),
+        Base::UnsignedLong => integral(10, Base::UnsignedLong),
+        Base::WideChar => integral(11, Base::Int),
+        Base::Float => floating(12, Base::Double),
+        Base::Double => floating(13, Base::Double),
+        Base::LongDouble => floating(14, Base::LongDouble),
     }
 }
 

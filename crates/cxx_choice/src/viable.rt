@@ -51,7 +51,6 @@ fn viable_contender<'a>(
 }
 
 /// The viable candidates, each with a greater number than the one before it.
-#[tactic(auto, using(crate::proofs::Contests::contenders_numbered))]
 pub fn contenders<'a>(
     alloc: Global,
     arguments: &[Base],

@@ -34,6 +34,3 @@ pub fn run<S: Source, K: Sink, E: Sink>(
     let answer = answers::read_and_answer(alloc, words, source);
     delivery::deliver(&answer, out, err)
 }
-
-#[cfg(test)]
-mod tests;

@@ -9,7 +9,7 @@ ghost use Rattle.cxx_choice.specs.Views.{candidate_at, contender_at};
 use crate::fault::{fault_with, not_built, undeclared};
 use crate::numbers::Seen;
 use crate::scope::{candidates, is_declared, names_object};
-use cxx_choice::{Candidate, Contender, chosen, contenders, outcome, refusals, ties};
+use cxx_choice::{Candidate, Contender, contenders, outcome, refusals, ties, uncounted};
 use cxx_model::first::{Argument, ArgumentList, BaseList, Call, Initializer};
 use cxx_model::{
     Base, Fault, FaultText, LimitKind, NumberList, OutcomeList, Place, Stop, Word, limits,
@@ -124,7 +124,7 @@ fn choice(
 {
     let types = types_of(alloc, arguments.as_slice())?;
     let viable = contenders(alloc, types.as_slice(), all)?;
-    match chosen(types.as_slice(), viable.as_slice()) {
+    match uncounted(types.as_slice(), viable.as_slice()) {
         Some(best) => Ok(bound(alloc, place, word, arguments, all, &best.candidate)?),
         None => match viable.as_slice() {
             [] => Err(Stop::Fault(no_viable(alloc, place, types.as_slice(), all)?)),

@@ -239,12 +239,7 @@ fn is_end(kind: TokenKind) -> bool
 }
 
 /// Declarations up to the end of the unit.
-fn items(
-    alloc: Global,
-    key: Key,
-    cursor: &mut Cursor,
-    so_far: &mut Reading,
-) -> Result<(), Stop>
+fn items(alloc: Global, key: Key, cursor: &mut Cursor, so_far: &mut Reading) -> Result<(), Stop>
     requires { so_far.old.declarations ≡ [] }
     ensures { Gives (λ _. so_far.new) result (items_at limits.MOST_DECLARATIONS so_far.old (left cursor.old)) }
 {

@@ -18,6 +18,3 @@ pub use laws::{
     better_is_asymmetric, bounds_are_limits, call_faults_are_told, each_call_is_best,
     faults_are_told, undeclared_names_are_told, words_are_kept,
 };
-
-#[cfg(test)]
-mod tests;

@@ -1,5 +1,7 @@
 pub mod Classes
+pub mod Keeping
 pub mod Marks
+pub mod Rowed
 pub mod Same
 pub mod Sampled
 mod Clashing

@@ -1,4 +1,7 @@
 pub mod Ended
+pub mod Kept
+pub mod Numbered
 pub mod Reserved
+pub mod Rows
 pub mod Sample
 pub mod Stored

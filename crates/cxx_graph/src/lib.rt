@@ -2,7 +2,10 @@
 #![tactic(auto)]
 
 mod graph;
+mod kept;
 pub mod laws;
+mod promotion;
+mod rows;
 #[cfg(test)]
 mod tests;
 

@@ -6,9 +6,8 @@ ghost use Rattle.cxx_graph.specs.Sample.{sample};
 
 use crate::graph::{AddFault, Graph};
 use cxx_model::{
-    Access, ClassId, Entity, Fact, FactId, Formula, Listed, MemberKind, Name, OutOfMemory, Pattern,
-    Place, ScopeId, ScopeKind, Steps, Argument, ArgumentList, TemplateId, TreeId,
-    TypeId,
+    Access, Argument, ArgumentList, ClassId, Entity, Fact, FactId, Formula, Listed, MemberKind,
+    Name, OutOfMemory, Pattern, Place, ScopeId, ScopeKind, Steps, TemplateId, TreeId, TypeId,
 };
 use std::alloc::Global;
 use std::marker::Brand;
@@ -240,19 +239,9 @@ fn specialisation_of_a_specialisation(rt: HostRuntime) -> Result<(), Fail> {
     let template = add_sample(&mut graph, alloc, 1)?;
     let plain = graph.reserve_class(None, &Listed::new(alloc))?;
     assert!(rt; plain == ClassId(0));
-    let inner = special(
-        &mut graph,
-        alloc,
-        template,
-        Argument::OfType(TypeId(0)),
-    )?;
+    let inner = special(&mut graph, alloc, template, Argument::OfType(TypeId(0)))?;
     assert!(rt; inner == ClassId(1));
-    let outer = special(
-        &mut graph,
-        alloc,
-        template,
-        Argument::OfType(TypeId(1)),
-    )?;
+    let outer = special(&mut graph, alloc, template, Argument::OfType(TypeId(1)))?;
     assert!(rt; outer == ClassId(2));
     assert!(rt; graph.specialisation(plain).is_none());
     match graph.specialisation(outer) {

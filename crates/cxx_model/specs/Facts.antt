@@ -4,3 +4,4 @@ pub mod Entities
 pub mod Fitted
 pub mod Graph
 pub mod Here
+pub mod Pending

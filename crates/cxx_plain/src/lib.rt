@@ -36,6 +36,3 @@ pub fn plain(alloc: Global, reading: &Reading) -> Result<Vec<u8>, PlainFault>
     write_section(&mut page, declarations, items, numbers, true, functions + 1)?;
     Ok(page.into_bytes())
 }
-
-#[cfg(test)]
-mod tests;

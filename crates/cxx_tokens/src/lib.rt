@@ -24,6 +24,3 @@ mod words;
 pub use fault::TokenFault;
 pub use literal::{each_literal_has_a_value, literal_type, literal_value};
 pub use read::{one_token_list, tokens};
-
-#[cfg(test)]
-mod tests;

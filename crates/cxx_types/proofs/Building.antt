@@ -8,13 +8,15 @@ use Rattle.cxx_model.specs.declared.types.TypeId.{TypeId}
 use Rattle.cxx_model.specs.declared.types.TypeNode.{TypeNode}
 use Rattle.cxx_model.specs.declared.types.TypeNode.TheVariants as node
 use Rattle.cxx_model.specs.Facts.Graph.{Graph, IsTypeInRange, AreTypesInRange}
-use Rattle.cxx_model.specs.Types.Trees.{CxxType, CxxTypes, no_types, type_then, function_of, with_cv, adjusted, normal, normal_parameters, IsNormal, AreParameters}
+use Rattle.cxx_model.specs.Types.Trees.{CxxType, type_then, function_of, with_cv, adjusted, normal, normal_parameters, IsNormal, AreParameters}
 use Rattle.cxx_model.specs.Types.Numbers.{type_at, types_at, type_over, AreTypesBelow, IsNodeBelow, Keeps}
 use Rattle.cxx_model.proofs.TypeForm.{adjusted_normal, normal_fixed}
 use Rattle.cxx_model.proofs.TypeTrees.{arguments_normal, bound_normal, Keeps-trans}
 use Rattle.cxx_types.specs.Makes.{AreInRange, Makes, MakesEach}
 use Rattle.cxx_types.specs.Parameters.{adjusted_types}
-use Rattle.cxx_types.specs.Table.{AreNormal}
+use Rattle.cxx_model.specs.Types.Proper.{IsProper, AreTypesProper}
+use Rattle.cxx_types.specs.Table.{AreNormal, AreProper}
+use Rattle.cxx_types.proofs.Proper.{types-proper}
 use Rattle.cxx_types.proofs.Making.{AreMadeSoFar, makes_same, one_more_made, with_last}
 use Rattle.cxx_types.proofs.Reading.{number-inside}
 
@@ -97,6 +99,11 @@ pub adjusted-parameters : (old new : List CxxType) (r : TypeId) (ns made : List 
 adjusted-parameters old new r ns made known ok makes each =
     let more : length old ≤ length new = makes.keeps.grows in
     (each r.0 (omega arith), subst AreParameters (sym makes.made.1) (adjusted-normal old ns (normal-before old new makes.keeps each) ok))
+
+pub function-proper : (old new : List CxxType) (r : TypeId) (ns made : List TypeId) → r.0 < length old → MakesEach old new (Ok made) (adjusted_types (types_at old ns)) → AreProper new → IsProper (type_at new r.0) × AreTypesProper (types_at new made)
+function-proper old new r ns made known makes each =
+    let more : length old ≤ length new = makes.keeps.grows in
+    (each r.0 (omega arith), types-proper new made each makes.made.0)
 
 -- what a function of adjusted parameters is made of
 pub made-function : (old mid new : List CxxType) (r : TypeId) (ns made : List TypeId) (ellipsis : Bool) (cv : Cv) (result : Result TypeId OutOfMemory) → r.0 < length old → MakesEach old mid (Ok made) (adjusted_types (types_at old ns)) → Makes mid new result (function_of (type_at mid r.0) (types_at mid made) ellipsis cv) → Makes old new result (function_of (type_at old r.0) (adjusted_types (types_at old ns)) ellipsis cv)

@@ -1,5 +1,5 @@
 -- What interning makes of a tree, step by step.
-use Rattle.std.specs.Prelude.{ℕ, zero, suc, ◌≡◌, ◌<◌, ◌≤◌, ◌+◌, Bool, List, [], ◌∷◌, ◌++◌, length, Box, Result, Ok, Err, IsErr, refl}
+use Rattle.std.specs.Prelude.{IsTrue, ℕ, zero, suc, ◌≡◌, ◌<◌, ◌+◌, List, [], ◌∷◌, ◌++◌, length, Box, Result, Ok, Err, IsErr, refl}
 use Rattle.std.proofs.Common.{ap, sym, subst, ◌∙◌, take, get_or, arith}
 use Rattle.std.proofs.lemmas.List.{take_more}
 use Rattle.std.specs.declared.alloc.Global.{Global}
@@ -14,12 +14,13 @@ use Rattle.cxx_model.specs.declared.types.TypeTree as tree
 use Rattle.cxx_model.specs.declared.types.TypeTree.{TypeTree}
 use Rattle.cxx_model.specs.Types.Copies.{CopiesArguments, CopiesBound}
 use Rattle.cxx_model.specs.Facts.Graph.{Graph, IsTypeInRange, AreTypesInRange}
-use Rattle.cxx_model.specs.Types.Trees.{CxxType, CxxTypes, no_types, type_then, array_of, function_of, specialisation, adjusted, normal, normal_arguments, normal_bound, normal_parameters, with_cv}
-use Rattle.cxx_model.specs.Types.Numbers.{type_at, types_at, tree_at, arguments_at, bound_at, IsTreeBelow, AreArgumentsBelow, IsBoundBelow, AreTypesBelow, Keeps}
+use Rattle.cxx_model.specs.Types.Trees.{CxxArguments, CxxType, CxxTypes, no_types, type_then, array_of, function_of, specialisation, adjusted, normal, normal_arguments, normal_bound, normal_parameters, with_cv}
+use Rattle.cxx_model.specs.Types.Numbers.{type_at, types_at, tree_at, arguments_at, bound_at, IsTreeBelow, AreArgumentsBelow, IsBoundBelow, Keeps}
 use Rattle.cxx_model.proofs.TypeForm.{normal_arguments_fixed, normal_bound_fixed}
-use Rattle.cxx_model.proofs.TypeTrees.{arguments_normal, bound_kept, bound_later, bound_normal, tree_kept, tree_later, types_kept, Keeps-trans}
+use Rattle.cxx_model.proofs.TypeTrees.{arguments_normal, bound_kept, bound_later, bound_normal, tree_kept, tree_later, Keeps-trans}
 use Rattle.cxx_types.specs.Makes.{AreInRange, Makes, MakesEach}
 use Rattle.cxx_types.specs.Parameters.{adjusted_types, normal_types}
+use Rattle.cxx_model.specs.Types.Proper.{IsProper, AreTypesProper, arguments_depend}
 use Rattle.cxx_types.specs.Table.{AreNormal}
 use Rattle.cxx_types.specs.Trees.{trees_at, AreTreesBelow}
 use Rattle.cxx_types.proofs.Making.{AreMadeSoFar, makes_same, makes_stopped, makes_then, one_more_made, with_last}
@@ -72,7 +73,18 @@ interned-special old new t template given list copies result form same ok each c
     let are : arguments_at old copies ≡ normal_arguments (arguments_at old given) = copied.at old ∙ ap (arguments_at old) same ∙ sym (normal_arguments_fixed (arguments_at old given) (arguments_normal old given each below)) in
     makes_same old new result (specialisation template.0 (arguments_at old copies)) (normal (tree_at old t)) (ap (specialisation template.0) are ∙ sym (ap (λ x. normal (tree_at old x)) form)) makes
 
+pub special-depends : (old : List CxxType) (t : TypeTree) (template : TemplateId) (given list copies : List Argument) → t ≡ tree.Special template given → list ≡ given → IsProper (tree_at old t) → CopiesArguments list copies → IsTrue (arguments_depend (arguments_at old copies))
+special-depends old t template given list copies form same ok copied =
+    let parts : IsProper (tree_at old (tree.Special template given)) = subst (λ (x : TypeTree). IsProper (tree_at old x)) form ok in
+    subst (λ (a : CxxArguments). IsTrue (arguments_depend a)) (sym (copied.at old ∙ ap (arguments_at old) same)) parts.0
+
 -- ---- a function
+
+pub signature-proper : (types : List CxxType) (t : TypeTree) (s : Box Signature Global) (inner : Signature) → t ≡ tree.Function s → inner ≡ s.value → IsProper (tree_at types t) → IsProper (tree_at types inner.result) × AreTypesProper (trees_at types inner.parameters.items)
+signature-proper types t s inner form same ok =
+    let whole : IsProper (function_of (tree_at types s.value.result) (trees_at types s.value.parameters.items) s.value.ellipsis s.value.cv) =
+    subst (λ (x : CxxType). IsProper x) (function-at types s) (subst (λ (x : TypeTree). IsProper (tree_at types x)) form ok) in
+    subst (λ (x : Signature). IsProper (tree_at types x.result) × AreTypesProper (trees_at types x.parameters.items)) (sym same) whole
 
 pub signature-below : (count : ℕ) (t : TypeTree) (s : Box Signature Global) (inner : Signature) → t ≡ tree.Function s → inner ≡ s.value → IsTreeBelow count t → IsTreeBelow count inner.result × AreTreesBelow count inner.parameters.items
 signature-below count t s inner form same ok =
@@ -92,7 +104,7 @@ adjusted-normal : (ts : CxxTypes) → adjusted_types (normal_types ts) ≡ norma
 adjusted-normal no_types = refl
 adjusted-normal (type_then t ts) = ap (type_then (adjusted (normal t))) (adjusted-normal ts)
 
-trees-now : (old now : List CxxType) (trees : List TypeTree) → Keeps old now → AreTreesBelow (length old) trees → trees_at now trees ≡ trees_at old trees
+pub trees-now : (old now : List CxxType) (trees : List TypeTree) → Keeps old now → AreTreesBelow (length old) trees → trees_at now trees ≡ trees_at old trees
 trees-now old now trees kept ok = trees-at-kept old now trees (λ t below. tree_kept old now t kept below) ok
 
 pub made-signature : (old one two new : List CxxType) (s : Signature) (r : TypeId) (ns list : List TypeId) (items : List TypeTree) (result : Result TypeId OutOfMemory) → items ≡ s.parameters.items → list ≡ ns → AreNormal old → AreTreesBelow (length old) s.parameters.items → Makes old one (Ok r) (normal (tree_at old s.result)) → MakesEach one two (Ok ns) (normal_types (trees_at one items)) → Makes two new result (function_of (type_at two r.0) (adjusted_types (types_at two list)) s.ellipsis s.cv) → Makes old new result (function_of (normal (tree_at old s.result)) (normal_parameters (trees_at old s.parameters.items)) s.ellipsis s.cv)
@@ -137,6 +149,17 @@ tree-there count trees i t within is ok = subst (λ (x : TypeTree). IsTreeBelow 
 
 pub item-below : (old now : List CxxType) (trees : List TypeTree) (i : ℕ) (t : TypeTree) → Keeps old now → i < length trees → t ≡ get_or trees i t → AreTreesBelow (length old) trees → IsTreeBelow (length now) t
 item-below old now trees i t kept within is ok = tree_later (length old) (length now) t kept.grows (tree-there (length old) trees i t within is ok)
+
+proper-there : (types : List CxxType) (trees : List TypeTree) (i : ℕ) (d : TypeTree) → i < length trees → AreTypesProper (trees_at types trees) → IsProper (tree_at types (get_or trees i d))
+proper-there types [] i d within each = absurd (omega arith)
+proper-there types (t ∷ ts) zero d within each = each.0
+proper-there types (t ∷ ts) (suc i) d within each = proper-there types ts i d (omega arith) each.1
+
+pub item-proper : (old now : List CxxType) (trees : List TypeTree) (i : ℕ) (t : TypeTree) → Keeps old now → i < length trees → t ≡ get_or trees i t → AreTreesBelow (length old) trees → AreTypesProper (trees_at old trees) → IsProper (tree_at now t)
+item-proper old now trees i t kept within is ok each =
+    let same : tree_at now t ≡ tree_at old t = tree_kept old now t kept (tree-there (length old) trees i t within is ok) in
+    let there : IsProper (tree_at old (get_or trees i t)) = proper-there old trees i t within each in
+    subst (λ (x : CxxType). IsProper x) (sym same) (subst (λ (x : TypeTree). IsProper (tree_at old x)) (sym is) there)
 
 item-range : (graph : Graph) (types : List CxxType) (trees : List TypeTree) (i : ℕ) (d : TypeTree) → i < length trees → AreTypesInRange graph (normal_types (trees_at types trees)) → IsTypeInRange graph (normal (tree_at types (get_or trees i d)))
 item-range graph types [] i d within each = absurd (omega arith)

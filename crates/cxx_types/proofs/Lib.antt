@@ -3,6 +3,7 @@ pub mod Depths
 pub mod Interning
 pub mod Making
 pub mod Nodes
+pub mod Proper
 pub mod Ranges
 pub mod Reading
 pub mod Rows

@@ -10,16 +10,16 @@ use Rattle.std.proofs.lemmas.List.Folds.{list_any_at}
 use Rattle.cxx_model.specs.declared.types.TypeNode.{TypeNode}
 use Rattle.cxx_model.specs.declared.base.Base.TheVariants.{Void}
 use Rattle.cxx_model.specs.Types.Trees.{CxxType, IsNormal, fundamental}
+use Rattle.cxx_model.specs.Types.Proper.{IsProper}
 use Rattle.cxx_model.specs.Types.Numbers.{AreApart, type_at, type_over, IsNodeBelow, Keeps}
 use Rattle.cxx_model.proofs.TypeTrees.{node_kept, node_later, Keeps-refl, Keeps-trans}
 use Rattle.std.proofs.lemmas.Bool.{ltb-true, ltb-false}
 use Rattle.indexmap.specs.IndexSet.{insert_key}
 use Rattle.cxx_model.proofs.Equal.{same_node, node_from, node_to}
-use Rattle.cxx_model.specs.declared.types.TypeId.{TypeId}
-use Rattle.cxx_model.specs.Facts.Graph.{Graph, IsTypeInRange}
+use Rattle.cxx_model.specs.Facts.Graph.{IsTypeInRange}
 use Rattle.cxx_types.specs.Levels.{level_count}
-use Rattle.cxx_types.specs.Makes.{AreInRange, Fits, Makes}
-use Rattle.cxx_types.specs.Table.{types_after, types_of, AreNormal, AreShallow, IsTable}
+use Rattle.cxx_types.specs.Makes.{Fits, Makes}
+use Rattle.cxx_types.specs.Table.{types_after, types_of, AreNormal, AreProper, AreShallow, IsTable}
 use Rattle.cxx_types.proofs.Depths.{node-shallow}
 
 -- one more type
@@ -90,7 +90,7 @@ below-or-last i n h = by (nat_lt i n) refl
     by false e = inr (let g : n ≤ i = ltb-false i n e in omega arith)
 
 -- a node that is not yet there
-module _ (nodes : List TypeNode) (counts : List ℕ) (x : TypeNode) (table : IsTable nodes counts) (ok : IsNodeBelow (length (types_of nodes)) x) (form : IsNormal (type_over (types_of nodes) x)) (absent : list_any (same_node x) nodes ≡ false) where
+module _ (nodes : List TypeNode) (counts : List ℕ) (x : TypeNode) (table : IsTable nodes counts) (ok : IsNodeBelow (length (types_of nodes)) x) (form : IsNormal (type_over (types_of nodes) x)) (proper : IsProper (type_over (types_of nodes) x)) (absent : list_any (same_node x) nodes ≡ false) where
   abbrev old : List CxxType
   old = types_of nodes
 
@@ -142,6 +142,15 @@ module _ (nodes : List TypeNode) (counts : List ℕ) (x : TypeNode) (table : IsT
       by (inl a) = subst IsNormal (sym (kept.same i a)) (table.normal i a)
       by (inr a) = subst (λ (n : ℕ). IsNormal (type_at new n)) (sym a) (subst IsNormal (sym last) form)
 
+  proper-more : AreProper new
+  proper-more i p =
+      let P : i < length old + 1 = omega (arith, count) in
+      by (below-or-last i (length old) P)
+    where
+      by : (i < length old) ⊎ (i ≡ length old) → IsProper (type_at new i)
+      by (inl a) = subst (λ (t : CxxType). IsProper t) (sym (kept.same i a)) (table.proper i a)
+      by (inr a) = subst (λ (n : ℕ). IsProper (type_at new n)) (sym a) (subst (λ (t : CxxType). IsProper t) (sym last) proper)
+
   below-more : (i : ℕ) (y : TypeNode) → slice_get (nodes ++ x ∷ []) i ≡ Some y → IsNodeBelow i y
   below-more i y e = by (split-more nodes x i y e)
     where
@@ -166,6 +175,7 @@ module _ (nodes : List TypeNode) (counts : List ℕ) (x : TypeNode) (table : IsT
     below = below-more;
     apart = apart-more;
     normal = normal-more;
+    proper = proper-more;
     shallow = shallow-more;
     leveled = ap (λ (cs : List ℕ). cs ++ level_count (type_over old x) ∷ []) table.leveled ∙ sym (map-append level_count old (type_over old x ∷ [])) ∙ ap (map level_count) (sym new-is);
   }
@@ -178,12 +188,12 @@ table-stays nodes counts x new table is told = by (list_any (same_node x) nodes)
     by true e = table
     by false e = (let wrong : false ≡ true = sym told ∙ is ∙ ap not e in cc)
 
-pub table-grows : (nodes : List TypeNode) (counts : List ℕ) (x : TypeNode) (new : Bool) → IsTable nodes counts → IsNodeBelow (length (types_of nodes)) x → IsNormal (type_over (types_of nodes) x) → new ≡ not (list_any (same_node x) nodes) → new ≡ true → IsTable (insert_key same_node nodes x) (counts ++ level_count (type_over (types_of nodes) x) ∷ [])
-table-grows nodes counts x new table ok form is told = by (list_any (same_node x) nodes) refl
+pub table-grows : (nodes : List TypeNode) (counts : List ℕ) (x : TypeNode) (new : Bool) → IsTable nodes counts → IsNodeBelow (length (types_of nodes)) x → IsNormal (type_over (types_of nodes) x) → IsProper (type_over (types_of nodes) x) → new ≡ not (list_any (same_node x) nodes) → new ≡ true → IsTable (insert_key same_node nodes x) (counts ++ level_count (type_over (types_of nodes) x) ∷ [])
+table-grows nodes counts x new table ok form proper is told = by (list_any (same_node x) nodes) refl
   where
     by : (b : Bool) → list_any (same_node x) nodes ≡ b → IsTable (if b then nodes else nodes ++ x ∷ []) (counts ++ level_count (type_over (types_of nodes) x) ∷ [])
     by true e = (let wrong : true ≡ false = sym told ∙ is ∙ ap not e in cc)
-    by false e = table-more nodes counts x table ok form e
+    by false e = table-more nodes counts x table ok form proper e
 
 pub Keeps-insert : (nodes : List TypeNode) (x : TypeNode) → Keeps (types_of nodes) (types_of (insert_key same_node nodes x))
 Keeps-insert nodes x = by (list_any (same_node x) nodes)

@@ -1,9 +1,11 @@
 -- What a table of types stands for: the list of its types, each made of earlier ones.
-use Rattle.std.specs.Prelude.{ℕ, ◌≡◌, ◌<◌, ◌≤◌, List, [], ◌∷◌, ◌++◌, length, map, Some}
+use Rattle.std.specs.Prelude.{ℕ, ◌≡◌, ◌<◌, ◌≤◌, IsTrue, List, [], ◌∷◌, ◌++◌, length, map, Some}
 use Rattle.std.specs.List.{slice_get}
 use Rattle.cxx_model.specs.declared.types.TypeNode.{TypeNode}
+use Rattle.cxx_model.specs.declared.types.TypeNode.TheVariants as node
 use Rattle.cxx_model.specs.Types.Trees.{CxxType, IsNormal}
-use Rattle.cxx_model.specs.Types.Numbers.{type_at, type_over, AreApart, IsNodeBelow}
+use Rattle.cxx_model.specs.Types.Proper.{IsProper, arguments_depend}
+use Rattle.cxx_model.specs.Types.Numbers.{type_at, arguments_at, type_over, AreApart, IsNodeBelow}
 use Rattle.cxx_types.specs.Levels.{level_count}
 
 abbrev pub types_after : List CxxType → List TypeNode → List CxxType
@@ -16,6 +18,14 @@ types_of nodes = types_after [] nodes
 abbrev pub AreNormal : List CxxType → Type 0
 AreNormal types = (i : ℕ) → i < length types → IsNormal (type_at types i)
 
+abbrev pub AreProper : List CxxType → Type 0
+AreProper types = (i : ℕ) → i < length types → IsProper (type_at types i)
+
+-- 14.7.1: a specialisation names a parameter of a template
+abbrev pub IsNodeProper : List CxxType → TypeNode → Type 0
+IsNodeProper types (node.Special template arguments) = IsTrue (arguments_depend (arguments_at types arguments))
+IsNodeProper types _ = Unit {0}
+
 -- a type has no more levels than there are types before it
 abbrev pub AreShallow : List CxxType → Type 0
 AreShallow types = (i : ℕ) → i < length types → level_count (type_at types i) ≤ i
@@ -25,5 +35,6 @@ pub record IsTable (nodes : List TypeNode) (counts : List ℕ) : Type 0 where
   pub below : (i : ℕ) (node : TypeNode) → slice_get nodes i ≡ Some node → IsNodeBelow i node
   pub apart : AreApart (types_of nodes)
   pub normal : AreNormal (types_of nodes)
+  pub proper : AreProper (types_of nodes)
   pub shallow : AreShallow (types_of nodes)
   pub leveled : counts ≡ map level_count (types_of nodes)

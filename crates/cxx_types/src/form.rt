@@ -2,6 +2,7 @@ ghost use Rattle.std.specs.Prelude.{◌≡◌, ◌<◌, length, IsTrue};
 ghost use Rattle.cxx_model.specs.Types.Trees.{adjusted, any_cv, decayed, fundamental, class_type, enumeration, layered, merged, takes_cv, type_parameter, unqualified};
 ghost use Rattle.cxx_model.specs.Types.Trees as definition;
 ghost use Rattle.cxx_model.specs.Types.Numbers.{type_at, types_at, arguments_at, bound_at, AreArgumentsBelow, AreTypesBelow, IsBoundBelow};
+ghost use Rattle.cxx_model.specs.Types.Proper.{arguments_depend};
 ghost use Rattle.cxx_types.specs.Makes.{Makes, MakesEach};
 ghost use Rattle.cxx_types.specs.Parameters.{adjusted_types};
 
@@ -102,13 +103,15 @@ impl TypeTable {
         self.insert(TypeNode::Parameter(depth, index))
     }
 
-    /// A specialisation whose arguments name parameters of templates (14.2).
+    /// A specialisation whose arguments name parameters of templates (14.2). One whose arguments name none is the class
+    /// that was reserved for it (14.7.1), and no specialisation.
     pub fn specialisation(
         &mut self,
         template: TemplateId,
         arguments: ArgumentList,
     ) -> Result<TypeId, OutOfMemory>
-        requires { AreArgumentsBelow (length self.old) arguments }
+        requires below { AreArgumentsBelow (length self.old) arguments }
+        requires depends { IsTrue (arguments_depend (arguments_at self.old arguments)) }
         ensures { Makes self.old self.new result (definition.specialisation template.0 (arguments_at self.old arguments)) }
     {
         self.insert(TypeNode::Special(template, arguments))
@@ -197,7 +200,7 @@ impl TypeTable {
         ensures { Makes self.old self.new result (adjusted (type_at self.old number.0)) }
     {
         match self.node(number) {
-            TypeNode::Qualified(_, inner) => Ok(*inner),
+            TypeNode::Qualified(_, bare) => Ok(*bare),
             _ => self.decay(number),
         }
     }

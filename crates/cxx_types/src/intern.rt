@@ -1,6 +1,8 @@
 ghost use Rattle.std.specs.Prelude.{length};
 ghost use Rattle.cxx_model.specs.Types.Trees.{function_of, normal, normal_parameters};
 ghost use Rattle.cxx_model.specs.Types.Numbers.{tree_at, type_over, IsNodeBelow, IsTreeBelow};
+ghost use Rattle.cxx_model.specs.Types.Proper.{AreTypesProper, IsProper};
+ghost use Rattle.cxx_types.specs.Table.{IsNodeProper};
 ghost use Rattle.cxx_types.specs.Makes.{Makes, MakesEach};
 ghost use Rattle.cxx_types.specs.Parameters.{normal_types};
 ghost use Rattle.cxx_types.specs.Trees.{trees_at, AreTreesBelow};
@@ -15,7 +17,8 @@ impl TypeTable {
     /// The number of the type of a node in its one form: of a type whose parts have numbers. It takes what the node
     /// takes, however large the tree of the type is.
     pub fn build(&mut self, node: TypeNode) -> Result<TypeId, OutOfMemory>
-        requires { IsNodeBelow (length self.old) node }
+        requires below { IsNodeBelow (length self.old) node }
+        requires proper { IsNodeProper self.old node }
         ensures { Makes self.old self.new result (normal (type_over self.old node)) }
     {
         self.form();
@@ -34,7 +37,8 @@ impl TypeTable {
     /// The number of a type in its one form.
     #[cycle(intern)]
     pub fn intern(&mut self, tree: &TypeTree) -> Result<TypeId, OutOfMemory>
-        requires { IsTreeBelow (length self.old) tree.now }
+        requires below { IsTreeBelow (length self.old) tree.now }
+        requires proper { IsProper (tree_at self.old tree.now) }
         ensures { Makes self.old self.new result (normal (tree_at self.old tree.now)) }
     {
         self.form();
@@ -78,6 +82,8 @@ impl TypeTable {
     fn intern_function(&mut self, signature: &Signature) -> Result<TypeId, OutOfMemory>
         requires result_below { IsTreeBelow (length self.old) signature.now.result }
         requires parameters_below { AreTreesBelow (length self.old) signature.now.parameters.items }
+        requires result_proper { IsProper (tree_at self.old signature.now.result) }
+        requires parameters_proper { AreTypesProper (trees_at self.old signature.now.parameters.items) }
         ensures { Makes self.old self.new result (function_of (normal (tree_at self.old signature.now.result)) (normal_parameters (trees_at self.old signature.now.parameters.items)) signature.now.ellipsis signature.now.cv) }
     {
         self.form();
@@ -94,7 +100,8 @@ impl TypeTable {
     // The types of some trees.
     #[cycle(intern)]
     fn intern_each(&mut self, trees: &[TypeTree]) -> Result<TypeIdList, OutOfMemory>
-        requires { AreTreesBelow (length self.old) trees.now }
+        requires below { AreTreesBelow (length self.old) trees.now }
+        requires proper { AreTypesProper (trees_at self.old trees.now) }
         ensures { MakesEach self.old self.new result (normal_types (trees_at self.old trees.now)) }
     {
         let mut numbers = Listed::new(self.allocator());

@@ -3,6 +3,7 @@ ghost use Rattle.std.specs.Prelude.{◌≡◌, ◌<◌, ◌↔◌, length, IfOk,
 ghost use Rattle.cxx_model.specs.declared.types.Cv.{Cv};
 ghost use Rattle.cxx_model.specs.Types.Same.{same_type};
 ghost use Rattle.cxx_model.specs.Types.Trees.{CxxType, IsNormal, Similar, adjusted, is_adjusted, merged, normal, unqualified, with_cv};
+ghost use Rattle.cxx_model.specs.Types.Proper.{IsProper};
 ghost use Rattle.cxx_model.specs.Types.Numbers.{type_at, tree_at, IsTreeBelow};
 
 use crate::table::TypeTable;
@@ -41,7 +42,8 @@ pub fn interned_twice(
     table: &mut TypeTable,
     tree: &TypeTree,
 ) -> Result<(TypeId, TypeId), OutOfMemory>
-    requires { IsTreeBelow (length table.old) tree.now }
+    requires below { IsTreeBelow (length table.old) tree.now }
+    requires proper { IsProper (tree_at table.old tree.now) }
     ensures same { IfOk result (λ both. both.0 ≡ both.1) }
     ensures is { IfOk result (λ both. type_at table.new both.0.0 ≡ normal (tree_at table.old tree.now)) }
 {

@@ -1,5 +1,6 @@
 ghost use Rattle.std.specs.Prelude.{◌≡◌, ◌<◌, ◌≤◌, ◌+◌, ◌^◌, [], length, max, IsTrue, ◌↔◌};
 ghost use Rattle.cxx_model.specs.Types.Same.{same_type};
+ghost use Rattle.cxx_model.specs.Types.Proper.{IsInOneForm, IsProper};
 ghost use Rattle.cxx_model.specs.Types.Trees.{IsNormal};
 ghost use Rattle.cxx_model.specs.Types.Numbers.{type_at, types_at, type_over, AreTypesBelow, IsNodeBelow};
 ghost use Rattle.cxx_types.specs.Levels.{level_count, level_counts};
@@ -37,7 +38,7 @@ impl Model for TypeTable {
 }
 
 impl TypeTable {
-    ghost use Rattle.cxx_types.specs.Table.{AreNormal};
+    ghost use Rattle.cxx_types.specs.Table.{AreNormal, AreProper};
 
     /// A table of no types.
     pub fn new(alloc: Global) -> TypeTable
@@ -55,7 +56,7 @@ impl TypeTable {
         requires { number.0 < length self.now }
         ensures is { type_over self.now result.now ≡ type_at self.now number.0 }
         ensures below { IsNodeBelow number.0 result.now }
-        ensures normal { IsNormal (type_at self.now number.0) }
+        ensures form { IsInOneForm (type_at self.now number.0) }
     {
         self.nodes.get_index(number.0 as usize).unwrap()
     }
@@ -90,6 +91,13 @@ impl TypeTable {
         let _ = &self.nodes;
     }
 
+    // No specialisation in a type is a class of its own.
+    pub(crate) fn proper(&self)
+        ensures { AreProper self.now }
+    {
+        let _ = &self.nodes;
+    }
+
     pub(crate) fn allocator(&self) -> Global {
         self.alloc
     }
@@ -98,6 +106,7 @@ impl TypeTable {
     pub(crate) fn insert(&mut self, node: TypeNode) -> Result<TypeId, OutOfMemory>
         requires below { IsNodeBelow (length self.old) node }
         requires normal { AreNormal self.old → IsNormal (type_over self.old node) }
+        requires proper { AreProper self.old → IsProper (type_over self.old node) }
         ensures { Makes self.old self.new result (type_over self.old node) }
     {
         let levels = self.levels_over(&node);
