@@ -1,1 +1,2 @@
 mod LookupRows
+mod AssociatedRows
