@@ -28,14 +28,15 @@ same_part _ _ = false
 
 -- ---- the steps
 
+-- 10: before the bases that come later, where a fact is of a direct base of a class
+abbrev pub base_before : ℕ → Declares → List Part → List Part
+base_before class (facts.ancestor derived parent index access) later = if nat_eq derived.0 class then of_base parent.0 ∷ later else later
+base_before class _ later = later
+
 -- 10: the direct bases of a class, in order
 abbrev pub bases_of : List CxxFact → ℕ → List Part
 bases_of [] class = []
-bases_of (fact ∷ others) class = by fact.what (bases_of others class)
-  where
-    by : Declares → List Part → List Part
-    by (facts.ancestor derived parent index access) later = if nat_eq derived.0 class then of_base parent.0 ∷ later else later
-    by _ later = later
+bases_of (fact ∷ others) class = base_before class fact.what (bases_of others class)
 
 -- each of some types
 abbrev pub each_of : CxxTypes → List Part
