@@ -1,3 +1,4 @@
 pub mod Growing
 pub mod Bases
 pub mod Classes
+pub mod Following

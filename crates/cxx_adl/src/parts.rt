@@ -3,7 +3,7 @@
 ghost use Rattle.std.specs.Prelude.{◌≡◌, ◌<◌, List, ◌∷◌, [], length, map, OnOk, IfOk};
 ghost use Rattle.std.specs.List.{slice_get};
 ghost use Rattle.cxx_model.specs.Types.Trees.{CxxType, class_type};
-ghost use Rattle.cxx_model.specs.Types.Numbers.{type_at, AreArgumentsBelow, AreTypesBelow, IsArgumentBelow, arguments_at, types_at};
+ghost use Rattle.cxx_model.specs.Types.Numbers.{type_at, type_over, IsNodeBelow, AreArgumentsBelow, AreTypesBelow, IsArgumentBelow, arguments_at, types_at};
 ghost use Rattle.cxx_model.specs.Facts.Declarations.{declares_at};
 ghost use Rattle.cxx_model.specs.Facts.Fitted.{IsGraphBelow};
 ghost use Rattle.cxx_meaning.specs.Lookups.Associated.{arguments_for, base_before, bases_of, of_type, each_of, holds_part, leads_to, parts as parts_of, same_part as same_parts, types_among, with_part, with_parts};
@@ -173,6 +173,42 @@ impl Asking<'_> {
     {
         self.add(parts, Part::Type(returned))?;
         self.add_types(parts, parameters)
+    }
+
+    // Adds what a type leads to, by its outermost part.
+    #[tactic(auto, using(crate::proofs::Growing::becomes_none), unfolding(cxx_meaning::specs::Lookups::Associated::with_parts))]
+    fn add_below(&self, parts: &mut Vec<Part>, node: &TypeNode) -> Result<(), AllocError>
+        requires graph { IsGraphBelow (length self.now.types.now) self.now.graph.now }
+        requires parts { ArePartsBelow (length self.now.types.now) parts.old.items }
+        requires node { IsNodeBelow (length self.now.types.now) node.now }
+        ensures { OnOk result (Becomes self.now.types.now parts.old.items parts.new.items (with_parts (map (part_at self.now.types.now) parts.old.items) (leads_to (graph_of self.now) (of_type (type_over self.now.types.now node.now))))) }
+    {
+        match node {
+            TypeNode::Class(class) => self.add_class(parts, *class),
+            TypeNode::Pointer(of) => self.add(parts, Part::Type(*of)),
+            TypeNode::Reference(of) => self.add(parts, Part::Type(*of)),
+            TypeNode::Array(of, _) => self.add(parts, Part::Type(*of)),
+            TypeNode::Qualified(_, of) => self.add(parts, Part::Type(*of)),
+            TypeNode::Function {
+                result, parameters, ..
+            } => self.add_signature(parts, *result, parameters.as_slice()),
+            TypeNode::Special(_, arguments) => self.add_arguments(parts, arguments.as_slice()),
+            _ => Ok(()),
+        }
+    }
+
+    // Adds what a part leads to.
+    #[tactic(auto, using(cxx_model::proofs::TypeTrees::node_later))]
+    fn add_next(&self, parts: &mut Vec<Part>, part: Part) -> Result<(), AllocError>
+        requires graph { IsGraphBelow (length self.now.types.now) self.now.graph.now }
+        requires parts { ArePartsBelow (length self.now.types.now) parts.old.items }
+        requires part { IsPartBelow (length self.now.types.now) part }
+        ensures { OnOk result (Becomes self.now.types.now parts.old.items parts.new.items (with_parts (map (part_at self.now.types.now) parts.old.items) (leads_to (graph_of self.now) (part_at self.now.types.now part)))) }
+    {
+        match part {
+            Part::Type(of) => self.add_below(parts, self.types.node(of)),
+            Part::Base(class) => self.add_bases(parts, class),
+        }
     }
 }
 

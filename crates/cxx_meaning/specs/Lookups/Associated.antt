@@ -126,21 +126,23 @@ abbrev pub types_in_all : List CxxType → List Part
 types_in_all [] = []
 types_in_all (t ∷ ts) = types_in t ++ types_in_all ts
 
+-- the types that stand in the arguments of specialisations
+abbrev pub types_of_class : Option CxxSpecialisation → List Part
+types_of_class None = []
+types_of_class (Some of) = types_in_arguments of.arguments
+
 abbrev pub types_of_classes : List (Option CxxSpecialisation) → List Part
 types_of_classes [] = []
-types_of_classes (class ∷ classes) = by class ++ types_of_classes classes
-  where
-    by : Option CxxSpecialisation → List Part
-    by None = []
-    by (Some of) = types_in_arguments of.arguments
+types_of_classes (class ∷ classes) = types_of_class class ++ types_of_classes classes
 
+abbrev pub parent_before : Declares → List Part → List Part
+parent_before (facts.ancestor derived parent index access) later = of_base parent.0 ∷ later
+parent_before _ later = later
+
+-- every class that is a direct base of one
 abbrev pub all_bases : List CxxFact → List Part
 all_bases [] = []
-all_bases (fact ∷ others) = by fact.what (all_bases others)
-  where
-    by : Declares → List Part → List Part
-    by (facts.ancestor derived parent index access) later = of_base parent.0 ∷ later
-    by _ later = later
+all_bases (fact ∷ others) = parent_before fact.what (all_bases others)
 
 -- Whatever some types can lead to is among these, so there are no more parts.
 unfoldable pub everything : CxxGraph → List CxxType → List Part
