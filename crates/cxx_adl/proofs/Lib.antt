@@ -2,3 +2,4 @@ pub mod Growing
 pub mod Bases
 pub mod Classes
 pub mod Following
+pub mod Turns

@@ -2,6 +2,7 @@
 use Rattle.std.specs.Prelude.{ℕ, ◌≡◌, ◌<◌, List, [], ◌∷◌, length, map, Option, Some, None}
 use Rattle.cxx_model.specs.declared.facts.Specialisation.{Specialisation}
 use Rattle.cxx_model.specs.declared.types.ClassId.{ClassId}
+use Rattle.cxx_model.specs.declared.types.TypeId.{TypeId}
 use Rattle.cxx_model.specs.Types.Trees.{CxxType}
 use Rattle.cxx_model.specs.Types.Numbers.{type_at}
 use Rattle.cxx_model.specs.Facts.Declarations.{CxxFact, CxxGraph, graph_at, facts_at}
@@ -47,3 +48,7 @@ base_by class (Some fact) = base_before class fact.what []
 abbrev pub base_list : Option ClassId → List PartMeant
 base_list None = []
 base_list (Some class) = of_base class.0 ∷ []
+
+-- the types with some numbers
+abbrev pub given : List CxxType → List TypeId → List CxxType
+given types numbers = map (λ n. type_at types n.0) numbers

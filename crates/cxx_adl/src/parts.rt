@@ -7,7 +7,7 @@ ghost use Rattle.cxx_model.specs.Types.Numbers.{type_at, type_over, IsNodeBelow,
 ghost use Rattle.cxx_model.specs.Facts.Declarations.{declares_at};
 ghost use Rattle.cxx_model.specs.Facts.Fitted.{IsGraphBelow};
 ghost use Rattle.cxx_meaning.specs.Lookups.Associated.{arguments_for, base_before, bases_of, of_type, each_of, holds_part, leads_to, parts as parts_of, same_part as same_parts, types_among, with_part, with_parts};
-ghost use Rattle.cxx_adl.specs.Views.{base_by, base_list, ArePartsBelow, Becomes, IsPartBelow, facts_of, graph_of, part_at};
+ghost use Rattle.cxx_adl.specs.Views.{base_by, base_list, given, ArePartsBelow, Becomes, IsPartBelow, facts_of, graph_of, part_at};
 
 use crate::asking::Asking;
 use cxx_model::{Argument, ClassId, Entity, FactId, TypeId, TypeNode};
@@ -209,6 +209,25 @@ impl Asking<'_> {
             Part::Type(of) => self.add_below(parts, self.types.node(of)),
             Part::Base(class) => self.add_bases(parts, class),
         }
+    }
+
+    /// What some types lead to, each once.
+    #[tactic(auto, using(crate::proofs::Turns::way_begins, crate::proofs::Turns::way_shortens, crate::proofs::Turns::way_goes_on, crate::proofs::Turns::way_ends, crate::proofs::Turns::below_at))]
+    pub fn parts(&self, of: &[TypeId]) -> Result<Vec<Part>, AllocError>
+        requires graph { IsGraphBelow (length self.now.types.now) self.now.graph.now }
+        requires of { AreTypesBelow (length self.now.types.now) of.now }
+        ensures is { IfOk result (λ parts. map (part_at self.now.types.now) parts.items ≡ parts_of (graph_of self.now) (given self.now.types.now of.now)) }
+        ensures below { IfOk result (λ parts. ArePartsBelow (length self.now.types.now) parts.items) }
+    {
+        let mut found = Vec::new(self.alloc);
+        self.add_types(&mut found, of)?;
+        let mut place = 0;
+        while place < found.len() {
+            let part = found[place];
+            self.add_next(&mut found, part)?;
+            place += 1;
+        }
+        Ok(found)
     }
 }
 
