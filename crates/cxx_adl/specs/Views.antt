@@ -1,15 +1,21 @@
 -- What the values of the code stand for.
 use Rattle.std.specs.Prelude.{ℕ, ◌≡◌, ◌<◌, List, [], ◌∷◌, length, map, Option, Some, None}
+use Rattle.cxx_model.specs.declared.facts.Entity.{Entity}
+use Rattle.cxx_model.specs.declared.facts.Entity.TheVariants as entity
+use Rattle.cxx_model.specs.declared.facts.Fact.{Fact}
 use Rattle.cxx_model.specs.declared.facts.Specialisation.{Specialisation}
+use Rattle.cxx_model.specs.declared.types.ScopeId.{ScopeId}
 use Rattle.cxx_model.specs.declared.types.ClassId.{ClassId}
 use Rattle.cxx_model.specs.declared.types.TypeId.{TypeId}
 use Rattle.cxx_model.specs.Types.Trees.{CxxType}
 use Rattle.cxx_model.specs.Types.Numbers.{type_at}
 use Rattle.cxx_model.specs.Facts.Declarations.{CxxFact, CxxGraph, graph_at, facts_at}
+use Rattle.cxx_meaning.specs.Lookups.Gathered.{before}
 use Rattle.cxx_meaning.specs.Lookups.Associated.{Part as PartMeant, base_before, of_type, of_base}
 use Rattle.cxx_adl.specs.declared.parts.Part.{Part}
 use Rattle.cxx_adl.specs.declared.parts.Part.TheVariants as part
 use Rattle.cxx_adl.specs.declared.asking.Asking.{Asking}
+use Rattle.cxx_adl.specs.declared.scopes.Holder.{Holder}
 
 abbrev pub graph_of : Asking → CxxGraph
 graph_of asking = graph_at asking.types.now asking.graph.now
@@ -52,3 +58,15 @@ base_list (Some class) = of_base class.0 ∷ []
 -- the types with some numbers
 abbrev pub given : List CxxType → List TypeId → List CxxType
 given types numbers = map (λ n. type_at types n.0) numbers
+
+-- ---- scopes
+
+-- what a fact makes, where it makes a scope
+abbrev pub holder_by : ScopeId → Entity → Option Holder
+holder_by parent (entity.Scope within kind) = Some (record { kind = kind; parent = parent })
+holder_by parent _ = None
+
+-- the scopes among some facts, in order
+abbrev pub holders_of : List Fact → List Holder
+holders_of [] = []
+holders_of (fact ∷ others) = before (holder_by fact.scope fact.what) (holders_of others)

@@ -2,4 +2,9 @@
 #![tactic(auto)]
 
 mod asking;
+mod declared;
+mod numbers;
 mod parts;
+mod pending;
+mod scopes;
+mod sets;

@@ -1,0 +1,1 @@
+//! The associated classes and namespaces.
