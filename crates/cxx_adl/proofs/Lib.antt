@@ -6,3 +6,4 @@ pub mod Turns
 pub mod Placed
 pub mod Holding
 pub mod Homes
+pub mod Defining

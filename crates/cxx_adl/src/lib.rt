@@ -8,3 +8,4 @@ mod parts;
 mod pending;
 mod scopes;
 mod sets;
+pub use sets::associated;

@@ -249,11 +249,20 @@ space_at_scope graph (Some scope) = Some (home graph.facts scope).0
 abbrev pub own_classes : List Part → List ℕ
 own_classes parts = collected class_of [] parts
 
+-- the classes of which parts are members
 abbrev pub with_member_classes : CxxGraph → List Part → List ℕ → List ℕ
 with_member_classes graph parts found = collected (λ part. class_at_scope graph (member_scope_of graph part)) found parts
 
+-- the namespaces of what parts name
+abbrev pub with_spaces : CxxGraph → List Part → List ℕ → List ℕ
+with_spaces graph parts found = collected (λ part. space_at_scope graph (scope_of graph part)) found parts
+
+-- the namespaces of the templates of specialisations
+abbrev pub with_template_spaces : CxxGraph → List Part → List ℕ → List ℕ
+with_template_spaces graph parts found = collected (λ part. space_at_scope graph (template_scope_of graph part)) found parts
+
 abbrev pub spaces_of : CxxGraph → List Part → List ℕ
-spaces_of graph parts = collected (λ part. space_at_scope graph (template_scope_of graph part)) (collected (λ part. space_at_scope graph (scope_of graph part)) [] parts) parts
+spaces_of graph parts = with_template_spaces graph parts (with_spaces graph parts [])
 
 abbrev pub sets_of : CxxGraph → List Part → Associated
 sets_of graph parts = record { classes = with_member_classes graph parts (own_classes parts); spaces = spaces_of graph parts }
