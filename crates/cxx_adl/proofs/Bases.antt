@@ -1,5 +1,5 @@
 -- The direct bases of a class, by the numbers of their facts.
-use Rattle.std.proofs.Common.{◌≡◌, ℕ, zero, suc, ◌+◌, Bool, true, false, cond, eqb, List, [], ◌∷◌, ◌++◌, Option, Some, None, option_map, drop, refl, ap, sym, ◌∙◌, arith}
+use Rattle.std.proofs.Common.{◌≡◌, ℕ, zero, suc, ◌+◌, Bool, true, false, cond, eqb, List, [], ◌∷◌, ◌++◌, Option, Some, None, option_map, drop, refl, ap, sym, ◌∙◌, subst, arith}
 use Rattle.std.specs.List.{slice_get}
 use Rattle.cxx_model.specs.declared.facts.Entity.{Entity}
 use Rattle.cxx_model.specs.declared.facts.Entity.TheVariants as entity
@@ -8,6 +8,7 @@ use Rattle.cxx_model.specs.declared.types.ClassId.{ClassId}
 use Rattle.cxx_model.specs.declared.types.FactId.{FactId}
 use Rattle.cxx_model.specs.Types.Trees.{CxxType}
 use Rattle.cxx_model.specs.Facts.Declarations.{CxxFact, declares_at, fact_at, facts_at}
+use Rattle.cxx_model.specs.Facts.Fitted.{AreFactsBelow, IsFactBelow}
 use Rattle.cxx_meaning.specs.Lookups.Associated.{Part as PartMeant, of_base, base_before, bases_of, with_parts}
 use Rattle.cxx_graph.specs.Numbered.{is_ancestor_of, numbers_from, numbers_of}
 use Rattle.cxx_adl.specs.Views.{base_by}
@@ -44,3 +45,11 @@ bases_from types all class n (fact ∷ facts) at =
 
 pub bases_are : (types : List CxxType) (facts : List Fact) (class : ℕ) → bases_at (facts_at types facts) class (numbers_of (is_ancestor_of class) facts) ≡ bases_of (facts_at types facts) class
 bases_are types facts class = bases_from types (facts_at types facts) class 0 facts (λ k. ap (slice_get (facts_at types facts)) (omega arith))
+
+pub fact_below : (count : ℕ) (facts : List Fact) (number : ℕ) (fact : Fact) → AreFactsBelow count facts → slice_get facts number ≡ Some fact → IsFactBelow count fact
+fact_below count [] number fact below at = absurd cc
+fact_below count (one ∷ facts) zero fact below at = subst (λ f. IsFactBelow count f) (some_is one fact at) below.0
+  where
+    some_is : (x y : Fact) → Some x ≡ Some y → x ≡ y
+    some_is x y e = cc
+fact_below count (one ∷ facts) (suc number) fact below at = fact_below count facts number fact below.1 at

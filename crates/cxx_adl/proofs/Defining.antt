@@ -6,9 +6,12 @@ use Rattle.cxx_model.specs.declared.facts.Pattern.{Pattern}
 use Rattle.cxx_model.specs.declared.types.ClassId.{ClassId}
 use Rattle.cxx_model.specs.declared.types.TemplateId.{TemplateId}
 use Rattle.cxx_model.specs.Types.Trees.{CxxType}
-use Rattle.cxx_model.specs.Facts.Declarations.{CxxGraph, CxxPattern, graph_at, pattern_at, patterns_at}
+use Rattle.cxx_model.specs.Facts.Declarations.{CxxGraph, CxxPattern, graph_at, pattern_at, patterns_at, type_of_option}
 use Rattle.cxx_model.specs.Facts.Graph.{Graph}
 use Rattle.cxx_model.specs.Facts.Pending.{defining_classes}
+use Rattle.cxx_model.specs.declared.types.TypeId.{TypeId}
+use Rattle.std.specs.Option.{is_some}
+use Rattle.cxx_meaning.specs.Lookups.Wanted.{is_of_functions}
 use Rattle.cxx_adl.specs.Patterns.{class_of_primary, classes_of_partials, is_partial_of, number_list}
 
 pub no_primary : (classes : List ℕ) (patterns : List Pattern) (n : ℕ) → slice_get patterns n ≡ None → classes ≡ classes ++ class_of_primary (slice_get patterns n)
@@ -78,3 +81,13 @@ primary_same types (Some pattern) = classes_same pattern.class
 pub defining_are : (types : List CxxType) (graph : Graph) (template : ℕ) → defining_classes (graph_at types graph) template ≡ class_of_primary (slice_get graph.patterns template) ++ classes_of_partials template graph.patterns
 defining_are types graph template =
     defining_by (graph_at types graph) template ∙ (ap (λ xs. xs ++ partials template (patterns_at types graph.patterns)) (ap primary_of (pattern_is types graph.patterns template) ∙ primary_same types (slice_get graph.patterns template)) ∙ ap (λ ys. class_of_primary (slice_get graph.patterns template) ++ ys) (partials_are types template graph.patterns))
+
+pub functions_some : (types : List CxxType) (patterns : List Pattern) (n : ℕ) (pattern : Pattern) → slice_get patterns n ≡ Some pattern → is_of_functions (slice_get (patterns_at types patterns) n) ≡ is_some pattern.of
+functions_some types patterns n pattern at = ap is_of_functions (pattern_is types patterns n ∙ ap (option_map (pattern_at types)) at) ∙ by pattern.of
+  where
+    by : (of : Option TypeId) → is_of_functions (Some (record (pattern_at types pattern) { of = type_of_option types of })) ≡ is_some of
+    by None = refl
+    by (Some of) = refl
+
+pub functions_none : (types : List CxxType) (patterns : List Pattern) (n : ℕ) → slice_get patterns n ≡ None → is_of_functions (slice_get (patterns_at types patterns) n) ≡ false
+functions_none types patterns n at = ap is_of_functions (pattern_is types patterns n ∙ ap (option_map (pattern_at types)) at)

@@ -7,3 +7,5 @@ pub mod Placed
 pub mod Holding
 pub mod Homes
 pub mod Defining
+pub mod FactsPlaced
+pub mod First

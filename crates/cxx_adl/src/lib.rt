@@ -3,6 +3,9 @@
 
 mod asking;
 mod declared;
+mod facts;
+mod functions;
+mod names;
 mod numbers;
 mod parts;
 mod pending;

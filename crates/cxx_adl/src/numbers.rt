@@ -1,10 +1,23 @@
 //! Ascending lists of numbers, each once.
 
-ghost use Rattle.std.specs.Prelude.{◌≡◌, OnOk};
+ghost use Rattle.std.specs.Prelude.{◌≡◌, nat_eq, OnOk};
+ghost use Rattle.std.specs.List.{list_any};
 ghost use Rattle.cxx_meaning.specs.Lookups.Associated.{with_number, with_option};
 ghost use Rattle.cxx_adl.specs.Places.{place_in};
 
 use std::alloc::AllocError;
+
+/// Whether a number stands in a list.
+pub(crate) fn is_among(numbers: &[u32], number: u32) -> bool
+    ensures { result ≡ list_any (nat_eq number) numbers.now }
+{
+    for other in numbers {
+        if number == *other {
+            return true;
+        }
+    }
+    false
+}
 
 // The place of the first number that is not before this one.
 fn place_of(numbers: &[u32], number: u32) -> usize

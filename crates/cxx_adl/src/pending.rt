@@ -1,6 +1,6 @@
 //! Classes that have to be complete before they are asked (14.7.1).
 
-ghost use Rattle.std.specs.Prelude.{◌≡◌, ◌∷◌, ◌++◌, [], List, false, nat_eq, IfOk, OnOk};
+ghost use Rattle.std.specs.Prelude.{◌≡◌, ◌∷◌, ◌++◌, [], List, false, IfOk, OnOk};
 ghost use Rattle.std.specs.List.{list_any, slice_get};
 ghost use Rattle.std.specs.Option.{option_copied};
 ghost use Rattle.cxx_model.specs.Types.Trees.{CxxType};
@@ -10,6 +10,7 @@ ghost use Rattle.cxx_adl.specs.Views.{facts_of, graph_of};
 ghost use Rattle.cxx_adl.specs.Patterns.{classes_of_partials, class_of_primary, is_partial_of, number_list};
 
 use crate::asking::Asking;
+use crate::numbers::is_among;
 use cxx_model::{ClassId, Entity, Fact, Pattern, ScopeKind, TemplateId};
 use std::alloc::AllocError;
 
@@ -79,7 +80,8 @@ impl Asking<'_> {
     }
 }
 
-fn pattern_at(patterns: &[Pattern], template: TemplateId) -> Option<&Pattern>
+/// The template with a number, where there is one.
+pub(crate) fn pattern_at(patterns: &[Pattern], template: TemplateId) -> Option<&Pattern>
     ensures { option_copied result ≡ slice_get patterns.now template.0 }
 {
     patterns.get(template.0 as usize)
@@ -127,17 +129,6 @@ fn begins_or_ends(class: ClassId, what: Entity) -> bool
         Entity::Complete { class: number } => number.0 == class.0,
         _ => false,
     }
-}
-
-fn is_among(numbers: &[u32], number: u32) -> bool
-    ensures { result ≡ list_any (nat_eq number) numbers.now }
-{
-    for other in numbers {
-        if number == *other {
-            return true;
-        }
-    }
-    false
 }
 
 // Whether a completion is due after a fact more.
