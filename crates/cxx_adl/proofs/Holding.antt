@@ -1,6 +1,8 @@
 -- The scopes that the code keeps are those of the facts.
 use Rattle.std.proofs.Common.{◌≡◌, ℕ, zero, suc, ◌+◌, ◌<◌, ◌≤◌, List, [], ◌∷◌, ◌++◌, length, drop, Option, Some, None, option_map, refl, ap, sym, ◌∙◌, append_assoc}
 use Rattle.std.specs.List.{slice_get}
+use Rattle.std.proofs.lemmas.List.{append-nil, at_drop_all, at_drop_more}
+use Rattle.std.proofs.lemmas.Option.{get_or_from_slice_get, slice_get_within}
 use Rattle.cxx_model.specs.declared.facts.Entity.{Entity}
 use Rattle.cxx_model.specs.declared.facts.Entity.TheVariants as entity
 use Rattle.cxx_model.specs.declared.facts.Fact.{Fact}
@@ -87,3 +89,17 @@ parent_by all scope (Some fact) e = rw e refl
 
 pub parent_is : (types : List CxxType) (facts : List Fact) (scope : ScopeId) → parent_of (facts_at types facts) scope ≡ parent_in (slice_get (holders_of facts) scope.0)
 parent_is types facts scope = parent_by (facts_at types facts) scope (slice_get (scope_facts (facts_at types facts)) scope.0) refl ∙ parents_are types facts scope.0
+
+-- ---- one fact after another, by number
+
+read_more : (facts : List Fact) (n : ℕ) (fact : Fact) → slice_get facts n ≡ Some fact → holders_of (drop n facts) ≡ before (holder_by fact.scope fact.what) (holders_of (drop (n + 1) facts))
+read_more facts n fact at = at_drop_more holders_of facts n fact (slice_get_within facts n fact at) ∙ ap (λ f. before (holder_by f.scope f.what) (holders_of (drop (n + 1) facts))) (get_or_from_slice_get facts n fact fact at)
+
+pub read_none : (found : List Holder) (facts : List Fact) (n : ℕ) (fact : Fact) → slice_get facts n ≡ Some fact → holder_by fact.scope fact.what ≡ None → found ++ holders_of (drop n facts) ≡ found ++ holders_of (drop (n + 1) facts)
+read_none found facts n fact at e = ap (λ xs. found ++ xs) (read_more facts n fact at ∙ ap (λ o. before o (holders_of (drop (n + 1) facts))) e)
+
+pub read_some : (found : List Holder) (facts : List Fact) (n : ℕ) (fact : Fact) (holder : Holder) → slice_get facts n ≡ Some fact → holder_by fact.scope fact.what ≡ Some holder → found ++ holders_of (drop n facts) ≡ (found ++ holder ∷ []) ++ holders_of (drop (n + 1) facts)
+read_some found facts n fact holder at e = ap (λ xs. found ++ xs) (read_more facts n fact at ∙ ap (λ o. before o (holders_of (drop (n + 1) facts))) e) ∙ sym (append_assoc found (holder ∷ []) (holders_of (drop (n + 1) facts)))
+
+pub read_all : (found : List Holder) (facts : List Fact) (n : ℕ) → length facts ≤ n → found ++ holders_of (drop n facts) ≡ found
+read_all found facts n le = at_drop_all (λ fs. found ++ holders_of fs) facts n le ∙ append-nil found

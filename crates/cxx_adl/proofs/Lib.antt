@@ -9,3 +9,4 @@ pub mod Homes
 pub mod Defining
 pub mod FactsPlaced
 pub mod First
+pub mod Standing

@@ -1,6 +1,7 @@
 //! Argument-dependent lookup (3.4.2).
 #![tactic(auto)]
 
+mod adl;
 mod asking;
 mod declared;
 mod facts;
@@ -11,4 +12,6 @@ mod parts;
 mod pending;
 mod scopes;
 mod sets;
+
+pub use adl::adl_set;
 pub use sets::associated;

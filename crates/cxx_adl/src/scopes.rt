@@ -8,8 +8,9 @@ ghost use Rattle.cxx_meaning.specs.Lookups.Scopes.{home as home_of, kind_of, par
 ghost use Rattle.cxx_adl.specs.Views.{holders_of, holder_by, facts_of};
 
 use crate::asking::Asking;
-use cxx_model::{ClassId, Entity, Fact, ScopeId, ScopeKind};
+use cxx_model::{ClassId, Entity, Fact, FactId, ScopeId, ScopeKind, Steps};
 use std::alloc::AllocError;
+use std::sync::ledger::Ledger;
 
 /// A scope: of what it is, and the one that holds it.
 #[derive(Clone, Copy)]
@@ -26,6 +27,21 @@ impl Asking<'_> {
     {
         let mut holders = Vec::new(self.alloc);
         for fact in self.graph.facts() {
+            if let Some(holder) = holder_in(fact) {
+                holders.push(holder)?;
+            }
+        }
+        Ok(holders)
+    }
+
+    /// The scopes, in order. Each fact that is read takes a step.
+    #[tactic(auto, using(crate::proofs::Holding::read_none, crate::proofs::Holding::read_some, crate::proofs::Holding::read_all))]
+    pub fn read_holders<L: Ledger>(&self, steps: &mut Steps<L>) -> Result<Vec<Holder>, AllocError>
+        ensures { IfOk result (λ holders. holders.items ≡ holders_of self.now.graph.now.facts) }
+    {
+        let mut holders = Vec::new(self.alloc);
+        for number in 0..self.graph.length() {
+            let fact = self.graph.fact(FactId(number), steps);
             if let Some(holder) = holder_in(fact) {
                 holders.push(holder)?;
             }

@@ -290,18 +290,23 @@ unfoldable pub standing_in_each : CxxGraph → ℕ → CxxName → List ℕ → 
 standing_in_each graph cut name [] = []
 standing_in_each graph cut name (space ∷ others) = standing graph cut any_name name (space_id space) ++ standing_in_each graph cut name others
 
+-- 11.4: what a friend declaration of one of some classes declares
+abbrev pub target_of : List ℕ → Declares → Option FactId
+target_of classes (facts.friend class target) = if list_any (nat_eq class.0) classes then Some target else None
+target_of classes _ = None
+
 -- a fact, where it declares the name
 abbrev pub target_named : CxxGraph → CxxName → FactId → Option CxxFact → Option Sighting
 target_named graph name target None = None
 target_named graph name target (Some fact) = if is_named name fact then Some (sighting_of graph.facts target.0 fact) else None
 
--- 11.4: what a friend declaration of one of some classes declares, where it is of the name
+abbrev pub target_by : CxxGraph → CxxName → Option FactId → Option Sighting
+target_by graph name None = None
+target_by graph name (Some target) = target_named graph name target (slice_get graph.facts target.0)
+
+-- a declaration of the name by a friend declaration of one of some classes
 unfoldable pub befriended : CxxGraph → CxxName → List ℕ → ℕ → CxxFact → Option Sighting
-befriended graph name classes number fact = by fact.what
-  where
-    by : Declares → Option Sighting
-    by (facts.friend class target) = if list_any (nat_eq class.0) classes then target_named graph name target (slice_get graph.facts target.0) else None
-    by _ = None
+befriended graph name classes number fact = target_by graph name (target_of classes fact.what)
 
 -- 3.4.2: the functions and function templates of a name in the associated namespaces, as far as they are seen at a cut,
 -- and those that the associated classes declare as friends, also where nothing else declares them; ascending
