@@ -273,6 +273,20 @@ impl Graph {
         Ok(TemplateId(number))
     }
 
+    /// How many classes are reserved.
+    pub fn class_count(&self) -> usize
+        ensures { result ≡ length self.now.classes }
+    {
+        self.classes.len()
+    }
+
+    /// All templates, in order.
+    pub fn patterns(&self) -> &[Pattern]
+        ensures { result.now ≡ self.now.patterns }
+    {
+        self.patterns.as_slice()
+    }
+
     /// The template with a number.
     pub fn pattern(&self, number: TemplateId) -> &Pattern
         requires { number.0 < length self.now.patterns }

@@ -2,6 +2,7 @@
 
 ghost use Rattle.std.specs.Prelude.{◌≡◌};
 ghost use Rattle.cxx_model.specs.declared.stop.Stop.TheVariants as stop;
+ghost use Rattle.cxx_model.specs.declared.stop.Wait.TheVariants as wait;
 
 use crate::evidence::EvidenceList;
 use crate::fault::FaultText;
@@ -90,5 +91,21 @@ impl<T: Drop> From<AllocFailed<T>> for Stop {
 
     fn from(_e: AllocFailed<T>) -> Stop {
         Stop::OutOfMemory
+    }
+}
+
+impl From<AllocError> for Wait {
+    ghost from_gives = { λ _ e. e ≡ wait.OutOfMemory };
+
+    fn from(_e: AllocError) -> Wait {
+        Wait::OutOfMemory
+    }
+}
+
+impl<T: Drop> From<AllocFailed<T>> for Wait {
+    ghost from_gives = { λ _ e. e ≡ wait.OutOfMemory };
+
+    fn from(_e: AllocFailed<T>) -> Wait {
+        Wait::OutOfMemory
     }
 }

@@ -1,0 +1,12 @@
+pub mod Growing
+pub mod Bases
+pub mod Classes
+pub mod Following
+pub mod Turns
+pub mod Placed
+pub mod Holding
+pub mod Homes
+pub mod Defining
+pub mod FactsPlaced
+pub mod First
+pub mod Standing

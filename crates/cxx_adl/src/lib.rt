@@ -1,0 +1,17 @@
+//! Argument-dependent lookup (3.4.2).
+#![tactic(auto)]
+
+mod adl;
+mod asking;
+mod declared;
+mod facts;
+mod functions;
+mod names;
+mod numbers;
+mod parts;
+mod pending;
+mod scopes;
+mod sets;
+
+pub use adl::adl_set;
+pub use sets::associated;

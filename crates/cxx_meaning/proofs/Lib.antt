@@ -1,0 +1,2 @@
+mod LookupRows
+mod AssociatedRows

@@ -1,0 +1,149 @@
+-- Members of a class and of its bases (10.2).
+use Rattle.std.specs.Prelude.{ℕ, Bool, true, false, not, ◌&&◌, ◌||◌, nat_eq, if◌then◌else◌, List, [], ◌∷◌, ◌++◌, map, filter, find, Option, Some, None, Result, Ok, Err}
+use Rattle.std.specs.List.{slice_get, list_any}
+use Rattle.cxx_model.specs.declared.facts.ScopeKind.{ScopeKind}
+use Rattle.cxx_model.specs.declared.facts.ScopeKind.TheVariants as kind
+use Rattle.cxx_model.specs.declared.lookup.Hit.{Hit}
+use Rattle.cxx_model.specs.declared.lookup.MemberFound.{MemberFound}
+use Rattle.cxx_model.specs.declared.lookup.MemberFound.TheVariants as found
+use Rattle.cxx_model.specs.declared.types.ClassId.{ClassId}
+use Rattle.cxx_model.specs.declared.types.ScopeId.{ScopeId}
+use Rattle.cxx_model.specs.Facts.Conflicts.{same_parameters}
+use Rattle.cxx_model.specs.Facts.Declarations as facts
+use Rattle.cxx_model.specs.Facts.Declarations.{CxxFact, CxxGraph, CxxName, Declares}
+use Rattle.cxx_meaning.specs.Lookups.Gathered.{gathered}
+use Rattle.cxx_meaning.specs.Lookups.Pending.{Asked, asked}
+use Rattle.cxx_meaning.specs.Lookups.Scopes.{kind_of}
+use Rattle.cxx_meaning.specs.Lookups.Sightings.{Sighting, entities, is_named, sighting_of, unhidden, wanted_one}
+use Rattle.cxx_meaning.specs.Lookups.Wanted.{Wanted, is_nonstatic}
+
+abbrev pub same_class : ClassId → ClassId → Bool
+same_class one two = nat_eq one.0 two.0
+
+-- 9.2: the class to which a scope belongs
+abbrev pub class_of_scope : List CxxFact → ScopeId → Option ClassId
+class_of_scope all scope = by (kind_of all scope)
+  where
+    by : Option ScopeKind → Option ClassId
+    by (Some (kind.Class class)) = Some class
+    by _ = None
+
+abbrev pub is_of_class : ClassId → Option ClassId → Bool
+is_of_class class None = false
+is_of_class class (Some other) = same_class other class
+
+-- ---- the declarations of one class
+
+-- a declaration of the name in a class; those of a class are seen as soon as they are there (3.3.6)
+unfoldable pub member_in : CxxGraph → Wanted → CxxName → ClassId → ℕ → CxxFact → Option Sighting
+member_in graph wanted name class number fact =
+    if is_named name fact && is_of_class class (class_of_scope graph.facts (record { 0 = fact.scope }))
+    then wanted_one graph wanted (sighting_of graph.facts number fact) else None
+
+unfoldable pub members_in : CxxGraph → Wanted → CxxName → ClassId → List Sighting
+members_in graph wanted name class = gathered (member_in graph wanted name class) 0 graph.facts
+
+-- a using-declaration
+abbrev pub is_brought : Sighting → Bool
+is_brought one = not (nat_eq one.itself.0 one.meant.0)
+
+abbrev pub same_lists : Declares → Declares → Bool
+same_lists (facts.function one kind _ _ _) (facts.function two other _ _ _) = same_parameters true one two
+same_lists _ _ = false
+
+-- 7.3.3: whether a function that the class itself declares hides one that is brought, its parameters being the same
+abbrev pub is_redeclared_by : Sighting → Sighting → Bool
+is_redeclared_by one two = not (is_brought two) && same_lists one.what two.what
+
+abbrev pub is_redeclared : List Sighting → Sighting → Bool
+is_redeclared sightings one = is_brought one && list_any (is_redeclared_by one) sightings
+
+unfoldable pub not_redeclared : List Sighting → List Sighting
+not_redeclared sightings = filter (λ one. not (is_redeclared sightings one)) sightings
+
+-- what the name means among the declarations of one class
+unfoldable pub declared_in : CxxGraph → Wanted → CxxName → ClassId → List Sighting
+declared_in graph wanted name class = unhidden graph (not_redeclared (members_in graph wanted name class))
+
+-- ---- subobjects
+
+-- A subobject whose class declares the name: the positions of the bases that lead to it, from 1, and its class.
+pub record Way : Type 0 where
+  pub path : List ℕ
+  pub holder : ClassId
+
+abbrev pub is_nothing : {A : Type 0} → List A → Bool
+is_nothing [] = true
+is_nothing (x ∷ xs) = false
+
+-- whether the class itself declares the name
+unfoldable pub declares_member : CxxGraph → Wanted → CxxName → ClassId → Bool
+declares_member graph wanted name class = not (is_nothing (members_in graph wanted name class))
+
+-- 10.2: a class that declares the name has it by itself; every declaration in a base is hidden
+unfoldable pub own_ways : CxxGraph → Wanted → CxxName → ClassId → List Way
+own_ways graph wanted name class = if declares_member graph wanted name class then record { path = []; holder = class } ∷ [] else []
+
+abbrev pub through : ℕ → Way → Way
+through index way = record way { path = index ∷ way.path }
+
+-- What each class has after one more fact. A class that does not declare the name has at a direct base what the base
+-- has, with the position of the base in front. A base is complete when it is named as one (10), so it then has all that
+-- it will have.
+unfoldable pub with_base : (ClassId → Bool) → CxxFact → (ClassId → List Way) → ClassId → List Way
+with_base declares fact now class = by fact.what
+  where
+    by : Declares → List Way
+    by (facts.ancestor derived parent index access) = if same_class derived class && not (declares class) then now class ++ map (through index) (now parent) else now class
+    by _ = now class
+
+unfoldable pub ways_after : (ClassId → Bool) → (ClassId → List Way) → List CxxFact → ClassId → List Way
+ways_after declares now [] = now
+ways_after declares now (fact ∷ others) = ways_after declares (with_base declares fact now) others
+
+-- The subobjects of a class that have the name and are not hidden: the class itself where it declares the name, and else
+-- those of its bases, in order, each with the position of the base in front.
+unfoldable pub ways : CxxGraph → Wanted → CxxName → ClassId → List Way
+ways graph wanted name = ways_after (declares_member graph wanted name) (own_ways graph wanted name) graph.facts
+
+-- ---- what is found
+
+-- Two subobjects do not go together where they are of different classes, or where the name has a nonstatic member.
+abbrev pub breaks : Bool → Way → Way → Bool
+breaks any_nonstatic one two = any_nonstatic || not (same_class one.holder two.holder)
+
+abbrev pub has_nonstatic : List Sighting → Bool
+has_nonstatic sightings = list_any (λ one. is_nonstatic one.what) sightings
+
+abbrev pub hit : Way → Sighting → Hit
+hit way one = record { fact = one.itself; path = way.path }
+
+-- the first declaration that is nonstatic, or at least the one at hand
+abbrev pub first_nonstatic : Sighting → List Sighting → Sighting
+first_nonstatic one others = by (find (λ other. is_nonstatic other.what) (one ∷ others))
+  where
+    by : Option Sighting → Sighting
+    by None = one
+    by (Some other) = other
+
+-- The first declaration in one subobject, and the first in another that does not go together with it: of another class
+-- its first; of the same class its first, but the first nonstatic one where that is static.
+unfoldable pub clash : Way → List Sighting → Way → List Sighting → MemberFound
+clash one [] two twos = found.Empty
+clash one (first ∷ firsts) two [] = found.Empty
+clash one (first ∷ firsts) two (second ∷ seconds) =
+    found.Ambiguous (hit one first) (hit two (if same_class one.holder two.holder && not (is_nonstatic first.what) then first_nonstatic second seconds else second))
+
+-- 10.2: The declarations of one class, and the least path to it; or the first two that do not go together, in the order
+-- of paths.
+unfoldable pub member_of : CxxGraph → Wanted → CxxName → List Way → MemberFound
+member_of graph wanted name [] = found.Empty
+member_of graph wanted name (one ∷ others) = by (find (breaks (has_nonstatic (declared_in graph wanted name one.holder)) one) others)
+  where
+    by : Option Way → MemberFound
+    by None = found.Set (entities (declared_in graph wanted name one.holder)) one.path
+    by (Some two) = clash one (declared_in graph wanted name one.holder) two (declared_in graph wanted name two.holder)
+
+-- A member of a class. Only the class itself can be pending, since its bases are complete before it is (10).
+unfoldable pub member : CxxGraph → Wanted → ClassId → CxxName → Asked MemberFound
+member graph wanted class name = asked graph class (member_of graph wanted name (ways graph wanted name class))

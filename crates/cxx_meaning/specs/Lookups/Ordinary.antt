@@ -1,0 +1,60 @@
+-- Unqualified names (3.4.1).
+use Rattle.std.specs.Prelude.{ℕ, Bool, true, false, if◌then◌else◌, List, [], ◌∷◌, ◌++◌, Option, Some, None, Result, Ok, Err}
+use Rattle.cxx_model.specs.declared.lookup.Found.{Found}
+use Rattle.cxx_model.specs.declared.lookup.Found.TheVariants as found
+use Rattle.cxx_model.specs.declared.lookup.MemberFound.{MemberFound}
+use Rattle.cxx_model.specs.declared.lookup.MemberFound.TheVariants as member
+use Rattle.cxx_model.specs.declared.types.ClassId.{ClassId}
+use Rattle.cxx_model.specs.declared.types.ScopeId.{ScopeId}
+use Rattle.cxx_model.specs.Facts.Declarations.{CxxGraph, CxxName}
+use Rattle.cxx_meaning.specs.Lookups.Directives.{Shown, shows}
+use Rattle.cxx_meaning.specs.Lookups.Gathered.{same_scope}
+use Rattle.cxx_meaning.specs.Lookups.Member.{class_of_scope, member as member_named}
+use Rattle.cxx_meaning.specs.Lookups.Pending.{Asked}
+use Rattle.cxx_meaning.specs.Lookups.Scopes.{chain}
+use Rattle.cxx_meaning.specs.Lookups.Sightings.{Sighting, looked_up, standing}
+use Rattle.cxx_meaning.specs.Lookups.Wanted.{Wanted}
+
+-- the declarations in a namespace, where it shows in a scope
+abbrev pub standing_if : CxxGraph → ℕ → Wanted → CxxName → ScopeId → Shown → List Sighting
+standing_if graph cut wanted name scope one = if same_scope one.there scope then standing graph cut wanted name one.space else []
+
+-- 7.3.4: the declarations in the namespaces that show in a scope
+unfoldable pub standing_shown : CxxGraph → ℕ → Wanted → CxxName → ScopeId → List Shown → List Sighting
+standing_shown graph cut wanted name scope [] = []
+standing_shown graph cut wanted name scope (one ∷ others) = standing_if graph cut wanted name scope one ++ standing_shown graph cut wanted name scope others
+
+-- the declarations of a scope: those in it, and those that show there
+unfoldable pub sightings_at : CxxGraph → ℕ → Wanted → CxxName → List Shown → ScopeId → List Sighting
+sightings_at graph cut wanted name shown scope = standing graph cut wanted name scope ++ standing_shown graph cut wanted name scope shown
+
+-- what is found in a scope, where something is, and else further out
+abbrev pub found_or : CxxGraph → List Sighting → Asked Found → Asked Found
+found_or graph [] outer = outer
+found_or graph (one ∷ others) outer = Ok (looked_up graph (one ∷ others))
+
+-- what is found in a class, where something is, and else further out
+abbrev pub member_or : ClassId → Asked MemberFound → Asked Found → Asked Found
+member_or class (Err needed) outer = Err needed
+member_or class (Ok member.Empty) outer = outer
+member_or class (Ok (member.Set facts path)) outer = Ok (found.Member class (member.Set facts path))
+member_or class (Ok (member.Ambiguous one two)) outer = Ok (found.Member class (member.Ambiguous one two))
+
+-- what is found in a scope, which may be that of a class, and else further out
+unfoldable pub found_at : CxxGraph → Wanted → CxxName → ℕ → List Shown → ScopeId → Asked Found → Asked Found
+found_at graph wanted name cut shown scope outer = by (class_of_scope graph.facts scope)
+  where
+    by : Option ClassId → Asked Found
+    by (Some class) = member_or class (member_named graph wanted class name) outer
+    by None = found_or graph (sightings_at graph cut wanted name shown scope) outer
+
+-- The name in the first of some scopes that has a declaration of it; in a class, in it and its bases. What the directives
+-- of the scopes so far reach shows where it should.
+unfoldable pub ordinary_in : CxxGraph → Wanted → CxxName → ℕ → List Shown → List ScopeId → Asked Found
+ordinary_in graph wanted name cut shown [] = Ok found.Empty
+ordinary_in graph wanted name cut shown (scope ∷ outer) =
+    found_at graph wanted name cut (shown ++ shows graph.facts cut scope) scope (ordinary_in graph wanted name cut (shown ++ shows graph.facts cut scope) outer)
+
+-- 3.4.1, 7.3.4
+abbrev pub ordinary : CxxGraph → Wanted → ScopeId → CxxName → ℕ → Asked Found
+ordinary graph wanted scope name cut = ordinary_in graph wanted name cut [] (chain graph.facts scope)

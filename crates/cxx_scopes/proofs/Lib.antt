@@ -1,0 +1,10 @@
+pub mod Gathering
+pub mod Noted
+pub mod Placed
+pub mod Scanned
+pub mod Spreading
+pub mod Patterns
+pub mod Sighting
+pub mod Nodes
+pub mod Shows
+pub mod Searching

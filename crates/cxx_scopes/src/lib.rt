@@ -1,0 +1,15 @@
+//! What a name means where it stands: unqualified, qualified and member lookup (3.4, 7.3, 10.2).
+#![tactic(auto)]
+
+mod directives;
+mod entities;
+mod index;
+mod lists;
+mod looking;
+mod ordinary;
+mod qualified;
+mod sightings;
+mod wanted;
+
+pub use index::ScopeIndex;
+pub use wanted::Wanted;
