@@ -8,3 +8,4 @@ pub mod Sighting
 pub mod Nodes
 pub mod Shows
 pub mod Searching
+pub mod Functions

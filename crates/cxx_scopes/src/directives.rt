@@ -63,8 +63,8 @@ impl Looking<'_> {
         Ok(spaces)
     }
 
-    // Adds what a namespace nominates, where it is not there yet.
-    fn add_nominated<L: Ledger>(&self, cut: u32, space: ScopeId, found: &mut Vec<ScopeId>, steps: &mut Steps<L>) -> Result<(), AllocError>
+    /// Adds what a namespace nominates, where it is not there yet.
+    pub fn add_nominated<L: Ledger>(&self, cut: u32, space: ScopeId, found: &mut Vec<ScopeId>, steps: &mut Steps<L>) -> Result<(), AllocError>
         requires { IsLooking self.now }
         ensures { OnOk result (found.new.items ≡ with_scopes found.old.items (nominated_by (facts_of self.now) cut space)) }
     {

@@ -6,6 +6,7 @@ mod entities;
 mod index;
 mod lists;
 mod looking;
+mod members;
 mod ordinary;
 mod qualified;
 mod sightings;

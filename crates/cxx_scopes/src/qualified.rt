@@ -1,6 +1,6 @@
 //! Qualified lookup in a namespace (3.4.3.2), and what a using-declaration brings (7.3.3).
 
-ghost use Rattle.std.specs.Prelude.{◌≡◌, ◌<◌, length, map, IfOk, OnOk};
+ghost use Rattle.std.specs.Prelude.{◌≡◌, ◌==◌, ◌<◌, length, map, IfOk, OnOk};
 ghost use Rattle.cxx_model.specs.Facts.Declarations.{name_at};
 ghost use Rattle.cxx_model.specs.Facts.Fitted.{IsNameBelow};
 ghost use Rattle.cxx_meaning.specs.Lookups.Gathered.{with_scopes};
@@ -9,12 +9,18 @@ ghost use Rattle.cxx_meaning.specs.Lookups.Sightings.{looked_up as looked_up_in}
 ghost use Rattle.cxx_scopes.specs.Views.{IsLooking, graph_of, wanted_at};
 ghost use Rattle.cxx_scopes.specs.Sighted.{Adds, AreBelow, sighting_at};
 
-use crate::lists::{add_scopes, scope_at};
+use crate::lists::scope_at;
 use crate::looking::Looking;
 use crate::sightings::{Sighting, Sought};
 use cxx_model::{FactList, Found, ScopeId, Steps};
 use std::alloc::AllocError;
 use std::sync::ledger::Ledger;
+
+fn is_none(sightings: &[Sighting]) -> bool
+    ensures { result ≡ (length sightings.now == 0) }
+{
+    sightings.len() == 0
+}
 
 impl Looking<'_> {
     // Adds the namespaces to which a namespace leads, where they are not there yet.
@@ -26,12 +32,11 @@ impl Looking<'_> {
     {
         let mut own = Vec::new(self.alloc);
         self.add_standing(cut, sought, space, &mut own, steps)?;
-        if own.is_empty() {
-            let next = self.nominated(cut, space, steps)?;
-            add_scopes(spaces, &next)
-        } else {
-            Ok(())
+        if !is_none(&own) {
+            return Ok(());
         }
+        self.add_nominated(cut, space, spaces, steps)?;
+        Ok(())
     }
 
     /// The namespaces in which a name is searched, each once.
