@@ -1,10 +1,11 @@
 -- Types of functions, and their parameters.
-use Rattle.std.proofs.Common.{◌≡◌, ℕ, ◌<◌, ◌≤◌, Bool, true, false, ◌&&◌, List, [], ◌∷◌, length, Option, Some, None, refl, ap, ◌∙◌, sym, subst, arith}
+use Rattle.std.proofs.Common.{◌≡◌, ℕ, ◌<◌, ◌≤◌, Bool, true, false, ◌&&◌, List, [], ◌∷◌, length, Option, Some, None, refl, ap, ◌∙◌, sym, subst, arith, suc, eqb}
+use Rattle.std.proofs.Math.Dec.{eqb-suc-zero}
 use Rattle.cxx_model.specs.declared.types.Cv.{Cv}
 use Rattle.cxx_model.specs.declared.types.TypeId.{TypeId}
 use Rattle.cxx_model.specs.declared.types.TypeNode.{TypeNode}
 use Rattle.cxx_model.specs.declared.types.TypeNode.TheVariants as node
-use Rattle.cxx_model.specs.Facts.Conflicts.{same_parameters, function_parts, FunctionParts}
+use Rattle.cxx_model.specs.Facts.Conflicts.{are_parameters_same, same_parameters, function_parts, FunctionParts}
 use Rattle.cxx_model.specs.Types.Numbers.{type_over, types_at, AreTypesBelow, IsNodeBelow}
 use Rattle.cxx_model.specs.Types.Same.{same_bool, same_type, same_types}
 use Rattle.cxx_model.specs.Types.Trees.{CxxType, function_of}
@@ -28,14 +29,23 @@ no_parts types (node.Function r ts e cv) h = absurd (h r ts e cv refl)
 no_parts types _ h = refl
 
 none_first : (one two : CxxType) → function_parts one ≡ None → same_parameters true one two ≡ false
-none_first one two e = rw e refl
+none_first one two e = ap (λ p. are_parameters_same true p (function_parts two)) e
 
-none_second : (one two : CxxType) (o : Option FunctionParts) → function_parts one ≡ o → function_parts two ≡ None → same_parameters true one two ≡ false
-none_second one two None e f = rw (e, f) refl
-none_second one two (Some parts) e f = rw (e, f) refl
+none_second : (one two : CxxType) → function_parts two ≡ None → same_parameters true one two ≡ false
+none_second one two e = ap (λ p. are_parameters_same true (function_parts one) p) e ∙ by (function_parts one)
+  where
+    by : (o : Option FunctionParts) → are_parameters_same true o None ≡ false
+    by None = refl
+    by (Some parts) = refl
 
 pub one_is_none : (types : List CxxType) (n : TypeNode) (one two : CxxType) → type_over types n ≡ one → ((r : TypeId) (ts : List TypeId) (e : Bool) (cv : Cv) → n ≡ node.Function r ts e cv → ⊥) → same_parameters true one two ≡ false
 one_is_none types n one two e h = none_first one two (ap function_parts (sym e) ∙ no_parts types n h)
 
 pub two_is_none : (types : List CxxType) (n : TypeNode) (one two : CxxType) → type_over types n ≡ two → ((r : TypeId) (ts : List TypeId) (e : Bool) (cv : Cv) → n ≡ node.Function r ts e cv → ⊥) → same_parameters true one two ≡ false
-two_is_none types n one two e h = none_second one two (function_parts one) refl (ap function_parts (sym e) ∙ no_parts types n h)
+two_is_none types n one two e h = none_second one two (ap function_parts (sym e) ∙ no_parts types n h)
+
+-- no types are the same as none
+pub none_left : (types : List CxxType) (ones twos : List TypeId) → length ones < 1 → same_types (types_at types ones) (types_at types twos) ≡ eqb (length twos) 0
+none_left types [] [] lt = refl
+none_left types [] (two ∷ twos) lt = sym (eqb-suc-zero (length twos))
+none_left types (one ∷ ones) twos lt = absurd (omega arith)

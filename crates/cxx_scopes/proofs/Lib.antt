@@ -9,3 +9,4 @@ pub mod Nodes
 pub mod Shows
 pub mod Searching
 pub mod Functions
+pub mod Joining

@@ -11,6 +11,7 @@ mod ordinary;
 mod qualified;
 mod sightings;
 mod wanted;
+mod ways;
 
 pub use index::ScopeIndex;
 pub use wanted::Wanted;
