@@ -34,7 +34,7 @@ through_is old new index way longer path e is number holder =
 pub way_kept : (old new : List (List ℕ)) (way : Way) → Grows old new → IsWayKnown (length old) way → way_at new way ≡ way_at old way
 way_kept old new way grows known = ap (λ xs. record { path = xs; holder = way.holder }) (grows.same way.path known)
 
-option_kept : (old new : List (List ℕ)) (way : Option Way) → Grows old new → IfSome way (IsWayKnown (length old)) → option_map (way_at new) way ≡ option_map (way_at old) way
+pub option_kept : (old new : List (List ℕ)) (way : Option Way) → Grows old new → IfSome way (IsWayKnown (length old)) → option_map (way_at new) way ≡ option_map (way_at old) way
 option_kept old new None grows known = refl
 option_kept old new (Some way) grows known = ap Some (way_kept old new way grows known)
 
@@ -104,3 +104,22 @@ three_through index (one ∷ others) =
     first_through : (ways : List WayMeant) → first_way (map (through index) ways) ≡ option_map (through index) (first_way ways)
     first_through [] = refl
     first_through (way ∷ ways) = refl
+
+-- three ways, each made longer in turn
+pub through_made : (zero_ one two three : List (List ℕ)) (index : ℕ) (ways longer : Three) → AreKnown (length zero_) ways → Grows zero_ one → Grows one two → Grows two three
+  → option_map (way_at one) longer.first ≡ option_map (through index) (option_map (way_at zero_) ways.first) → IfSome longer.first (IsWayKnown (length one))
+  → option_map (way_at two) longer.second ≡ option_map (through index) (option_map (way_at one) ways.second) → IfSome longer.second (IsWayKnown (length two))
+  → option_map (way_at three) longer.other ≡ option_map (through index) (option_map (way_at two) ways.other)
+  → three_at three longer ≡ through_all index (three_at zero_ ways)
+through_made zero_ one two three index ways longer known g h k f fk s sk o =
+    let e = option_kept one three longer.first (grows_both one two three h k) fk ∙ f in
+    let d = option_kept two three longer.second k sk ∙ (s ∙ ap (option_map (through index)) (option_kept zero_ one ways.second g known.second)) in
+    let c = o ∙ ap (option_map (through index)) (option_kept zero_ two ways.other (grows_both zero_ one two g h) known.other) in
+    ap (λ x. record { first = x; second = option_map (way_at three) longer.second; other = option_map (way_at three) longer.other }) e ∙ (ap (λ x. record { first = option_map (through index) (option_map (way_at zero_) ways.first); second = x; other = option_map (way_at three) longer.other }) d ∙ ap (λ x. record { first = option_map (through index) (option_map (way_at zero_) ways.first); second = option_map (through index) (option_map (way_at zero_) ways.second); other = x }) c)
+
+pub option_known : (least count : ℕ) (way : Option Way) → least ≤ count → IfSome way (IsWayKnown least) → IfSome way (IsWayKnown count)
+option_known least count None le known = tt
+option_known least count (Some way) le known = omega (arith, known)
+
+pub three_known : (least count : ℕ) (three : Three) → least ≤ count → AreKnown least three → AreKnown count three
+three_known least count three le known = record { first = option_known least count three.first le known.first; second = option_known least count three.second le known.second; other = option_known least count three.other le known.other }

@@ -1,7 +1,7 @@
 //! The subobjects of a class that have a name (10.2). Each class has its first way, its second and its first one to
 //! another class than that; all its ways are never listed.
 
-ghost use Rattle.std.specs.Prelude.{◌≡◌, ◌<◌, ◌≤◌, ◌++◌, ◌∷◌, [], length, option_map, if◌then◌else◌, IfOk, OnOk, IfSome, Option, None};
+ghost use Rattle.std.specs.Prelude.{◌≡◌, ◌<◌, ◌≤◌, ◌++◌, ◌∷◌, [], List, ℕ, length, option_map, if◌then◌else◌, IfOk, OnOk, IfSome, Option, None};
 ghost use Rattle.cxx_meaning.specs.Lookups.Member.{same_class as is_same_class, through as through_base};
 ghost use Rattle.cxx_scopes.specs.Ways.{Grows, IsWayKnown, AreKnown, latest, three_at, way_at, joined, through_all, or_else as first_of_two, other_after as first_other};
 
@@ -104,4 +104,81 @@ fn through(alloc: Global, paths: &mut Vec<NumberList>, index: u32, way: Option<W
         None => Ok(None),
         Some(way) => Ok(Some(way_through(alloc, paths, index, way)?)),
     }
+}
+
+fn known_or(one: Option<Way>, two: Option<Way>) -> Option<Way>
+    ensures is { (paths : List (List ℕ)) → option_map (way_at paths) result ≡ first_of_two (option_map (way_at paths) one) (option_map (way_at paths) two) }
+    ensures known { (count : ℕ) → IfSome one (IsWayKnown count) → IfSome two (IsWayKnown count) → IfSome result (IsWayKnown count) }
+{
+    match one {
+        Some(way) => Some(way),
+        None => two,
+    }
+}
+
+// The first way to another class than that of one, among ways of which three are known.
+fn other_after(one: Way, three: Three) -> Option<Way>
+    ensures is { (paths : List (List ℕ)) → option_map (way_at paths) result ≡ first_other (way_at paths one) (three_at paths three) }
+    ensures known { (count : ℕ) → AreKnown count three → IfSome result (IsWayKnown count) }
+{
+    match three.first {
+        None => None,
+        Some(two) => {
+            if one.holder.0 == two.holder.0 {
+                three.other
+            } else {
+                Some(two)
+            }
+        }
+    }
+}
+
+fn second_of(one: Three, two: Three) -> Option<Way>
+    ensures is { (paths : List (List ℕ)) → option_map (way_at paths) result ≡ (joined (three_at paths one) (three_at paths two)).second }
+    ensures known { (count : ℕ) → AreKnown count one → AreKnown count two → IfSome result (IsWayKnown count) }
+{
+    match one.first {
+        None => two.second,
+        Some(_way) => known_or(one.second, two.first),
+    }
+}
+
+fn other_of(one: Three, two: Three) -> Option<Way>
+    ensures is { (paths : List (List ℕ)) → option_map (way_at paths) result ≡ (joined (three_at paths one) (three_at paths two)).other }
+    ensures known { (count : ℕ) → AreKnown count one → AreKnown count two → IfSome result (IsWayKnown count) }
+{
+    match one.first {
+        None => two.other,
+        Some(way) => known_or(one.other, other_after(way, two)),
+    }
+}
+
+// Of some ways and more behind them.
+fn join(one: Three, two: Three) -> Three
+    ensures is { (paths : List (List ℕ)) → three_at paths result ≡ joined (three_at paths one) (three_at paths two) }
+    ensures known { (count : ℕ) → AreKnown count one → AreKnown count two → AreKnown count result }
+{
+    Three {
+        first: known_or(one.first, two.first),
+        second: second_of(one, two),
+        other: other_of(one, two),
+    }
+}
+
+// The ways through a base.
+#[tactic(auto, using(crate::proofs::Joining::grows_both, crate::proofs::Joining::option_known, crate::proofs::Joining::through_made))]
+fn through_three(alloc: Global, paths: &mut Vec<NumberList>, index: u32, three: Three) -> Result<Three, AllocError>
+    requires { AreKnown (length paths.old.items) three }
+    ensures is { IfOk result (λ longer. three_at paths.new.items longer ≡ through_all index (three_at paths.old.items three)) }
+    ensures known { IfOk result (λ longer. AreKnown (length paths.new.items) longer) }
+    ensures grows { OnOk result (Grows paths.old.items paths.new.items) }
+{
+    let first = through(alloc, paths, index, three.first)?;
+    let second = through(alloc, paths, index, three.second)?;
+    let other = through(alloc, paths, index, three.other)?;
+    Ok(Three {
+        first,
+        second,
+        other,
+    })
 }
