@@ -10,3 +10,4 @@ pub mod Shows
 pub mod Searching
 pub mod Functions
 pub mod Joining
+pub mod Tables

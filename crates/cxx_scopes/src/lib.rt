@@ -10,6 +10,7 @@ mod members;
 mod ordinary;
 mod qualified;
 mod sightings;
+mod table;
 mod wanted;
 mod ways;
 

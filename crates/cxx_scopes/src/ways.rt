@@ -154,7 +154,7 @@ fn other_of(one: Three, two: Three) -> Option<Way>
 }
 
 // Of some ways and more behind them.
-fn join(one: Three, two: Three) -> Three
+pub(crate) fn join(one: Three, two: Three) -> Three
     ensures is { (paths : List (List ℕ)) → three_at paths result ≡ joined (three_at paths one) (three_at paths two) }
     ensures known { (count : ℕ) → AreKnown count one → AreKnown count two → AreKnown count result }
 {
@@ -167,7 +167,7 @@ fn join(one: Three, two: Three) -> Three
 
 // The ways through a base.
 #[tactic(auto, using(crate::proofs::Joining::grows_both, crate::proofs::Joining::option_known, crate::proofs::Joining::through_made))]
-fn through_three(alloc: Global, paths: &mut Vec<NumberList>, index: u32, three: Three) -> Result<Three, AllocError>
+pub(crate) fn through_three(alloc: Global, paths: &mut Vec<NumberList>, index: u32, three: Three) -> Result<Three, AllocError>
     requires { AreKnown (length paths.old.items) three }
     ensures is { IfOk result (λ longer. three_at paths.new.items longer ≡ through_all index (three_at paths.old.items three)) }
     ensures known { IfOk result (λ longer. AreKnown (length paths.new.items) longer) }

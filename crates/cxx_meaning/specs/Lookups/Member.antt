@@ -87,14 +87,18 @@ own_ways graph wanted name class = if declares_member graph wanted name class th
 abbrev pub through : ℕ → Way → Way
 through index way = record way { path = index ∷ way.path }
 
--- What each class has after one more fact. A class that does not declare the name has at a direct base what the base
--- has, with the position of the base in front. A base is complete when it is named as one (10), so it then has all that
--- it will have.
+-- What each class has after one more direct base: a class that does not declare the name has there what the base has,
+-- with the position of the base in front.
+abbrev pub at_base : (ClassId → Bool) → ClassId → ClassId → ℕ → (ClassId → List Way) → ClassId → List Way
+at_base declares derived parent index now class = if same_class derived class && not (declares class) then now class ++ map (through index) (now parent) else now class
+
+-- What each class has after one more fact. A base is complete when it is named as one (10), so it then has all that it
+-- will have.
 unfoldable pub with_base : (ClassId → Bool) → CxxFact → (ClassId → List Way) → ClassId → List Way
 with_base declares fact now class = by fact.what
   where
     by : Declares → List Way
-    by (facts.ancestor derived parent index access) = if same_class derived class && not (declares class) then now class ++ map (through index) (now parent) else now class
+    by (facts.ancestor derived parent index access) = at_base declares derived parent index now class
     by _ = now class
 
 unfoldable pub ways_after : (ClassId → Bool) → (ClassId → List Way) → List CxxFact → ClassId → List Way
