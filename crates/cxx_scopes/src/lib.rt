@@ -8,6 +8,7 @@ mod lists;
 mod looking;
 mod members;
 mod ordinary;
+mod pending;
 mod qualified;
 mod sightings;
 mod table;

@@ -130,23 +130,26 @@ first_nonstatic one others = by (find (λ other. is_nonstatic other.what) (one �
     by None = one
     by (Some other) = other
 
--- The first declaration in one subobject, and the first in another that does not go together with it: of another class
--- its first; of the same class its first, but the first nonstatic one where that is static.
+-- The first declaration in one subobject does not go together with one in another: of another class with its first; of
+-- the same class with its first, but with the first nonstatic one where the former is static.
+abbrev pub second_shown : Way → Sighting → Way → Sighting → List Sighting → Sighting
+second_shown one first two second seconds = if same_class one.holder two.holder && not (is_nonstatic first.what) then first_nonstatic second seconds else second
+
 unfoldable pub clash : Way → List Sighting → Way → List Sighting → MemberFound
 clash one [] two twos = found.Empty
 clash one (first ∷ firsts) two [] = found.Empty
-clash one (first ∷ firsts) two (second ∷ seconds) =
-    found.Ambiguous (hit one first) (hit two (if same_class one.holder two.holder && not (is_nonstatic first.what) then first_nonstatic second seconds else second))
+clash one (first ∷ firsts) two (second ∷ seconds) = found.Ambiguous (hit one first) (hit two (second_shown one first two second seconds))
+
+-- 10.2: what is found in the first of some subobjects, and in another that does not go together with it
+unfoldable pub member_by : CxxGraph → Wanted → CxxName → Way → Option Way → MemberFound
+member_by graph wanted name one None = found.Set (entities (declared_in graph wanted name one.holder)) one.path
+member_by graph wanted name one (Some two) = clash one (declared_in graph wanted name one.holder) two (declared_in graph wanted name two.holder)
 
 -- 10.2: The declarations of one class, and the least path to it; or the first two that do not go together, in the order
 -- of paths.
 unfoldable pub member_of : CxxGraph → Wanted → CxxName → List Way → MemberFound
 member_of graph wanted name [] = found.Empty
-member_of graph wanted name (one ∷ others) = by (find (breaks (has_nonstatic (declared_in graph wanted name one.holder)) one) others)
-  where
-    by : Option Way → MemberFound
-    by None = found.Set (entities (declared_in graph wanted name one.holder)) one.path
-    by (Some two) = clash one (declared_in graph wanted name one.holder) two (declared_in graph wanted name two.holder)
+member_of graph wanted name (one ∷ others) = member_by graph wanted name one (find (breaks (has_nonstatic (declared_in graph wanted name one.holder)) one) others)
 
 -- A member of a class. Only the class itself can be pending, since its bases are complete before it is (10).
 unfoldable pub member : CxxGraph → Wanted → ClassId → CxxName → Asked MemberFound
