@@ -11,3 +11,4 @@ pub mod Searching
 pub mod Functions
 pub mod Joining
 pub mod Tables
+pub mod Holders

@@ -97,3 +97,10 @@ own_hides holders derived parent index now class e = by (same_class derived clas
 
 pub table_as : (paths : List (List ℕ)) (holders : List ClassId) (records : List Record) (now after : ClassId → List WayMeant) → IsTable paths holders records now → ((class : ClassId) → now class ≡ after class) → IsTable paths holders records after
 table_as paths holders records now after table same = record { is = λ class. table.is class ∙ ap three_of (same class) }
+
+-- before the first fact
+pub table_first : (holders : List ClassId) → IsTable ([] ∷ []) holders [] (own_by holders)
+table_first holders = record { is = λ class. refl }
+
+pub sound_first : IsSound ([] ∷ []) []
+sound_first = record { known = tt; empty = refl; some = omega arith }

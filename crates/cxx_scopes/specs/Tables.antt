@@ -4,7 +4,7 @@ use Rattle.std.specs.List.{list_any}
 use Rattle.cxx_model.specs.declared.types.ClassId.{ClassId}
 use Rattle.cxx_model.specs.declared.types.ScopeId.{ScopeId}
 use Rattle.cxx_model.specs.Facts.Declarations.{CxxFact, CxxGraph, CxxName}
-use Rattle.cxx_meaning.specs.Lookups.Member.{Way as WayMeant, class_of_scope, same_class}
+use Rattle.cxx_meaning.specs.Lookups.Member.{Way as WayMeant, class_of_scope, same_class, with_base}
 use Rattle.cxx_meaning.specs.Lookups.Sightings.{Sighting, is_named, sighting_of, wanted_one}
 use Rattle.cxx_meaning.specs.Lookups.Wanted.{Wanted}
 use Rattle.cxx_scopes.specs.declared.ways.Record.{Record}
@@ -36,9 +36,15 @@ pub record IsTable (paths : List (List ℕ)) (holders : List ClassId) (records :
   pub is : (class : ClassId) → entry_of paths holders class (latest class None records) ≡ three_of (now class)
 
 -- the class of a declaration of the name, where it is one of what is wanted
+abbrev pub holder_by : Bool → Option Sighting → Option ClassId → Option ClassId
+holder_by true (Some one) of = of
+holder_by true None of = None
+holder_by false wanted of = None
+
 abbrev pub holder_in : CxxGraph → Wanted → CxxName → ℕ → CxxFact → Option ClassId
-holder_in graph wanted name number fact = by (is_named name fact) (wanted_one graph wanted (sighting_of graph.facts number fact))
-  where
-    by : Bool → Option Sighting → Option ClassId
-    by true (Some one) = class_of_scope graph.facts (record { 0 = fact.scope })
-    by _ _ = None
+holder_in graph wanted name number fact = holder_by (is_named name fact) (wanted_one graph wanted (sighting_of graph.facts number fact)) (class_of_scope graph.facts (record { 0 = fact.scope }))
+
+-- what each class has after one more fact, where there is one
+abbrev pub ways_given : (ClassId → Bool) → (ClassId → List WayMeant) → Option CxxFact → ClassId → List WayMeant
+ways_given declares now None = now
+ways_given declares now (Some fact) = with_base declares fact now

@@ -1,6 +1,6 @@
 //! Classes that have to be complete before a question is answered (14.7.1).
 
-ghost use Rattle.std.specs.Prelude.{◌≡◌, List};
+ghost use Rattle.std.specs.Prelude.{◌≡◌, false, List};
 ghost use Rattle.std.specs.List.{list_any};
 ghost use Rattle.cxx_model.specs.Types.Trees.{CxxType};
 ghost use Rattle.cxx_model.specs.Facts.Declarations.{declares_at, patterns_at};
