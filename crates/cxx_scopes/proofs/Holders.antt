@@ -4,13 +4,15 @@ use Rattle.std.specs.List.{list_any, slice_get}
 use Rattle.cxx_model.specs.declared.facts.Fact.{Fact}
 use Rattle.cxx_model.specs.declared.types.ClassId.{ClassId}
 use Rattle.cxx_model.specs.Types.Trees.{CxxType}
-use Rattle.cxx_model.specs.Facts.Declarations.{CxxFact, CxxGraph, CxxName, fact_at, facts_at}
+use Rattle.cxx_model.specs.Facts.Declarations as facts
+use Rattle.cxx_model.specs.Facts.Declarations.{CxxFact, CxxGraph, CxxName, Declares, fact_at, facts_at}
 use Rattle.cxx_scopes.proofs.Nodes.{eqb_turned}
 use Rattle.cxx_meaning.specs.Lookups.Gathered.{before, gathered}
-use Rattle.cxx_meaning.specs.Lookups.Member.{Way as WayMeant, at_base, class_of_scope, declares_member, is_nothing, is_of_class, member_in, members_in, own_ways, same_class, ways, ways_after, with_base}
+use Rattle.cxx_meaning.specs.Lookups.Member.{Way as WayMeant, at_base, class_of_scope, declares_member, is_nothing, is_of_class, member_in, members_in, own_ways, same_class, through, ways, ways_after, with_base}
 use Rattle.cxx_meaning.specs.Lookups.Sightings.{Sighting, is_named, sighting_of, wanted_one}
 use Rattle.cxx_meaning.specs.Lookups.Wanted.{Wanted}
-use Rattle.cxx_scopes.specs.Tables.{holder_by, holder_in, holds, own_by, ways_given}
+use Rattle.cxx_scopes.specs.declared.ways.Record.{Record}
+use Rattle.cxx_scopes.specs.Tables.{IsTable, holder_by, holder_in, holds, own_by, ways_given}
 
 -- ---- the classes that declare a name
 
@@ -43,9 +45,14 @@ holders_are graph wanted name class = holders_in graph wanted name class 0 graph
 
 -- ---- what each class has
 
-pub same_base : (d e : ClassId → Bool) (fact : CxxFact) (now other : ClassId → List WayMeant) → ((c : ClassId) → d c ≡ e c) → ((c : ClassId) → now c ≡ other c) → (c : ClassId) → with_base d fact now c ≡ with_base e fact other c
+same_base_by : (d e : ClassId → Bool) (fact : CxxFact) (now other : ClassId → List WayMeant) (what : Declares) → ((c : ClassId) → d c ≡ e c) → ((c : ClassId) → now c ≡ other c) → (c : ClassId) → with_base d (record fact { what = what }) now c ≡ with_base e (record fact { what = what }) other c
 unfolding with_base
-same_base d e fact now other h k c = ?
+same_base_by d e fact now other (facts.ancestor derived parent index access) h k c =
+    ap (λ t. cond (same_class derived c && not t) (now c ++ map (through index) (now parent)) (now c)) (h c) ∙ (ap (λ ws. cond (same_class derived c && not (e c)) (ws ++ map (through index) (now parent)) ws) (k c) ∙ ap (λ ws. cond (same_class derived c && not (e c)) (other c ++ map (through index) ws) (other c)) (k parent))
+same_base_by d e fact now other _ h k c = k c
+
+same_base : (d e : ClassId → Bool) (fact : CxxFact) (now other : ClassId → List WayMeant) → ((c : ClassId) → d c ≡ e c) → ((c : ClassId) → now c ≡ other c) → (c : ClassId) → with_base d fact now c ≡ with_base e fact other c
+same_base d e fact now other h k c = same_base_by d e fact now other fact.what h k c
 
 same_after : (d e : ClassId → Bool) (facts : List CxxFact) (now other : ClassId → List WayMeant) → ((c : ClassId) → d c ≡ e c) → ((c : ClassId) → now c ≡ other c) → (c : ClassId) → ways_after d now facts c ≡ ways_after e other facts c
 unfolding ways_after
@@ -66,3 +73,13 @@ ways_step d types (fact ∷ facts) now (suc n) = ways_step d types facts (with_b
 -- one fact more
 pub ways_more : (d : ClassId → Bool) (types : List CxxType) (facts : List Fact) (now : ClassId → List WayMeant) (n : ℕ) → ways_after d now (facts_at types (take (n + 1) facts)) ≡ ways_given d (ways_after d now (facts_at types (take n facts))) (slice_get (facts_at types facts) n)
 ways_more d types facts now n = ap (λ m. ways_after d now (facts_at types (take m facts))) (add-one n) ∙ ways_step d types facts now n
+
+pub table_start : (paths : List (List ℕ)) (holders : List ClassId) (records : List Record) → IsTable paths holders records (own_by holders) → IsTable paths holders records (ways_after (holds holders) (own_by holders) [])
+unfolding ways_after
+table_start paths holders records table = table
+
+pub take_past : {A : Type 0} (xs : List A) (n : ℕ) → length xs ≤ n → take n xs ≡ xs
+take_past [] zero le = refl
+take_past [] (suc n) le = refl
+take_past (x ∷ xs) zero le = absurd (omega arith)
+take_past (x ∷ xs) (suc n) le = ap (λ ys. x ∷ ys) (take_past xs n (omega arith))

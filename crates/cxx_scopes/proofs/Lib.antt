@@ -12,3 +12,4 @@ pub mod Functions
 pub mod Joining
 pub mod Tables
 pub mod Holders
+pub mod Found

@@ -1,16 +1,18 @@
 //! Lookup of a member (10.2).
 
-ghost use Rattle.std.specs.Prelude.{◌≡◌, ◌<◌, ◌++◌, ◌∷◌, [], ℕ, List, length, map, find, option_map, slice_index_or, IfOk, OnOk, None};
-ghost use Rattle.std.specs.List.{list_any, slice_get};
-ghost use Rattle.cxx_model.specs.Facts.Declarations.{declares_at, fact_at, name_at};
-ghost use Rattle.cxx_model.specs.Facts.Fitted.{IsFactBelow, IsNameBelow, IsEntityBelow};
-ghost use Rattle.cxx_meaning.specs.Lookups.Member.{Way as WayMeant, clash as clash_of, declares_member, first_nonstatic as first_nonstatic_of, has_nonstatic as have_nonstatic, hit, member as member_named, member_by, member_of as member_of_ways, second_shown as second_shown_of, ways as ways_of};
+ghost use Rattle.std.specs.Prelude.{◌≡◌, ◌<◌, ◌++◌, [], ℕ, List, length, map, find, option_map, if◌then◌else◌, IfOk, IfSome, OnOk};
+ghost use Rattle.std.specs.List.{slice_get};
+ghost use Rattle.cxx_model.specs.Facts.Declarations.{fact_at, name_at};
+ghost use Rattle.cxx_model.specs.Facts.Fitted.{IsFactBelow, IsNameBelow};
+ghost use Rattle.cxx_meaning.specs.Lookups.Member.{Way as WayMeant, clash as clash_of, declared_in, first_nonstatic as first_nonstatic_of, has_nonstatic as have_nonstatic, hit, member as member_named, member_by as member_by_ways, member_of as member_of_ways, second_shown as second_shown_of, ways as ways_of};
 ghost use Rattle.cxx_meaning.specs.Lookups.Wanted.{is_nonstatic as is_one_nonstatic};
 ghost use Rattle.cxx_meaning.specs.Lookups.Gathered.{before, gathered};
+ghost use Rattle.cxx_scopes.specs.Answers.{Answers, member_of_three};
+ghost use Rattle.cxx_model.specs.declared.lookup.MemberFound.TheVariants as MemberFound;
 ghost use Rattle.cxx_scopes.specs.Views.{IsLooking, graph_of, facts_of, wanted_at};
 ghost use Rattle.cxx_scopes.specs.Sighted.{AreBelow, given_at, sighting_at};
 ghost use Rattle.cxx_scopes.specs.Tables.{IsSound, IsTable, holder_in as holds_in, holds as is_one_of, own_by, ways_given};
-ghost use Rattle.cxx_scopes.specs.Ways.{IsWayKnown, way_at};
+ghost use Rattle.cxx_scopes.specs.Ways.{AreKnown, IsWayKnown, three_at, way_at};
 
 use crate::looking::Looking;
 use crate::sightings::{Sighting, Sought};
@@ -116,6 +118,177 @@ impl Looking<'_> {
             self.add_fact(&mut table, number, steps)?;
         }
         Ok(table)
+    }
+
+    // ---- what is found
+
+    fn has_nonstatic(&self, sightings: &[Sighting]) -> bool
+        ensures { result ≡ have_nonstatic (map (sighting_at self.now.types.now) sightings.now) }
+    {
+        let _ = self.alloc;
+        for one in sightings {
+            if is_nonstatic(one.what) {
+                return true;
+            }
+        }
+        false
+    }
+
+    fn find_nonstatic(&self, sightings: &[Sighting]) -> Option<Sighting>
+        ensures { option_map (sighting_at self.now.types.now) result ≡ find (λ one. is_one_nonstatic one.what) (map (sighting_at self.now.types.now) sightings.now) }
+    {
+        let _ = self.alloc;
+        for one in sightings {
+            if is_nonstatic(one.what) {
+                return Some(*one);
+            }
+        }
+        None
+    }
+
+    // The first declaration that is nonstatic, or at least the one at hand.
+    #[tactic(auto, using(crate::proofs::Found::first_itself, crate::proofs::Found::first_later, crate::proofs::Found::first_none))]
+    fn first_nonstatic(&self, one: Sighting, others: &[Sighting]) -> Sighting
+        ensures { sighting_at self.now.types.now result ≡ first_nonstatic_of (sighting_at self.now.types.now one) (map (sighting_at self.now.types.now) others.now) }
+    {
+        if is_nonstatic(one.what) {
+            return one;
+        }
+        match self.find_nonstatic(others) {
+            Some(other) => other,
+            None => one,
+        }
+    }
+
+    // The declaration with which the first one in another subobject does not go together.
+    fn second_shown(&self, one: Way, first: Sighting, two: Way, second: Sighting, seconds: &[Sighting]) -> Sighting
+        ensures { (paths : List (List ℕ)) → sighting_at self.now.types.now result ≡ second_shown_of (way_at paths one) (sighting_at self.now.types.now first) (way_at paths two) (sighting_at self.now.types.now second) (map (sighting_at self.now.types.now) seconds.now) }
+    {
+        if one.holder.0 == two.holder.0 && !is_nonstatic(first.what) {
+            self.first_nonstatic(second, seconds)
+        } else {
+            second
+        }
+    }
+
+    // The first two declarations that do not go together.
+    #[tactic(auto, unfolding(cxx_meaning::specs::Lookups::Member::clash))]
+    fn clash(&self, table: &Table, one: Way, ones: &[Sighting], two: Way, twos: &[Sighting]) -> Result<MemberFound, AllocError>
+        requires one { IsWayKnown (length table.now.paths.items) one }
+        requires two { IsWayKnown (length table.now.paths.items) two }
+        ensures { IfOk result (λ found. found ≡ clash_of (way_at table.now.paths.items one) (map (sighting_at self.now.types.now) ones.now) (way_at table.now.paths.items two) (map (sighting_at self.now.types.now) twos.now)) }
+    {
+        match ones {
+            [] => Ok(MemberFound::Empty),
+            [first, ..] => match twos {
+                [] => Ok(MemberFound::Empty),
+                [second, seconds @ ..] => {
+                    let later = self.second_shown(one, *first, two, *second, seconds);
+                    self.ambiguous(table, one, *first, two, later)
+                }
+            },
+        }
+    }
+
+    fn ambiguous(&self, table: &Table, one: Way, first: Sighting, two: Way, second: Sighting) -> Result<MemberFound, AllocError>
+        requires one { IsWayKnown (length table.now.paths.items) one }
+        requires two { IsWayKnown (length table.now.paths.items) two }
+        ensures { IfOk result (λ found. found ≡ MemberFound.Ambiguous (hit (way_at table.now.paths.items one) (sighting_at self.now.types.now first)) (hit (way_at table.now.paths.items two) (sighting_at self.now.types.now second))) }
+    {
+        Ok(MemberFound::Ambiguous(
+            Hit {
+                fact: first.itself,
+                path: self.path_of(table, one)?,
+            },
+            Hit {
+                fact: second.itself,
+                path: self.path_of(table, two)?,
+            },
+        ))
+    }
+
+    fn path_of(&self, table: &Table, way: Way) -> Result<NumberList, AllocError>
+        requires { IsWayKnown (length table.now.paths.items) way }
+        ensures { IfOk result (λ path. path ≡ (way_at table.now.paths.items way).path) }
+    {
+        NumberList::from_slice(self.alloc, table.paths[way.path].as_slice())
+    }
+
+    // The second subobject that does not go together with the first.
+    fn rival(&self, three: Three, declared: &[Sighting]) -> Option<Way>
+        ensures { result ≡ (if have_nonstatic (map (sighting_at self.now.types.now) declared.now) then three.second else three.other) }
+    {
+        if self.has_nonstatic(declared) {
+            three.second
+        } else {
+            three.other
+        }
+    }
+
+    // What is found in the first of some subobjects, and in another that does not go together with it.
+    #[tactic(auto, unfolding(cxx_meaning::specs::Lookups::Member::member_by))]
+    fn member_by<L: Ledger>(&self, table: &Table, sought: &Sought, one: Way, declared: &[Sighting], rival: Option<Way>, steps: &mut Steps<L>) -> Result<MemberFound, AllocError>
+        requires looking { IsLooking self.now }
+        requires name { IsNameBelow (length self.now.types.now) sought.now.name.now }
+        requires one { IsWayKnown (length table.now.paths.items) one }
+        requires rival { IfSome rival (IsWayKnown (length table.now.paths.items)) }
+        requires below { AreBelow (length self.now.types.now) declared.now }
+        requires declared { map (sighting_at self.now.types.now) declared.now ≡ declared_in (graph_of self.now) (wanted_at sought.now.wanted) (name_at self.now.types.now sought.now.name.now) one.holder }
+        ensures { IfOk result (λ found. found ≡ member_by_ways (graph_of self.now) (wanted_at sought.now.wanted) (name_at self.now.types.now sought.now.name.now) (way_at table.now.paths.items one) (option_map (way_at table.now.paths.items) rival)) }
+    {
+        match rival {
+            None => {
+                let facts = self.entities(declared)?;
+                Ok(MemberFound::Set(FactList::from_vec(facts), self.path_of(table, one)?))
+            }
+            Some(two) => {
+                let others = self.declared_in(sought, two.holder, steps)?;
+                self.clash(table, one, declared, two, &others)
+            }
+        }
+    }
+
+    // What is found in a class, given three of its ways.
+    #[tactic(auto, using(crate::proofs::Found::first_known, crate::proofs::Found::rival_known))]
+    fn member_of_three<L: Ledger>(&self, table: &Table, sought: &Sought, three: Three, steps: &mut Steps<L>) -> Result<MemberFound, AllocError>
+        requires looking { IsLooking self.now }
+        requires name { IsNameBelow (length self.now.types.now) sought.now.name.now }
+        requires known { AreKnown (length table.now.paths.items) three }
+        ensures { IfOk result (λ found. found ≡ member_of_three (graph_of self.now) (wanted_at sought.now.wanted) (name_at self.now.types.now sought.now.name.now) (three_at table.now.paths.items three)) }
+    {
+        match three.first {
+            None => Ok(MemberFound::Empty),
+            Some(one) => {
+                let declared = self.declared_in(sought, one.holder, steps)?;
+                let rival = self.rival(three, &declared);
+                self.member_by(table, sought, one, &declared, rival, steps)
+            }
+        }
+    }
+
+    // What is found in a class.
+    #[tactic(auto, using(crate::proofs::Found::member_is))]
+    fn member_of<L: Ledger>(&self, sought: &Sought, class: ClassId, steps: &mut Steps<L>) -> Result<MemberFound, AllocError>
+        requires looking { IsLooking self.now }
+        requires name { IsNameBelow (length self.now.types.now) sought.now.name.now }
+        ensures { IfOk result (λ found. found ≡ member_of_ways (graph_of self.now) (wanted_at sought.now.wanted) (name_at self.now.types.now sought.now.name.now) (ways_of (graph_of self.now) (wanted_at sought.now.wanted) (name_at self.now.types.now sought.now.name.now) class)) }
+    {
+        let table = self.table(sought, steps)?;
+        let three = table.entry(class);
+        self.member_of_three(&table, sought, three, steps)
+    }
+
+    /// A member of a class, or the class where it has to be complete first.
+    #[tactic(auto, unfolding(cxx_meaning::specs::Lookups::Member::member))]
+    pub fn member<L: Ledger>(&self, sought: &Sought, class: ClassId, steps: &mut Steps<L>) -> Result<MemberFound, Wait>
+        requires looking { IsLooking self.now }
+        requires name { IsNameBelow (length self.now.types.now) sought.now.name.now }
+        ensures { Answers result (member_named (graph_of self.now) (wanted_at sought.now.wanted) class (name_at self.now.types.now sought.now.name.now)) }
+    {
+        if self.is_pending(class) {
+            return Err(Wait::Needs(class));
+        }
+        Ok(self.member_of(sought, class, steps)?)
     }
 }
 

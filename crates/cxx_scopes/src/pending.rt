@@ -1,6 +1,6 @@
 //! Classes that have to be complete before a question is answered (14.7.1).
 
-ghost use Rattle.std.specs.Prelude.{◌≡◌, false, List};
+ghost use Rattle.std.specs.Prelude.{◌≡◌, ◌&&◌, not, false, List};
 ghost use Rattle.std.specs.List.{list_any};
 ghost use Rattle.cxx_model.specs.Types.Trees.{CxxType};
 ghost use Rattle.cxx_model.specs.Facts.Declarations.{declares_at, patterns_at};
@@ -90,6 +90,13 @@ impl Looking<'_> {
         due
     }
 
+    // Whether a class is neither complete nor being read, and a completion is due.
+    fn awaits(&self, template: TemplateId, class: ClassId) -> bool
+        ensures { result ≡ not (list_any (has_one_begun class) (facts_of self.now)) && is_one_due (graph_of self.now).patterns template.0 class false (facts_of self.now) }
+    {
+        !self.has_begun(class) && self.is_due(template, class)
+    }
+
     /// Whether a class has to be complete before it is asked.
     #[tactic(auto, using(crate::proofs::Patterns::class_some, crate::proofs::Patterns::class_none, crate::proofs::Patterns::class_past), unfolding(cxx_meaning::specs::Lookups::Pending::is_pending))]
     pub fn is_pending(&self, class: ClassId) -> bool
@@ -100,7 +107,7 @@ impl Looking<'_> {
         }
         match self.graph.specialisation(class) {
             None => false,
-            Some(of) => !self.has_begun(class) && self.is_due(of.template, class),
+            Some(of) => self.awaits(of.template, class),
         }
     }
 }
