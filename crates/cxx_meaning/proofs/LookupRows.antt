@@ -22,7 +22,7 @@ use Rattle.cxx_model.specs.Types.Trees.{CxxType, CxxTypes, fundamental, class_ty
 use Rattle.cxx_meaning.specs.Lookups.Directives.{nominates, reached, shows}
 use Rattle.cxx_meaning.specs.Lookups.Gathered.{spread, with_facts, with_scopes}
 use Rattle.cxx_meaning.specs.Lookups.Member.{clash, declared_in, declares_member, member as member_named, member_in, member_by, member_of, members_in, not_redeclared, own_ways, ways, ways_after, with_base}
-use Rattle.cxx_meaning.specs.Lookups.Ordinary.{found_at, ordinary, ordinary_in, sightings_at, standing_shown}
+use Rattle.cxx_meaning.specs.Lookups.Ordinary.{found_in_scope, ordinary, ordinary_in, sightings_at, standing_shown}
 use Rattle.cxx_meaning.specs.Lookups.Pending.{Asked, is_due, is_pending}
 use Rattle.cxx_meaning.specs.Lookups.Qualified.{brought, leads_to, qualified, searched, standing_in}
 use Rattle.cxx_meaning.specs.Lookups.Scopes.{first_common, first_space, up}
@@ -136,12 +136,12 @@ a-b-c = unit ∷ space_in 0 ∷ object 1 x ∷ space_in 1 ∷ space_in 2 ∷ obj
 
 -- 7.3.4: C's x shows in B and hides that of A
 directive-hides-outer : named x a-b-c 4 ≡ set (5 ∷ [])
-unfolding nominates reached shows spread with_facts with_scopes clash declared_in declares_member member_named member_in member_by member_of members_in not_redeclared own_ways ways ways_after with_base found_at ordinary_in sightings_at standing_shown is_due is_pending leads_to searched standing_in first_common first_space up entities found_of odd_pair is_by_friend is_function_at least_of named_by sighting_in standing unhidden
+unfolding nominates reached shows spread with_facts with_scopes clash declared_in declares_member member_named member_in member_by member_of members_in not_redeclared own_ways ways ways_after with_base found_in_scope ordinary_in sightings_at standing_shown is_due is_pending leads_to searched standing_in first_common first_space up entities found_of odd_pair is_by_friend is_function_at least_of named_by sighting_in standing unhidden
 directive-hides-outer = refl
 
 -- A itself sees its own
 outside-of-directive : named x a-b-c 5 ≡ set (2 ∷ [])
-unfolding nominates reached shows spread with_facts with_scopes clash declared_in declares_member member_named member_in member_by member_of members_in not_redeclared own_ways ways ways_after with_base found_at ordinary_in sightings_at standing_shown is_due is_pending leads_to searched standing_in first_common first_space up entities found_of odd_pair is_by_friend is_function_at least_of named_by sighting_in standing unhidden
+unfolding nominates reached shows spread with_facts with_scopes clash declared_in declares_member member_named member_in member_by member_of members_in not_redeclared own_ways ways ways_after with_base found_in_scope ordinary_in sightings_at standing_shown is_due is_pending leads_to searched standing_in first_common first_space up entities found_of odd_pair is_by_friend is_function_at least_of named_by sighting_in standing unhidden
 outside-of-directive = refl
 
 -- void f() { using namespace A::B::C; x; } in A: C's x shows in A, beside that of A
@@ -150,7 +150,7 @@ f3 = unit ∷ space_in 0 ∷ object 1 x ∷ space_in 1 ∷ space_in 2 ∷ object
 
 -- 7.3.4: A::x and C::x
 directive-in-block-is-ambiguous : named x f3 4 ≡ two 2 5
-unfolding nominates reached shows spread with_facts with_scopes clash declared_in declares_member member_named member_in member_by member_of members_in not_redeclared own_ways ways ways_after with_base found_at ordinary_in sightings_at standing_shown is_due is_pending leads_to searched standing_in first_common first_space up entities found_of odd_pair is_by_friend is_function_at least_of named_by sighting_in standing unhidden
+unfolding nominates reached shows spread with_facts with_scopes clash declared_in declares_member member_named member_in member_by member_of members_in not_redeclared own_ways ways ways_after with_base found_in_scope ordinary_in sightings_at standing_shown is_due is_pending leads_to searched standing_in first_common first_space up entities found_of odd_pair is_by_friend is_function_at least_of named_by sighting_in standing unhidden
 directive-in-block-is-ambiguous = refl
 
 -- int x in the block, with a directive beside it
@@ -159,7 +159,7 @@ locals = unit ∷ space_in 0 ∷ object 1 x ∷ block_in 0 ∷ directive 2 1 ∷
 
 -- 7.3.4: the local one hides what the directive brings
 directive-behind-local : named x locals 2 ≡ set (5 ∷ [])
-unfolding nominates reached shows spread with_facts with_scopes clash declared_in declares_member member_named member_in member_by member_of members_in not_redeclared own_ways ways ways_after with_base found_at ordinary_in sightings_at standing_shown is_due is_pending leads_to searched standing_in first_common first_space up entities found_of odd_pair is_by_friend is_function_at least_of named_by sighting_in standing unhidden
+unfolding nominates reached shows spread with_facts with_scopes clash declared_in declares_member member_named member_in member_by member_of members_in not_redeclared own_ways ways ways_after with_base found_in_scope ordinary_in sightings_at standing_shown is_due is_pending leads_to searched standing_in first_common first_space up entities found_of odd_pair is_by_friend is_function_at least_of named_by sighting_in standing unhidden
 directive-behind-local = refl
 
 -- namespace M { int x; } namespace N { int x; using namespace M; } void f() { using namespace N; x; }
@@ -168,7 +168,7 @@ transitive = unit ∷ space_in 0 ∷ object 1 x ∷ space_in 0 ∷ object 2 x �
 
 -- 7.3.4 p4: both are visible, and this is an error
 directive-is-transitive : named x transitive 3 ≡ two 2 4
-unfolding nominates reached shows spread with_facts with_scopes clash declared_in declares_member member_named member_in member_by member_of members_in not_redeclared own_ways ways ways_after with_base found_at ordinary_in sightings_at standing_shown is_due is_pending leads_to searched standing_in first_common first_space up entities found_of odd_pair is_by_friend is_function_at least_of named_by sighting_in standing unhidden
+unfolding nominates reached shows spread with_facts with_scopes clash declared_in declares_member member_named member_in member_by member_of members_in not_redeclared own_ways ways ways_after with_base found_in_scope ordinary_in sightings_at standing_shown is_due is_pending leads_to searched standing_in first_common first_space up entities found_of odd_pair is_by_friend is_function_at least_of named_by sighting_in standing unhidden
 directive-is-transitive = refl
 
 -- namespace A { using namespace B; } namespace B { using namespace A; int x; } void f() { using namespace A; x; }
@@ -177,7 +177,7 @@ circle = unit ∷ space_in 0 ∷ space_in 0 ∷ directive 1 2 ∷ directive 2 1 
 
 -- each namespace once
 directives-in-a-circle : named x circle 3 ≡ set (5 ∷ [])
-unfolding nominates reached shows spread with_facts with_scopes clash declared_in declares_member member_named member_in member_by member_of members_in not_redeclared own_ways ways ways_after with_base found_at ordinary_in sightings_at standing_shown is_due is_pending leads_to searched standing_in first_common first_space up entities found_of odd_pair is_by_friend is_function_at least_of named_by sighting_in standing unhidden
+unfolding nominates reached shows spread with_facts with_scopes clash declared_in declares_member member_named member_in member_by member_of members_in not_redeclared own_ways ways ways_after with_base found_in_scope ordinary_in sightings_at standing_shown is_due is_pending leads_to searched standing_in first_common first_space up entities found_of odd_pair is_by_friend is_function_at least_of named_by sighting_in standing unhidden
 directives-in-a-circle = refl
 
 -- namespace D { void x(int); } using namespace D; void x(char);
@@ -186,12 +186,12 @@ overloads = unit ∷ space_in 0 ∷ function 1 x int ∷ directive 0 1 ∷ funct
 
 -- 7.3.4: the functions are one set
 directive-brings-overloads : named x overloads 0 ≡ set (2 ∷ 4 ∷ [])
-unfolding nominates reached shows spread with_facts with_scopes clash declared_in declares_member member_named member_in member_by member_of members_in not_redeclared own_ways ways ways_after with_base found_at ordinary_in sightings_at standing_shown is_due is_pending leads_to searched standing_in first_common first_space up entities found_of odd_pair is_by_friend is_function_at least_of named_by sighting_in standing unhidden
+unfolding nominates reached shows spread with_facts with_scopes clash declared_in declares_member member_named member_in member_by member_of members_in not_redeclared own_ways ways ways_after with_base found_in_scope ordinary_in sightings_at standing_shown is_due is_pending leads_to searched standing_in first_common first_space up entities found_of odd_pair is_by_friend is_function_at least_of named_by sighting_in standing unhidden
 directive-brings-overloads = refl
 
 -- the directive is not seen before it stands: only D's own
 not-yet-nominated : ordinary (graph_of overloads) any_name (s 0) x 3 ≡ empty
-unfolding nominates reached shows spread with_facts with_scopes clash declared_in declares_member member_named member_in member_by member_of members_in not_redeclared own_ways ways ways_after with_base found_at ordinary_in sightings_at standing_shown is_due is_pending leads_to searched standing_in first_common first_space up entities found_of odd_pair is_by_friend is_function_at least_of named_by sighting_in standing unhidden
+unfolding nominates reached shows spread with_facts with_scopes clash declared_in declares_member member_named member_in member_by member_of members_in not_redeclared own_ways ways ways_after with_base found_in_scope ordinary_in sightings_at standing_shown is_due is_pending leads_to searched standing_in first_common first_space up entities found_of odd_pair is_by_friend is_function_at least_of named_by sighting_in standing unhidden
 not-yet-nominated = refl
 
 -- ---- 3.3.7: a class name that an object hides
@@ -201,12 +201,12 @@ abbrev stat : List CxxFact
 stat = unit ∷ class_name 0 x 0 ∷ class_in 0 0 ∷ end_of 1 0 ∷ object 0 x ∷ []
 
 object-hides-class : named x stat 0 ≡ set (4 ∷ [])
-unfolding nominates reached shows spread with_facts with_scopes clash declared_in declares_member member_named member_in member_by member_of members_in not_redeclared own_ways ways ways_after with_base found_at ordinary_in sightings_at standing_shown is_due is_pending leads_to searched standing_in first_common first_space up entities found_of odd_pair is_by_friend is_function_at least_of named_by sighting_in standing unhidden
+unfolding nominates reached shows spread with_facts with_scopes clash declared_in declares_member member_named member_in member_by member_of members_in not_redeclared own_ways ways ways_after with_base found_in_scope ordinary_in sightings_at standing_shown is_due is_pending leads_to searched standing_in first_common first_space up entities found_of odd_pair is_by_friend is_function_at least_of named_by sighting_in standing unhidden
 object-hides-class = refl
 
 -- 3.4.4: struct x
 elaborated-finds-class : ordinary (graph_of stat) types_only (s 0) x 9 ≡ set (1 ∷ [])
-unfolding nominates reached shows spread with_facts with_scopes clash declared_in declares_member member_named member_in member_by member_of members_in not_redeclared own_ways ways ways_after with_base found_at ordinary_in sightings_at standing_shown is_due is_pending leads_to searched standing_in first_common first_space up entities found_of odd_pair is_by_friend is_function_at least_of named_by sighting_in standing unhidden
+unfolding nominates reached shows spread with_facts with_scopes clash declared_in declares_member member_named member_in member_by member_of members_in not_redeclared own_ways ways ways_after with_base found_in_scope ordinary_in sightings_at standing_shown is_due is_pending leads_to searched standing_in first_common first_space up entities found_of odd_pair is_by_friend is_function_at least_of named_by sighting_in standing unhidden
 elaborated-finds-class = refl
 
 -- namespace A { struct x; } namespace B { int x; }, both nominated
@@ -215,7 +215,7 @@ apart = unit ∷ space_in 0 ∷ class_name 1 x 0 ∷ space_in 0 ∷ object 2 x �
 
 -- 7.3.4: they do not hide one another
 class-and-object-of-two-namespaces : named x apart 0 ≡ two 2 4
-unfolding nominates reached shows spread with_facts with_scopes clash declared_in declares_member member_named member_in member_by member_of members_in not_redeclared own_ways ways ways_after with_base found_at ordinary_in sightings_at standing_shown is_due is_pending leads_to searched standing_in first_common first_space up entities found_of odd_pair is_by_friend is_function_at least_of named_by sighting_in standing unhidden
+unfolding nominates reached shows spread with_facts with_scopes clash declared_in declares_member member_named member_in member_by member_of members_in not_redeclared own_ways ways ways_after with_base found_in_scope ordinary_in sightings_at standing_shown is_due is_pending leads_to searched standing_in first_common first_space up entities found_of odd_pair is_by_friend is_function_at least_of named_by sighting_in standing unhidden
 class-and-object-of-two-namespaces = refl
 
 -- ---- 3.4.3.2: qualified names
@@ -225,7 +225,7 @@ abbrev ab : List CxxFact
 ab = unit ∷ space_in 0 ∷ object 1 x ∷ space_in 0 ∷ object 2 x ∷ directive 1 2 ∷ []
 
 own-declaration-first : within x ab 1 ≡ set (2 ∷ [])
-unfolding nominates reached shows spread with_facts with_scopes clash declared_in declares_member member_named member_in member_by member_of members_in not_redeclared own_ways ways ways_after with_base found_at ordinary_in sightings_at standing_shown is_due is_pending leads_to searched standing_in first_common first_space up entities found_of odd_pair is_by_friend is_function_at least_of named_by sighting_in standing unhidden
+unfolding nominates reached shows spread with_facts with_scopes clash declared_in declares_member member_named member_in member_by member_of members_in not_redeclared own_ways ways ways_after with_base found_in_scope ordinary_in sightings_at standing_shown is_due is_pending leads_to searched standing_in first_common first_space up entities found_of odd_pair is_by_friend is_function_at least_of named_by sighting_in standing unhidden
 own-declaration-first = refl
 
 -- namespace A { int a; } namespace B { using namespace A; } namespace C { using namespace A; } namespace BC { using namespace B; using namespace C; }
@@ -234,7 +234,7 @@ abfg = unit ∷ space_in 0 ∷ object 1 x ∷ space_in 0 ∷ directive 2 1 ∷ s
 
 -- 3.4.3.2 p3: the same declaration by two ways is one
 one-entity-two-ways : within x abfg 4 ≡ set (2 ∷ [])
-unfolding nominates reached shows spread with_facts with_scopes clash declared_in declares_member member_named member_in member_by member_of members_in not_redeclared own_ways ways ways_after with_base found_at ordinary_in sightings_at standing_shown is_due is_pending leads_to searched standing_in first_common first_space up entities found_of odd_pair is_by_friend is_function_at least_of named_by sighting_in standing unhidden
+unfolding nominates reached shows spread with_facts with_scopes clash declared_in declares_member member_named member_in member_by member_of members_in not_redeclared own_ways ways ways_after with_base found_in_scope ordinary_in sightings_at standing_shown is_due is_pending leads_to searched standing_in first_common first_space up entities found_of odd_pair is_by_friend is_function_at least_of named_by sighting_in standing unhidden
 one-entity-two-ways = refl
 
 -- namespace B { int b; } namespace A { using namespace B; int a; } namespace B { using namespace A; }
@@ -243,11 +243,11 @@ ab-cycle = unit ∷ space_in 0 ∷ space_in 0 ∷ directive 2 1 ∷ object 2 x �
 
 -- 3.4.3.2 p4: B::a is A::a
 cycle-ends : within x ab-cycle 1 ≡ set (4 ∷ [])
-unfolding nominates reached shows spread with_facts with_scopes clash declared_in declares_member member_named member_in member_by member_of members_in not_redeclared own_ways ways ways_after with_base found_at ordinary_in sightings_at standing_shown is_due is_pending leads_to searched standing_in first_common first_space up entities found_of odd_pair is_by_friend is_function_at least_of named_by sighting_in standing unhidden
+unfolding nominates reached shows spread with_facts with_scopes clash declared_in declares_member member_named member_in member_by member_of members_in not_redeclared own_ways ways ways_after with_base found_in_scope ordinary_in sightings_at standing_shown is_due is_pending leads_to searched standing_in first_common first_space up entities found_of odd_pair is_by_friend is_function_at least_of named_by sighting_in standing unhidden
 cycle-ends = refl
 
 cycle-of-nothing : within n ab-cycle 1 ≡ empty
-unfolding nominates reached shows spread with_facts with_scopes clash declared_in declares_member member_named member_in member_by member_of members_in not_redeclared own_ways ways ways_after with_base found_at ordinary_in sightings_at standing_shown is_due is_pending leads_to searched standing_in first_common first_space up entities found_of odd_pair is_by_friend is_function_at least_of named_by sighting_in standing unhidden
+unfolding nominates reached shows spread with_facts with_scopes clash declared_in declares_member member_named member_in member_by member_of members_in not_redeclared own_ways ways ways_after with_base found_in_scope ordinary_in sightings_at standing_shown is_due is_pending leads_to searched standing_in first_common first_space up entities found_of odd_pair is_by_friend is_function_at least_of named_by sighting_in standing unhidden
 cycle-of-nothing = refl
 
 -- namespace X { int x; } namespace Y { int x; } namespace Z { using namespace X; using namespace Y; }
@@ -256,7 +256,7 @@ two-bodies = unit ∷ space_in 0 ∷ object 1 x ∷ space_in 0 ∷ object 2 x �
 
 -- 3.4.3.2 p3
 two-entities-are-ambiguous : within x two-bodies 3 ≡ two 2 4
-unfolding nominates reached shows spread with_facts with_scopes clash declared_in declares_member member_named member_in member_by member_of members_in not_redeclared own_ways ways ways_after with_base found_at ordinary_in sightings_at standing_shown is_due is_pending leads_to searched standing_in first_common first_space up entities found_of odd_pair is_by_friend is_function_at least_of named_by sighting_in standing unhidden
+unfolding nominates reached shows spread with_facts with_scopes clash declared_in declares_member member_named member_in member_by member_of members_in not_redeclared own_ways ways ways_after with_base found_in_scope ordinary_in sightings_at standing_shown is_due is_pending leads_to searched standing_in first_common first_space up entities found_of odd_pair is_by_friend is_function_at least_of named_by sighting_in standing unhidden
 two-entities-are-ambiguous = refl
 
 -- ---- 7.3.3: using-declarations
@@ -267,7 +267,7 @@ used = unit ∷ space_in 0 ∷ function 1 x int ∷ using 0 x 2 ∷ function 1 x
 
 -- 7.3.3 p9
 using-brings-no-later-one : named x used 0 ≡ set (2 ∷ [])
-unfolding nominates reached shows spread with_facts with_scopes clash declared_in declares_member member_named member_in member_by member_of members_in not_redeclared own_ways ways ways_after with_base found_at ordinary_in sightings_at standing_shown is_due is_pending leads_to searched standing_in first_common first_space up entities found_of odd_pair is_by_friend is_function_at least_of named_by sighting_in standing unhidden
+unfolding nominates reached shows spread with_facts with_scopes clash declared_in declares_member member_named member_in member_by member_of members_in not_redeclared own_ways ways ways_after with_base found_in_scope ordinary_in sightings_at standing_shown is_due is_pending leads_to searched standing_in first_common first_space up entities found_of odd_pair is_by_friend is_function_at least_of named_by sighting_in standing unhidden
 using-brings-no-later-one = refl
 
 -- namespace A { struct x; void x(); } using A::x twice: p10
@@ -276,7 +276,7 @@ hiding = unit ∷ space_in 0 ∷ class_name 1 x 0 ∷ function 1 x int ∷ []
 
 -- 7.3.3 p10
 using-brings-hidden-class : brought (graph_of hiding) (s 1) x 9 ≡ set (2 ∷ 3 ∷ [])
-unfolding nominates reached shows spread with_facts with_scopes clash declared_in declares_member member_named member_in member_by member_of members_in not_redeclared own_ways ways ways_after with_base found_at ordinary_in sightings_at standing_shown is_due is_pending leads_to searched standing_in first_common first_space up entities found_of odd_pair is_by_friend is_function_at least_of named_by sighting_in standing unhidden
+unfolding nominates reached shows spread with_facts with_scopes clash declared_in declares_member member_named member_in member_by member_of members_in not_redeclared own_ways ways ways_after with_base found_in_scope ordinary_in sightings_at standing_shown is_due is_pending leads_to searched standing_in first_common first_space up entities found_of odd_pair is_by_friend is_function_at least_of named_by sighting_in standing unhidden
 using-brings-hidden-class = refl
 
 -- ---- 3.4.6: names of namespaces
@@ -287,11 +287,11 @@ alias = unit ∷ space_name 0 n 1 ∷ space_in 0 ∷ block_in 0 ∷ object 2 n �
 
 -- objects are passed over
 namespaces-alone : ordinary (graph_of alias) namespaces_only (s 2) n 9 ≡ set (1 ∷ [])
-unfolding nominates reached shows spread with_facts with_scopes clash declared_in declares_member member_named member_in member_by member_of members_in not_redeclared own_ways ways ways_after with_base found_at ordinary_in sightings_at standing_shown is_due is_pending leads_to searched standing_in first_common first_space up entities found_of odd_pair is_by_friend is_function_at least_of named_by sighting_in standing unhidden
+unfolding nominates reached shows spread with_facts with_scopes clash declared_in declares_member member_named member_in member_by member_of members_in not_redeclared own_ways ways ways_after with_base found_in_scope ordinary_in sightings_at standing_shown is_due is_pending leads_to searched standing_in first_common first_space up entities found_of odd_pair is_by_friend is_function_at least_of named_by sighting_in standing unhidden
 namespaces-alone = refl
 
 object-in-block : named n alias 2 ≡ set (4 ∷ [])
-unfolding nominates reached shows spread with_facts with_scopes clash declared_in declares_member member_named member_in member_by member_of members_in not_redeclared own_ways ways ways_after with_base found_at ordinary_in sightings_at standing_shown is_due is_pending leads_to searched standing_in first_common first_space up entities found_of odd_pair is_by_friend is_function_at least_of named_by sighting_in standing unhidden
+unfolding nominates reached shows spread with_facts with_scopes clash declared_in declares_member member_named member_in member_by member_of members_in not_redeclared own_ways ways ways_after with_base found_in_scope ordinary_in sightings_at standing_shown is_due is_pending leads_to searched standing_in first_common first_space up entities found_of odd_pair is_by_friend is_function_at least_of named_by sighting_in standing unhidden
 object-in-block = refl
 
 -- ---- 11.4, 7.3.1.2: friends
@@ -301,7 +301,7 @@ abbrev friend : List CxxFact
 friend = unit ∷ class_name 0 n 0 ∷ class_in 0 0 ∷ function 0 x int ∷ put 1 unnamed (facts.friend (c 0) (f 3)) ∷ end_of 1 0 ∷ []
 
 friend-is-not-seen : named x friend 0 ≡ empty
-unfolding nominates reached shows spread with_facts with_scopes clash declared_in declares_member member_named member_in member_by member_of members_in not_redeclared own_ways ways ways_after with_base found_at ordinary_in sightings_at standing_shown is_due is_pending leads_to searched standing_in first_common first_space up entities found_of odd_pair is_by_friend is_function_at least_of named_by sighting_in standing unhidden
+unfolding nominates reached shows spread with_facts with_scopes clash declared_in declares_member member_named member_in member_by member_of members_in not_redeclared own_ways ways ways_after with_base found_in_scope ordinary_in sightings_at standing_shown is_due is_pending leads_to searched standing_in first_common first_space up entities found_of odd_pair is_by_friend is_function_at least_of named_by sighting_in standing unhidden
 friend-is-not-seen = refl
 
 -- the same, and void x(int); behind the class
@@ -310,7 +310,7 @@ friend-again = unit ∷ class_name 0 n 0 ∷ class_in 0 0 ∷ function 0 x int �
 
 -- its number is that of its first declaration
 friend-declared-again : named x friend-again 0 ≡ set (3 ∷ [])
-unfolding nominates reached shows spread with_facts with_scopes clash declared_in declares_member member_named member_in member_by member_of members_in not_redeclared own_ways ways ways_after with_base found_at ordinary_in sightings_at standing_shown is_due is_pending leads_to searched standing_in first_common first_space up entities found_of odd_pair is_by_friend is_function_at least_of named_by sighting_in standing unhidden
+unfolding nominates reached shows spread with_facts with_scopes clash declared_in declares_member member_named member_in member_by member_of members_in not_redeclared own_ways ways ways_after with_base found_in_scope ordinary_in sightings_at standing_shown is_due is_pending leads_to searched standing_in first_common first_space up entities found_of odd_pair is_by_friend is_function_at least_of named_by sighting_in standing unhidden
 friend-declared-again = refl
 
 -- ---- 10.2: members
@@ -321,11 +321,11 @@ diamond = unit ∷ class_in 0 0 ∷ data_member 1 x ∷ end_of 1 0 ∷ class_in 
 
 -- the two paths
 two-subobjects : member_at x diamond 3 ≡ Ok (among.Ambiguous (record { fact = f 2; path = 1 ∷ 1 ∷ [] }) (record { fact = f 2; path = 2 ∷ 1 ∷ [] }))
-unfolding nominates reached shows spread with_facts with_scopes clash declared_in declares_member member_named member_in member_by member_of members_in not_redeclared own_ways ways ways_after with_base found_at ordinary_in sightings_at standing_shown is_due is_pending leads_to searched standing_in first_common first_space up entities found_of odd_pair is_by_friend is_function_at least_of named_by sighting_in standing unhidden
+unfolding nominates reached shows spread with_facts with_scopes clash declared_in declares_member member_named member_in member_by member_of members_in not_redeclared own_ways ways ways_after with_base found_in_scope ordinary_in sightings_at standing_shown is_due is_pending leads_to searched standing_in first_common first_space up entities found_of odd_pair is_by_friend is_function_at least_of named_by sighting_in standing unhidden
 two-subobjects = refl
 
 one-subobject : member_at x diamond 1 ≡ Ok (among.Set (f 2 ∷ []) (1 ∷ []))
-unfolding nominates reached shows spread with_facts with_scopes clash declared_in declares_member member_named member_in member_by member_of members_in not_redeclared own_ways ways ways_after with_base found_at ordinary_in sightings_at standing_shown is_due is_pending leads_to searched standing_in first_common first_space up entities found_of odd_pair is_by_friend is_function_at least_of named_by sighting_in standing unhidden
+unfolding nominates reached shows spread with_facts with_scopes clash declared_in declares_member member_named member_in member_by member_of members_in not_redeclared own_ways ways ways_after with_base found_in_scope ordinary_in sightings_at standing_shown is_due is_pending leads_to searched standing_in first_common first_space up entities found_of odd_pair is_by_friend is_function_at least_of named_by sighting_in standing unhidden
 one-subobject = refl
 
 -- the same with a static member
@@ -334,7 +334,7 @@ static-diamond = unit ∷ class_in 0 0 ∷ static_member 1 x ∷ end_of 1 0 ∷ 
 
 -- 10.2 p2: the least path
 static-member-of-two-subobjects : member_at x static-diamond 3 ≡ Ok (among.Set (f 2 ∷ []) (1 ∷ 1 ∷ []))
-unfolding nominates reached shows spread with_facts with_scopes clash declared_in declares_member member_named member_in member_by member_of members_in not_redeclared own_ways ways ways_after with_base found_at ordinary_in sightings_at standing_shown is_due is_pending leads_to searched standing_in first_common first_space up entities found_of odd_pair is_by_friend is_function_at least_of named_by sighting_in standing unhidden
+unfolding nominates reached shows spread with_facts with_scopes clash declared_in declares_member member_named member_in member_by member_of members_in not_redeclared own_ways ways ways_after with_base found_in_scope ordinary_in sightings_at standing_shown is_due is_pending leads_to searched standing_in first_common first_space up entities found_of odd_pair is_by_friend is_function_at least_of named_by sighting_in standing unhidden
 static-member-of-two-subobjects = refl
 
 -- struct A { int x; }; struct B { int x; }; struct C : A, B { }; struct D : C { int x; };
@@ -342,14 +342,14 @@ abbrev two-bases : List CxxFact
 two-bases = unit ∷ class_in 0 0 ∷ data_member 1 x ∷ end_of 1 0 ∷ class_in 0 1 ∷ data_member 2 x ∷ end_of 2 1 ∷ class_in 0 2 ∷ base_of 3 2 0 1 ∷ base_of 3 2 1 2 ∷ end_of 3 2 ∷ class_in 0 3 ∷ base_of 4 3 2 1 ∷ data_member 4 x ∷ end_of 4 3 ∷ []
 
 members-of-two-classes : member_at x two-bases 2 ≡ Ok (among.Ambiguous (record { fact = f 2; path = 1 ∷ [] }) (record { fact = f 5; path = 2 ∷ [] }))
-unfolding nominates reached shows spread with_facts with_scopes clash declared_in declares_member member_named member_in member_by member_of members_in not_redeclared own_ways ways ways_after with_base found_at ordinary_in sightings_at standing_shown is_due is_pending leads_to searched standing_in first_common first_space up entities found_of odd_pair is_by_friend is_function_at least_of named_by sighting_in standing unhidden
+unfolding nominates reached shows spread with_facts with_scopes clash declared_in declares_member member_named member_in member_by member_of members_in not_redeclared own_ways ways ways_after with_base found_in_scope ordinary_in sightings_at standing_shown is_due is_pending leads_to searched standing_in first_common first_space up entities found_of odd_pair is_by_friend is_function_at least_of named_by sighting_in standing unhidden
 members-of-two-classes = refl
 
 derived-hides : member_at x two-bases 3 ≡ Ok (among.Set (f 13 ∷ []) [])
-unfolding nominates reached shows spread with_facts with_scopes clash declared_in declares_member member_named member_in member_by member_of members_in not_redeclared own_ways ways ways_after with_base found_at ordinary_in sightings_at standing_shown is_due is_pending leads_to searched standing_in first_common first_space up entities found_of odd_pair is_by_friend is_function_at least_of named_by sighting_in standing unhidden
+unfolding nominates reached shows spread with_facts with_scopes clash declared_in declares_member member_named member_in member_by member_of members_in not_redeclared own_ways ways ways_after with_base found_in_scope ordinary_in sightings_at standing_shown is_due is_pending leads_to searched standing_in first_common first_space up entities found_of odd_pair is_by_friend is_function_at least_of named_by sighting_in standing unhidden
 derived-hides = refl
 
 -- 3.4.1: a block of a member function
 found-in-class-scope : named x (unit ∷ class_in 0 0 ∷ data_member 1 x ∷ end_of 1 0 ∷ block_in 1 ∷ []) 2 ≡ Ok (found.Member (c 0) (among.Set (f 2 ∷ []) []))
-unfolding nominates reached shows spread with_facts with_scopes clash declared_in declares_member member_named member_in member_by member_of members_in not_redeclared own_ways ways ways_after with_base found_at ordinary_in sightings_at standing_shown is_due is_pending leads_to searched standing_in first_common first_space up entities found_of odd_pair is_by_friend is_function_at least_of named_by sighting_in standing unhidden
+unfolding nominates reached shows spread with_facts with_scopes clash declared_in declares_member member_named member_in member_by member_of members_in not_redeclared own_ways ways ways_after with_base found_in_scope ordinary_in sightings_at standing_shown is_due is_pending leads_to searched standing_in first_common first_space up entities found_of odd_pair is_by_friend is_function_at least_of named_by sighting_in standing unhidden
 found-in-class-scope = refl

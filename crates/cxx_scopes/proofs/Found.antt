@@ -4,9 +4,9 @@ use Rattle.std.specs.Prelude.{IfSome}
 use Rattle.std.specs.List.{find}
 use Rattle.cxx_model.specs.declared.types.ClassId.{ClassId}
 use Rattle.cxx_model.specs.Facts.Declarations.{CxxGraph, CxxName}
-use Rattle.cxx_meaning.specs.Lookups.Member.{Way as WayMeant, breaks, declared_in, first_nonstatic, has_nonstatic, member_by, member_of}
+use Rattle.cxx_meaning.specs.Lookups.Member.{Way as WayMeant, breaks, declared_in, first_nonstatic, has_nonstatic, is_one_nonstatic, member_by, member_of}
 use Rattle.cxx_meaning.specs.Lookups.Sightings.{Sighting as SightingMeant}
-use Rattle.cxx_meaning.specs.Lookups.Wanted.{Wanted, is_nonstatic}
+use Rattle.cxx_meaning.specs.Lookups.Wanted.{Wanted}
 use Rattle.cxx_scopes.specs.declared.ways.Record.{Record}
 use Rattle.cxx_scopes.specs.declared.ways.Three.{Three}
 use Rattle.cxx_scopes.specs.declared.ways.Way.{Way}
@@ -14,13 +14,13 @@ use Rattle.cxx_scopes.specs.Answers.{member_of_three}
 use Rattle.cxx_scopes.specs.Tables.{IsTable, entry_of}
 use Rattle.cxx_scopes.specs.Ways.{AreKnown, IsWayKnown, first_way, is_elsewhere, latest, three_at, three_of}
 
-pub first_itself : (one : SightingMeant) (others : List SightingMeant) → is_nonstatic one.what ≡ true → first_nonstatic one others ≡ one
+pub first_itself : (one : SightingMeant) (others : List SightingMeant) → is_one_nonstatic one ≡ true → first_nonstatic one others ≡ one
 first_itself one others e = rw e refl
 
-pub first_later : (one other : SightingMeant) (others : List SightingMeant) → is_nonstatic one.what ≡ false → find (λ one. is_nonstatic one.what) others ≡ Some other → first_nonstatic one others ≡ other
+pub first_later : (one other : SightingMeant) (others : List SightingMeant) → is_one_nonstatic one ≡ false → find is_one_nonstatic others ≡ Some other → first_nonstatic one others ≡ other
 first_later one other others e f = rw (e, f) refl
 
-pub first_none : (one : SightingMeant) (others : List SightingMeant) → is_nonstatic one.what ≡ false → find (λ one. is_nonstatic one.what) others ≡ None → first_nonstatic one others ≡ one
+pub first_none : (one : SightingMeant) (others : List SightingMeant) → is_one_nonstatic one ≡ false → find is_one_nonstatic others ≡ None → first_nonstatic one others ≡ one
 first_none one others e f = rw (e, f) refl
 
 pub first_known : (count : ℕ) (three : Three) (one : Way) → AreKnown count three → three.first ≡ Some one → IsWayKnown count one

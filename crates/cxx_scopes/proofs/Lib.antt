@@ -13,3 +13,4 @@ pub mod Joining
 pub mod Tables
 pub mod Holders
 pub mod Found
+pub mod Outward

@@ -4,8 +4,7 @@ ghost use Rattle.std.specs.Prelude.{◌≡◌, ◌<◌, ◌++◌, [], ℕ, List,
 ghost use Rattle.std.specs.List.{slice_get};
 ghost use Rattle.cxx_model.specs.Facts.Declarations.{fact_at, name_at};
 ghost use Rattle.cxx_model.specs.Facts.Fitted.{IsFactBelow, IsNameBelow};
-ghost use Rattle.cxx_meaning.specs.Lookups.Member.{Way as WayMeant, clash as clash_of, declared_in, first_nonstatic as first_nonstatic_of, has_nonstatic as have_nonstatic, hit, member as member_named, member_by as member_by_ways, member_of as member_of_ways, second_shown as second_shown_of, ways as ways_of};
-ghost use Rattle.cxx_meaning.specs.Lookups.Wanted.{is_nonstatic as is_one_nonstatic};
+ghost use Rattle.cxx_meaning.specs.Lookups.Member.{Way as WayMeant, clash as clash_of, clash_with as clash_with_of, declared_in, first_nonstatic as first_nonstatic_of, has_nonstatic as have_nonstatic, is_one_nonstatic as is_nonstatic_one, hit, member as member_named, member_by as member_by_ways, member_of as member_of_ways, second_shown as second_shown_of, ways as ways_of};
 ghost use Rattle.cxx_meaning.specs.Lookups.Gathered.{before, gathered};
 ghost use Rattle.cxx_scopes.specs.Answers.{Answers, member_of_three};
 ghost use Rattle.cxx_model.specs.declared.lookup.MemberFound.TheVariants as MemberFound;
@@ -122,12 +121,18 @@ impl Looking<'_> {
 
     // ---- what is found
 
+    fn is_one_nonstatic(&self, one: Sighting) -> bool
+        ensures { result ≡ is_nonstatic_one (sighting_at self.now.types.now one) }
+    {
+        let _ = self.alloc;
+        is_nonstatic(one.what)
+    }
+
     fn has_nonstatic(&self, sightings: &[Sighting]) -> bool
         ensures { result ≡ have_nonstatic (map (sighting_at self.now.types.now) sightings.now) }
     {
-        let _ = self.alloc;
         for one in sightings {
-            if is_nonstatic(one.what) {
+            if self.is_one_nonstatic(*one) {
                 return true;
             }
         }
@@ -135,11 +140,10 @@ impl Looking<'_> {
     }
 
     fn find_nonstatic(&self, sightings: &[Sighting]) -> Option<Sighting>
-        ensures { option_map (sighting_at self.now.types.now) result ≡ find (λ one. is_one_nonstatic one.what) (map (sighting_at self.now.types.now) sightings.now) }
+        ensures { option_map (sighting_at self.now.types.now) result ≡ find is_nonstatic_one (map (sighting_at self.now.types.now) sightings.now) }
     {
-        let _ = self.alloc;
         for one in sightings {
-            if is_nonstatic(one.what) {
+            if self.is_one_nonstatic(*one) {
                 return Some(*one);
             }
         }
@@ -151,7 +155,7 @@ impl Looking<'_> {
     fn first_nonstatic(&self, one: Sighting, others: &[Sighting]) -> Sighting
         ensures { sighting_at self.now.types.now result ≡ first_nonstatic_of (sighting_at self.now.types.now one) (map (sighting_at self.now.types.now) others.now) }
     {
-        if is_nonstatic(one.what) {
+        if self.is_one_nonstatic(one) {
             return one;
         }
         match self.find_nonstatic(others) {
@@ -164,10 +168,25 @@ impl Looking<'_> {
     fn second_shown(&self, one: Way, first: Sighting, two: Way, second: Sighting, seconds: &[Sighting]) -> Sighting
         ensures { (paths : List (List ℕ)) → sighting_at self.now.types.now result ≡ second_shown_of (way_at paths one) (sighting_at self.now.types.now first) (way_at paths two) (sighting_at self.now.types.now second) (map (sighting_at self.now.types.now) seconds.now) }
     {
-        if one.holder.0 == two.holder.0 && !is_nonstatic(first.what) {
+        if one.holder.0 == two.holder.0 && !self.is_one_nonstatic(first) {
             self.first_nonstatic(second, seconds)
         } else {
             second
+        }
+    }
+
+    // The first declaration in one subobject, and the one in another that does not go together with it.
+    fn clash_with(&self, table: &Table, one: Way, first: Sighting, two: Way, twos: &[Sighting]) -> Result<MemberFound, AllocError>
+        requires one { IsWayKnown (length table.now.paths.items) one }
+        requires two { IsWayKnown (length table.now.paths.items) two }
+        ensures { IfOk result (λ found. found ≡ clash_with_of (way_at table.now.paths.items one) (sighting_at self.now.types.now first) (way_at table.now.paths.items two) (map (sighting_at self.now.types.now) twos.now)) }
+    {
+        match twos {
+            [] => Ok(MemberFound::Empty),
+            [second, seconds @ ..] => {
+                let later = self.second_shown(one, first, two, *second, seconds);
+                self.ambiguous(table, one, first, two, later)
+            }
         }
     }
 
@@ -180,13 +199,7 @@ impl Looking<'_> {
     {
         match ones {
             [] => Ok(MemberFound::Empty),
-            [first, ..] => match twos {
-                [] => Ok(MemberFound::Empty),
-                [second, seconds @ ..] => {
-                    let later = self.second_shown(one, *first, two, *second, seconds);
-                    self.ambiguous(table, one, *first, two, later)
-                }
-            },
+            [first, _firsts @ ..] => self.clash_with(table, one, *first, two, twos),
         }
     }
 

@@ -1,16 +1,18 @@
 //! Unqualified lookup (3.4.1).
 
-ghost use Rattle.std.specs.Prelude.{◌≡◌, ◌<◌, ◌++◌, length, map, OnOk};
+ghost use Rattle.std.specs.Prelude.{◌≡◌, ◌<◌, ◌++◌, length, map, IfOk, OnOk};
 ghost use Rattle.cxx_model.specs.Facts.Declarations.{name_at};
 ghost use Rattle.cxx_model.specs.Facts.Fitted.{IsNameBelow};
-ghost use Rattle.cxx_meaning.specs.Lookups.Ordinary.{sightings_at as sightings_in, standing_if, standing_shown};
+ghost use Rattle.cxx_meaning.specs.Lookups.Ordinary.{found_in_member, found_in_sightings, found_in_scope as found_at_scope, member_found as member_found_in, ordinary as ordinary_of, sightings_at as sightings_in, standing_if, standing_shown};
+ghost use Rattle.cxx_meaning.specs.Lookups.Member.{member as member_named};
+ghost use Rattle.cxx_scopes.specs.Answers.{Answers};
 ghost use Rattle.cxx_scopes.specs.Views.{IsLooking, graph_of, shown_of, wanted_at};
-ghost use Rattle.cxx_scopes.specs.Sighted.{Adds};
+ghost use Rattle.cxx_scopes.specs.Sighted.{Adds, AreBelow, sighting_at};
 
 use crate::directives::Shown;
 use crate::looking::Looking;
 use crate::sightings::{Sighting, Sought};
-use cxx_model::{ScopeId, Steps};
+use cxx_model::{ClassId, Found, MemberFound, ScopeId, Steps, Wait};
 use std::alloc::AllocError;
 use std::sync::ledger::Ledger;
 
@@ -51,5 +53,79 @@ impl Looking<'_> {
     {
         self.add_standing(cut, sought, scope, found, steps)?;
         self.add_shown_standing(cut, sought, shown, scope, found, steps)
+    }
+
+    // What is found in a scope that is that of no class, where something is.
+    #[tactic(auto, using(crate::proofs::Searching::adds_to_none))]
+    fn found_in<L: Ledger>(&self, cut: u32, sought: &Sought, shown: &[Shown], scope: ScopeId, steps: &mut Steps<L>) -> Result<Option<Found>, AllocError>
+        requires looking { IsLooking self.now }
+        requires name { IsNameBelow (length self.now.types.now) sought.now.name.now }
+        ensures { IfOk result (λ found. found ≡ found_in_sightings (graph_of self.now) (sightings_in (graph_of self.now) cut (wanted_at sought.now.wanted) (name_at self.now.types.now sought.now.name.now) (map shown_of shown.now) scope)) }
+    {
+        let mut sightings = Vec::new(self.alloc);
+        self.add_sightings_at(cut, sought, shown, scope, &mut sightings, steps)?;
+        self.found_among(&sightings, steps)
+    }
+
+    fn found_among<L: Ledger>(&self, sightings: &[Sighting], steps: &mut Steps<L>) -> Result<Option<Found>, AllocError>
+        requires looking { IsLooking self.now }
+        requires below { AreBelow (length self.now.types.now) sightings.now }
+        ensures { IfOk result (λ found. found ≡ found_in_sightings (graph_of self.now) (map (sighting_at self.now.types.now) sightings.now)) }
+    {
+        match sightings {
+            [] => Ok(None),
+            [_one, _others @ ..] => Ok(Some(self.looked_up(sightings, steps)?)),
+        }
+    }
+
+    // What is found in a class, where something is.
+    fn found_in_class<L: Ledger>(&self, sought: &Sought, class: ClassId, steps: &mut Steps<L>) -> Result<Option<Found>, Wait>
+        requires looking { IsLooking self.now }
+        requires name { IsNameBelow (length self.now.types.now) sought.now.name.now }
+        ensures { Answers result (found_in_member class (member_named (graph_of self.now) (wanted_at sought.now.wanted) class (name_at self.now.types.now sought.now.name.now))) }
+    {
+        let found = self.member(sought, class, steps)?;
+        Ok(member_found(class, found))
+    }
+
+    // What is found in a scope, where something is.
+    #[tactic(auto, unfolding(cxx_meaning::specs::Lookups::Ordinary::found_in_scope))]
+    fn found_at<L: Ledger>(&self, cut: u32, sought: &Sought, shown: &[Shown], scope: ScopeId, steps: &mut Steps<L>) -> Result<Option<Found>, Wait>
+        requires looking { IsLooking self.now }
+        requires name { IsNameBelow (length self.now.types.now) sought.now.name.now }
+        ensures { Answers result (found_at_scope (graph_of self.now) (wanted_at sought.now.wanted) (name_at self.now.types.now sought.now.name.now) cut (map shown_of shown.now) scope) }
+    {
+        match self.class_of(scope) {
+            Some(class) => self.found_in_class(sought, class, steps),
+            None => Ok(self.found_in(cut, sought, shown, scope, steps)?),
+        }
+    }
+
+    /// What an unqualified lookup finds.
+    #[tactic(auto, using(crate::proofs::Outward::goes_out, crate::proofs::Outward::found_there, crate::proofs::Outward::needed_there, crate::proofs::Outward::none_left))]
+    pub fn ordinary<L: Ledger>(&self, cut: u32, sought: &Sought, scope: ScopeId, steps: &mut Steps<L>) -> Result<Found, Wait>
+        requires looking { IsLooking self.now }
+        requires name { IsNameBelow (length self.now.types.now) sought.now.name.now }
+        ensures { Answers result (ordinary_of (graph_of self.now) (wanted_at sought.now.wanted) scope (name_at self.now.types.now sought.now.name.now) cut) }
+    {
+        let chain = self.chain(scope)?;
+        let mut shown = Vec::new(self.alloc);
+        for one in &chain {
+            self.add_shown(cut, *one, &mut shown, steps)?;
+            if let Some(found) = self.found_at(cut, sought, &shown, *one, steps)? {
+                return Ok(found);
+            }
+        }
+        Ok(Found::Empty)
+    }
+}
+
+fn member_found(class: ClassId, found: MemberFound) -> Option<Found>
+    ensures { result ≡ member_found_in class found }
+{
+    match found {
+        MemberFound::Empty => None,
+        MemberFound::Set(facts, path) => Some(Found::Member(class, MemberFound::Set(facts, path))),
+        MemberFound::Ambiguous(one, two) => Some(Found::Member(class, MemberFound::Ambiguous(one, two))),
     }
 }

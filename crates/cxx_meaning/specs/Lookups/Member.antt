@@ -116,15 +116,18 @@ ways graph wanted name = ways_after (declares_member graph wanted name) (own_way
 abbrev pub breaks : Bool → Way → Way → Bool
 breaks any_nonstatic one two = any_nonstatic || not (same_class one.holder two.holder)
 
+abbrev pub is_one_nonstatic : Sighting → Bool
+is_one_nonstatic one = is_nonstatic one.what
+
 abbrev pub has_nonstatic : List Sighting → Bool
-has_nonstatic sightings = list_any (λ one. is_nonstatic one.what) sightings
+has_nonstatic sightings = list_any is_one_nonstatic sightings
 
 abbrev pub hit : Way → Sighting → Hit
 hit way one = record { fact = one.itself; path = way.path }
 
 -- the first declaration that is nonstatic, or at least the one at hand
 abbrev pub first_nonstatic : Sighting → List Sighting → Sighting
-first_nonstatic one others = by (find (λ other. is_nonstatic other.what) (one ∷ others))
+first_nonstatic one others = by (find is_one_nonstatic (one ∷ others))
   where
     by : Option Sighting → Sighting
     by None = one
@@ -133,12 +136,15 @@ first_nonstatic one others = by (find (λ other. is_nonstatic other.what) (one �
 -- The first declaration in one subobject does not go together with one in another: of another class with its first; of
 -- the same class with its first, but with the first nonstatic one where the former is static.
 abbrev pub second_shown : Way → Sighting → Way → Sighting → List Sighting → Sighting
-second_shown one first two second seconds = if same_class one.holder two.holder && not (is_nonstatic first.what) then first_nonstatic second seconds else second
+second_shown one first two second seconds = if same_class one.holder two.holder && not (is_one_nonstatic first) then first_nonstatic second seconds else second
+
+abbrev pub clash_with : Way → Sighting → Way → List Sighting → MemberFound
+clash_with one first two [] = found.Empty
+clash_with one first two (second ∷ seconds) = found.Ambiguous (hit one first) (hit two (second_shown one first two second seconds))
 
 unfoldable pub clash : Way → List Sighting → Way → List Sighting → MemberFound
 clash one [] two twos = found.Empty
-clash one (first ∷ firsts) two [] = found.Empty
-clash one (first ∷ firsts) two (second ∷ seconds) = found.Ambiguous (hit one first) (hit two (second_shown one first two second seconds))
+clash one (first ∷ firsts) two twos = clash_with one first two twos
 
 -- 10.2: what is found in the first of some subobjects, and in another that does not go together with it
 unfoldable pub member_by : CxxGraph → Wanted → CxxName → Way → Option Way → MemberFound
