@@ -1,6 +1,6 @@
 //! Lookup of a member (10.2).
 
-ghost use Rattle.std.specs.Prelude.{◌≡◌, ◌<◌, ◌++◌, [], ℕ, List, length, map, find, option_map, if◌then◌else◌, IfOk, IfSome, OnOk};
+ghost use Rattle.std.specs.Prelude.{◌≡◌, ◌<◌, ◌++◌, [], List, length, map, find, option_map, if◌then◌else◌, IfOk, IfSome, OnOk};
 ghost use Rattle.std.specs.List.{slice_get};
 ghost use Rattle.cxx_model.specs.Facts.Declarations.{fact_at, name_at};
 ghost use Rattle.cxx_model.specs.Facts.Fitted.{IsFactBelow, IsNameBelow};
@@ -164,11 +164,12 @@ impl Looking<'_> {
         }
     }
 
-    // The declaration with which the first one in another subobject does not go together.
-    fn second_shown(&self, one: Way, first: Sighting, two: Way, second: Sighting, seconds: &[Sighting]) -> Sighting
-        ensures { (paths : List (List ℕ)) → sighting_at self.now.types.now result ≡ second_shown_of (way_at paths one) (sighting_at self.now.types.now first) (way_at paths two) (sighting_at self.now.types.now second) (map (sighting_at self.now.types.now) seconds.now) }
+    // The declaration with which the first one in another subobject does not go together, by whether both are of one
+    // class.
+    fn second_shown(&self, same: bool, first: Sighting, second: Sighting, seconds: &[Sighting]) -> Sighting
+        ensures { sighting_at self.now.types.now result ≡ second_shown_of same (sighting_at self.now.types.now first) (sighting_at self.now.types.now second) (map (sighting_at self.now.types.now) seconds.now) }
     {
-        if one.holder.0 == two.holder.0 && !self.is_one_nonstatic(first) {
+        if same && !self.is_one_nonstatic(first) {
             self.first_nonstatic(second, seconds)
         } else {
             second
@@ -184,7 +185,8 @@ impl Looking<'_> {
         match twos {
             [] => Ok(MemberFound::Empty),
             [second, seconds @ ..] => {
-                let later = self.second_shown(one, first, two, *second, seconds);
+                let same = one.holder.0 == two.holder.0;
+                let later = self.second_shown(same, first, *second, seconds);
                 self.ambiguous(table, one, first, two, later)
             }
         }

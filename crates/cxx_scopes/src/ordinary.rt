@@ -1,12 +1,13 @@
 //! Unqualified lookup (3.4.1).
 
-ghost use Rattle.std.specs.Prelude.{◌≡◌, ◌<◌, ◌++◌, length, map, IfOk, OnOk};
+ghost use Rattle.std.specs.Prelude.{◌≡◌, ◌<◌, ◌++◌, [], length, map, IfOk, OnOk};
 ghost use Rattle.cxx_model.specs.Facts.Declarations.{name_at};
 ghost use Rattle.cxx_model.specs.Facts.Fitted.{IsNameBelow};
-ghost use Rattle.cxx_meaning.specs.Lookups.Ordinary.{found_in_member, found_in_sightings, found_in_scope as found_at_scope, member_found as member_found_in, ordinary as ordinary_of, sightings_at as sightings_in, standing_if, standing_shown};
+ghost use Rattle.cxx_meaning.specs.Lookups.Directives.{shows};
+ghost use Rattle.cxx_meaning.specs.Lookups.Ordinary.{found_in_member, found_in_sightings, found_in_scope as found_at_scope, member_found as member_found_in, ordinary as ordinary_of, ordinary_in, sightings_at as sightings_in, standing_if, standing_shown};
 ghost use Rattle.cxx_meaning.specs.Lookups.Member.{member as member_named};
 ghost use Rattle.cxx_scopes.specs.Answers.{Answers};
-ghost use Rattle.cxx_scopes.specs.Views.{IsLooking, graph_of, shown_of, wanted_at};
+ghost use Rattle.cxx_scopes.specs.Views.{IsLooking, facts_of, graph_of, shown_of, wanted_at};
 ghost use Rattle.cxx_scopes.specs.Sighted.{Adds, AreBelow, sighting_at};
 
 use crate::directives::Shown;
@@ -101,19 +102,40 @@ impl Looking<'_> {
         }
     }
 
+    // What is found in the next scope of a chain, where something is.
+    fn found_next<L: Ledger>(&self, cut: u32, sought: &Sought, scope: ScopeId, shown: &mut Vec<Shown>, steps: &mut Steps<L>) -> Result<Option<Found>, Wait>
+        requires looking { IsLooking self.now }
+        requires name { IsNameBelow (length self.now.types.now) sought.now.name.now }
+        ensures shown { OnOk result (map shown_of shown.new.items ≡ map shown_of shown.old.items ++ shows (facts_of self.now) cut scope) }
+        ensures found { Answers result (found_at_scope (graph_of self.now) (wanted_at sought.now.wanted) (name_at self.now.types.now sought.now.name.now) cut (map shown_of shown.old.items ++ shows (facts_of self.now) cut scope) scope) }
+    {
+        self.add_shown(cut, scope, shown, steps)?;
+        self.found_at(cut, sought, shown, scope, steps)
+    }
+
     /// What an unqualified lookup finds.
-    #[tactic(auto, using(crate::proofs::Outward::goes_out, crate::proofs::Outward::found_there, crate::proofs::Outward::needed_there, crate::proofs::Outward::none_left))]
     pub fn ordinary<L: Ledger>(&self, cut: u32, sought: &Sought, scope: ScopeId, steps: &mut Steps<L>) -> Result<Found, Wait>
         requires looking { IsLooking self.now }
         requires name { IsNameBelow (length self.now.types.now) sought.now.name.now }
         ensures { Answers result (ordinary_of (graph_of self.now) (wanted_at sought.now.wanted) scope (name_at self.now.types.now sought.now.name.now) cut) }
     {
         let chain = self.chain(scope)?;
+        self.outward(cut, sought, &chain, steps)
+    }
+
+    #[tactic(auto, using(crate::proofs::Outward::goes_out, crate::proofs::Outward::found_there, crate::proofs::Outward::stops_there, crate::proofs::Outward::none_left))]
+    fn outward<L: Ledger>(&self, cut: u32, sought: &Sought, scopes: &[ScopeId], steps: &mut Steps<L>) -> Result<Found, Wait>
+        requires looking { IsLooking self.now }
+        requires name { IsNameBelow (length self.now.types.now) sought.now.name.now }
+        ensures { Answers result (ordinary_in (graph_of self.now) (wanted_at sought.now.wanted) (name_at self.now.types.now sought.now.name.now) cut [] scopes.now) }
+    {
         let mut shown = Vec::new(self.alloc);
-        for one in &chain {
-            self.add_shown(cut, *one, &mut shown, steps)?;
-            if let Some(found) = self.found_at(cut, sought, &shown, *one, steps)? {
-                return Ok(found);
+        let mut rest = scopes;
+        while let [scope, outer @ ..] = rest {
+            match self.found_next(cut, sought, *scope, &mut shown, steps) {
+                Err(wait) => return Err(wait),
+                Ok(Some(found)) => return Ok(found),
+                Ok(None) => rest = outer,
             }
         }
         Ok(Found::Empty)

@@ -135,12 +135,12 @@ first_nonstatic one others = by (find is_one_nonstatic (one ∷ others))
 
 -- The first declaration in one subobject does not go together with one in another: of another class with its first; of
 -- the same class with its first, but with the first nonstatic one where the former is static.
-abbrev pub second_shown : Way → Sighting → Way → Sighting → List Sighting → Sighting
-second_shown one first two second seconds = if same_class one.holder two.holder && not (is_one_nonstatic first) then first_nonstatic second seconds else second
+abbrev pub second_shown : Bool → Sighting → Sighting → List Sighting → Sighting
+second_shown same first second seconds = if same && not (is_one_nonstatic first) then first_nonstatic second seconds else second
 
 abbrev pub clash_with : Way → Sighting → Way → List Sighting → MemberFound
 clash_with one first two [] = found.Empty
-clash_with one first two (second ∷ seconds) = found.Ambiguous (hit one first) (hit two (second_shown one first two second seconds))
+clash_with one first two (second ∷ seconds) = found.Ambiguous (hit one first) (hit two (second_shown (same_class one.holder two.holder) first second seconds))
 
 unfoldable pub clash : Way → List Sighting → Way → List Sighting → MemberFound
 clash one [] two twos = found.Empty
