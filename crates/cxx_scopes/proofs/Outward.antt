@@ -1,5 +1,5 @@
 -- The scopes of a chain, one after another.
-use Rattle.std.proofs.Common.{◌≡◌, ℕ, ◌<◌, length, arith, List, [], ◌∷◌, ◌++◌, Option, Some, None, Ok, Err, refl, ap, sym, ◌∙◌}
+use Rattle.std.proofs.Common.{◌≡◌, ℕ, ◌+◌, ◌<◌, ◌≤◌, length, get_or, drop, List, [], ◌∷◌, ◌++◌, Option, Some, None, Ok, Err, refl, ap, sym, ◌∙◌}
 use Rattle.cxx_model.specs.declared.lookup.Found.{Found}
 use Rattle.cxx_model.specs.declared.lookup.Found.TheVariants as found
 use Rattle.cxx_model.specs.declared.types.ScopeId.{ScopeId}
@@ -8,6 +8,8 @@ use Rattle.cxx_model.specs.declared.stop.Wait.TheVariants as wait
 use Rattle.cxx_model.specs.Facts.Declarations.{CxxGraph, CxxName}
 use Rattle.cxx_meaning.specs.Lookups.Directives.{Shown, shows}
 use Rattle.cxx_meaning.specs.Lookups.Ordinary.{found_in_scope, or_outside, ordinary_in}
+use Rattle.std.proofs.lemmas.List.{at_drop_more, at_drop_all}
+use Rattle.cxx_meaning.specs.Lookups.Scopes.{unit_scope}
 use Rattle.cxx_meaning.specs.Lookups.Pending.{Asked}
 use Rattle.cxx_meaning.specs.Lookups.Wanted.{Wanted}
 use Rattle.cxx_scopes.specs.Answers.{Answers}
@@ -29,7 +31,10 @@ stops_there graph wanted name cut shown scope outer (wait.Needs class) all f e =
     sym e ∙ ap (λ o. or_outside o (ordinary_in graph wanted name cut (shown ++ shows graph.facts cut scope) outer)) f
 stops_there graph wanted name cut shown scope outer wait.OutOfMemory all f e = tt
 
-pub none_left : (graph : CxxGraph) (wanted : Wanted) (name : CxxName) (cut : ℕ) (shown : List Shown) (scopes : List ScopeId) → length scopes < 1 → ordinary_in graph wanted name cut shown scopes ≡ Ok found.Empty
+-- the next scope of a chain
+pub next_scope : (graph : CxxGraph) (wanted : Wanted) (name : CxxName) (cut : ℕ) (shown : List Shown) (scopes : List ScopeId) (i : ℕ) (all : Asked Found) → i < length scopes → ordinary_in graph wanted name cut shown (drop i scopes) ≡ all → ordinary_in graph wanted name cut shown (get_or scopes i unit_scope ∷ drop (i + 1) scopes) ≡ all
+next_scope graph wanted name cut shown scopes i all lt e = sym (at_drop_more (ordinary_in graph wanted name cut shown) scopes i unit_scope lt) ∙ e
+
+pub no_scope : (graph : CxxGraph) (wanted : Wanted) (name : CxxName) (cut : ℕ) (shown : List Shown) (scopes : List ScopeId) (i : ℕ) → length scopes ≤ i → ordinary_in graph wanted name cut shown (drop i scopes) ≡ Ok found.Empty
 unfolding ordinary_in
-none_left graph wanted name cut shown [] lt = refl
-none_left graph wanted name cut shown (scope ∷ outer) lt = absurd (omega arith)
+no_scope graph wanted name cut shown scopes i le = at_drop_all (ordinary_in graph wanted name cut shown) scopes i le

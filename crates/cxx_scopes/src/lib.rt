@@ -6,6 +6,7 @@ mod entities;
 mod index;
 mod lists;
 mod looking;
+mod lookups;
 mod member;
 mod members;
 mod ordinary;

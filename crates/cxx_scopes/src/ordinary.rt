@@ -123,19 +123,18 @@ impl Looking<'_> {
         self.outward(cut, sought, &chain, steps)
     }
 
-    #[tactic(auto, using(crate::proofs::Outward::goes_out, crate::proofs::Outward::found_there, crate::proofs::Outward::stops_there, crate::proofs::Outward::none_left))]
+    // What is found in the first of some scopes that has something.
     fn outward<L: Ledger>(&self, cut: u32, sought: &Sought, scopes: &[ScopeId], steps: &mut Steps<L>) -> Result<Found, Wait>
         requires looking { IsLooking self.now }
         requires name { IsNameBelow (length self.now.types.now) sought.now.name.now }
         ensures { Answers result (ordinary_in (graph_of self.now) (wanted_at sought.now.wanted) (name_at self.now.types.now sought.now.name.now) cut [] scopes.now) }
     {
         let mut shown = Vec::new(self.alloc);
-        let mut rest = scopes;
-        while let [scope, outer @ ..] = rest {
+        for scope in scopes {
             match self.found_next(cut, sought, *scope, &mut shown, steps) {
                 Err(wait) => return Err(wait),
                 Ok(Some(found)) => return Ok(found),
-                Ok(None) => rest = outer,
+                Ok(None) => {}
             }
         }
         Ok(Found::Empty)
