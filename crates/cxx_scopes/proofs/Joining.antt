@@ -18,12 +18,14 @@ grows_none paths = record { more = omega arith; same = λ n lt. refl }
 pub grows_one : (old new : List (List ℕ)) (path : List ℕ) → new ≡ old ++ path ∷ [] → Grows old new
 grows_one old new path e = record {
   more = omega (arith, ap length e, length-append old (path ∷ []));
-  same = λ n lt. ap (λ xs. get_or xs n []) e ∙ get_or_append_left old (path ∷ []) [] n lt }
+  same = λ n lt. ap (λ xs. get_or xs n []) e ∙ get_or_append_left old (path ∷ []) [] n lt;
+}
 
 pub grows_both : (old middle new : List (List ℕ)) → Grows old middle → Grows middle new → Grows old new
 grows_both old middle new one two = record {
   more = omega (arith, one.more, two.more);
-  same = λ n lt. let l : n < length middle = omega (arith, one.more) in two.same n l ∙ one.same n lt }
+  same = λ n lt. let l : n < length middle = omega (arith, one.more) in two.same n l ∙ one.same n lt;
+}
 
 pub through_is : (old new : List (List ℕ)) (index : ℕ) (way longer : Way) (path : List ℕ) → new ≡ old ++ path ∷ [] → path ≡ index ∷ path_at old way.path → longer.path ≡ length old → longer.holder ≡ way.holder → way_at new longer ≡ through index (way_at old way)
 through_is old new index way longer path e is number holder =
@@ -107,10 +109,10 @@ three_through index (one ∷ others) =
 
 -- three ways, each made longer in turn
 pub through_made : (zero_ one two three : List (List ℕ)) (index : ℕ) (ways longer : Three) → AreKnown (length zero_) ways → Grows zero_ one → Grows one two → Grows two three
-  → option_map (way_at one) longer.first ≡ option_map (through index) (option_map (way_at zero_) ways.first) → IfSome longer.first (IsWayKnown (length one))
-  → option_map (way_at two) longer.second ≡ option_map (through index) (option_map (way_at one) ways.second) → IfSome longer.second (IsWayKnown (length two))
-  → option_map (way_at three) longer.other ≡ option_map (through index) (option_map (way_at two) ways.other)
-  → three_at three longer ≡ through_all index (three_at zero_ ways)
+    → option_map (way_at one) longer.first ≡ option_map (through index) (option_map (way_at zero_) ways.first) → IfSome longer.first (IsWayKnown (length one))
+    → option_map (way_at two) longer.second ≡ option_map (through index) (option_map (way_at one) ways.second) → IfSome longer.second (IsWayKnown (length two))
+    → option_map (way_at three) longer.other ≡ option_map (through index) (option_map (way_at two) ways.other)
+    → three_at three longer ≡ through_all index (three_at zero_ ways)
 through_made zero_ one two three index ways longer known g h k f fk s sk o =
     let e = option_kept one three longer.first (grows_both one two three h k) fk ∙ f in
     let d = option_kept two three longer.second k sk ∙ (s ∙ ap (option_map (through index)) (option_kept zero_ one ways.second g known.second)) in

@@ -19,7 +19,8 @@ below_push count (y ∷ ys) x all one = (all.0, below_push count ys x all.1 one)
 pub adds_one : (types : List CxxType) (old new : List Sighting) (one : Sighting) → new ≡ old ++ one ∷ [] → IsEntityBelow (length types) one.what → Adds types old new (sighting_at types one ∷ [])
 adds_one types old new one e below = record {
   seen = ap (map (sighting_at types)) e ∙ map-append (sighting_at types) old (one ∷ []);
-  below = λ all. subst (AreBelow (length types)) (sym e) (below_push (length types) old one all below) }
+  below = λ all. subst (AreBelow (length types)) (sym e) (below_push (length types) old one all below);
+}
 
 pub adds_none : (types : List CxxType) (old : List Sighting) → Adds types old old []
 adds_none types old = record { seen = sym (append-nil (map (sighting_at types) old)); below = λ all. all }
@@ -27,7 +28,8 @@ adds_none types old = record { seen = sym (append-nil (map (sighting_at types) o
 pub adds_both : (types : List CxxType) (old middle new : List Sighting) (ones twos : List SightingMeant) → Adds types old middle ones → Adds types middle new twos → Adds types old new (ones ++ twos)
 adds_both types old middle new ones twos one two = record {
   seen = two.seen ∙ (ap (λ xs. xs ++ twos) one.seen ∙ append_assoc (map (sighting_at types) old) ones twos);
-  below = λ all. two.below (one.below all) }
+  below = λ all. two.below (one.below all);
+}
 
 -- one fact more was looked at
 pub adds_more : (types : List CxxType) (give : ℕ → CxxFact → Option SightingMeant) (facts : List Fact) (number : ℕ) (old new : List Sighting) → Adds types old new (given_at give number (slice_get (facts_at types facts) number)) → map (sighting_at types) old ++ gathered give number (facts_at types (drop number facts)) ≡ map (sighting_at types) new ++ gathered give (number + 1) (facts_at types (drop (number + 1) facts))

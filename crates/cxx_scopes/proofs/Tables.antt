@@ -20,6 +20,7 @@ latest_known count class records three known e = by records None known (λ t f. 
         some_is : (x y : Three) → Some x ≡ Some y → x ≡ y
         some_is x y h = cc
     at_one false ways found t k before f = before t f
+
     by : (rs : List Record) (found : Option Three) → AllKnown count rs → ((t : Three) → found ≡ Some t → AreKnown count t) → latest class found rs ≡ Some three → AreKnown count three
     by [] found all before f = before three f
     by (one ∷ others) found all before f = by others (cond (same_class one.class class) (Some one.ways) found) all.1 (λ t h. at_one (same_class one.class class) one.ways found t all.0 before h) f
@@ -37,7 +38,8 @@ pub sound_more : (old new : List (List ℕ)) (before after : List Record) (one :
 sound_more old new before after one sound grows known e = record {
   known = subst (AllKnown (length new)) (sym e) (known_push (length new) before one (all_known (length old) (length new) before grows.more sound.known) known);
   empty = grows.same 0 sound.some ∙ sound.empty;
-  some = omega (arith, sound.some, grows.more) }
+  some = omega (arith, sound.some, grows.more);
+}
 
 latest_push : (class : ClassId) (found : Option Three) (records : List Record) (one : Record) → latest class found (records ++ one ∷ []) ≡ cond (same_class one.class class) (Some one.ways) (latest class found records)
 latest_push class found [] one = refl
@@ -52,13 +54,13 @@ class_is one two e = ap (λ n. record { 0 = n }) (eqb-true one.0 two.0 e)
 
 -- the table with one more record
 pub table_more : (old new : List (List ℕ)) (holders : List ClassId) (before after : List Record) (derived parent : ClassId) (index : ℕ) (own base more ways : Three) (now : ClassId → List WayMeant)
-  → IsSound old before → IsTable old holders before now → holds holders derived ≡ false → Grows old new
-  → three_at old own ≡ entry_of old holders derived (latest derived None before) → AreKnown (length old) own
-  → three_at old base ≡ entry_of old holders parent (latest parent None before)
-  → three_at new more ≡ through_all index (three_at old base)
-  → three_at new ways ≡ joined (three_at new own) (three_at new more)
-  → after ≡ before ++ record { class = derived; ways = ways } ∷ []
-  → IsTable new holders after (at_base (holds holders) derived parent index now)
+    → IsSound old before → IsTable old holders before now → holds holders derived ≡ false → Grows old new
+    → three_at old own ≡ entry_of old holders derived (latest derived None before) → AreKnown (length old) own
+    → three_at old base ≡ entry_of old holders parent (latest parent None before)
+    → three_at new more ≡ through_all index (three_at old base)
+    → three_at new ways ≡ joined (three_at new own) (three_at new more)
+    → after ≡ before ++ record { class = derived; ways = ways } ∷ []
+    → IsTable new holders after (at_base (holds holders) derived parent index now)
 table_more old new holders before after derived parent index own base more ways now sound table free grows o ok b m w e = record { is = at }
   where
     made : three_at new ways ≡ three_of (now derived ++ map (through index) (now parent))

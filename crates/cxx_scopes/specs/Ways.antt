@@ -75,11 +75,13 @@ abbrev pub joined : ThreeMeant → ThreeMeant → ThreeMeant
 joined one two = record {
   first = or_else one.first two.first;
   second = by one.first (or_else one.second two.first) two.second;
-  other = other one.first }
+  other = other one.first;
+}
   where
     by : Option WayMeant → Option WayMeant → Option WayMeant → Option WayMeant
     by None here there = there
     by (Some way) here there = here
+
     other : Option WayMeant → Option WayMeant
     other None = two.other
     other (Some way) = or_else one.other (other_after way two)

@@ -26,7 +26,13 @@ impl Looking<'_> {
     // ---- the classes that declare a name
 
     // The class of a declaration of the name, where it is one of what is wanted.
-    fn holder_in<L: Ledger>(&self, sought: &Sought, number: u32, fact: &Fact, steps: &mut Steps<L>) -> Option<ClassId>
+    fn holder_in<L: Ledger>(
+        &self,
+        sought: &Sought,
+        number: u32,
+        fact: &Fact,
+        steps: &mut Steps<L>,
+    ) -> Option<ClassId>
         requires looking { IsLooking self.now }
         requires name { IsNameBelow (length self.now.types.now) sought.now.name.now }
         requires fact { IsFactBelow (length self.now.types.now) fact.now }
@@ -44,7 +50,13 @@ impl Looking<'_> {
 
     // Adds the class of a fact, where it is a declaration of the name.
     #[tactic(auto, using(crate::proofs::Noted::fact_is, crate::proofs::Gathering::given_push))]
-    fn add_holder<L: Ledger>(&self, sought: &Sought, number: u32, holders: &mut Vec<ClassId>, steps: &mut Steps<L>) -> Result<(), AllocError>
+    fn add_holder<L: Ledger>(
+        &self,
+        sought: &Sought,
+        number: u32,
+        holders: &mut Vec<ClassId>,
+        steps: &mut Steps<L>,
+    ) -> Result<(), AllocError>
         requires looking { IsLooking self.now }
         requires name { IsNameBelow (length self.now.types.now) sought.now.name.now }
         ensures { OnOk result (holders.new.items ≡ holders.old.items ++ given_at (holds_in (graph_of self.now) (wanted_at sought.now.wanted) (name_at self.now.types.now sought.now.name.now)) number (slice_get (facts_of self.now) number)) }
@@ -58,7 +70,11 @@ impl Looking<'_> {
 
     // The classes that declare a name.
     #[tactic(auto, using(crate::proofs::Gathering::given_more, crate::proofs::Gathering::gathered_all))]
-    fn holders<L: Ledger>(&self, sought: &Sought, steps: &mut Steps<L>) -> Result<Vec<ClassId>, AllocError>
+    fn holders<L: Ledger>(
+        &self,
+        sought: &Sought,
+        steps: &mut Steps<L>,
+    ) -> Result<Vec<ClassId>, AllocError>
         requires looking { IsLooking self.now }
         requires name { IsNameBelow (length self.now.types.now) sought.now.name.now }
         ensures { IfOk result (λ holders. holders.items ≡ gathered (holds_in (graph_of self.now) (wanted_at sought.now.wanted) (name_at self.now.types.now sought.now.name.now)) 0 (facts_of self.now)) }
@@ -74,7 +90,12 @@ impl Looking<'_> {
 
     // One more fact.
     #[tactic(auto, using(crate::proofs::Noted::fact_is))]
-    fn add_fact<L: Ledger>(&self, table: &mut Table, number: u32, steps: &mut Steps<L>) -> Result<(), AllocError>
+    fn add_fact<L: Ledger>(
+        &self,
+        table: &mut Table,
+        number: u32,
+        steps: &mut Steps<L>,
+    ) -> Result<(), AllocError>
         requires looking { IsLooking self.now }
         requires sound { IsSound table.old.paths.items table.old.records.items }
         ensures sound { OnOk result (IsSound table.new.paths.items table.new.records.items) }
@@ -166,7 +187,13 @@ impl Looking<'_> {
 
     // The declaration with which the first one in another subobject does not go together, by whether both are of one
     // class.
-    fn second_shown(&self, same: bool, first: Sighting, second: Sighting, seconds: &[Sighting]) -> Sighting
+    fn second_shown(
+        &self,
+        same: bool,
+        first: Sighting,
+        second: Sighting,
+        seconds: &[Sighting],
+    ) -> Sighting
         ensures { sighting_at self.now.types.now result ≡ second_shown_of same (sighting_at self.now.types.now first) (sighting_at self.now.types.now second) (map (sighting_at self.now.types.now) seconds.now) }
     {
         if same && !self.is_one_nonstatic(first) {
@@ -177,7 +204,14 @@ impl Looking<'_> {
     }
 
     // The first declaration in one subobject, and the one in another that does not go together with it.
-    fn clash_with(&self, table: &Table, one: Way, first: Sighting, two: Way, twos: &[Sighting]) -> Result<MemberFound, AllocError>
+    fn clash_with(
+        &self,
+        table: &Table,
+        one: Way,
+        first: Sighting,
+        two: Way,
+        twos: &[Sighting],
+    ) -> Result<MemberFound, AllocError>
         requires one { IsWayKnown (length table.now.paths.items) one }
         requires two { IsWayKnown (length table.now.paths.items) two }
         ensures { IfOk result (λ found. found ≡ clash_with_of (way_at table.now.paths.items one) (sighting_at self.now.types.now first) (way_at table.now.paths.items two) (map (sighting_at self.now.types.now) twos.now)) }
@@ -194,7 +228,14 @@ impl Looking<'_> {
 
     // The first two declarations that do not go together.
     #[tactic(auto, unfolding(cxx_meaning::specs::Lookups::Member::clash))]
-    fn clash(&self, table: &Table, one: Way, ones: &[Sighting], two: Way, twos: &[Sighting]) -> Result<MemberFound, AllocError>
+    fn clash(
+        &self,
+        table: &Table,
+        one: Way,
+        ones: &[Sighting],
+        two: Way,
+        twos: &[Sighting],
+    ) -> Result<MemberFound, AllocError>
         requires one { IsWayKnown (length table.now.paths.items) one }
         requires two { IsWayKnown (length table.now.paths.items) two }
         ensures { IfOk result (λ found. found ≡ clash_of (way_at table.now.paths.items one) (map (sighting_at self.now.types.now) ones.now) (way_at table.now.paths.items two) (map (sighting_at self.now.types.now) twos.now)) }
@@ -205,7 +246,14 @@ impl Looking<'_> {
         }
     }
 
-    fn ambiguous(&self, table: &Table, one: Way, first: Sighting, two: Way, second: Sighting) -> Result<MemberFound, AllocError>
+    fn ambiguous(
+        &self,
+        table: &Table,
+        one: Way,
+        first: Sighting,
+        two: Way,
+        second: Sighting,
+    ) -> Result<MemberFound, AllocError>
         requires one { IsWayKnown (length table.now.paths.items) one }
         requires two { IsWayKnown (length table.now.paths.items) two }
         ensures { IfOk result (λ found. found ≡ MemberFound.Ambiguous (hit (way_at table.now.paths.items one) (sighting_at self.now.types.now first)) (hit (way_at table.now.paths.items two) (sighting_at self.now.types.now second))) }
@@ -242,7 +290,15 @@ impl Looking<'_> {
 
     // What is found in the first of some subobjects, and in another that does not go together with it.
     #[tactic(auto, unfolding(cxx_meaning::specs::Lookups::Member::member_by))]
-    fn member_by<L: Ledger>(&self, table: &Table, sought: &Sought, one: Way, declared: &[Sighting], rival: Option<Way>, steps: &mut Steps<L>) -> Result<MemberFound, AllocError>
+    fn member_by<L: Ledger>(
+        &self,
+        table: &Table,
+        sought: &Sought,
+        one: Way,
+        declared: &[Sighting],
+        rival: Option<Way>,
+        steps: &mut Steps<L>,
+    ) -> Result<MemberFound, AllocError>
         requires looking { IsLooking self.now }
         requires name { IsNameBelow (length self.now.types.now) sought.now.name.now }
         requires one { IsWayKnown (length table.now.paths.items) one }
@@ -265,7 +321,13 @@ impl Looking<'_> {
 
     // What is found in a class, given three of its ways.
     #[tactic(auto, using(crate::proofs::Found::first_known, crate::proofs::Found::rival_known))]
-    fn member_of_three<L: Ledger>(&self, table: &Table, sought: &Sought, three: Three, steps: &mut Steps<L>) -> Result<MemberFound, AllocError>
+    fn member_of_three<L: Ledger>(
+        &self,
+        table: &Table,
+        sought: &Sought,
+        three: Three,
+        steps: &mut Steps<L>,
+    ) -> Result<MemberFound, AllocError>
         requires looking { IsLooking self.now }
         requires name { IsNameBelow (length self.now.types.now) sought.now.name.now }
         requires known { AreKnown (length table.now.paths.items) three }
@@ -283,7 +345,12 @@ impl Looking<'_> {
 
     // What is found in a class.
     #[tactic(auto, using(crate::proofs::Found::member_is))]
-    fn member_of<L: Ledger>(&self, sought: &Sought, class: ClassId, steps: &mut Steps<L>) -> Result<MemberFound, AllocError>
+    fn member_of<L: Ledger>(
+        &self,
+        sought: &Sought,
+        class: ClassId,
+        steps: &mut Steps<L>,
+    ) -> Result<MemberFound, AllocError>
         requires looking { IsLooking self.now }
         requires name { IsNameBelow (length self.now.types.now) sought.now.name.now }
         ensures { IfOk result (λ found. found ≡ member_of_ways (graph_of self.now) (wanted_at sought.now.wanted) (name_at self.now.types.now sought.now.name.now) (ways_of (graph_of self.now) (wanted_at sought.now.wanted) (name_at self.now.types.now sought.now.name.now) class)) }
@@ -295,7 +362,12 @@ impl Looking<'_> {
 
     /// A member of a class, or the class where it has to be complete first.
     #[tactic(auto, unfolding(cxx_meaning::specs::Lookups::Member::member))]
-    pub fn member<L: Ledger>(&self, sought: &Sought, class: ClassId, steps: &mut Steps<L>) -> Result<MemberFound, Wait>
+    pub fn member<L: Ledger>(
+        &self,
+        sought: &Sought,
+        class: ClassId,
+        steps: &mut Steps<L>,
+    ) -> Result<MemberFound, Wait>
         requires looking { IsLooking self.now }
         requires name { IsNameBelow (length self.now.types.now) sought.now.name.now }
         ensures { Answers result (member_named (graph_of self.now) (wanted_at sought.now.wanted) class (name_at self.now.types.now sought.now.name.now)) }

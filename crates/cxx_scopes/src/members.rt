@@ -29,7 +29,14 @@ fn is_of_class(class: ClassId, of: Option<ClassId>) -> bool
 impl Looking<'_> {
     // A declaration of a name in a class.
     #[tactic(auto, unfolding(cxx_meaning::specs::Lookups::Member::member_in))]
-    fn member_in<L: Ledger>(&self, sought: &Sought, class: ClassId, number: u32, fact: &Fact, steps: &mut Steps<L>) -> Option<Sighting>
+    fn member_in<L: Ledger>(
+        &self,
+        sought: &Sought,
+        class: ClassId,
+        number: u32,
+        fact: &Fact,
+        steps: &mut Steps<L>,
+    ) -> Option<Sighting>
         requires looking { IsLooking self.now }
         requires name { IsNameBelow (length self.now.types.now) sought.now.name.now }
         requires fact { IsFactBelow (length self.now.types.now) fact.now }
@@ -46,7 +53,14 @@ impl Looking<'_> {
 
     // Adds a fact, where it is a declaration of the name in the class.
     #[tactic(auto, using(crate::proofs::Noted::fact_is))]
-    fn add_if_member<L: Ledger>(&self, sought: &Sought, class: ClassId, number: u32, found: &mut Vec<Sighting>, steps: &mut Steps<L>) -> Result<(), AllocError>
+    fn add_if_member<L: Ledger>(
+        &self,
+        sought: &Sought,
+        class: ClassId,
+        number: u32,
+        found: &mut Vec<Sighting>,
+        steps: &mut Steps<L>,
+    ) -> Result<(), AllocError>
         requires looking { IsLooking self.now }
         requires name { IsNameBelow (length self.now.types.now) sought.now.name.now }
         ensures { OnOk result (Adds self.now.types.now found.old.items found.new.items (given_at (member_sighted (graph_of self.now) (wanted_at sought.now.wanted) (name_at self.now.types.now sought.now.name.now) class) number (slice_get (facts_of self.now) number))) }
@@ -60,7 +74,13 @@ impl Looking<'_> {
 
     // Adds the declarations of a name in a class.
     #[tactic(auto, using(crate::proofs::Sighting::adds_more, crate::proofs::Sighting::adds_all), unfolding(cxx_meaning::specs::Lookups::Member::members_in))]
-    fn add_members<L: Ledger>(&self, sought: &Sought, class: ClassId, found: &mut Vec<Sighting>, steps: &mut Steps<L>) -> Result<(), AllocError>
+    fn add_members<L: Ledger>(
+        &self,
+        sought: &Sought,
+        class: ClassId,
+        found: &mut Vec<Sighting>,
+        steps: &mut Steps<L>,
+    ) -> Result<(), AllocError>
         requires looking { IsLooking self.now }
         requires name { IsNameBelow (length self.now.types.now) sought.now.name.now }
         ensures { OnOk result (Adds self.now.types.now found.old.items found.new.items (members_in (graph_of self.now) (wanted_at sought.now.wanted) (name_at self.now.types.now sought.now.name.now) class)) }
@@ -101,8 +121,16 @@ impl Looking<'_> {
         ensures { result ≡ same_parameter_lists true (type_at self.now.types.now one.0) (type_at self.now.types.now two.0) }
     {
         match self.types.node(one) {
-            TypeNode::Function { parameters: ones, ellipsis: first, .. } => match self.types.node(two) {
-                TypeNode::Function { parameters: twos, ellipsis: second, .. } => {
+            TypeNode::Function {
+                parameters: ones,
+                ellipsis: first,
+                ..
+            } => match self.types.node(two) {
+                TypeNode::Function {
+                    parameters: twos,
+                    ellipsis: second,
+                    ..
+                } => {
                     self.same_types(ones.as_slice(), twos.as_slice()) && same_bool(*first, *second)
                 }
                 _ => false,
@@ -155,7 +183,12 @@ impl Looking<'_> {
     }
 
     // Adds a declaration, where no other redeclares it.
-    fn keep_not_redeclared(&self, sightings: &[Sighting], one: Sighting, kept: &mut Vec<Sighting>) -> Result<(), AllocError>
+    fn keep_not_redeclared(
+        &self,
+        sightings: &[Sighting],
+        one: Sighting,
+        kept: &mut Vec<Sighting>,
+    ) -> Result<(), AllocError>
         requires sightings { AreBelow (length self.now.types.now) sightings.now }
         requires one { IsEntityBelow (length self.now.types.now) one.what }
         ensures { OnOk result (Adds self.now.types.now kept.old.items kept.new.items (filter (λ other. not (is_one_redeclared (map (sighting_at self.now.types.now) sightings.now) other)) (sighting_at self.now.types.now one ∷ []))) }
@@ -182,7 +215,12 @@ impl Looking<'_> {
 
     /// What a name means among the declarations of one class.
     #[tactic(auto, using(crate::proofs::Searching::adds_to_none), unfolding(cxx_meaning::specs::Lookups::Member::declared_in))]
-    pub fn declared_in<L: Ledger>(&self, sought: &Sought, class: ClassId, steps: &mut Steps<L>) -> Result<Vec<Sighting>, AllocError>
+    pub fn declared_in<L: Ledger>(
+        &self,
+        sought: &Sought,
+        class: ClassId,
+        steps: &mut Steps<L>,
+    ) -> Result<Vec<Sighting>, AllocError>
         requires looking { IsLooking self.now }
         requires name { IsNameBelow (length self.now.types.now) sought.now.name.now }
         ensures is { IfOk result (λ kept. map (sighting_at self.now.types.now) kept.items ≡ declared_in_class (graph_of self.now) (wanted_at sought.now.wanted) (name_at self.now.types.now sought.now.name.now) class) }

@@ -20,7 +20,15 @@ use std::sync::ledger::Ledger;
 impl Looking<'_> {
     // Adds the declarations in a namespace, where it shows in a scope.
     #[tactic(auto, using(crate::proofs::Sighting::adds_none))]
-    fn add_if_shown<L: Ledger>(&self, cut: u32, sought: &Sought, one: Shown, scope: ScopeId, found: &mut Vec<Sighting>, steps: &mut Steps<L>) -> Result<(), AllocError>
+    fn add_if_shown<L: Ledger>(
+        &self,
+        cut: u32,
+        sought: &Sought,
+        one: Shown,
+        scope: ScopeId,
+        found: &mut Vec<Sighting>,
+        steps: &mut Steps<L>,
+    ) -> Result<(), AllocError>
         requires looking { IsLooking self.now }
         requires name { IsNameBelow (length self.now.types.now) sought.now.name.now }
         ensures { OnOk result (Adds self.now.types.now found.old.items found.new.items (standing_if (graph_of self.now) cut (wanted_at sought.now.wanted) (name_at self.now.types.now sought.now.name.now) scope (shown_of one))) }
@@ -34,7 +42,15 @@ impl Looking<'_> {
 
     // Adds the declarations in the namespaces that show in a scope.
     #[tactic(auto, using(crate::proofs::Sighting::adds_none, crate::proofs::Shows::shown_more), unfolding(cxx_meaning::specs::Lookups::Ordinary::standing_shown))]
-    fn add_shown_standing<L: Ledger>(&self, cut: u32, sought: &Sought, shown: &[Shown], scope: ScopeId, found: &mut Vec<Sighting>, steps: &mut Steps<L>) -> Result<(), AllocError>
+    fn add_shown_standing<L: Ledger>(
+        &self,
+        cut: u32,
+        sought: &Sought,
+        shown: &[Shown],
+        scope: ScopeId,
+        found: &mut Vec<Sighting>,
+        steps: &mut Steps<L>,
+    ) -> Result<(), AllocError>
         requires looking { IsLooking self.now }
         requires name { IsNameBelow (length self.now.types.now) sought.now.name.now }
         ensures { OnOk result (Adds self.now.types.now found.old.items found.new.items (standing_shown (graph_of self.now) cut (wanted_at sought.now.wanted) (name_at self.now.types.now sought.now.name.now) scope (map shown_of shown.now))) }
@@ -47,7 +63,15 @@ impl Looking<'_> {
 
     // Adds the declarations of a scope: those in it, and those that show there.
     #[tactic(auto, using(crate::proofs::Sighting::adds_both), unfolding(cxx_meaning::specs::Lookups::Ordinary::sightings_at))]
-    fn add_sightings_at<L: Ledger>(&self, cut: u32, sought: &Sought, shown: &[Shown], scope: ScopeId, found: &mut Vec<Sighting>, steps: &mut Steps<L>) -> Result<(), AllocError>
+    fn add_sightings_at<L: Ledger>(
+        &self,
+        cut: u32,
+        sought: &Sought,
+        shown: &[Shown],
+        scope: ScopeId,
+        found: &mut Vec<Sighting>,
+        steps: &mut Steps<L>,
+    ) -> Result<(), AllocError>
         requires looking { IsLooking self.now }
         requires name { IsNameBelow (length self.now.types.now) sought.now.name.now }
         ensures { OnOk result (Adds self.now.types.now found.old.items found.new.items (sightings_in (graph_of self.now) cut (wanted_at sought.now.wanted) (name_at self.now.types.now sought.now.name.now) (map shown_of shown.now) scope)) }
@@ -58,7 +82,14 @@ impl Looking<'_> {
 
     // What is found in a scope that is that of no class, where something is.
     #[tactic(auto, using(crate::proofs::Searching::adds_to_none))]
-    fn found_in<L: Ledger>(&self, cut: u32, sought: &Sought, shown: &[Shown], scope: ScopeId, steps: &mut Steps<L>) -> Result<Option<Found>, AllocError>
+    fn found_in<L: Ledger>(
+        &self,
+        cut: u32,
+        sought: &Sought,
+        shown: &[Shown],
+        scope: ScopeId,
+        steps: &mut Steps<L>,
+    ) -> Result<Option<Found>, AllocError>
         requires looking { IsLooking self.now }
         requires name { IsNameBelow (length self.now.types.now) sought.now.name.now }
         ensures { IfOk result (λ found. found ≡ found_in_sightings (graph_of self.now) (sightings_in (graph_of self.now) cut (wanted_at sought.now.wanted) (name_at self.now.types.now sought.now.name.now) (map shown_of shown.now) scope)) }
@@ -68,7 +99,11 @@ impl Looking<'_> {
         self.found_among(&sightings, steps)
     }
 
-    fn found_among<L: Ledger>(&self, sightings: &[Sighting], steps: &mut Steps<L>) -> Result<Option<Found>, AllocError>
+    fn found_among<L: Ledger>(
+        &self,
+        sightings: &[Sighting],
+        steps: &mut Steps<L>,
+    ) -> Result<Option<Found>, AllocError>
         requires looking { IsLooking self.now }
         requires below { AreBelow (length self.now.types.now) sightings.now }
         ensures { IfOk result (λ found. found ≡ found_in_sightings (graph_of self.now) (map (sighting_at self.now.types.now) sightings.now)) }
@@ -80,7 +115,12 @@ impl Looking<'_> {
     }
 
     // What is found in a class, where something is.
-    fn found_in_class<L: Ledger>(&self, sought: &Sought, class: ClassId, steps: &mut Steps<L>) -> Result<Option<Found>, Wait>
+    fn found_in_class<L: Ledger>(
+        &self,
+        sought: &Sought,
+        class: ClassId,
+        steps: &mut Steps<L>,
+    ) -> Result<Option<Found>, Wait>
         requires looking { IsLooking self.now }
         requires name { IsNameBelow (length self.now.types.now) sought.now.name.now }
         ensures { Answers result (found_in_member class (member_named (graph_of self.now) (wanted_at sought.now.wanted) class (name_at self.now.types.now sought.now.name.now))) }
@@ -91,7 +131,14 @@ impl Looking<'_> {
 
     // What is found in a scope, where something is.
     #[tactic(auto, unfolding(cxx_meaning::specs::Lookups::Ordinary::found_in_scope))]
-    fn found_at<L: Ledger>(&self, cut: u32, sought: &Sought, shown: &[Shown], scope: ScopeId, steps: &mut Steps<L>) -> Result<Option<Found>, Wait>
+    fn found_at<L: Ledger>(
+        &self,
+        cut: u32,
+        sought: &Sought,
+        shown: &[Shown],
+        scope: ScopeId,
+        steps: &mut Steps<L>,
+    ) -> Result<Option<Found>, Wait>
         requires looking { IsLooking self.now }
         requires name { IsNameBelow (length self.now.types.now) sought.now.name.now }
         ensures { Answers result (found_at_scope (graph_of self.now) (wanted_at sought.now.wanted) (name_at self.now.types.now sought.now.name.now) cut (map shown_of shown.now) scope) }
@@ -103,7 +150,14 @@ impl Looking<'_> {
     }
 
     // What is found in the next scope of a chain, where something is.
-    fn found_next<L: Ledger>(&self, cut: u32, sought: &Sought, scope: ScopeId, shown: &mut Vec<Shown>, steps: &mut Steps<L>) -> Result<Option<Found>, Wait>
+    fn found_next<L: Ledger>(
+        &self,
+        cut: u32,
+        sought: &Sought,
+        scope: ScopeId,
+        shown: &mut Vec<Shown>,
+        steps: &mut Steps<L>,
+    ) -> Result<Option<Found>, Wait>
         requires looking { IsLooking self.now }
         requires name { IsNameBelow (length self.now.types.now) sought.now.name.now }
         ensures shown { OnOk result (map shown_of shown.new.items ≡ map shown_of shown.old.items ++ shows (facts_of self.now) cut scope) }
@@ -114,7 +168,13 @@ impl Looking<'_> {
     }
 
     /// What an unqualified lookup finds.
-    pub fn ordinary<L: Ledger>(&self, cut: u32, sought: &Sought, scope: ScopeId, steps: &mut Steps<L>) -> Result<Found, Wait>
+    pub fn ordinary<L: Ledger>(
+        &self,
+        cut: u32,
+        sought: &Sought,
+        scope: ScopeId,
+        steps: &mut Steps<L>,
+    ) -> Result<Found, Wait>
         requires looking { IsLooking self.now }
         requires name { IsNameBelow (length self.now.types.now) sought.now.name.now }
         ensures { Answers result (ordinary_of (graph_of self.now) (wanted_at sought.now.wanted) scope (name_at self.now.types.now sought.now.name.now) cut) }
@@ -124,7 +184,13 @@ impl Looking<'_> {
     }
 
     // What is found in the first of some scopes that has something.
-    fn outward<L: Ledger>(&self, cut: u32, sought: &Sought, scopes: &[ScopeId], steps: &mut Steps<L>) -> Result<Found, Wait>
+    fn outward<L: Ledger>(
+        &self,
+        cut: u32,
+        sought: &Sought,
+        scopes: &[ScopeId],
+        steps: &mut Steps<L>,
+    ) -> Result<Found, Wait>
         requires looking { IsLooking self.now }
         requires name { IsNameBelow (length self.now.types.now) sought.now.name.now }
         ensures { Answers result (ordinary_in (graph_of self.now) (wanted_at sought.now.wanted) (name_at self.now.types.now sought.now.name.now) cut [] scopes.now) }
@@ -147,6 +213,9 @@ fn member_found(class: ClassId, found: MemberFound) -> Option<Found>
     match found {
         MemberFound::Empty => None,
         MemberFound::Set(facts, path) => Some(Found::Member(class, MemberFound::Set(facts, path))),
-        MemberFound::Ambiguous(one, two) => Some(Found::Member(class, MemberFound::Ambiguous(one, two))),
+        MemberFound::Ambiguous(one, two) => Some(Found::Member(
+            class,
+            MemberFound::Ambiguous(one, two),
+        )),
     }
 }

@@ -72,7 +72,8 @@ impl Looking<'_> {
         ensures { result ≡ due_after (graph_of self.now).patterns template.0 class due (declares_at self.now.types.now what) }
     {
         match what {
-            Entity::Complete { class: other } => is_class_of(template, other, self.graph.patterns()) || due,
+            Entity::Complete { class: other } => is_class_of(template, other, self.graph.patterns())
+                || due,
             Entity::Passed { class: other } => other.0 != class.0 && due,
             _ => due,
         }

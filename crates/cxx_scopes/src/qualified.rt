@@ -25,7 +25,14 @@ fn is_none(sightings: &[Sighting]) -> bool
 impl Looking<'_> {
     // Adds the namespaces to which a namespace leads, where they are not there yet.
     #[tactic(auto, using(crate::proofs::Searching::leads_nowhere, crate::proofs::Searching::leads_on))]
-    fn add_leads<L: Ledger>(&self, cut: u32, sought: &Sought, space: ScopeId, spaces: &mut Vec<ScopeId>, steps: &mut Steps<L>) -> Result<(), AllocError>
+    fn add_leads<L: Ledger>(
+        &self,
+        cut: u32,
+        sought: &Sought,
+        space: ScopeId,
+        spaces: &mut Vec<ScopeId>,
+        steps: &mut Steps<L>,
+    ) -> Result<(), AllocError>
         requires looking { IsLooking self.now }
         requires name { IsNameBelow (length self.now.types.now) sought.now.name.now }
         ensures { OnOk result (spaces.new.items ≡ with_scopes spaces.old.items (leads_to (graph_of self.now) cut (wanted_at sought.now.wanted) (name_at self.now.types.now sought.now.name.now) space)) }
@@ -41,7 +48,13 @@ impl Looking<'_> {
 
     /// The namespaces in which a name is searched, each once.
     #[tactic(auto, using(crate::proofs::Spreading::turn_first, crate::proofs::Spreading::turn_done, crate::proofs::Spreading::turn_over), unfolding(cxx_meaning::specs::Lookups::Qualified::searched))]
-    fn searched<L: Ledger>(&self, cut: u32, sought: &Sought, space: ScopeId, steps: &mut Steps<L>) -> Result<Vec<ScopeId>, AllocError>
+    fn searched<L: Ledger>(
+        &self,
+        cut: u32,
+        sought: &Sought,
+        space: ScopeId,
+        steps: &mut Steps<L>,
+    ) -> Result<Vec<ScopeId>, AllocError>
         requires looking { IsLooking self.now }
         requires name { IsNameBelow (length self.now.types.now) sought.now.name.now }
         ensures { IfOk result (λ spaces. spaces.items ≡ searched_from (graph_of self.now) cut (wanted_at sought.now.wanted) (name_at self.now.types.now sought.now.name.now) space) }
@@ -59,7 +72,14 @@ impl Looking<'_> {
 
     // Adds the declarations in some namespaces.
     #[tactic(auto, using(crate::proofs::Sighting::adds_none, crate::proofs::Searching::standing_more), unfolding(cxx_meaning::specs::Lookups::Qualified::standing_in))]
-    fn add_standing_in<L: Ledger>(&self, cut: u32, sought: &Sought, spaces: &[ScopeId], found: &mut Vec<Sighting>, steps: &mut Steps<L>) -> Result<(), AllocError>
+    fn add_standing_in<L: Ledger>(
+        &self,
+        cut: u32,
+        sought: &Sought,
+        spaces: &[ScopeId],
+        found: &mut Vec<Sighting>,
+        steps: &mut Steps<L>,
+    ) -> Result<(), AllocError>
         requires looking { IsLooking self.now }
         requires name { IsNameBelow (length self.now.types.now) sought.now.name.now }
         ensures { OnOk result (Adds self.now.types.now found.old.items found.new.items (standing_in (graph_of self.now) cut (wanted_at sought.now.wanted) (name_at self.now.types.now sought.now.name.now) spaces.now)) }
@@ -72,7 +92,13 @@ impl Looking<'_> {
 
     // The declarations that a qualified lookup sees.
     #[tactic(auto, using(crate::proofs::Searching::adds_to_none))]
-    fn sightings_of<L: Ledger>(&self, cut: u32, sought: &Sought, space: ScopeId, steps: &mut Steps<L>) -> Result<Vec<Sighting>, AllocError>
+    fn sightings_of<L: Ledger>(
+        &self,
+        cut: u32,
+        sought: &Sought,
+        space: ScopeId,
+        steps: &mut Steps<L>,
+    ) -> Result<Vec<Sighting>, AllocError>
         requires looking { IsLooking self.now }
         requires name { IsNameBelow (length self.now.types.now) sought.now.name.now }
         ensures is { IfOk result (λ found. map (sighting_at self.now.types.now) found.items ≡ sightings_of (graph_of self.now) cut (wanted_at sought.now.wanted) (name_at self.now.types.now sought.now.name.now) space) }
@@ -85,7 +111,13 @@ impl Looking<'_> {
     }
 
     /// What a qualified lookup finds in a namespace.
-    pub fn qualified<L: Ledger>(&self, cut: u32, sought: &Sought, space: ScopeId, steps: &mut Steps<L>) -> Result<Found, AllocError>
+    pub fn qualified<L: Ledger>(
+        &self,
+        cut: u32,
+        sought: &Sought,
+        space: ScopeId,
+        steps: &mut Steps<L>,
+    ) -> Result<Found, AllocError>
         requires looking { IsLooking self.now }
         requires name { IsNameBelow (length self.now.types.now) sought.now.name.now }
         ensures { IfOk result (λ found. found ≡ looked_up_in (graph_of self.now) (sightings_of (graph_of self.now) cut (wanted_at sought.now.wanted) (name_at self.now.types.now sought.now.name.now) space)) }
@@ -108,7 +140,13 @@ impl Looking<'_> {
     }
 
     /// What a using-declaration brings from a namespace.
-    pub fn brought<L: Ledger>(&self, cut: u32, sought: &Sought, space: ScopeId, steps: &mut Steps<L>) -> Result<Found, AllocError>
+    pub fn brought<L: Ledger>(
+        &self,
+        cut: u32,
+        sought: &Sought,
+        space: ScopeId,
+        steps: &mut Steps<L>,
+    ) -> Result<Found, AllocError>
         requires looking { IsLooking self.now }
         requires name { IsNameBelow (length self.now.types.now) sought.now.name.now }
         ensures { IfOk result (λ found. found ≡ brought_in (graph_of self.now) (sightings_of (graph_of self.now) cut (wanted_at sought.now.wanted) (name_at self.now.types.now sought.now.name.now) space)) }

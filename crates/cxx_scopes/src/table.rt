@@ -69,7 +69,13 @@ impl Table {
 
     // The ways of a class that does not declare the name are those through one more base.
     #[tactic(auto, using(crate::proofs::Tables::sound_more))]
-    fn add_through(&mut self, alloc: Global, derived: ClassId, parent: ClassId, index: u32) -> Result<(), AllocError>
+    fn add_through(
+        &mut self,
+        alloc: Global,
+        derived: ClassId,
+        parent: ClassId,
+        index: u32,
+    ) -> Result<(), AllocError>
         requires { IsSound self.old.paths.items self.old.records.items }
         ensures sound { OnOk result (IsSound self.new.paths.items self.new.records.items) }
         ensures holders { OnOk result (self.new.holders.items ≡ self.old.holders.items) }
@@ -86,7 +92,13 @@ impl Table {
     }
 
     // One more base.
-    fn add_base(&mut self, alloc: Global, derived: ClassId, parent: ClassId, index: u32) -> Result<(), AllocError>
+    fn add_base(
+        &mut self,
+        alloc: Global,
+        derived: ClassId,
+        parent: ClassId,
+        index: u32,
+    ) -> Result<(), AllocError>
         requires { IsSound self.old.paths.items self.old.records.items }
         ensures sound { OnOk result (IsSound self.new.paths.items self.new.records.items) }
         ensures holders { OnOk result (self.new.holders.items ≡ self.old.holders.items) }

@@ -53,7 +53,11 @@ pub(crate) fn latest_of(records: &[Record], class: ClassId) -> Option<Three>
 fn later(found: Option<Three>, one: Record, class: ClassId) -> Option<Three>
     ensures { result ≡ (if is_same_class one.class class then Some one.ways else found) }
 {
-    if one.class.0 == class.0 { Some(one.ways) } else { found }
+    if one.class.0 == class.0 {
+        Some(one.ways)
+    } else {
+        found
+    }
 }
 
 // A path with the position of a base in front.
@@ -78,7 +82,12 @@ fn add_path(paths: &mut Vec<NumberList>, path: NumberList) -> Result<usize, Allo
 
 // A way through a base.
 #[tactic(auto, using(crate::proofs::Joining::through_is, crate::proofs::Joining::grows_one, crate::proofs::Joining::grows_none))]
-fn way_through(alloc: Global, paths: &mut Vec<NumberList>, index: u32, way: Way) -> Result<Way, AllocError>
+fn way_through(
+    alloc: Global,
+    paths: &mut Vec<NumberList>,
+    index: u32,
+    way: Way,
+) -> Result<Way, AllocError>
     requires { IsWayKnown (length paths.old.items) way }
     ensures is { IfOk result (λ longer. way_at paths.new.items longer ≡ through_base index (way_at paths.old.items way)) }
     ensures known { IfOk result (λ longer. IsWayKnown (length paths.new.items) longer) }
@@ -94,7 +103,12 @@ fn way_through(alloc: Global, paths: &mut Vec<NumberList>, index: u32, way: Way)
 
 // A way through a base, where there is one.
 #[tactic(auto, using(crate::proofs::Joining::grows_none))]
-fn through(alloc: Global, paths: &mut Vec<NumberList>, index: u32, way: Option<Way>) -> Result<Option<Way>, AllocError>
+fn through(
+    alloc: Global,
+    paths: &mut Vec<NumberList>,
+    index: u32,
+    way: Option<Way>,
+) -> Result<Option<Way>, AllocError>
     requires { IfSome way (IsWayKnown (length paths.old.items)) }
     ensures is { IfOk result (λ longer. option_map (way_at paths.new.items) longer ≡ option_map (through_base index) (option_map (way_at paths.old.items) way)) }
     ensures known { IfOk result (λ longer. IfSome longer (IsWayKnown (length paths.new.items))) }
@@ -167,7 +181,12 @@ pub(crate) fn join(one: Three, two: Three) -> Three
 
 // The ways through a base.
 #[tactic(auto, using(crate::proofs::Joining::grows_both, crate::proofs::Joining::option_known, crate::proofs::Joining::through_made))]
-pub(crate) fn through_three(alloc: Global, paths: &mut Vec<NumberList>, index: u32, three: Three) -> Result<Three, AllocError>
+pub(crate) fn through_three(
+    alloc: Global,
+    paths: &mut Vec<NumberList>,
+    index: u32,
+    three: Three,
+) -> Result<Three, AllocError>
     requires { AreKnown (length paths.old.items) three }
     ensures is { IfOk result (λ longer. three_at paths.new.items longer ≡ through_all index (three_at paths.old.items three)) }
     ensures known { IfOk result (λ longer. AreKnown (length paths.new.items) longer) }

@@ -15,7 +15,8 @@ loop-number-init g c =
     record {
       sound = c.in_ok-table.ensures.sound;
       holders = c.in_ok-table.ensures.holders ∙ c.in_ok-holders.ensures;
-      is = subst (λ hs. IsTable table.paths.items hs table.records.items (ways_after (holds hs) (own_by hs) (facts_at looking.types.now (take 0 looking.graph.now.facts)))) (sym c.in_ok-table.ensures.holders) first }
+      is = subst (λ hs. IsTable table.paths.items hs table.records.items (ways_after (holds hs) (own_by hs) (facts_at looking.types.now (take 0 looking.graph.now.facts)))) (sym c.in_ok-table.ensures.holders) first;
+    }
 
 pub returns-clause-is : goal.returns-clause-is
 returns-clause-is g c =

@@ -10,4 +10,5 @@ abbrev pub invariant-loop-number : goal.invariant-loop-number
 invariant-loop-number g l = record {
   sound : IsSound l.table.paths.items l.table.records.items;
   holders : l.table.holders.items ≡ gathered (holder_in (graph_of l.self) (wanted_at l.sought.wanted) (name_at l.self.types.now l.sought.name.now)) 0 (facts_of l.self);
-  is : IsTable l.table.paths.items l.table.holders.items l.table.records.items (ways_after (holds l.table.holders.items) (own_by l.table.holders.items) (facts_at l.self.types.now (take l.number l.self.graph.now.facts))) }
+  is : IsTable l.table.paths.items l.table.holders.items l.table.records.items (ways_after (holds l.table.holders.items) (own_by l.table.holders.items) (facts_at l.self.types.now (take l.number l.self.graph.now.facts)));
+}
