@@ -8,3 +8,4 @@ pub mod Pending
 pub mod Member
 pub mod Ordinary
 pub mod Qualified
+pub mod Associated
