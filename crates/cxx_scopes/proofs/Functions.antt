@@ -1,5 +1,5 @@
 -- Types of functions, and their parameters.
-use Rattle.std.proofs.Common.{◌≡◌, ℕ, ◌<◌, ◌≤◌, Bool, true, false, ◌&&◌, List, [], ◌∷◌, length, Option, Some, None, refl, ap, ◌∙◌, sym, subst, arith, suc, eqb}
+use Rattle.std.proofs.Common.{◌≡◌, ℕ, ◌<◌, ◌≤◌, Bool, true, false, ◌&&◌, List, [], ◌∷◌, length, Option, Some, None, refl, ap, ◌∙◌, sym, arith, eqb}
 use Rattle.std.proofs.Math.Dec.{eqb-suc-zero}
 use Rattle.cxx_model.specs.declared.types.Cv.{Cv}
 use Rattle.cxx_model.specs.declared.types.TypeId.{TypeId}
@@ -7,8 +7,8 @@ use Rattle.cxx_model.specs.declared.types.TypeNode.{TypeNode}
 use Rattle.cxx_model.specs.declared.types.TypeNode.TheVariants as node
 use Rattle.cxx_model.specs.Facts.Conflicts.{are_parameters_same, same_parameters, function_parts, FunctionParts}
 use Rattle.cxx_model.specs.Types.Numbers.{type_over, types_at, AreTypesBelow, IsNodeBelow}
-use Rattle.cxx_model.specs.Types.Same.{same_bool, same_type, same_types}
-use Rattle.cxx_model.specs.Types.Trees.{CxxType, function_of}
+use Rattle.cxx_model.specs.Types.Same.{same_bool, same_types}
+use Rattle.cxx_model.specs.Types.Trees.{CxxType}
 
 pub below_first : (count : ℕ) (one : TypeId) (others : List TypeId) → AreTypesBelow count (one ∷ others) → (one.0 < count) × AreTypesBelow count others
 below_first count one others below = (below.0, below.1)

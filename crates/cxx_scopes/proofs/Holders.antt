@@ -1,6 +1,6 @@
 -- The classes that declare a name, and what they have.
-use Rattle.std.proofs.Common.{◌≡◌, ℕ, zero, suc, ◌+◌, ◌<◌, ◌≤◌, Bool, true, false, cond, not, ◌&&◌, ◌||◌, List, [], ◌∷◌, ◌++◌, length, map, take, drop, Option, Some, None, refl, ap, ◌∙◌, sym, subst, arith, add-one}
-use Rattle.std.specs.List.{list_any, slice_get}
+use Rattle.std.proofs.Common.{◌≡◌, ℕ, zero, suc, ◌+◌, ◌≤◌, Bool, true, false, cond, not, ◌&&◌, ◌||◌, List, [], ◌∷◌, ◌++◌, length, map, take, Option, Some, None, refl, ap, ◌∙◌, arith, add-one}
+use Rattle.std.specs.List.{slice_get}
 use Rattle.cxx_model.specs.declared.facts.Fact.{Fact}
 use Rattle.cxx_model.specs.declared.types.ClassId.{ClassId}
 use Rattle.cxx_model.specs.Types.Trees.{CxxType}
@@ -8,7 +8,7 @@ use Rattle.cxx_model.specs.Facts.Declarations as facts
 use Rattle.cxx_model.specs.Facts.Declarations.{CxxFact, CxxGraph, CxxName, Declares, fact_at, facts_at}
 use Rattle.cxx_scopes.proofs.Nodes.{eqb_turned}
 use Rattle.cxx_meaning.specs.Lookups.Gathered.{before, gathered}
-use Rattle.cxx_meaning.specs.Lookups.Member.{Way as WayMeant, at_base, class_of_scope, declares_member, is_nothing, is_of_class, member_in, members_in, own_ways, same_class, through, ways, ways_after, with_base}
+use Rattle.cxx_meaning.specs.Lookups.Member.{Way as WayMeant, class_of_scope, declares_member, is_nothing, is_of_class, member_in, members_in, own_ways, same_class, through, ways, ways_after, with_base}
 use Rattle.cxx_meaning.specs.Lookups.Sightings.{Sighting, is_named, sighting_of, wanted_one}
 use Rattle.cxx_meaning.specs.Lookups.Wanted.{Wanted}
 use Rattle.cxx_scopes.specs.declared.ways.Record.{Record}

@@ -1,16 +1,14 @@
 -- The first, the second and the first other of some ways.
-use Rattle.std.proofs.Common.{◌≡◌, ℕ, zero, suc, ◌+◌, ◌<◌, ◌≤◌, Bool, true, false, cond, not, List, [], ◌∷◌, ◌++◌, length, map, get_or, Option, Some, None, option_map, refl, ap, ◌∙◌, sym, subst, arith}
+use Rattle.std.proofs.Common.{◌≡◌, ℕ, ◌<◌, ◌≤◌, Bool, true, false, cond, not, List, [], ◌∷◌, ◌++◌, length, map, get_or, Option, Some, None, option_map, refl, ap, ◌∙◌, arith}
 use Rattle.std.specs.List.{find}
 use Rattle.std.specs.Prelude.{IfSome}
 use Rattle.std.proofs.lemmas.Bool.{eqb-true}
 use Rattle.std.proofs.Math.Seq.{get_or-append_seam}
 use Rattle.std.proofs.lemmas.List.{length-append, get_or_append_left}
-use Rattle.cxx_model.specs.declared.types.ClassId.{ClassId}
 use Rattle.cxx_meaning.specs.Lookups.Member.{Way as WayMeant, same_class, through}
-use Rattle.cxx_scopes.specs.declared.ways.Record.{Record}
 use Rattle.cxx_scopes.specs.declared.ways.Three.{Three}
 use Rattle.cxx_scopes.specs.declared.ways.Way.{Way}
-use Rattle.cxx_scopes.specs.Ways.{Grows, IsWayKnown, AreKnown, ThreeMeant, first_way, is_elsewhere, joined, latest, or_else, other_after, other_way, path_at, second_way, three_at, three_of, through_all, way_at}
+use Rattle.cxx_scopes.specs.Ways.{Grows, IsWayKnown, AreKnown, first_way, is_elsewhere, joined, or_else, other_after, path_at, three_at, three_of, through_all, way_at}
 
 pub grows_none : (paths : List (List ℕ)) → Grows paths paths
 grows_none paths = record { more = omega arith; same = λ n lt. refl }

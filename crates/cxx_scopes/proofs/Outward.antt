@@ -1,5 +1,5 @@
 -- The scopes of a chain, one after another.
-use Rattle.std.proofs.Common.{◌≡◌, ℕ, ◌+◌, ◌<◌, ◌≤◌, length, get_or, drop, List, [], ◌∷◌, ◌++◌, Option, Some, None, Ok, Err, refl, ap, sym, ◌∙◌}
+use Rattle.std.proofs.Common.{◌≡◌, ℕ, ◌+◌, ◌<◌, ◌≤◌, length, get_or, drop, List, ◌∷◌, ◌++◌, Option, Some, None, Ok, Err, ap, sym, ◌∙◌}
 use Rattle.cxx_model.specs.declared.lookup.Found.{Found}
 use Rattle.cxx_model.specs.declared.lookup.Found.TheVariants as found
 use Rattle.cxx_model.specs.declared.types.ScopeId.{ScopeId}

@@ -1,10 +1,10 @@
 -- Lists of sightings that grow.
-use Rattle.std.proofs.Common.{◌≡◌, ℕ, ◌+◌, ◌<◌, ◌≤◌, List, [], ◌∷◌, ◌++◌, length, map, drop, Option, Some, None, refl, ap, sym, ◌∙◌, subst, arith, append_assoc, add-one, zero, suc, Bool, true, false, cond}
+use Rattle.std.proofs.Common.{◌≡◌, ℕ, ◌+◌, ◌≤◌, List, [], ◌∷◌, ◌++◌, length, map, drop, Option, refl, ap, sym, ◌∙◌, subst, append_assoc, Bool, true, false, cond}
 use Rattle.std.specs.List.{slice_get, filter}
 use Rattle.std.proofs.lemmas.List.{append-nil, map-append}
 use Rattle.cxx_model.specs.declared.facts.Fact.{Fact}
 use Rattle.cxx_model.specs.Types.Trees.{CxxType}
-use Rattle.cxx_model.specs.Facts.Declarations.{CxxFact, fact_at, facts_at}
+use Rattle.cxx_model.specs.Facts.Declarations.{CxxFact, facts_at}
 use Rattle.cxx_model.specs.Facts.Fitted.{IsEntityBelow}
 use Rattle.cxx_meaning.specs.Lookups.Gathered.{gathered}
 use Rattle.cxx_meaning.specs.Lookups.Sightings.{Sighting as SightingMeant}

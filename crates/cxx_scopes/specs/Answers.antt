@@ -1,5 +1,5 @@
 -- What the answers of the code mean.
-use Rattle.std.specs.Prelude.{ℕ, ◌≡◌, if◌then◌else◌, Result, Ok, Err, Option, Some, None}
+use Rattle.std.specs.Prelude.{◌≡◌, if◌then◌else◌, Result, Ok, Err, Option, Some, None}
 use Rattle.cxx_model.specs.declared.lookup.MemberFound.{MemberFound}
 use Rattle.cxx_model.specs.declared.lookup.MemberFound.TheVariants as found
 use Rattle.cxx_model.specs.declared.stop.Wait.{Wait}

@@ -1,5 +1,5 @@
 -- What the code keeps of the ways of a class.
-use Rattle.std.specs.Prelude.{ℕ, ◌≡◌, ◌<◌, ◌≤◌, Bool, true, false, not, if◌then◌else◌, List, [], ◌∷◌, length, slice_index_or, Option, Some, None, option_map, find, IfSome}
+use Rattle.std.specs.Prelude.{ℕ, ◌≡◌, ◌<◌, ◌≤◌, Bool, not, if◌then◌else◌, List, [], ◌∷◌, length, slice_index_or, Option, Some, None, option_map, find, IfSome}
 use Rattle.cxx_model.specs.declared.types.ClassId.{ClassId}
 use Rattle.cxx_meaning.specs.Lookups.Member.{Way as WayMeant, same_class, through}
 use Rattle.cxx_scopes.specs.declared.ways.Record.{Record}

@@ -1,5 +1,5 @@
 -- Classes and namespaces associated with types, and what argument-dependent lookup finds in them (3.4.2).
-use Rattle.std.specs.Prelude.{ℕ, zero, suc, ◌+◌, Bool, true, false, ◌&&◌, nat_eq, nat_lt, if◌then◌else◌, List, [], ◌∷◌, ◌++◌, length, Option, Some, None, Result, Ok, Err}
+use Rattle.std.specs.Prelude.{ℕ, zero, suc, ◌+◌, Bool, false, ◌&&◌, nat_eq, nat_lt, if◌then◌else◌, List, [], ◌∷◌, ◌++◌, length, Option, Some, None, Ok, Err}
 use Rattle.std.specs.List.{slice_get, list_any}
 use Rattle.cxx_model.specs.declared.lookup.Associated.{Associated}
 use Rattle.cxx_model.specs.declared.types.ClassId.{ClassId}
@@ -10,11 +10,11 @@ use Rattle.cxx_model.specs.Facts.Declarations.{CxxFact, CxxGraph, CxxName, CxxSp
 use Rattle.cxx_model.specs.Facts.Entities.{CxxEntity, entity_by, of_fact, of_space, of_type}
 use Rattle.cxx_model.specs.Types.Trees as types
 use Rattle.cxx_model.specs.Types.Trees.{CxxArgument, CxxArguments, CxxType, CxxTypes}
-use Rattle.cxx_meaning.specs.Lookups.Gathered.{gathered, with_facts}
+use Rattle.cxx_meaning.specs.Lookups.Gathered.{with_facts}
 use Rattle.cxx_meaning.specs.Lookups.Member.{class_of_scope, same_class}
 use Rattle.cxx_meaning.specs.Lookups.Pending.{Asked, is_pending}
 use Rattle.cxx_meaning.specs.Lookups.Scopes.{home}
-use Rattle.cxx_meaning.specs.Lookups.Sightings.{Sighting, entity_meant, is_named, number_id, standing}
+use Rattle.cxx_meaning.specs.Lookups.Sightings.{Sighting, is_named, number_id, standing}
 use Rattle.cxx_meaning.specs.Lookups.Wanted.{any_name, is_function}
 
 -- ---- what types name

@@ -1,6 +1,6 @@
 -- Members of a class and of its bases (10.2).
-use Rattle.std.specs.Prelude.{ℕ, Bool, true, false, not, ◌&&◌, ◌||◌, nat_eq, if◌then◌else◌, List, [], ◌∷◌, ◌++◌, map, filter, find, Option, Some, None, Result, Ok, Err}
-use Rattle.std.specs.List.{slice_get, list_any}
+use Rattle.std.specs.Prelude.{ℕ, Bool, true, false, not, ◌&&◌, ◌||◌, nat_eq, if◌then◌else◌, List, [], ◌∷◌, ◌++◌, map, filter, find, Option, Some, None}
+use Rattle.std.specs.List.{list_any}
 use Rattle.cxx_model.specs.declared.facts.ScopeKind.{ScopeKind}
 use Rattle.cxx_model.specs.declared.facts.ScopeKind.TheVariants as kind
 use Rattle.cxx_model.specs.declared.lookup.Hit.{Hit}

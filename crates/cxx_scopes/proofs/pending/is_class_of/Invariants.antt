@@ -1,4 +1,4 @@
-use Rattle.std.proofs.Common.{◌≡◌, List, drop, length}
+use Rattle.std.proofs.Common.{◌≡◌, List, drop}
 use Rattle.cxx_model.specs.Types.Trees.{CxxType}
 use Rattle.cxx_model.specs.Facts.Declarations.{patterns_at}
 use Rattle.cxx_meaning.specs.Lookups.Pending.{is_class_of}

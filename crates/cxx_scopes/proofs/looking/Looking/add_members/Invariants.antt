@@ -1,4 +1,4 @@
-use Rattle.std.proofs.Common.{◌≡◌, ◌++◌, [], drop, length, map, not}
+use Rattle.std.proofs.Common.{◌≡◌, ◌++◌, drop, length, map}
 use Rattle.cxx_model.specs.Facts.Declarations.{facts_at, name_at}
 use Rattle.cxx_meaning.specs.Lookups.Gathered.{gathered}
 use Rattle.cxx_meaning.specs.Lookups.Member.{member_in, members_in}

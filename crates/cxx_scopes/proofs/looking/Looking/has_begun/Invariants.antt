@@ -1,6 +1,6 @@
-use Rattle.std.proofs.Common.{◌≡◌, drop, false}
+use Rattle.std.proofs.Common.{◌≡◌, drop}
 use Rattle.cxx_model.specs.Facts.Declarations.{facts_at}
-use Rattle.cxx_scopes.specs.Views.{graph_of, facts_of}
+use Rattle.cxx_scopes.specs.Views.{facts_of}
 use Rattle.std.specs.List.{list_any}
 use Rattle.cxx_meaning.specs.Lookups.Pending.{has_begun}
 use Rattle.cxx_scopes.proofs.looking.Looking.has_begun.Given as goal

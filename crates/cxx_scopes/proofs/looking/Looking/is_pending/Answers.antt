@@ -1,5 +1,4 @@
-use Rattle.std.proofs.Common.{◌≡◌, ◌∙◌, sym, ap, Some}
-use Rattle.cxx_model.specs.Facts.Declarations.{classes_at}
+use Rattle.std.proofs.Common.{◌∙◌, sym}
 use Rattle.cxx_scopes.specs.Views.{graph_of}
 use Rattle.cxx_scopes.proofs.Patterns.{class_some, pending_some}
 use Rattle.cxx_scopes.proofs.looking.Looking.is_pending.Goals as goal

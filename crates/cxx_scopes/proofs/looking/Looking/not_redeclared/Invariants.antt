@@ -1,4 +1,4 @@
-use Rattle.std.proofs.Common.{◌≡◌, ◌++◌, [], drop, length, map, not}
+use Rattle.std.proofs.Common.{◌≡◌, ◌++◌, drop, length, map, not}
 use Rattle.std.specs.List.{filter}
 use Rattle.cxx_meaning.specs.Lookups.Member.{is_redeclared, not_redeclared}
 use Rattle.cxx_scopes.specs.Sighted.{AreBelow, sighting_at}

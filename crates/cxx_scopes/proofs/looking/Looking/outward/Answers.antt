@@ -1,4 +1,4 @@
-use Rattle.std.proofs.Common.{◌≡◌, ◌∙◌, ◌+◌, ◌<◌, ◌≤◌, [], Ok, ap, sym, map, drop, length, get_or, arith}
+use Rattle.std.proofs.Common.{◌∙◌, ◌+◌, ◌<◌, ◌≤◌, [], Ok, ap, sym, map, drop, length, get_or, arith}
 use Rattle.cxx_model.specs.Facts.Declarations.{name_at}
 use Rattle.cxx_meaning.specs.Lookups.Ordinary.{ordinary_in}
 use Rattle.cxx_meaning.specs.Lookups.Scopes.{unit_scope}

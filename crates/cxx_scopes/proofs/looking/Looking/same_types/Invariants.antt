@@ -1,4 +1,4 @@
-use Rattle.std.proofs.Common.{◌≡◌, ◌++◌, [], drop, length, map, not}
+use Rattle.std.proofs.Common.{◌≡◌, length}
 use Rattle.cxx_model.specs.Types.Numbers.{types_at, AreTypesBelow}
 use Rattle.cxx_model.specs.Types.Same.{same_types}
 use Rattle.cxx_scopes.proofs.looking.Looking.same_types.Given as goal

@@ -1,4 +1,4 @@
-use Rattle.std.proofs.Common.{◌≡◌, ◌∙◌, ◌≤◌, take, length, ap, sym, subst, arith}
+use Rattle.std.proofs.Common.{◌∙◌, ◌≤◌, take, length, ap, sym, subst, arith}
 use Rattle.cxx_model.specs.Facts.Declarations.{facts_at, name_at}
 use Rattle.cxx_meaning.specs.Lookups.Member.{ways, ways_after}
 use Rattle.cxx_scopes.specs.Tables.{IsTable, holds, own_by}

@@ -1,6 +1,4 @@
-use Rattle.std.proofs.Common.{◌≡◌, length, arith}
-use Rattle.cxx_scopes.specs.declared.ways.Record.{Record}
-use Rattle.cxx_scopes.specs.Ways.{AreKnown}
+use Rattle.std.proofs.Common.{length}
 use Rattle.cxx_scopes.proofs.Joining.{three_known}
 use Rattle.cxx_scopes.proofs.Tables.{sound_more, table_more}
 use Rattle.cxx_scopes.proofs.table.Table.add_through.Goals as goal
