@@ -8,3 +8,9 @@ pub mod Sighting
 pub mod Nodes
 pub mod Shows
 pub mod Searching
+pub mod Functions
+pub mod Joining
+pub mod Tables
+pub mod Holders
+pub mod Found
+pub mod Outward

@@ -1,5 +1,5 @@
 -- Types that are a class or an enumeration.
-use Rattle.std.proofs.Common.{◌≡◌, ℕ, Bool, true, false, eqb, eq-eqb, List, refl, ap, ◌∙◌, sym, subst}
+use Rattle.std.proofs.Common.{◌≡◌, ℕ, Bool, true, false, eqb, eq-eqb, List, refl, ◌∙◌, sym, subst}
 use Rattle.std.proofs.lemmas.Bool.{eqb-true, false≢true}
 use Rattle.cxx_model.specs.declared.types.ClassId.{ClassId}
 use Rattle.cxx_model.specs.declared.types.EnumId.{EnumId}
@@ -23,7 +23,7 @@ no_enumeration types _ number h = (refl, refl)
 pub is_no_enumeration : (types : List CxxType) (n : TypeNode) (t : CxxType) (number : ℕ) → type_over types n ≡ t → ((other : EnumId) → n ≡ node.Enum other → ⊥) → (same_type t (enumeration number) ≡ false) × (same_type (enumeration number) t ≡ false)
 is_no_enumeration types n t number e h = subst (λ u. (same_type u (enumeration number) ≡ false) × (same_type (enumeration number) u ≡ false)) e (no_enumeration types n number h)
 
-eqb_turned : (m n : ℕ) → eqb m n ≡ eqb n m
+pub eqb_turned : (m n : ℕ) → eqb m n ≡ eqb n m
 eqb_turned m n = by (eqb m n) (eqb n m) refl refl
   where
     by : (t u : Bool) → eqb m n ≡ t → eqb n m ≡ u → t ≡ u

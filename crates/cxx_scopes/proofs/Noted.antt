@@ -1,5 +1,5 @@
 -- The scopes that an index keeps are those of its facts.
-use Rattle.std.proofs.Common.{◌≡◌, ℕ, zero, suc, ◌+◌, ◌-◌, ◌<◌, ◌≤◌, append_assoc, true, false, cond, eqb, List, [], ◌∷◌, ◌++◌, length, Option, Some, None, option_map, Bool, refl, ap, sym, ◌∙◌, subst, eq-eqb, arith}
+use Rattle.std.proofs.Common.{◌≡◌, ℕ, zero, suc, ◌+◌, ◌-◌, ◌<◌, ◌≤◌, append_assoc, true, false, eqb, List, [], ◌∷◌, ◌++◌, Option, Some, None, option_map, Bool, refl, ap, sym, ◌∙◌, subst, eq-eqb, arith}
 use Rattle.std.specs.List.{slice_get}
 use Rattle.std.proofs.lemmas.Bool.{eqb-true}
 use Rattle.cxx_model.specs.declared.facts.Entity.{Entity}

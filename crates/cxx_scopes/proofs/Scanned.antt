@@ -1,9 +1,8 @@
 -- One more fact of a list.
-use Rattle.std.proofs.Common.{◌≡◌, ℕ, zero, suc, ◌+◌, ◌<◌, List, [], ◌∷◌, ◌++◌, length, get_or, take, drop, Option, Some, None, refl, ap, sym, ◌∙◌, arith, add-one}
+use Rattle.std.proofs.Common.{◌≡◌, ℕ, ◌+◌, ◌<◌, List, [], ◌∷◌, ◌++◌, length, get_or, take, Option, Some, None, refl, ap, sym, ◌∙◌}
 use Rattle.std.proofs.lemmas.List.{take_more}
 use Rattle.cxx_model.specs.declared.facts.Fact.{Fact}
 use Rattle.cxx_meaning.specs.Lookups.Gathered.{before}
-use Rattle.cxx_scopes.specs.declared.index.Noted.{Noted}
 use Rattle.cxx_scopes.specs.Views.{scopes_of, noted_of}
 
 before_append : {A : Type 0} (o : Option A) (xs ys : List A) → before o (xs ++ ys) ≡ before o xs ++ ys

@@ -1,16 +1,16 @@
 -- Lists of sightings that grow.
-use Rattle.std.proofs.Common.{◌≡◌, ℕ, ◌+◌, ◌<◌, ◌≤◌, List, [], ◌∷◌, ◌++◌, length, map, drop, Option, Some, None, refl, ap, sym, ◌∙◌, subst, arith, append_assoc, add-one, zero, suc, Bool, true, false, cond}
+use Rattle.std.proofs.Common.{◌≡◌, ℕ, ◌+◌, ◌≤◌, List, [], ◌∷◌, ◌++◌, length, map, drop, Option, refl, ap, sym, ◌∙◌, subst, append_assoc, Bool, true, false, cond}
 use Rattle.std.specs.List.{slice_get, filter}
 use Rattle.std.proofs.lemmas.List.{append-nil, map-append}
 use Rattle.cxx_model.specs.declared.facts.Fact.{Fact}
 use Rattle.cxx_model.specs.Types.Trees.{CxxType}
-use Rattle.cxx_model.specs.Facts.Declarations.{CxxFact, fact_at, facts_at}
+use Rattle.cxx_model.specs.Facts.Declarations.{CxxFact, facts_at}
 use Rattle.cxx_model.specs.Facts.Fitted.{IsEntityBelow}
-use Rattle.cxx_meaning.specs.Lookups.Gathered.{before, gathered}
+use Rattle.cxx_meaning.specs.Lookups.Gathered.{gathered}
 use Rattle.cxx_meaning.specs.Lookups.Sightings.{Sighting as SightingMeant}
 use Rattle.cxx_scopes.specs.declared.sightings.Sighting.{Sighting}
 use Rattle.cxx_scopes.specs.Sighted.{Adds, AreBelow, given_at, sighting_at}
-use Rattle.cxx_scopes.proofs.Gathering.{gathered_all}
+use Rattle.cxx_scopes.proofs.Gathering.{gathered_all, given_more}
 
 pub below_push : (count : ℕ) (xs : List Sighting) (x : Sighting) → AreBelow count xs → IsEntityBelow count x.what → AreBelow count (xs ++ x ∷ [])
 below_push count [] x all one = (one, tt)
@@ -19,7 +19,8 @@ below_push count (y ∷ ys) x all one = (all.0, below_push count ys x all.1 one)
 pub adds_one : (types : List CxxType) (old new : List Sighting) (one : Sighting) → new ≡ old ++ one ∷ [] → IsEntityBelow (length types) one.what → Adds types old new (sighting_at types one ∷ [])
 adds_one types old new one e below = record {
   seen = ap (map (sighting_at types)) e ∙ map-append (sighting_at types) old (one ∷ []);
-  below = λ all. subst (AreBelow (length types)) (sym e) (below_push (length types) old one all below) }
+  below = λ all. subst (AreBelow (length types)) (sym e) (below_push (length types) old one all below);
+}
 
 pub adds_none : (types : List CxxType) (old : List Sighting) → Adds types old old []
 adds_none types old = record { seen = sym (append-nil (map (sighting_at types) old)); below = λ all. all }
@@ -27,23 +28,13 @@ adds_none types old = record { seen = sym (append-nil (map (sighting_at types) o
 pub adds_both : (types : List CxxType) (old middle new : List Sighting) (ones twos : List SightingMeant) → Adds types old middle ones → Adds types middle new twos → Adds types old new (ones ++ twos)
 adds_both types old middle new ones twos one two = record {
   seen = two.seen ∙ (ap (λ xs. xs ++ twos) one.seen ∙ append_assoc (map (sighting_at types) old) ones twos);
-  below = λ all. two.below (one.below all) }
-
-before_first : {A : Type 0} (o : Option A) (xs : List A) → before o xs ≡ before o [] ++ xs
-before_first None xs = refl
-before_first (Some x) xs = refl
-
-given_first : {A : Type 0} (give : ℕ → CxxFact → Option A) (types : List CxxType) (facts : List Fact) (k n : ℕ) → gathered give k (facts_at types (drop n facts)) ≡ given_at give k (slice_get (facts_at types facts) n) ++ gathered give (k + 1) (facts_at types (drop (suc n) facts))
-given_first give types [] k zero = refl
-given_first give types [] k (suc n) = refl
-given_first give types (fact ∷ facts) k zero = before_first (give k (fact_at types fact)) (gathered give (k + 1) (facts_at types facts))
-given_first give types (fact ∷ facts) k (suc n) = given_first give types facts k n
+  below = λ all. two.below (one.below all);
+}
 
 -- one fact more was looked at
 pub adds_more : (types : List CxxType) (give : ℕ → CxxFact → Option SightingMeant) (facts : List Fact) (number : ℕ) (old new : List Sighting) → Adds types old new (given_at give number (slice_get (facts_at types facts) number)) → map (sighting_at types) old ++ gathered give number (facts_at types (drop number facts)) ≡ map (sighting_at types) new ++ gathered give (number + 1) (facts_at types (drop (number + 1) facts))
 adds_more types give facts number old new adds =
-    let step = given_first give types facts number number ∙ ap (λ m. given_at give number (slice_get (facts_at types facts) number) ++ gathered give (number + 1) (facts_at types (drop m facts))) (sym (add-one number)) in
-    ap (λ xs. map (sighting_at types) old ++ xs) step ∙ (sym (append_assoc (map (sighting_at types) old) (given_at give number (slice_get (facts_at types facts) number)) (gathered give (number + 1) (facts_at types (drop (number + 1) facts)))) ∙ ap (λ xs. xs ++ gathered give (number + 1) (facts_at types (drop (number + 1) facts))) (sym adds.seen))
+    given_more give types facts number (map (sighting_at types) old) (map (sighting_at types) new) adds.seen
 
 -- past the last fact
 pub adds_all : (types : List CxxType) (give : ℕ → CxxFact → Option SightingMeant) (facts : List Fact) (number : ℕ) (found : List Sighting) → length facts ≤ number → map (sighting_at types) found ++ gathered give number (facts_at types (drop number facts)) ≡ map (sighting_at types) found

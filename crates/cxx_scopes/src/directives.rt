@@ -49,7 +49,12 @@ impl Looking<'_> {
 
     /// The namespaces that the directives of a scope nominate.
     #[tactic(auto, using(crate::proofs::Gathering::gathered_none, crate::proofs::Gathering::gathered_some, crate::proofs::Gathering::gathered_all))]
-    pub fn nominated<L: Ledger>(&self, cut: u32, scope: ScopeId, steps: &mut Steps<L>) -> Result<Vec<ScopeId>, AllocError>
+    pub fn nominated<L: Ledger>(
+        &self,
+        cut: u32,
+        scope: ScopeId,
+        steps: &mut Steps<L>,
+    ) -> Result<Vec<ScopeId>, AllocError>
         requires { IsLooking self.now }
         ensures { IfOk result (λ spaces. spaces.items ≡ nominated_by (facts_of self.now) cut scope) }
     {
@@ -63,8 +68,14 @@ impl Looking<'_> {
         Ok(spaces)
     }
 
-    // Adds what a namespace nominates, where it is not there yet.
-    fn add_nominated<L: Ledger>(&self, cut: u32, space: ScopeId, found: &mut Vec<ScopeId>, steps: &mut Steps<L>) -> Result<(), AllocError>
+    /// Adds what a namespace nominates, where it is not there yet.
+    pub fn add_nominated<L: Ledger>(
+        &self,
+        cut: u32,
+        space: ScopeId,
+        found: &mut Vec<ScopeId>,
+        steps: &mut Steps<L>,
+    ) -> Result<(), AllocError>
         requires { IsLooking self.now }
         ensures { OnOk result (found.new.items ≡ with_scopes found.old.items (nominated_by (facts_of self.now) cut space)) }
     {
@@ -86,7 +97,12 @@ impl Looking<'_> {
 
     /// The namespaces that are reached from a scope, each once.
     #[tactic(auto, using(crate::proofs::Spreading::turn_first, crate::proofs::Spreading::turn_more, crate::proofs::Spreading::turn_done, crate::proofs::Spreading::turn_over), unfolding(cxx_meaning::specs::Lookups::Directives::reached))]
-    pub fn reached<L: Ledger>(&self, cut: u32, scope: ScopeId, steps: &mut Steps<L>) -> Result<Vec<ScopeId>, AllocError>
+    pub fn reached<L: Ledger>(
+        &self,
+        cut: u32,
+        scope: ScopeId,
+        steps: &mut Steps<L>,
+    ) -> Result<Vec<ScopeId>, AllocError>
         requires { IsLooking self.now }
         ensures { IfOk result (λ spaces. spaces.items ≡ reached_from (facts_of self.now) cut scope) }
     {
@@ -104,7 +120,13 @@ impl Looking<'_> {
 
     /// Adds what is reached from a scope, each with the namespace in which it shows.
     #[tactic(auto, unfolding(cxx_meaning::specs::Lookups::Directives::shows))]
-    pub fn add_shown<L: Ledger>(&self, cut: u32, scope: ScopeId, shown: &mut Vec<Shown>, steps: &mut Steps<L>) -> Result<(), AllocError>
+    pub fn add_shown<L: Ledger>(
+        &self,
+        cut: u32,
+        scope: ScopeId,
+        shown: &mut Vec<Shown>,
+        steps: &mut Steps<L>,
+    ) -> Result<(), AllocError>
         requires { IsLooking self.now }
         ensures { OnOk result (map shown_of shown.new.items ≡ map shown_of shown.old.items ++ shows_from (facts_of self.now) cut scope) }
     {

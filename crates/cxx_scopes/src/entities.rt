@@ -15,7 +15,9 @@ use crate::lists::add_fact;
 use crate::looking::Looking;
 use crate::sightings::Sighting;
 use crate::wanted::is_hideable;
-use cxx_model::{ClassId, Entity, EnumId, FactId, FactList, Found, ScopeId, Steps, TypeId, TypeNode};
+use cxx_model::{
+    ClassId, Entity, EnumId, FactId, FactList, Found, ScopeId, Steps, TypeId, TypeNode,
+};
 use std::alloc::AllocError;
 use std::sync::ledger::Ledger;
 
@@ -77,7 +79,12 @@ impl Looking<'_> {
 
     // Adds a declaration, where no other hides it.
     #[tactic(auto, using(crate::proofs::Sighting::adds_one, crate::proofs::Sighting::adds_none))]
-    fn keep_unhidden(&self, sightings: &[Sighting], one: Sighting, kept: &mut Vec<Sighting>) -> Result<(), AllocError>
+    fn keep_unhidden(
+        &self,
+        sightings: &[Sighting],
+        one: Sighting,
+        kept: &mut Vec<Sighting>,
+    ) -> Result<(), AllocError>
         requires { IsEntityBelow (length self.now.types.now) one.what }
         ensures { OnOk result (Adds self.now.types.now kept.old.items kept.new.items (filter (λ other. not (is_hidden_in (graph_of self.now) (map (sighting_at self.now.types.now) sightings.now) other)) (sighting_at self.now.types.now one ∷ []))) }
     {
@@ -246,7 +253,12 @@ impl Looking<'_> {
         self.is_function_at(one, steps) && self.is_function_at(two, steps)
     }
 
-    fn odd_one<L: Ledger>(&self, one: FactId, others: &[FactId], steps: &mut Steps<L>) -> Option<FactId>
+    fn odd_one<L: Ledger>(
+        &self,
+        one: FactId,
+        others: &[FactId],
+        steps: &mut Steps<L>,
+    ) -> Option<FactId>
         requires { IsLooking self.now }
         ensures { result ≡ find (λ two. not (are_both_functions (graph_of self.now) one two)) others.now }
     {
@@ -260,7 +272,11 @@ impl Looking<'_> {
 
     // The least of some facts, and the least other one that is no overload of it.
     #[tactic(auto, unfolding(cxx_meaning::specs::Lookups::Sightings::odd_pair))]
-    fn odd_pair<L: Ledger>(&self, facts: &[FactId], steps: &mut Steps<L>) -> Option<(FactId, FactId)>
+    fn odd_pair<L: Ledger>(
+        &self,
+        facts: &[FactId],
+        steps: &mut Steps<L>,
+    ) -> Option<(FactId, FactId)>
         requires { IsLooking self.now }
         ensures { result ≡ odd_pair_of (graph_of self.now) facts.now }
     {
@@ -289,7 +305,11 @@ impl Looking<'_> {
     }
 
     /// What a lookup finds in the declarations that it sees.
-    pub fn looked_up<L: Ledger>(&self, sightings: &[Sighting], steps: &mut Steps<L>) -> Result<Found, AllocError>
+    pub fn looked_up<L: Ledger>(
+        &self,
+        sightings: &[Sighting],
+        steps: &mut Steps<L>,
+    ) -> Result<Found, AllocError>
         requires looking { IsLooking self.now }
         requires below { AreBelow (length self.now.types.now) sightings.now }
         ensures { IfOk result (λ found. found ≡ looked_up_in (graph_of self.now) (map (sighting_at self.now.types.now) sightings.now)) }

@@ -6,10 +6,16 @@ mod entities;
 mod index;
 mod lists;
 mod looking;
+mod lookups;
+mod member;
+mod members;
 mod ordinary;
+mod pending;
 mod qualified;
 mod sightings;
+mod table;
 mod wanted;
+mod ways;
 
 pub use index::ScopeIndex;
 pub use wanted::Wanted;

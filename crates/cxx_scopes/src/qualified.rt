@@ -1,6 +1,6 @@
 //! Qualified lookup in a namespace (3.4.3.2), and what a using-declaration brings (7.3.3).
 
-ghost use Rattle.std.specs.Prelude.{◌≡◌, ◌<◌, length, map, IfOk, OnOk};
+ghost use Rattle.std.specs.Prelude.{◌≡◌, ◌==◌, ◌<◌, length, map, IfOk, OnOk};
 ghost use Rattle.cxx_model.specs.Facts.Declarations.{name_at};
 ghost use Rattle.cxx_model.specs.Facts.Fitted.{IsNameBelow};
 ghost use Rattle.cxx_meaning.specs.Lookups.Gathered.{with_scopes};
@@ -9,34 +9,52 @@ ghost use Rattle.cxx_meaning.specs.Lookups.Sightings.{looked_up as looked_up_in}
 ghost use Rattle.cxx_scopes.specs.Views.{IsLooking, graph_of, wanted_at};
 ghost use Rattle.cxx_scopes.specs.Sighted.{Adds, AreBelow, sighting_at};
 
-use crate::lists::{add_scopes, scope_at};
+use crate::lists::scope_at;
 use crate::looking::Looking;
 use crate::sightings::{Sighting, Sought};
 use cxx_model::{FactList, Found, ScopeId, Steps};
 use std::alloc::AllocError;
 use std::sync::ledger::Ledger;
 
+fn is_none(sightings: &[Sighting]) -> bool
+    ensures { result ≡ (length sightings.now == 0) }
+{
+    sightings.len() == 0
+}
+
 impl Looking<'_> {
     // Adds the namespaces to which a namespace leads, where they are not there yet.
     #[tactic(auto, using(crate::proofs::Searching::leads_nowhere, crate::proofs::Searching::leads_on))]
-    fn add_leads<L: Ledger>(&self, cut: u32, sought: &Sought, space: ScopeId, spaces: &mut Vec<ScopeId>, steps: &mut Steps<L>) -> Result<(), AllocError>
+    fn add_leads<L: Ledger>(
+        &self,
+        cut: u32,
+        sought: &Sought,
+        space: ScopeId,
+        spaces: &mut Vec<ScopeId>,
+        steps: &mut Steps<L>,
+    ) -> Result<(), AllocError>
         requires looking { IsLooking self.now }
         requires name { IsNameBelow (length self.now.types.now) sought.now.name.now }
         ensures { OnOk result (spaces.new.items ≡ with_scopes spaces.old.items (leads_to (graph_of self.now) cut (wanted_at sought.now.wanted) (name_at self.now.types.now sought.now.name.now) space)) }
     {
         let mut own = Vec::new(self.alloc);
         self.add_standing(cut, sought, space, &mut own, steps)?;
-        if own.is_empty() {
-            let next = self.nominated(cut, space, steps)?;
-            add_scopes(spaces, &next)
-        } else {
-            Ok(())
+        if !is_none(&own) {
+            return Ok(());
         }
+        self.add_nominated(cut, space, spaces, steps)?;
+        Ok(())
     }
 
     /// The namespaces in which a name is searched, each once.
     #[tactic(auto, using(crate::proofs::Spreading::turn_first, crate::proofs::Spreading::turn_done, crate::proofs::Spreading::turn_over), unfolding(cxx_meaning::specs::Lookups::Qualified::searched))]
-    fn searched<L: Ledger>(&self, cut: u32, sought: &Sought, space: ScopeId, steps: &mut Steps<L>) -> Result<Vec<ScopeId>, AllocError>
+    fn searched<L: Ledger>(
+        &self,
+        cut: u32,
+        sought: &Sought,
+        space: ScopeId,
+        steps: &mut Steps<L>,
+    ) -> Result<Vec<ScopeId>, AllocError>
         requires looking { IsLooking self.now }
         requires name { IsNameBelow (length self.now.types.now) sought.now.name.now }
         ensures { IfOk result (λ spaces. spaces.items ≡ searched_from (graph_of self.now) cut (wanted_at sought.now.wanted) (name_at self.now.types.now sought.now.name.now) space) }
@@ -54,7 +72,14 @@ impl Looking<'_> {
 
     // Adds the declarations in some namespaces.
     #[tactic(auto, using(crate::proofs::Sighting::adds_none, crate::proofs::Searching::standing_more), unfolding(cxx_meaning::specs::Lookups::Qualified::standing_in))]
-    fn add_standing_in<L: Ledger>(&self, cut: u32, sought: &Sought, spaces: &[ScopeId], found: &mut Vec<Sighting>, steps: &mut Steps<L>) -> Result<(), AllocError>
+    fn add_standing_in<L: Ledger>(
+        &self,
+        cut: u32,
+        sought: &Sought,
+        spaces: &[ScopeId],
+        found: &mut Vec<Sighting>,
+        steps: &mut Steps<L>,
+    ) -> Result<(), AllocError>
         requires looking { IsLooking self.now }
         requires name { IsNameBelow (length self.now.types.now) sought.now.name.now }
         ensures { OnOk result (Adds self.now.types.now found.old.items found.new.items (standing_in (graph_of self.now) cut (wanted_at sought.now.wanted) (name_at self.now.types.now sought.now.name.now) spaces.now)) }
@@ -67,7 +92,13 @@ impl Looking<'_> {
 
     // The declarations that a qualified lookup sees.
     #[tactic(auto, using(crate::proofs::Searching::adds_to_none))]
-    fn sightings_of<L: Ledger>(&self, cut: u32, sought: &Sought, space: ScopeId, steps: &mut Steps<L>) -> Result<Vec<Sighting>, AllocError>
+    fn sightings_of<L: Ledger>(
+        &self,
+        cut: u32,
+        sought: &Sought,
+        space: ScopeId,
+        steps: &mut Steps<L>,
+    ) -> Result<Vec<Sighting>, AllocError>
         requires looking { IsLooking self.now }
         requires name { IsNameBelow (length self.now.types.now) sought.now.name.now }
         ensures is { IfOk result (λ found. map (sighting_at self.now.types.now) found.items ≡ sightings_of (graph_of self.now) cut (wanted_at sought.now.wanted) (name_at self.now.types.now sought.now.name.now) space) }
@@ -80,7 +111,13 @@ impl Looking<'_> {
     }
 
     /// What a qualified lookup finds in a namespace.
-    pub fn qualified<L: Ledger>(&self, cut: u32, sought: &Sought, space: ScopeId, steps: &mut Steps<L>) -> Result<Found, AllocError>
+    pub fn qualified<L: Ledger>(
+        &self,
+        cut: u32,
+        sought: &Sought,
+        space: ScopeId,
+        steps: &mut Steps<L>,
+    ) -> Result<Found, AllocError>
         requires looking { IsLooking self.now }
         requires name { IsNameBelow (length self.now.types.now) sought.now.name.now }
         ensures { IfOk result (λ found. found ≡ looked_up_in (graph_of self.now) (sightings_of (graph_of self.now) cut (wanted_at sought.now.wanted) (name_at self.now.types.now sought.now.name.now) space)) }
@@ -103,7 +140,13 @@ impl Looking<'_> {
     }
 
     /// What a using-declaration brings from a namespace.
-    pub fn brought<L: Ledger>(&self, cut: u32, sought: &Sought, space: ScopeId, steps: &mut Steps<L>) -> Result<Found, AllocError>
+    pub fn brought<L: Ledger>(
+        &self,
+        cut: u32,
+        sought: &Sought,
+        space: ScopeId,
+        steps: &mut Steps<L>,
+    ) -> Result<Found, AllocError>
         requires looking { IsLooking self.now }
         requires name { IsNameBelow (length self.now.types.now) sought.now.name.now }
         ensures { IfOk result (λ found. found ≡ brought_in (graph_of self.now) (sightings_of (graph_of self.now) cut (wanted_at sought.now.wanted) (name_at self.now.types.now sought.now.name.now) space)) }

@@ -111,7 +111,15 @@ impl Looking<'_> {
 
     // A declaration of a name in a scope that is seen at a cut.
     #[tactic(auto, unfolding(cxx_meaning::specs::Lookups::Sightings::sighting_in))]
-    fn sighting_in<L: Ledger>(&self, cut: u32, sought: &Sought, scope: ScopeId, number: u32, fact: &Fact, steps: &mut Steps<L>) -> Option<Sighting>
+    fn sighting_in<L: Ledger>(
+        &self,
+        cut: u32,
+        sought: &Sought,
+        scope: ScopeId,
+        number: u32,
+        fact: &Fact,
+        steps: &mut Steps<L>,
+    ) -> Option<Sighting>
         requires looking { IsLooking self.now }
         requires name { IsNameBelow (length self.now.types.now) sought.now.name.now }
         requires fact { IsFactBelow (length self.now.types.now) fact.now }
@@ -131,7 +139,11 @@ impl Looking<'_> {
 
     /// Adds a sighting, where there is one.
     #[tactic(auto, using(crate::proofs::Sighting::adds_one, crate::proofs::Sighting::adds_none))]
-    pub fn add_sighting(&self, found: &mut Vec<Sighting>, one: Option<Sighting>) -> Result<(), AllocError>
+    pub fn add_sighting(
+        &self,
+        found: &mut Vec<Sighting>,
+        one: Option<Sighting>,
+    ) -> Result<(), AllocError>
         requires { IfSome one (λ one. IsEntityBelow (length self.now.types.now) one.what) }
         ensures { OnOk result (Adds self.now.types.now found.old.items found.new.items (before (option_map (sighting_at self.now.types.now) one) [])) }
     {
@@ -147,7 +159,15 @@ impl Looking<'_> {
 
     // Adds a fact, where it is a declaration of the name in the scope that is seen at the cut.
     #[tactic(auto, using(crate::proofs::Noted::fact_is))]
-    fn add_if_standing<L: Ledger>(&self, cut: u32, sought: &Sought, scope: ScopeId, number: u32, found: &mut Vec<Sighting>, steps: &mut Steps<L>) -> Result<(), AllocError>
+    fn add_if_standing<L: Ledger>(
+        &self,
+        cut: u32,
+        sought: &Sought,
+        scope: ScopeId,
+        number: u32,
+        found: &mut Vec<Sighting>,
+        steps: &mut Steps<L>,
+    ) -> Result<(), AllocError>
         requires looking { IsLooking self.now }
         requires name { IsNameBelow (length self.now.types.now) sought.now.name.now }
         ensures { OnOk result (Adds self.now.types.now found.old.items found.new.items (given_at (sighted_in (graph_of self.now) cut (wanted_at sought.now.wanted) (name_at self.now.types.now sought.now.name.now) scope) number (slice_get (facts_of self.now) number))) }
@@ -161,7 +181,14 @@ impl Looking<'_> {
 
     /// Adds the declarations of a name in a scope that are seen at a cut.
     #[tactic(auto, using(crate::proofs::Sighting::adds_more, crate::proofs::Sighting::adds_all), unfolding(cxx_meaning::specs::Lookups::Sightings::standing))]
-    pub fn add_standing<L: Ledger>(&self, cut: u32, sought: &Sought, scope: ScopeId, found: &mut Vec<Sighting>, steps: &mut Steps<L>) -> Result<(), AllocError>
+    pub fn add_standing<L: Ledger>(
+        &self,
+        cut: u32,
+        sought: &Sought,
+        scope: ScopeId,
+        found: &mut Vec<Sighting>,
+        steps: &mut Steps<L>,
+    ) -> Result<(), AllocError>
         requires looking { IsLooking self.now }
         requires name { IsNameBelow (length self.now.types.now) sought.now.name.now }
         ensures { OnOk result (Adds self.now.types.now found.old.items found.new.items (standing (graph_of self.now) cut (wanted_at sought.now.wanted) (name_at self.now.types.now sought.now.name.now) scope)) }

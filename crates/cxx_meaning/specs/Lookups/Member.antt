@@ -1,6 +1,6 @@
 -- Members of a class and of its bases (10.2).
-use Rattle.std.specs.Prelude.{ℕ, Bool, true, false, not, ◌&&◌, ◌||◌, nat_eq, if◌then◌else◌, List, [], ◌∷◌, ◌++◌, map, filter, find, Option, Some, None, Result, Ok, Err}
-use Rattle.std.specs.List.{slice_get, list_any}
+use Rattle.std.specs.Prelude.{ℕ, Bool, true, false, not, ◌&&◌, ◌||◌, nat_eq, if◌then◌else◌, List, [], ◌∷◌, ◌++◌, map, filter, find, Option, Some, None}
+use Rattle.std.specs.List.{list_any}
 use Rattle.cxx_model.specs.declared.facts.ScopeKind.{ScopeKind}
 use Rattle.cxx_model.specs.declared.facts.ScopeKind.TheVariants as kind
 use Rattle.cxx_model.specs.declared.lookup.Hit.{Hit}
@@ -87,14 +87,18 @@ own_ways graph wanted name class = if declares_member graph wanted name class th
 abbrev pub through : ℕ → Way → Way
 through index way = record way { path = index ∷ way.path }
 
--- What each class has after one more fact. A class that does not declare the name has at a direct base what the base
--- has, with the position of the base in front. A base is complete when it is named as one (10), so it then has all that
--- it will have.
+-- What each class has after one more direct base: a class that does not declare the name has there what the base has,
+-- with the position of the base in front.
+abbrev pub at_base : (ClassId → Bool) → ClassId → ClassId → ℕ → (ClassId → List Way) → ClassId → List Way
+at_base declares derived parent index now class = if same_class derived class && not (declares class) then now class ++ map (through index) (now parent) else now class
+
+-- What each class has after one more fact. A base is complete when it is named as one (10), so it then has all that it
+-- will have.
 unfoldable pub with_base : (ClassId → Bool) → CxxFact → (ClassId → List Way) → ClassId → List Way
 with_base declares fact now class = by fact.what
   where
     by : Declares → List Way
-    by (facts.ancestor derived parent index access) = if same_class derived class && not (declares class) then now class ++ map (through index) (now parent) else now class
+    by (facts.ancestor derived parent index access) = at_base declares derived parent index now class
     by _ = now class
 
 unfoldable pub ways_after : (ClassId → Bool) → (ClassId → List Way) → List CxxFact → ClassId → List Way
@@ -112,37 +116,46 @@ ways graph wanted name = ways_after (declares_member graph wanted name) (own_way
 abbrev pub breaks : Bool → Way → Way → Bool
 breaks any_nonstatic one two = any_nonstatic || not (same_class one.holder two.holder)
 
+abbrev pub is_one_nonstatic : Sighting → Bool
+is_one_nonstatic one = is_nonstatic one.what
+
 abbrev pub has_nonstatic : List Sighting → Bool
-has_nonstatic sightings = list_any (λ one. is_nonstatic one.what) sightings
+has_nonstatic sightings = list_any is_one_nonstatic sightings
 
 abbrev pub hit : Way → Sighting → Hit
 hit way one = record { fact = one.itself; path = way.path }
 
 -- the first declaration that is nonstatic, or at least the one at hand
 abbrev pub first_nonstatic : Sighting → List Sighting → Sighting
-first_nonstatic one others = by (find (λ other. is_nonstatic other.what) (one ∷ others))
+first_nonstatic one others = by (find is_one_nonstatic (one ∷ others))
   where
     by : Option Sighting → Sighting
     by None = one
     by (Some other) = other
 
--- The first declaration in one subobject, and the first in another that does not go together with it: of another class
--- its first; of the same class its first, but the first nonstatic one where that is static.
+-- The first declaration in one subobject does not go together with one in another: of another class with its first; of
+-- the same class with its first, but with the first nonstatic one where the former is static.
+abbrev pub second_shown : Bool → Sighting → Sighting → List Sighting → Sighting
+second_shown same first second seconds = if same && not (is_one_nonstatic first) then first_nonstatic second seconds else second
+
+abbrev pub clash_with : Way → Sighting → Way → List Sighting → MemberFound
+clash_with one first two [] = found.Empty
+clash_with one first two (second ∷ seconds) = found.Ambiguous (hit one first) (hit two (second_shown (same_class one.holder two.holder) first second seconds))
+
 unfoldable pub clash : Way → List Sighting → Way → List Sighting → MemberFound
 clash one [] two twos = found.Empty
-clash one (first ∷ firsts) two [] = found.Empty
-clash one (first ∷ firsts) two (second ∷ seconds) =
-    found.Ambiguous (hit one first) (hit two (if same_class one.holder two.holder && not (is_nonstatic first.what) then first_nonstatic second seconds else second))
+clash one (first ∷ firsts) two twos = clash_with one first two twos
+
+-- 10.2: what is found in the first of some subobjects, and in another that does not go together with it
+unfoldable pub member_by : CxxGraph → Wanted → CxxName → Way → Option Way → MemberFound
+member_by graph wanted name one None = found.Set (entities (declared_in graph wanted name one.holder)) one.path
+member_by graph wanted name one (Some two) = clash one (declared_in graph wanted name one.holder) two (declared_in graph wanted name two.holder)
 
 -- 10.2: The declarations of one class, and the least path to it; or the first two that do not go together, in the order
 -- of paths.
 unfoldable pub member_of : CxxGraph → Wanted → CxxName → List Way → MemberFound
 member_of graph wanted name [] = found.Empty
-member_of graph wanted name (one ∷ others) = by (find (breaks (has_nonstatic (declared_in graph wanted name one.holder)) one) others)
-  where
-    by : Option Way → MemberFound
-    by None = found.Set (entities (declared_in graph wanted name one.holder)) one.path
-    by (Some two) = clash one (declared_in graph wanted name one.holder) two (declared_in graph wanted name two.holder)
+member_of graph wanted name (one ∷ others) = member_by graph wanted name one (find (breaks (has_nonstatic (declared_in graph wanted name one.holder)) one) others)
 
 -- A member of a class. Only the class itself can be pending, since its bases are complete before it is (10).
 unfoldable pub member : CxxGraph → Wanted → ClassId → CxxName → Asked MemberFound

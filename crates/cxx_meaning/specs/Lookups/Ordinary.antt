@@ -1,5 +1,5 @@
 -- Unqualified names (3.4.1).
-use Rattle.std.specs.Prelude.{ℕ, Bool, true, false, if◌then◌else◌, List, [], ◌∷◌, ◌++◌, Option, Some, None, Result, Ok, Err}
+use Rattle.std.specs.Prelude.{ℕ, if◌then◌else◌, List, [], ◌∷◌, ◌++◌, Option, Some, None, Ok, Err}
 use Rattle.cxx_model.specs.declared.lookup.Found.{Found}
 use Rattle.cxx_model.specs.declared.lookup.Found.TheVariants as found
 use Rattle.cxx_model.specs.declared.lookup.MemberFound.{MemberFound}
@@ -28,32 +28,41 @@ standing_shown graph cut wanted name scope (one ∷ others) = standing_if graph 
 unfoldable pub sightings_at : CxxGraph → ℕ → Wanted → CxxName → List Shown → ScopeId → List Sighting
 sightings_at graph cut wanted name shown scope = standing graph cut wanted name scope ++ standing_shown graph cut wanted name scope shown
 
--- what is found in a scope, where something is, and else further out
-abbrev pub found_or : CxxGraph → List Sighting → Asked Found → Asked Found
-found_or graph [] outer = outer
-found_or graph (one ∷ others) outer = Ok (looked_up graph (one ∷ others))
+-- what is found in some declarations, where there are some
+abbrev pub found_in_sightings : CxxGraph → List Sighting → Option Found
+found_in_sightings graph [] = None
+found_in_sightings graph (one ∷ others) = Some (looked_up graph (one ∷ others))
 
--- what is found in a class, where something is, and else further out
-abbrev pub member_or : ClassId → Asked MemberFound → Asked Found → Asked Found
-member_or class (Err needed) outer = Err needed
-member_or class (Ok member.Empty) outer = outer
-member_or class (Ok (member.Set facts path)) outer = Ok (found.Member class (member.Set facts path))
-member_or class (Ok (member.Ambiguous one two)) outer = Ok (found.Member class (member.Ambiguous one two))
+-- what is found in a class, where something is
+abbrev pub member_found : ClassId → MemberFound → Option Found
+member_found class member.Empty = None
+member_found class (member.Set facts path) = Some (found.Member class (member.Set facts path))
+member_found class (member.Ambiguous one two) = Some (found.Member class (member.Ambiguous one two))
 
--- what is found in a scope, which may be that of a class, and else further out
-unfoldable pub found_at : CxxGraph → Wanted → CxxName → ℕ → List Shown → ScopeId → Asked Found → Asked Found
-found_at graph wanted name cut shown scope outer = by (class_of_scope graph.facts scope)
+abbrev pub found_in_member : ClassId → Asked MemberFound → Asked (Option Found)
+found_in_member class (Err needed) = Err needed
+found_in_member class (Ok of) = Ok (member_found class of)
+
+-- what is found in a scope, which may be that of a class, where something is
+unfoldable pub found_in_scope : CxxGraph → Wanted → CxxName → ℕ → List Shown → ScopeId → Asked (Option Found)
+found_in_scope graph wanted name cut shown scope = by (class_of_scope graph.facts scope)
   where
-    by : Option ClassId → Asked Found
-    by (Some class) = member_or class (member_named graph wanted class name) outer
-    by None = found_or graph (sightings_at graph cut wanted name shown scope) outer
+    by : Option ClassId → Asked (Option Found)
+    by (Some class) = found_in_member class (member_named graph wanted class name)
+    by None = Ok (found_in_sightings graph (sightings_at graph cut wanted name shown scope))
+
+-- what was found in a scope, where something was, and else what is found further out
+abbrev pub or_outside : Asked (Option Found) → Asked Found → Asked Found
+or_outside (Err needed) outer = Err needed
+or_outside (Ok (Some found)) outer = Ok found
+or_outside (Ok None) outer = outer
 
 -- The name in the first of some scopes that has a declaration of it; in a class, in it and its bases. What the directives
 -- of the scopes so far reach shows where it should.
 unfoldable pub ordinary_in : CxxGraph → Wanted → CxxName → ℕ → List Shown → List ScopeId → Asked Found
 ordinary_in graph wanted name cut shown [] = Ok found.Empty
 ordinary_in graph wanted name cut shown (scope ∷ outer) =
-    found_at graph wanted name cut (shown ++ shows graph.facts cut scope) scope (ordinary_in graph wanted name cut (shown ++ shows graph.facts cut scope) outer)
+    or_outside (found_in_scope graph wanted name cut (shown ++ shows graph.facts cut scope) scope) (ordinary_in graph wanted name cut (shown ++ shows graph.facts cut scope) outer)
 
 -- 3.4.1, 7.3.4
 abbrev pub ordinary : CxxGraph → Wanted → ScopeId → CxxName → ℕ → Asked Found

@@ -1,7 +1,6 @@
 -- Classes that have to be complete before a question is answered (14.7.1).
-use Rattle.std.specs.Prelude.{ℕ, suc, Bool, true, false, not, ◌&&◌, ◌||◌, nat_eq, if◌then◌else◌, List, [], ◌∷◌, Option, Some, None, Result, Ok, Err}
+use Rattle.std.specs.Prelude.{ℕ, ◌+◌, Bool, false, not, ◌&&◌, ◌||◌, nat_eq, if◌then◌else◌, List, [], ◌∷◌, Option, Some, None, Result, Ok, Err}
 use Rattle.std.specs.List.{slice_get, list_any}
-use Rattle.cxx_model.specs.declared.facts.ScopeKind.{ScopeKind}
 use Rattle.cxx_model.specs.declared.facts.ScopeKind.TheVariants as kind
 use Rattle.cxx_model.specs.declared.types.ClassId.{ClassId}
 use Rattle.cxx_model.specs.declared.types.TemplateId.{TemplateId}
@@ -13,19 +12,19 @@ abbrev pub Asked : Type 0 → Type 0
 Asked A = Result A ClassId
 
 -- 9.2: whether a class is complete, or is being read
-abbrev pub has_begun : ClassId → CxxFact → Bool
-has_begun class fact = by fact.what
-  where
-    by : Declares → Bool
-    by (facts.complete other) = nat_eq other.0 class.0
-    by (facts.scope parent (kind.Class other)) = nat_eq other.0 class.0
-    by _ = false
+abbrev pub begins : ClassId → Declares → Bool
+begins class (facts.complete other) = nat_eq other.0 class.0
+begins class (facts.scope parent (kind.Class other)) = nat_eq other.0 class.0
+begins class _ = false
 
-abbrev same_number : ℕ → Option TemplateId → Bool
+abbrev pub has_begun : ClassId → CxxFact → Bool
+has_begun class fact = begins class fact.what
+
+abbrev pub same_number : ℕ → Option TemplateId → Bool
 same_number n None = false
 same_number n (Some template) = nat_eq template.0 n
 
-abbrev same_class : ClassId → Option ClassId → Bool
+abbrev pub same_class : ClassId → Option ClassId → Bool
 same_class class None = false
 same_class class (Some other) = nat_eq other.0 class.0
 
@@ -34,25 +33,25 @@ same_class class (Some other) = nat_eq other.0 class.0
 abbrev pub is_class_of : ℕ → ClassId → ℕ → List CxxPattern → Bool
 is_class_of template class number [] = false
 is_class_of template class number (pattern ∷ others) =
-    (same_class class pattern.class && (nat_eq number template || same_number template pattern.primary)) || is_class_of template class (suc number) others
+    (same_class class pattern.class && (nat_eq number template || same_number template pattern.primary)) || is_class_of template class (number + 1) others
 
 -- Whether a completion is due after some facts: a definition of the template or of a partial specialisation ended, and
 -- no completion that found none of these passed since.
-unfoldable pub is_due : CxxGraph → ℕ → ClassId → Bool → List CxxFact → Bool
-is_due graph template class due [] = due
-is_due graph template class due (fact ∷ others) = is_due graph template class (by fact.what) others
-  where
-    by : Declares → Bool
-    by (facts.complete other) = is_class_of template other 0 graph.patterns || due
-    by (facts.passed other) = not (nat_eq other.0 class.0) && due
-    by _ = due
+abbrev pub due_after : List CxxPattern → ℕ → ClassId → Bool → Declares → Bool
+due_after patterns template class due (facts.complete other) = is_class_of template other 0 patterns || due
+due_after patterns template class due (facts.passed other) = not (nat_eq other.0 class.0) && due
+due_after patterns template class due _ = due
+
+unfoldable pub is_due : List CxxPattern → ℕ → ClassId → Bool → List CxxFact → Bool
+is_due patterns template class due [] = due
+is_due patterns template class due (fact ∷ others) = is_due patterns template class (due_after patterns template class due fact.what) others
 
 -- 14.7.1: a specialisation that is neither complete nor being read, and whose template is defined
 unfoldable pub is_pending : CxxGraph → ClassId → Bool
 is_pending graph class = by (slice_get graph.classes class.0)
   where
     by : Option (Option CxxSpecialisation) → Bool
-    by (Some (Some of)) = not (list_any (has_begun class) graph.facts) && is_due graph of.template class false graph.facts
+    by (Some (Some of)) = not (list_any (has_begun class) graph.facts) && is_due graph.patterns of.template class false graph.facts
     by _ = false
 
 -- a question to a class

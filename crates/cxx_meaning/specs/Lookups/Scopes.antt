@@ -1,5 +1,5 @@
 -- Scopes, each by its number, and how they stand in one another (3.3).
-use Rattle.std.specs.Prelude.{ℕ, zero, suc, Bool, true, false, nat_eq, if◌then◌else◌, List, [], ◌∷◌, Option, Some, None, ◌&&◌, find}
+use Rattle.std.specs.Prelude.{ℕ, zero, suc, nat_eq, if◌then◌else◌, List, [], ◌∷◌, Option, Some, None, ◌&&◌, find}
 use Rattle.std.specs.List.{slice_get}
 use Rattle.cxx_model.specs.declared.facts.ScopeKind.{ScopeKind}
 use Rattle.cxx_model.specs.declared.types.ScopeId.{ScopeId}

@@ -1,5 +1,5 @@
 -- What a name is looked up for (3.4.1, 3.4.3, 3.4.4, 3.4.6), and what declarations are.
-use Rattle.std.specs.Prelude.{ℕ, Bool, true, false, not, ◌&&◌, ◌||◌, nat_eq, List, Option, Some, None}
+use Rattle.std.specs.Prelude.{Bool, true, false, not, ◌||◌, Option, Some, None}
 use Rattle.std.specs.List.{slice_get}
 use Rattle.cxx_model.specs.declared.facts.MemberKind.{MemberKind}
 use Rattle.cxx_model.specs.declared.facts.MemberKind.TheVariants as member

@@ -1,4 +1,4 @@
-use Rattle.std.proofs.Common.{◌≡◌, ◌∙◌, ◌++◌, ◌∷◌, [], get_or, take, ap, sym, refl, arith}
+use Rattle.std.proofs.Common.{◌∙◌, ◌++◌, ◌∷◌, [], get_or, take, ap, sym}
 use Rattle.std.proofs.lemmas.List.{append-nil}
 use Rattle.cxx_meaning.specs.Lookups.Gathered.{before}
 use Rattle.cxx_scopes.specs.Views.{scopes_of}

@@ -1,4 +1,4 @@
-use Rattle.std.proofs.Common.{◌≡◌, [], length, option_map, sym, subst}
+use Rattle.std.proofs.Common.{[], length, option_map, sym, subst}
 use Rattle.std.specs.Prelude.{IfSome}
 use Rattle.cxx_model.specs.Facts.Fitted.{IsEntityBelow}
 use Rattle.cxx_meaning.specs.Lookups.Gathered.{before}

@@ -9,4 +9,5 @@ use Rattle.cxx_scopes.proofs.looking.Looking.add_standing.Given as goal
 abbrev pub invariant-loop-number : goal.invariant-loop-number
 invariant-loop-number g l = record {
   rest : map (sighting_at l.self.types.now) l.found.items ++ gathered (sighting_in (graph_of l.self) l.cut (wanted_at l.sought.wanted) (name_at l.self.types.now l.sought.name.now) l.fn.scope) l.number (facts_at l.self.types.now (drop l.number l.self.graph.now.facts)) ≡ map (sighting_at l.self.types.now) l.fn.found.items ++ standing (graph_of l.self) l.cut (wanted_at l.sought.wanted) (name_at l.self.types.now l.sought.name.now) l.fn.scope;
-  below : AreBelow (length l.self.types.now) l.fn.found.items → AreBelow (length l.self.types.now) l.found.items }
+  below : AreBelow (length l.self.types.now) l.fn.found.items → AreBelow (length l.self.types.now) l.found.items;
+}

@@ -1,6 +1,6 @@
-use Rattle.std.proofs.Common.{◌≡◌, ◌++◌, ◌-◌, [], drop, length, map}
+use Rattle.std.proofs.Common.{◌≡◌, ◌++◌, drop, length, map}
 use Rattle.cxx_model.specs.Facts.Declarations.{name_at}
-use Rattle.cxx_scopes.specs.Views.{graph_of, facts_of, shown_of, wanted_at}
+use Rattle.cxx_scopes.specs.Views.{graph_of, wanted_at}
 use Rattle.cxx_scopes.specs.Sighted.{AreBelow, sighting_at}
 use Rattle.cxx_meaning.specs.Lookups.Qualified.{standing_in}
 use Rattle.cxx_scopes.proofs.looking.Looking.add_standing_in.Given as goal

@@ -1,4 +1,4 @@
-use Rattle.std.proofs.Common.{◌≡◌, ◌++◌, [], drop, length, map, not}
+use Rattle.std.proofs.Common.{◌≡◌, drop, map}
 use Rattle.std.specs.List.{list_any}
 use Rattle.cxx_meaning.specs.Lookups.Sightings.{is_hidden_by}
 use Rattle.cxx_scopes.specs.Views.{graph_of}

@@ -1,4 +1,4 @@
-use Rattle.std.proofs.Common.{◌≡◌, ◌++◌, [], drop, length, map, not}
+use Rattle.std.proofs.Common.{◌≡◌, [], drop, length, map}
 use Rattle.cxx_meaning.specs.Lookups.Gathered.{with_facts}
 use Rattle.cxx_meaning.specs.Lookups.Sightings.{named_by}
 use Rattle.cxx_scopes.specs.Sighted.{AreBelow, sighting_at}

@@ -1,4 +1,4 @@
-use Rattle.std.proofs.Common.{◌≡◌, ◌++◌, [], drop, length, map, not}
+use Rattle.std.proofs.Common.{◌≡◌, drop, length, map}
 use Rattle.cxx_meaning.specs.Lookups.Sightings.{least_of}
 use Rattle.cxx_scopes.specs.Sighted.{AreBelow, meaning_at, sighting_at}
 use Rattle.cxx_scopes.proofs.looking.Looking.least_of.Given as goal

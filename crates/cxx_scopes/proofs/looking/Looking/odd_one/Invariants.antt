@@ -1,4 +1,4 @@
-use Rattle.std.proofs.Common.{◌≡◌, ◌++◌, [], drop, length, map, not}
+use Rattle.std.proofs.Common.{◌≡◌, drop, not}
 use Rattle.std.specs.List.{find}
 use Rattle.cxx_meaning.specs.Lookups.Sightings.{both_functions}
 use Rattle.cxx_scopes.specs.Views.{graph_of}

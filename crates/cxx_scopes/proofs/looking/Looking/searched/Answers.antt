@@ -14,4 +14,4 @@ loop-place-preserved g c =
     let next = leads_to (graph_of looking) c.args.cut (wanted_at c.args.sought.now.wanted) (name_at looking.types.now c.args.sought.now.name.now) in
     let lt : place < length looking.graph.now.facts = omega (arith, c.length-place-end.ensures.count) in
     let at : slice_get c.loop-place.found.items place ≡ Some c.in-Some.one = ap (λ xs. slice_get xs place) (sym c.deref.ensures.value) ∙ sym c.in-Some.ensures in
-    ap (λ xs. spread next (length (facts_of looking) - (place + 1)) (place + 1) xs) c.in_ok-add_leads.ensures ∙ (sym (turn_more next looking.types.now looking.graph.now.facts place c.loop-place.found.items c.in-Some.one lt at) ∙ c.loop-place.invariant)
+    ap (λ xs. spread next (length (facts_of looking) - (place + 1)) (place + 1) xs) c.in_ok-add_leads-in-Some.ensures ∙ (sym (turn_more next looking.types.now looking.graph.now.facts place c.loop-place.found.items c.in-Some.one lt at) ∙ c.loop-place.invariant)

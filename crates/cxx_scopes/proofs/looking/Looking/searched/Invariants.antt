@@ -1,7 +1,6 @@
-use Rattle.std.proofs.Common.{◌≡◌, ◌++◌, ◌-◌, [], drop, length, map}
+use Rattle.std.proofs.Common.{◌≡◌, ◌-◌, length}
 use Rattle.cxx_model.specs.Facts.Declarations.{name_at}
-use Rattle.cxx_scopes.specs.Views.{graph_of, facts_of, shown_of, wanted_at}
-use Rattle.cxx_scopes.specs.Sighted.{AreBelow, sighting_at}
+use Rattle.cxx_scopes.specs.Views.{graph_of, facts_of, wanted_at}
 use Rattle.cxx_meaning.specs.Lookups.Gathered.{spread}
 use Rattle.cxx_meaning.specs.Lookups.Qualified.{leads_to, searched}
 use Rattle.cxx_scopes.proofs.looking.Looking.searched.Given as goal

@@ -1,4 +1,4 @@
-use Rattle.std.proofs.Common.{◌≡◌, ◌++◌, [], drop, length, map, not}
+use Rattle.std.proofs.Common.{◌≡◌, ◌++◌, drop, length, map, not}
 use Rattle.std.specs.List.{filter}
 use Rattle.cxx_meaning.specs.Lookups.Sightings.{is_hidden_among, unhidden}
 use Rattle.cxx_scopes.specs.Views.{graph_of}
