@@ -70,19 +70,26 @@ abbrev pub widens : CxxType → CxxType → Bool
 widens one two = not (same_cv (cv_of one) (cv_of two))
 
 -- 4.10: a pointer to a class becomes one to a base of it, ambiguous or not
-unfoldable pub pointer_to_base : CxxGraph → CxxType → CxxType → CxxKind → CxxKind → Asked (Option SequenceSteps)
-pointer_to_base graph one two (of_class derived) (of_class base) =
+unfoldable pub pointer_to_class : CxxGraph → CxxType → CxxType → ℕ → ℕ → Asked (Option SequenceSteps)
+pointer_to_class graph one two derived base =
     if nat_eq derived base || not (is_cv_within (cv_of one) (cv_of two)) then Ok None else (
     if is_pending graph derived then Err (record { 0 = derived }) else
     Ok (if is_derived graph derived base then Some (steps_by (Some second.Pointer) (widens one two)) else None))
-pointer_to_base graph one two _ no_value = Ok (if not (is_function one) && is_cv_within (cv_of one) (cv_of two) then Some (steps_by (Some second.Pointer) (widens one two)) else None)
-pointer_to_base graph one two _ _ = Ok None
+
+-- 4.10: a pointer to an object becomes one to `void`
+abbrev pub pointer_to_void : CxxType → CxxType → Option SequenceSteps
+pointer_to_void one two = if not (is_function one) && is_cv_within (cv_of one) (cv_of two) then Some (steps_by (Some second.Pointer) (widens one two)) else None
+
+unfoldable pub pointer_to_other : CxxGraph → CxxType → CxxType → CxxKind → CxxKind → Asked (Option SequenceSteps)
+pointer_to_other graph one two (of_class derived) (of_class base) = pointer_to_class graph one two derived base
+pointer_to_other graph one two _ no_value = Ok (pointer_to_void one two)
+pointer_to_other graph one two _ _ = Ok None
 
 -- 4.4, 4.10: from a pointer to one type to a pointer to another
 unfoldable pub steps_of_pointers : CxxGraph → CxxType → CxxType → Asked (Option SequenceSteps)
 steps_of_pointers graph one two =
     if is_widened one two then Ok (Some (steps_by None (not (same_type one two)))) else
-    pointer_to_base graph one two (kind_of one) (kind_of two)
+    pointer_to_other graph one two (kind_of one) (kind_of two)
 
 -- ---- values (4.5 to 4.10, 4.12)
 
@@ -98,9 +105,17 @@ unfoldable pub step_of_enumeration : Option Base → Base → Second
 step_of_enumeration None to = step_of_unpromoted to
 step_of_enumeration (Some of) to = if same_base of to then second.IntegralPromotion else step_of_unpromoted to
 
+-- 3.9.1
+abbrev pub is_floating : Base → Bool
+is_floating of = (base_row of).is_floating
+
+-- 4.5, 4.6: the type to which an arithmetic type is promoted
+abbrev pub promoted_base : Base → Base
+promoted_base of = (base_row of).promoted
+
 -- 4.10: an integral constant expression of integer type with the value zero
 abbrev pub is_null : ConstantKind → Base → Bool
-is_null constant.Zero of = not (base_row of).is_floating
+is_null constant.Zero of = not (is_floating of)
 is_null _ of = false
 
 -- 4.2: the letters of a string literal
@@ -116,15 +131,30 @@ only_const = record { is_const = true; is_volatile = false }
 unfoldable pub is_text : ConstantKind → CxxType → CxxType → Bool
 is_text known one two = is_letter known (kind_of one) && (is_letter known (kind_of two) && (same_cv (cv_of one) only_const && same_cv (cv_of two) no_cv))
 
--- From a value of one kind to the other. To and from `void` nothing is converted, and to an enumeration itself alone.
+-- 4.5 to 4.10, 4.12: from an arithmetic value
+unfoldable pub steps_of_arithmetic : ConstantKind → Base → CxxKind → Option SequenceSteps
+steps_of_arithmetic known from (arithmetic to) = Some (steps_by (second_step from to) false)
+steps_of_arithmetic known from (pointing to) = if is_null known from then Some (steps_by (Some second.Pointer) false) else None
+steps_of_arithmetic known from _ = None
+
+-- 4.5, 4.7, 4.9, 4.12: from a value of an enumeration; to an enumeration nothing else is converted
+unfoldable pub steps_of_enumeration : CxxGraph → ℕ → CxxKind → Option SequenceSteps
+steps_of_enumeration graph from (arithmetic to) = Some (steps_by (Some (step_of_enumeration (promoted graph from) to)) false)
+steps_of_enumeration graph from (enumerated to) = if nat_eq from to then Some no_steps else None
+steps_of_enumeration graph from _ = None
+
+-- 4.2, 4.4, 4.10, 4.12: from a pointer to a type
+unfoldable pub steps_of_pointer : CxxGraph → ConstantKind → CxxType → CxxKind → Asked (Option SequenceSteps)
+steps_of_pointer graph known from (arithmetic to) = Ok (if same_base to base.Bool then Some (steps_by (Some second.Boolean) false) else None)
+steps_of_pointer graph known from (pointing to) = if is_text known from to then Ok (Some (steps_by None true)) else steps_of_pointers graph from to
+steps_of_pointer graph known from _ = Ok None
+
+-- From a value of one kind to the other. To and from `void` nothing is converted.
 unfoldable pub steps_of_kinds : CxxGraph → ConstantKind → CxxKind → CxxKind → Asked (Option SequenceSteps)
-steps_of_kinds graph known (arithmetic from) (arithmetic to) = Ok (Some (steps_by (second_step from to) false))
-steps_of_kinds graph known (arithmetic from) (pointing to) = Ok (if is_null known from then Some (steps_by (Some second.Pointer) false) else None)
-steps_of_kinds graph known (enumerated from) (arithmetic to) = Ok (Some (steps_by (Some (step_of_enumeration (promoted graph from) to)) false))
-steps_of_kinds graph known (enumerated from) (enumerated to) = Ok (if nat_eq from to then Some no_steps else None)
-steps_of_kinds graph known (pointing from) (arithmetic to) = Ok (if same_base to base.Bool then Some (steps_by (Some second.Boolean) false) else None)
-steps_of_kinds graph known (pointing from) (pointing to) = if is_text known from to then Ok (Some (steps_by None true)) else steps_of_pointers graph from to
-steps_of_kinds graph known _ _ = Ok None
+steps_of_kinds graph known (arithmetic from) to = Ok (steps_of_arithmetic known from to)
+steps_of_kinds graph known (enumerated from) to = Ok (steps_of_enumeration graph from to)
+steps_of_kinds graph known (pointing from) to = steps_of_pointer graph known from to
+steps_of_kinds graph known _ to = Ok None
 
 -- ---- expressions
 
@@ -154,25 +184,28 @@ steps_to_scalar graph from to =
       steps ← steps_of_kinds graph from.constant (value_kind from.of) (kind_of to)
       Ok (option_map (with_first (value_step from.of from.lvalue)) steps)
 
+unfoldable pub steps_to_class : CxxGraph → ℕ → ℕ → Asked (Option SequenceSteps)
+steps_to_class graph from to = do
+  step ← class_step graph from to
+  Ok (steps_of_class step)
+
+unfoldable pub steps_by_kinds : CxxGraph → CxxOperand → CxxType → CxxKind → CxxKind → Asked (Option SequenceSteps)
+steps_by_kinds graph from to (of_class m) (of_class n) = steps_to_class graph m n
+steps_by_kinds graph from to _ _ = steps_to_scalar graph from to
+
 -- 8.5: from an expression to a type that is no reference
 unfoldable pub steps_of_value : CxxGraph → CxxOperand → CxxType → Asked (Option SequenceSteps)
-steps_of_value graph from to = by (kind_of from.of) (kind_of to)
-  where
-    by : CxxKind → CxxKind → Asked (Option SequenceSteps)
-    by (of_class m) (of_class n) = do
-      step ← class_step graph m n
-      Ok (steps_of_class step)
-    by _ _ = steps_to_scalar graph from to
+steps_of_value graph from to = steps_by_kinds graph from to (kind_of from.of) (kind_of to)
 
 -- ---- references (8.5.3)
 
+unfoldable pub related_kinds : CxxGraph → CxxKind → CxxKind → Asked (Option (Option Second))
+related_kinds graph (of_class m) (of_class n) = class_step graph m n
+related_kinds graph _ _ = Ok None
+
 -- 8.5.3: whether one type is the other, cv aside, or a base of it, and by what step
 unfoldable pub related : CxxGraph → CxxType → CxxType → Asked (Option (Option Second))
-related graph from to = if is_same_unqualified from to then Ok (Some None) else by (kind_of from) (kind_of to)
-  where
-    by : CxxKind → CxxKind → Asked (Option (Option Second))
-    by (of_class m) (of_class n) = class_step graph m n
-    by _ _ = Ok None
+related graph from to = if is_same_unqualified from to then Ok (Some None) else related_kinds graph (kind_of from) (kind_of to)
 
 abbrev pub is_class : CxxKind → Bool
 is_class (of_class n) = true
