@@ -3,7 +3,7 @@ use Rattle.std.proofs.Common.{◌≡◌, Bool, true, false, not, ◌&&◌, ◌||
 use Rattle.std.specs.List.{list_any}
 use Rattle.cxx_model.specs.declared.sequence.Order.{Order}
 use Rattle.cxx_model.specs.declared.sequence.Order.TheVariants.{Better, Worse, Same}
-use Rattle.cxx_model.specs.Better.{is_better_order, is_worse_order}
+use Rattle.cxx_model.specs.Choice.Better.{is_better_order, is_worse_order}
 
 -- what is answered of the orders that are still to come, where a better one has been met or not
 abbrev pub verdict : Bool → List Order → Bool

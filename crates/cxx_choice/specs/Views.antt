@@ -1,7 +1,7 @@
 -- What the values of the code stand for.
 use Rattle.std.specs.Prelude.{List, [], ◌∷◌, ◌++◌, Option, Some, None}
 use Rattle.cxx_model.specs.First.Candidates.{Candidate as CandidateMeant, Contender as ContenderMeant}
-use Rattle.cxx_model.specs.Standard.{Row as StandardRow}
+use Rattle.cxx_model.specs.Choice.Standard.{Row as StandardRow}
 use Rattle.cxx_choice.specs.declared.candidate.Candidate.{Candidate}
 use Rattle.cxx_choice.specs.declared.standard.Row.{Row}
 use Rattle.cxx_choice.specs.declared.viable.Contender.{Contender}

@@ -2,7 +2,7 @@
 
 ghost use Rattle.std.specs.Prelude.{◌≡◌, map, option_map, IfOk};
 ghost use Rattle.std.specs.List.{list_all};
-ghost use Rattle.cxx_model.specs.Better.{beats_if_other as beats_any_other, counter as counter_of};
+ghost use Rattle.cxx_model.specs.Choice.Better.{beats_if_other as beats_any_other, counter as counter_of};
 ghost use Rattle.cxx_model.specs.First.Candidates.{position_of, contender_beats, chosen as chosen_of, tie as tie_of, ties as ties_of};
 ghost use Rattle.cxx_choice.specs.Views.{contender_at};
 

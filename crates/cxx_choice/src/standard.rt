@@ -1,8 +1,8 @@
 //! Standard conversion sequences between arithmetic types, and their order (clause 4, 13.3.3.1.1, 13.3.3.2).
 
 ghost use Rattle.std.specs.Prelude.{◌≡◌, true, false};
-ghost use Rattle.cxx_model.specs.Standard.{row as standard_row, same_base, promotion as standard_promotion, conversion as standard_conversion, second_step as standard_step, standard_sequence as sequence_of, rank_of_step as standard_rank, rank as rank_of_sequence};
-ghost use Rattle.cxx_model.specs.StandardOrder.{compare as order_of, number_of_rank as standard_number, is_proper_subsequence as is_proper, has_better_rank as has_better};
+ghost use Rattle.cxx_model.specs.Choice.Standard.{row as standard_row, same_base, promotion as standard_promotion, conversion as standard_conversion, second_step as standard_step, standard_sequence as sequence_of, rank_of_step as standard_rank, rank as rank_of_sequence};
+ghost use Rattle.cxx_model.specs.Choice.StandardOrder.{compare as order_of, number_of_rank as standard_number, is_proper_subsequence as is_proper, has_better_rank as has_better};
 ghost use Rattle.cxx_choice.specs.Views.{row_of};
 
 use cxx_model::first::ArithmeticSequence;

@@ -2,8 +2,8 @@
 
 ghost use Rattle.std.specs.Prelude.{◌≡◌, ◌≤◌, map, length, option_map, Some, None, if◌then◌else◌, IfOk};
 ghost use Rattle.cxx_model.specs.declared.limits.TheConstants as limits;
-ghost use Rattle.cxx_model.specs.Better.{is_better as is_better_function, is_better_order, is_worse_order};
-ghost use Rattle.cxx_model.specs.StandardOrder.{compare as compare_sequences};
+ghost use Rattle.cxx_model.specs.Choice.Better.{is_better as is_better_function, is_better_order, is_worse_order};
+ghost use Rattle.cxx_model.specs.Choice.StandardOrder.{compare as compare_sequences};
 ghost use Rattle.cxx_model.specs.First.Candidates.{outcome as outcome_of, is_viable as is_viable_candidate, sequences, beats as beats_candidate, contenders as contenders_of, shown as shown_contender, refusal as refusal_of, refusals as refusals_of};
 ghost use Rattle.cxx_choice.specs.Views.{candidate_at, contender_at};
 

@@ -17,12 +17,12 @@ use Rattle.cxx_model.specs.First.Told.{IsChoiceText, IsToldFault, IsUndeclaredFa
 use Rattle.cxx_model.specs.declared.token.Token.{Token}
 use Rattle.cxx_model.specs.declared.token.TokenReason.{TokenReason}
 use Rattle.cxx_model.specs.First.Reading.{reading_of}
-use Rattle.cxx_model.specs.Lexemes.{Lexeme, lexemes}
+use Rattle.cxx_model.specs.Text.Lexemes.{Lexeme, lexemes}
 use Rattle.cxx_model.specs.Outcome.{UnitDue, Writes, Reports, Names, UnitOutcome, Whole, Broken, PastLimit, outcome_of, read_outcome, tokens_outcome, due_of, due_for}
-use Rattle.cxx_model.specs.ReadsBack.{PlainReadsBack}
+use Rattle.cxx_model.specs.Printing.ReadsBack.{PlainReadsBack}
 use Rattle.cxx_model.specs.Stops.{Answer as Reads, Faulty, Limited, token_reason_text}
-use Rattle.cxx_model.specs.Tokens.{Unread, BadAt, PastTokens, tokens_of}
-use Rattle.cxx_model.specs.Reports.{report, limit_report}
+use Rattle.cxx_model.specs.Text.Tokens.{Unread, BadAt, PastTokens, tokens_of}
+use Rattle.cxx_model.specs.Printing.Reports.{report, limit_report}
 use Rattle.cxx_model.proofs.FirstForm.UnitFaults.{IsNameText, token_text, token_name_text}
 use Rattle.cxx_command.specs.declared.answers.Answer.{Answer}
 use Rattle.cxx_command.specs.declared.answers.Answer.TheVariants as answer

@@ -4,7 +4,7 @@ use Rattle.cxx_model.specs.declared.place.Place.{Place}
 use Rattle.cxx_model.specs.declared.stop.Fault.{Fault}
 use Rattle.cxx_model.specs.declared.token.TokenReason.{TokenReason}
 use Rattle.cxx_model.specs.Outcome.{UnitDue, Writes, Reports, Names}
-use Rattle.cxx_model.specs.Reports.{report, limit_report}
+use Rattle.cxx_model.specs.Printing.Reports.{report, limit_report}
 use Rattle.cxx_model.specs.Stops.{token_reason_text}
 use Rattle.cxx_command.specs.declared.answers.Answer.{Answer}
 use Rattle.cxx_command.specs.declared.answers.Answer.TheVariants as answer

@@ -8,11 +8,11 @@ use Rattle.cxx_model.specs.declared.token.Token.{Token}
 use Rattle.cxx_model.specs.First.Bound.{EachCallIsBest}
 use Rattle.cxx_model.specs.First.Plain.{plain}
 use Rattle.cxx_model.specs.First.Told.{IsChoiceText, IsToldFault, IsUndeclaredFault}
-use Rattle.cxx_model.specs.Lexemes.{lexemes}
+use Rattle.cxx_model.specs.Text.Lexemes.{lexemes}
 use Rattle.cxx_model.specs.Outcome.{UnitDue, Writes, Reports, Names, Whole, outcome_of, due_for}
-use Rattle.cxx_model.specs.ReadsBack.{ReadsBack, IsTooLarge}
-use Rattle.cxx_model.specs.Reports.{report, limit_report}
-use Rattle.cxx_model.specs.Tokens.{tokens_of}
+use Rattle.cxx_model.specs.Printing.ReadsBack.{ReadsBack, IsTooLarge}
+use Rattle.cxx_model.specs.Printing.Reports.{report, limit_report}
+use Rattle.cxx_model.specs.Text.Tokens.{tokens_of}
 use Rattle.cxx_command.specs.Streams.{Change, HasFailed, IsUntouched, TookAll, TookPart}
 
 -- no words choose the options: the depth of instances is 64

@@ -1,5 +1,5 @@
 ghost use Rattle.std.specs.Prelude.{◌≡◌};
-ghost use Rattle.cxx_model.specs.Reports.{limit_report};
+ghost use Rattle.cxx_model.specs.Printing.Reports.{limit_report};
 ghost use Rattle.cxx_command.specs.Streams.{change};
 ghost use Rattle.cxx_command.specs.Answers.{DeliversAnswer};
 ghost use Rattle.cxx_command.specs.Run.{IsToldTo};

@@ -1,6 +1,6 @@
 ghost use Rattle.std.specs.Prelude.{◌≡◌, ◌≤◌, [], length, IfOk, codes};
 ghost use Rattle.cxx_model.specs.declared.limits.TheConstants as limits;
-ghost use Rattle.cxx_model.specs.Lexemes.{lexemes};
+ghost use Rattle.cxx_model.specs.Text.Lexemes.{lexemes};
 ghost use Rattle.cxx_model.specs.First.Reading.{reading_of};
 ghost use Rattle.cxx_model.specs.Outcome as spec;
 ghost use Rattle.cxx_command.specs.Answers.{IsUnitAnswer, token_fault};

@@ -6,7 +6,7 @@ use Rattle.cxx_model.specs.declared.first.Declaration.{Declaration}
 use Rattle.cxx_model.specs.declared.first.Declared.TheVariants.{Function, Object}
 use Rattle.cxx_model.specs.declared.first.Reading.{Reading}
 use Rattle.cxx_model.specs.First.Reading.{is_some_base, type_of_kind, begins_type, begins_argument, type_at, argument_by, item_at}
-use Rattle.cxx_model.specs.Lexemes.{Lexeme, kind_of}
+use Rattle.cxx_model.specs.Text.Lexemes.{Lexeme, kind_of}
 use Rattle.cxx_model.specs.Stops.{Reads}
 use Rattle.cxx_model.proofs.FirstForm.Taken.{type_taken, argument_taken, declares_counts, function_taken, object_taken, item_taken}
 

@@ -4,7 +4,7 @@ use Rattle.cxx_model.specs.declared.first.Reading.{Reading}
 use Rattle.cxx_model.specs.declared.stop.LimitKind.TheVariants.{Facts}
 use Rattle.cxx_model.specs.declared.stop.Stop.{Stop}
 use Rattle.cxx_model.specs.declared.stop.Stop.TheVariants as stop
-use Rattle.cxx_model.specs.Lexemes.{Lexeme, kind_of}
+use Rattle.cxx_model.specs.Text.Lexemes.{Lexeme, kind_of}
 use Rattle.cxx_model.specs.Stops.{Answer, Limited, Stops}
 use Rattle.cxx_model.specs.First.Reading.{is_end, item_at, items_at}
 

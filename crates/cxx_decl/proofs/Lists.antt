@@ -6,7 +6,7 @@ use Rattle.cxx_model.specs.declared.stop.LimitKind.TheVariants.{Arguments}
 use Rattle.cxx_model.specs.declared.stop.Stop.{Stop}
 use Rattle.cxx_model.specs.declared.stop.Stop.TheVariants as stop
 use Rattle.cxx_model.specs.declared.token.TokenKind.{TokenKind}
-use Rattle.cxx_model.specs.Lexemes.{Lexeme, kind_of}
+use Rattle.cxx_model.specs.Text.Lexemes.{Lexeme, kind_of}
 use Rattle.cxx_model.specs.Stops.{Reads, Faulty, Limited, ◌>>=◌, Stops}
 use Rattle.cxx_model.specs.First.Reading.{is_punct, behind, put_first, more_at, list_at}
 

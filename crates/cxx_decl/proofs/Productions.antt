@@ -5,7 +5,7 @@ use Rattle.cxx_model.specs.declared.first.Declaration.{Declaration}
 use Rattle.cxx_model.specs.declared.first.Reading.{Reading}
 use Rattle.cxx_model.specs.declared.punct.TheConstants as punct
 use Rattle.cxx_model.specs.declared.stop.LimitKind.TheVariants.{Nesting, Facts}
-use Rattle.cxx_model.specs.Lexemes.{Lexeme}
+use Rattle.cxx_model.specs.Text.Lexemes.{Lexeme}
 use Rattle.cxx_model.specs.Stops.{Answer, Reads, Stopped, Limited, ◌>>=◌}
 use Rattle.cxx_model.specs.First.Reading.{misplaced, cast_at, punct_at, type_at, behind, list_at, begins_argument, argument_by, argument_opened, arguments_opened, initializer_by, initializer_opened, added}
 use Rattle.cxx_decl.specs.Views.{misplaced_fault, cast_opened}

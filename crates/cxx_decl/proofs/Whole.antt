@@ -4,7 +4,7 @@ use Rattle.std.specs.Prelude.{IfOk}
 use Rattle.cxx_model.specs.declared.options.Options.{Options}
 use Rattle.cxx_model.specs.declared.first.Reading.{Reading}
 use Rattle.cxx_model.specs.declared.stop.Stop.{Stop}
-use Rattle.cxx_model.specs.Lexemes.{Lexeme}
+use Rattle.cxx_model.specs.Text.Lexemes.{Lexeme}
 use Rattle.cxx_model.specs.Stops.{Gives}
 use Rattle.cxx_model.specs.First.Reading.{reading_of}
 use Rattle.cxx_model.specs.First.Bound.{EachCallIsBest}

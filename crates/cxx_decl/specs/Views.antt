@@ -3,7 +3,7 @@ use Rattle.std.specs.Prelude.{List, ◌&&◌, not, if◌then◌else◌, Ok}
 use Rattle.cxx_model.specs.declared.base.Base.{Base}
 use Rattle.cxx_model.specs.declared.first.Declaration.{Declaration}
 use Rattle.cxx_model.specs.declared.punct.TheConstants as punct
-use Rattle.cxx_model.specs.Lexemes.{Lexeme, lexemes, kind_of, place_of, spelling_ahead}
+use Rattle.cxx_model.specs.Text.Lexemes.{Lexeme, lexemes, kind_of, place_of, spelling_ahead}
 use Rattle.cxx_model.specs.Stops.{Reads, Stopped, ◌>>=◌, not_built_at, undeclared_at}
 use Rattle.cxx_model.specs.First.Candidates.{is_declared}
 use Rattle.cxx_model.specs.First.Reading.{is_name, is_punct, behind, punct_at, type_at}

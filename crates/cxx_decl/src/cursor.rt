@@ -1,7 +1,7 @@
 //! The tokens that are still to be read, and the readers of single tokens.
 
 ghost use Rattle.std.specs.Prelude.{◌≡◌, ◌-◌, take, drop, IfOk};
-ghost use Rattle.cxx_model.specs.Lexemes.{spelling_in as spelled_in, kind_of, place_of, spelling_ahead};
+ghost use Rattle.cxx_model.specs.Text.Lexemes.{spelling_in as spelled_in, kind_of, place_of, spelling_ahead};
 ghost use Rattle.cxx_model.specs.Stops.{Gives, Faulty, not_built_at};
 ghost use Rattle.cxx_model.specs.First.Reading.{is_punct as is_punctuator, is_keyword as is_key, behind, type_of_keyword as keyword_type, type_of_kind as kind_type, punct_at, type_at, name_at};
 ghost use Rattle.cxx_decl.specs.Views.{left, lexeme};

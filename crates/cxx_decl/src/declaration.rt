@@ -2,7 +2,7 @@
 
 ghost use Rattle.std.specs.Prelude.{◌≡◌, ◌+◌, ◌≤◌, [], length, IfOk, OnOk};
 ghost use Rattle.cxx_model.specs.declared.limits.TheConstants as limits;
-ghost use Rattle.cxx_model.specs.Lexemes.{lexemes};
+ghost use Rattle.cxx_model.specs.Text.Lexemes.{lexemes};
 ghost use Rattle.cxx_model.specs.Stops.{Gives};
 ghost use Rattle.cxx_model.specs.First.Reading.{begins_type as begins_a_type, same_bases as are_same_bases, clashes as is_clash, has_clash as has_a_clash, list_at, type_at, declare as declare_at, function_at, object_at, item_at, items_at, reading_of, is_end as is_end_kind};
 ghost use Rattle.cxx_model.specs.First.Bound.{EachCallIsBest};

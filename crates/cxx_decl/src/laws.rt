@@ -8,7 +8,7 @@ ghost use Rattle.cxx_model.specs.declared.options.Options.{Options};
 ghost use Rattle.cxx_model.specs.declared.first.Reading.{Reading};
 ghost use Rattle.cxx_model.specs.declared.place.Place.{Place};
 ghost use Rattle.cxx_model.specs.declared.stop.Fault.{Fault};
-ghost use Rattle.cxx_model.specs.Lexemes.{Lexeme, kind_of};
+ghost use Rattle.cxx_model.specs.Text.Lexemes.{Lexeme, kind_of};
 ghost use Rattle.cxx_model.specs.Stops.{Reads, Faulty};
 ghost use Rattle.cxx_model.specs.First.Candidates.{Candidate, beats, call_of, types_of};
 ghost use Rattle.cxx_model.specs.First.Reading.{reading_of, item_at, type_at, argument_by, begins_type, begins_argument};

@@ -14,9 +14,9 @@ use Rattle.cxx_model.specs.declared.facts.Fact.{Fact}
 use Rattle.cxx_model.specs.declared.facts.Pattern.{Pattern}
 use Rattle.cxx_model.specs.declared.facts.Specialisation.{Specialisation}
 use Rattle.cxx_model.specs.declared.types.ClassId.{ClassId}
-use Rattle.cxx_model.specs.declared.types.TemplateArgument.{TemplateArgument}
+use Rattle.cxx_model.specs.declared.types.Argument.{Argument}
 use Rattle.cxx_model.specs.declared.types.TemplateId.{TemplateId}
-use Rattle.cxx_model.specs.Graph.{Graph, InRange, AreSameArguments, IsClassInRange, IsPatternInRange, IsReservedAlready, IsReservedFor, IsSpecialisationOf, appended, with_class}
+use Rattle.cxx_model.specs.Facts.Graph.{Graph, InRange, AreSameArguments, IsClassInRange, IsPatternInRange, IsReservedAlready, IsReservedFor, IsSpecialisationOf, appended, with_class}
 use Rattle.cxx_model.proofs.GraphRange.{pattern-in-range, reserved-in-range}
 use Rattle.cxx_graph.specs.Reserved.{IsNew, IsUnknown, KeepsClasses}
 use Rattle.cxx_graph.specs.Stored.{AreClassesApart, IsMarked, IsPlaced, IsStored, classes_of, graph_of, held}
@@ -133,7 +133,7 @@ module _ (facts : List Fact) (entries : List (Specialisation × ClassId)) (place
       by (Some class) e = absurd (new class.0 (found of class e))
 
   -- a specialisation has no two classes
-  pub one-class : (template : TemplateId) (given : List TemplateArgument) (m n : ℕ) → IsSpecialisationOf (graph_of facts entries places patterns) template given m → IsSpecialisationOf (graph_of facts entries places patterns) template given n → m ≡ n
+  pub one-class : (template : TemplateId) (given : List Argument) (m n : ℕ) → IsSpecialisationOf (graph_of facts entries places patterns) template given m → IsSpecialisationOf (graph_of facts entries places patterns) template given n → m ≡ n
   one-class template given m n p q = stored.apart m n p.of q.of p.stored q.stored (p.template_is ∙ sym q.template_is) (λ types. p.arguments_are types ∙ sym (q.arguments_are types))
 
 -- ---- one more of each
@@ -174,7 +174,7 @@ module _ (facts : List Fact) (entries : List (Specialisation × ClassId)) (place
     in_range = range;
   }
 
-  pub stored-pattern : (pattern : Pattern) → length patterns < length facts → IsPatternInRange before pattern → IsStored facts entries places completed (patterns ++ pattern ∷ [])
+  pub stored-pattern : (pattern : Pattern) → length patterns < length facts → IsPatternInRange before (length patterns) pattern → IsStored facts entries places completed (patterns ++ pattern ∷ [])
   stored-pattern pattern fewer range = record {
     counted = stored.counted;
     marked = stored.marked;
@@ -303,19 +303,19 @@ module _ (facts : List Fact) (entries : List (Specialisation × ClassId)) (place
 
 -- ---- a specialisation by a copy of its arguments
 
-pub special-for : (graph : Graph) (template : TemplateId) (one two : List TemplateArgument) (n : ℕ) → AreSameArguments one two → IsSpecialisationOf graph template one n → IsSpecialisationOf graph template two n
+pub special-for : (graph : Graph) (template : TemplateId) (one two : List Argument) (n : ℕ) → AreSameArguments one two → IsSpecialisationOf graph template one n → IsSpecialisationOf graph template two n
 special-for graph template one two n same h = record { of = h.of; stored = h.stored; template_is = h.template_is; arguments_are = λ types. h.arguments_are types ∙ same types }
 
-pub already-for : (graph : Graph) (whole : Option TemplateId) (template : TemplateId) (copy given : List TemplateArgument) (n : ℕ) → whole ≡ Some template → AreSameArguments copy given → IsSpecialisationOf graph template copy n → IsReservedAlready graph whole given n
+pub already-for : (graph : Graph) (whole : Option TemplateId) (template : TemplateId) (copy given : List Argument) (n : ℕ) → whole ≡ Some template → AreSameArguments copy given → IsSpecialisationOf graph template copy n → IsReservedAlready graph whole given n
 already-for graph whole template copy given n is same h =
     subst (λ (t : Option TemplateId). IsReservedAlready graph t given n) (sym is) (special-for graph template copy given n same h)
 
-pub unknown-for : (graph : Graph) (whole : Option TemplateId) (template : TemplateId) (copy given : List TemplateArgument) → whole ≡ Some template → AreSameArguments copy given → IsUnknown graph (Some template) copy → IsUnknown graph whole given
+pub unknown-for : (graph : Graph) (whole : Option TemplateId) (template : TemplateId) (copy given : List Argument) → whole ≡ Some template → AreSameArguments copy given → IsUnknown graph (Some template) copy → IsUnknown graph whole given
 unknown-for graph whole template copy given is same new n h =
     let there : IsSpecialisationOf graph template given n = subst (λ (t : Option TemplateId). IsReservedAlready graph t given n) is h in
     new n (special-for graph template given copy n (λ types. sym (same types)) there)
 
-pub reserved-for : {E : Type 0} (old new : Graph) (whole : Option TemplateId) (of : Specialisation) (given : List TemplateArgument) (answer : Result ClassId E) → whole ≡ Some of.template → AreSameArguments of.arguments given → IfOk answer (λ class. class.0 ≡ length old.classes) → OnOk answer (new ≡ with_class old (Some of)) → IfOk answer (λ class. IsReservedFor new whole given class.0)
+pub reserved-for : {E : Type 0} (old new : Graph) (whole : Option TemplateId) (of : Specialisation) (given : List Argument) (answer : Result ClassId E) → whole ≡ Some of.template → AreSameArguments of.arguments given → IfOk answer (λ class. class.0 ≡ length old.classes) → OnOk answer (new ≡ with_class old (Some of)) → IfOk answer (λ class. IsReservedFor new whole given class.0)
 reserved-for old new whole of given (Ok class) is same number added =
     subst (λ (t : Option TemplateId). IsReservedFor new t given class.0) (sym is) (record {
       of = of;

@@ -8,12 +8,13 @@ use Rattle.cxx_model.specs.declared.facts.Access.{Access}
 use Rattle.cxx_model.specs.declared.facts.Entity.{Entity}
 use Rattle.cxx_model.specs.declared.facts.Entity.TheVariants as entity
 use Rattle.cxx_model.specs.declared.facts.Fact.{Fact}
+use Rattle.cxx_model.specs.declared.facts.Name.{Name}
 use Rattle.cxx_model.specs.declared.facts.Pattern.{Pattern}
 use Rattle.cxx_model.specs.declared.facts.Specialisation.{Specialisation}
 use Rattle.cxx_model.specs.declared.place.Place.{Place}
 use Rattle.cxx_model.specs.declared.types.ClassId.{ClassId}
 use Rattle.cxx_model.specs.declared.types.ScopeId.{ScopeId}
-use Rattle.cxx_model.specs.Graph.{Graph, InRange, IsEntityInRange, EachMayFollow, MayFollow, appended, completes, is_complete}
+use Rattle.cxx_model.specs.Facts.Graph.{Graph, InRange, IsEntityInRange, EachMayFollow, MayFollow, appended, completes, is_complete}
 use Rattle.cxx_model.proofs.GraphRange.{may-follow}
 use Rattle.cxx_graph.specs.Ended.{ended}
 use Rattle.cxx_graph.specs.Stored.{IsMarked}
@@ -22,21 +23,21 @@ complete-more : (facts : List Fact) (fact : Fact) (n : ℕ) → is_complete (fac
 complete-more [] fact n = or-false (completes n fact)
 complete-more (x ∷ xs) fact n = ap (λ b. completes n x || b) (complete-more xs fact n) ∙ sym (or_assoc (completes n x) (is_complete xs n) (completes n fact))
 
-none-completed : (place : Place) (scope : ScopeId) (word : List ℕ) (access : Access) (what : Entity) (n : ℕ) → ended what ≡ None → completes n (record { place = place; scope = scope; word = word; access = access; what = what }) ≡ false
-none-completed place scope word access (entity.Complete class) n e = cc
-none-completed place scope word access _ n e = refl
+none-completed : (place : Place) (scope : ScopeId) (name : Name) (access : Access) (what : Entity) (n : ℕ) → ended what ≡ None → completes n (record { place = place; scope = scope; name = name; access = access; what = what }) ≡ false
+none-completed place scope name access (entity.Complete class) n e = cc
+none-completed place scope name access _ n e = refl
 
 pub marked-same : (facts : List Fact) (fact : Fact) (marks : List Bool) → ended fact.what ≡ None → IsMarked facts marks → IsMarked (facts ++ fact ∷ []) marks
 marked-same facts fact marks none so n mark is =
-    let other : completes n fact ≡ false = none-completed fact.place fact.scope fact.word fact.access fact.what n none in
+    let other : completes n fact ≡ false = none-completed fact.place fact.scope fact.name fact.access fact.what n none in
     so n mark is ∙ sym (or-false (is_complete facts n)) ∙ ap (λ b. is_complete facts n || b) (sym other) ∙ sym (complete-more facts fact n)
 
 ended-complete : (what : Entity) (class : ClassId) → ended what ≡ Some class → what ≡ entity.Complete class
 ended-complete (entity.Complete c) class e = let same : c ≡ class = cc in ap entity.Complete same
 ended-complete _ class e = cc
 
-completed-by : (place : Place) (scope : ScopeId) (word : List ℕ) (access : Access) (what : Entity) (class : ClassId) (n : ℕ) → what ≡ entity.Complete class → completes n (record { place = place; scope = scope; word = word; access = access; what = what }) ≡ nat_eq class.0 n
-completed-by place scope word access what class n e = ap (λ (x : Entity). completes n (record { place = place; scope = scope; word = word; access = access; what = x })) e
+completed-by : (place : Place) (scope : ScopeId) (name : Name) (access : Access) (what : Entity) (class : ClassId) (n : ℕ) → what ≡ entity.Complete class → completes n (record { place = place; scope = scope; name = name; access = access; what = what }) ≡ nat_eq class.0 n
+completed-by place scope name access what class n e = ap (λ (x : Entity). completes n (record { place = place; scope = scope; name = name; access = access; what = x })) e
 
 get-set : (marks : List Bool) (c n : ℕ) (v mark : Bool) → slice_get (set marks c v) n ≡ Some mark → ((c ≡ n) × (mark ≡ v)) ⊎ ((c ≡ n → ⊥) × (slice_get marks n ≡ Some mark))
 get-set [] c n v mark e = cc
@@ -53,7 +54,7 @@ pub marked-ended : (facts : List Fact) (fact : Fact) (marks : List Bool) (class 
 marked-ended facts fact marks class some so n mark is = by (get-set marks class.0 n true mark is)
   where
     here : completes n fact ≡ nat_eq class.0 n
-    here = completed-by fact.place fact.scope fact.word fact.access fact.what class n (ended-complete fact.what class some)
+    here = completed-by fact.place fact.scope fact.name fact.access fact.what class n (ended-complete fact.what class some)
 
     by : ((class.0 ≡ n) × (mark ≡ true)) ⊎ ((class.0 ≡ n → ⊥) × (slice_get marks n ≡ Some mark)) → mark ≡ is_complete (facts ++ fact ∷ []) n
     by (inl p) = p.1 ∙ sym (or-true (is_complete facts n)) ∙ ap (λ b. is_complete facts n || b) (sym (here ∙ eq-eqb class.0 n p.0)) ∙ sym (complete-more facts fact n)
@@ -75,11 +76,11 @@ ends-none : (graph : Graph) (before : List Fact) (fact : Fact) (n : ℕ) → May
 ends-none graph before fact n ok past = by (ended fact.what) refl
   where
     by : (end : Option ClassId) → ended fact.what ≡ end → completes n fact ≡ false
-    by None e = none-completed fact.place fact.scope fact.word fact.access fact.what n e
+    by None e = none-completed fact.place fact.scope fact.name fact.access fact.what n e
     by (Some class) e =
         let is : fact.what ≡ entity.Complete class = ended-complete fact.what class e in
         let reserved : class.0 < length graph.classes = named before graph.classes graph.patterns fact class ok is in
-        completed-by fact.place fact.scope fact.word fact.access fact.what class n is ∙ other class.0 (omega arith)
+        completed-by fact.place fact.scope fact.name fact.access fact.what class n is ∙ other class.0 (omega arith)
       where
         other : (m : ℕ) → m < n → nat_eq m n ≡ false
         other m less = apart (nat_eq m n) refl

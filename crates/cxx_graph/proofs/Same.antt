@@ -6,13 +6,13 @@ use Rattle.std.proofs.lemmas.Bool.{eqb-true, eq-eqb}
 use Rattle.cxx_model.specs.declared.base.Base.TheVariants.{Void}
 use Rattle.cxx_model.specs.declared.facts.Specialisation.{Specialisation}
 use Rattle.cxx_model.specs.declared.types.Formula.{Formula, Value, Parameter, Member, SizeOf, Cast', Unary', Binary', Conditional'}
-use Rattle.cxx_model.specs.declared.types.TemplateArgument.{TemplateArgument}
-use Rattle.cxx_model.specs.declared.types.TemplateArgument.TheVariants as argument
+use Rattle.cxx_model.specs.declared.types.Argument.{Argument}
+use Rattle.cxx_model.specs.declared.types.Argument.TheVariants as argument
 use Rattle.cxx_model.specs.declared.types.TemplateId.{TemplateId}
 use Rattle.cxx_model.specs.contracts.facts.SpecialisationPartialEq.TheImpl as specialisation_test
-use Rattle.cxx_model.specs.Types.{CxxType, fundamental, pointer_to}
-use Rattle.cxx_model.specs.TypeTrees.{AreApart, type_at, IsFormulaBelow, IsArgumentBelow, AreArgumentsBelow}
-use Rattle.cxx_model.specs.Graph.{AreSameArguments}
+use Rattle.cxx_model.specs.Types.Trees.{CxxType, fundamental, pointer_to}
+use Rattle.cxx_model.specs.Types.Numbers.{AreApart, type_at, IsFormulaBelow, IsArgumentBelow, AreArgumentsBelow}
+use Rattle.cxx_model.specs.Facts.Graph.{AreSameArguments}
 use Rattle.cxx_model.proofs.Equal.{same_argument, arguments_from, arguments_to}
 use Rattle.cxx_model.proofs.TypeTrees.{formula_later, argument_later, arguments_later}
 
@@ -73,12 +73,12 @@ formula-below (Conditional' p f q g r h) =
     let d : (n : ℕ) × IsFormulaBelow n h = formula-below h in
     (b.0 + c.0 + d.0, (formula_later b.0 _ f (omega arith) b.1, formula_later c.0 _ g (omega arith) c.1, formula_later d.0 _ h (omega arith) d.1))
 
-argument-below : (a : TemplateArgument) → (n : ℕ) × IsArgumentBelow n a
+argument-below : (a : Argument) → (n : ℕ) × IsArgumentBelow n a
 argument-below (argument.OfType of) = (suc of.0, omega arith)
 argument-below (argument.Value value of) = (suc of.0, omega arith)
 argument-below (argument.Computed f) = formula-below f.value
 
-arguments-below : (given : List TemplateArgument) → (n : ℕ) × AreArgumentsBelow n given
+arguments-below : (given : List Argument) → (n : ℕ) × AreArgumentsBelow n given
 arguments-below [] = (0, tt)
 arguments-below (a ∷ others) =
     let b : (n : ℕ) × IsArgumentBelow n a = argument-below a in
@@ -87,10 +87,10 @@ arguments-below (a ∷ others) =
 
 -- ---- the test
 
-pub arguments-same : (one two : List TemplateArgument) → pointwise same_argument one two ≡ true → AreSameArguments one two
+pub arguments-same : (one two : List Argument) → pointwise same_argument one two ≡ true → AreSameArguments one two
 arguments-same one two e types = arguments_from types one two e
 
-pub same-arguments : (one two : List TemplateArgument) → AreSameArguments one two → pointwise same_argument one two ≡ true
+pub same-arguments : (one two : List Argument) → AreSameArguments one two → pointwise same_argument one two ≡ true
 same-arguments one two same =
     let b : (n : ℕ) × AreArgumentsBelow n one = arguments-below one in
     let c : (n : ℕ) × AreArgumentsBelow n two = arguments-below two in

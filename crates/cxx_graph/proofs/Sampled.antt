@@ -3,7 +3,7 @@ use Rattle.std.specs.Prelude.{ℕ, ◌≡◌, ◌<◌, ◌≤◌, ◌+◌, Bool,
 use Rattle.std.proofs.Common.{ap, ◌∙◌, arith}
 use Rattle.cxx_model.specs.declared.facts.Entity.{Entity}
 use Rattle.cxx_model.specs.declared.facts.Fact.{Fact}
-use Rattle.cxx_model.specs.Graph.{Graph, InRange, IsEntityInRange, MayFollow, appended, count, counted, scopes}
+use Rattle.cxx_model.specs.Facts.Graph.{Graph, InRange, IsEntityInRange, MayFollow, appended, count, counted, scopes}
 use Rattle.cxx_model.proofs.GraphRange.{appended-in-range}
 
 follows : (graph : Graph) (facts : List Fact) (fact : Fact) → fact.scope.0 < scopes facts → IsEntityInRange (record graph { facts = facts }) fact fact.what → MayFollow (record graph { facts = facts }) fact

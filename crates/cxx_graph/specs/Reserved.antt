@@ -2,12 +2,12 @@
 use Rattle.std.specs.Prelude.{ℕ, ◌≡◌, ◌<◌, ◌≤◌, List, length, Option, Some, None}
 use Rattle.std.specs.List.{slice_get}
 use Rattle.cxx_model.specs.declared.facts.Specialisation.{Specialisation}
-use Rattle.cxx_model.specs.declared.types.TemplateArgument.{TemplateArgument}
+use Rattle.cxx_model.specs.declared.types.Argument.{Argument}
 use Rattle.cxx_model.specs.declared.types.TemplateId.{TemplateId}
-use Rattle.cxx_model.specs.Graph.{Graph, IsReservedAlready}
+use Rattle.cxx_model.specs.Facts.Graph.{Graph, IsReservedAlready}
 
 -- no class was reserved for the template and the arguments
-abbrev pub IsUnknown : Graph → Option TemplateId → List TemplateArgument → Type 0
+abbrev pub IsUnknown : Graph → Option TemplateId → List Argument → Type 0
 IsUnknown graph template arguments = (n : ℕ) → IsReservedAlready graph template arguments n → ⊥
 
 -- what a new class is for has no class

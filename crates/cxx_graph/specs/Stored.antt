@@ -6,7 +6,7 @@ use Rattle.cxx_model.specs.declared.facts.Fact.{Fact}
 use Rattle.cxx_model.specs.declared.facts.Pattern.{Pattern}
 use Rattle.cxx_model.specs.declared.facts.Specialisation.{Specialisation}
 use Rattle.cxx_model.specs.declared.types.ClassId.{ClassId}
-use Rattle.cxx_model.specs.Graph.{Graph, InRange, AreSameArguments, is_complete}
+use Rattle.cxx_model.specs.Facts.Graph.{Graph, InRange, AreSameArguments, is_complete}
 
 -- for each reserved class, whether its end was read
 abbrev pub IsMarked : List Fact → List Bool → Type 0

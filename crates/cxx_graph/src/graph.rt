@@ -1,13 +1,13 @@
 ghost use Rattle.std.specs.Prelude.{◌≡◌, ◌<◌, ◌+◌, ◌++◌, ◌⊎◌, [], ◌∷◌, length, None, Some, Err, ℕ, false, IsTrue, ◌↔◌, IfErr, IfNone, IfOk, IfSome, OnErr, OnOk};
 ghost use Rattle.std.specs.List.{slice_get};
 ghost use Rattle.std.specs.Option.{option_copied};
-ghost use Rattle.cxx_model.specs.Graph.{InRange, IsClassInRange, IsOneClassMore, IsPatternInRange, IsReservedAlready, IsReservedFor, IsSpecialisationOf, IsTemplateInRange, appended, is_complete, with_class, with_pattern};
+ghost use Rattle.cxx_model.specs.Facts.Graph.{InRange, IsClassInRange, IsOneClassMore, IsPatternInRange, IsReservedAlready, IsReservedFor, IsSpecialisationOf, IsTemplateInRange, appended, is_complete, with_class, with_pattern};
 ghost use Rattle.cxx_graph.specs.Ended.{ended};
 ghost use Rattle.cxx_graph.specs.Reserved.{IsNew, IsUnknown, KeepsClasses};
 
 use cxx_model::{
     ClassId, Entity, Fact, FactId, OutOfMemory, Pattern, Specialisation, Steps,
-    TemplateArgumentList, TemplateId, copy_arguments,
+    ArgumentList, TemplateId, copy_arguments,
 };
 use indexmap::IndexMap;
 use std::alloc::{AllocError, AllocFailed, Global};
@@ -74,7 +74,7 @@ pub struct Graph {
 
 impl Model for Graph {
     ghost use Rattle.std.specs.Coded.{codes};
-    ghost use Rattle.cxx_model.specs.Graph as definition;
+    ghost use Rattle.cxx_model.specs.Facts.Graph as definition;
     ghost use Rattle.cxx_model.specs.contracts.types.Formula as formula;
     ghost use Rattle.cxx_model.specs.contracts.types.TypeTree as tree;
 
@@ -156,7 +156,7 @@ impl Graph {
     pub fn reserve_class(
         &mut self,
         template: Option<TemplateId>,
-        arguments: &TemplateArgumentList,
+        arguments: &ArgumentList,
     ) -> Result<ClassId, AddFault>
         requires { IsTemplateInRange self.old template }
         ensures is { IfOk result (λ class. IsReservedFor self.new template arguments.now class.0) }
@@ -218,7 +218,7 @@ impl Graph {
     /// An `Err` changes nothing.
     pub fn add_template(&mut self, pattern: Pattern) -> Result<TemplateId, OutOfMemory>
         requires fewer { length self.old.patterns < length self.old.facts }
-        requires range { IsPatternInRange self.old pattern }
+        requires range { IsPatternInRange self.old (length self.old.patterns) pattern }
         ensures number { IfOk result (λ number. number.0 ≡ length self.old.patterns) }
         ensures added { OnOk result (self.new ≡ with_pattern self.old pattern) }
         ensures unchanged { OnErr result (self.new ≡ self.old) }

@@ -3,17 +3,17 @@ ghost use Rattle.std.specs.Prelude.{◌≡◌, ◌<◌, ◌≤◌, ◌+◌, ℕ,
 ghost use Rattle.cxx_model.specs.declared.facts.Fact.{Fact};
 ghost use Rattle.cxx_model.specs.declared.facts.Pattern.{Pattern};
 ghost use Rattle.cxx_model.specs.declared.facts.Specialisation.{Specialisation};
-ghost use Rattle.cxx_model.specs.declared.types.TemplateArgument.{TemplateArgument as Argument};
+ghost use Rattle.cxx_model.specs.declared.types.Argument.{Argument as Argument};
 ghost use Rattle.cxx_model.specs.declared.types.TemplateId.{TemplateId as Template};
-ghost use Rattle.cxx_model.specs.Conflicts.{first_conflict, IsFirstConflict, IsFree};
-ghost use Rattle.cxx_model.specs.Facts.{CxxFact, CxxGraph, graph_at};
-ghost use Rattle.cxx_model.specs.Fitted.{Fitted, IsClassBelow, IsFactBelow, IsGraphBelow, IsPatternBelow, IsTypeInRange};
-ghost use Rattle.cxx_model.specs.Types.{CxxType};
-ghost use Rattle.cxx_model.specs.TypeTrees.{type_at, Keeps};
-ghost use Rattle.cxx_model.specs.Graph.{Graph as Facts, AreSameArguments, InRange, IsClassInRange, IsPatternInRange, IsSpecialisationOf, MayFollow, appended, with_class, with_pattern};
+ghost use Rattle.cxx_model.specs.Facts.Conflicts.{first_conflict, IsFirstConflict, IsFree};
+ghost use Rattle.cxx_model.specs.Facts.Declarations.{CxxFact, CxxGraph, graph_at};
+ghost use Rattle.cxx_model.specs.Facts.Fitted.{Fitted, IsClassBelow, IsFactBelow, IsGraphBelow, IsPatternBelow};
+ghost use Rattle.cxx_model.specs.Types.Trees.{CxxType};
+ghost use Rattle.cxx_model.specs.Types.Numbers.{type_at, Keeps};
+ghost use Rattle.cxx_model.specs.Facts.Graph.{Graph as Facts, AreSameArguments, InRange, IsClassInRange, IsPatternInRange, IsTypeInRange, IsSpecialisationOf, MayFollow, appended, with_class, with_pattern};
 
 use crate::graph::{AddFault, Graph};
-use cxx_model::{TemplateArgumentList, TemplateId};
+use cxx_model::{ArgumentList, TemplateId};
 
 /// A graph in range stays in range with a fact that may follow it, and such a fact alone keeps it so.
 pub fn appending()
@@ -28,7 +28,7 @@ pub fn reserving()
 
 /// A graph in range stays in range with one more template, where what it names is there.
 pub fn adding_a_template()
-    ensures { (graph : Facts) (pattern : Pattern) → InRange graph → length graph.patterns < length graph.facts → IsPatternInRange graph pattern → InRange (with_pattern graph pattern) }
+    ensures { (graph : Facts) (pattern : Pattern) → InRange graph → length graph.patterns < length graph.facts → IsPatternInRange graph (length graph.patterns) pattern → InRange (with_pattern graph pattern) }
 {}
 
 /// A graph and a table of types stay fitted while both grow: by what names types of the table, and by types of what is in
@@ -61,7 +61,7 @@ pub fn reserved_apart()
 pub fn reserved_twice(
     graph: &mut Graph,
     template: TemplateId,
-    arguments: &TemplateArgumentList,
+    arguments: &ArgumentList,
 ) -> Result<bool, AddFault>
     requires { template.0 < length graph.old.patterns }
     ensures same { IfOk result IsTrue }

@@ -1,13 +1,13 @@
 ghost use Rattle.std.specs.Prelude.{◌≡◌, ◌<◌, ◌≤◌, ◌+◌, [], length, Some, IfOk, OnOk};
 ghost use Rattle.std.specs.List.{slice_get};
-ghost use Rattle.cxx_model.specs.Graph.{IsEntityInRange, scopes};
+ghost use Rattle.cxx_model.specs.Facts.Graph.{IsEntityInRange, scopes};
 ghost use Rattle.cxx_graph.specs.Reserved.{KeepsClasses};
 ghost use Rattle.cxx_graph.specs.Sample.{sample};
 
 use crate::graph::{AddFault, Graph};
 use cxx_model::{
-    Access, ClassId, Entity, Fact, FactId, Formula, Listed, MemberKind, OutOfMemory, Pattern,
-    Place, ScopeId, ScopeKind, Steps, TemplateArgument, TemplateArgumentList, TemplateId, TreeId,
+    Access, ClassId, Entity, Fact, FactId, Formula, Listed, MemberKind, Name, OutOfMemory, Pattern,
+    Place, ScopeId, ScopeKind, Steps, Argument, ArgumentList, TemplateId, TreeId,
     TypeId,
 };
 use std::alloc::Global;
@@ -22,7 +22,7 @@ fn fact(alloc: Global, scope: ScopeId, what: Entity) -> Fact
     Fact {
         place: Place { line: 1, column: 1 },
         scope,
-        word: Listed::new(alloc),
+        name: Name::Unnamed,
         access: Access::Public,
         what,
     }
@@ -119,6 +119,7 @@ fn class_in_a_circle(rt: HostRuntime) -> Result<(), Fail> {
     let member = Entity::Object {
         of: TypeId(0),
         member: MemberKind::Nonstatic,
+        is_mutable: false,
         value: None,
         first: None,
     };
@@ -191,7 +192,7 @@ fn special(
     graph: &mut Graph,
     alloc: Global,
     template: TemplateId,
-    argument: TemplateArgument,
+    argument: Argument,
 ) -> Result<ClassId, AddFault>
     requires { template.0 < length graph.old.patterns }
     ensures reserved { IfOk result (λ class. class.0 < length graph.new.classes) }
@@ -205,17 +206,17 @@ fn special(
 }
 
 // Seven arguments, no two of which are the same.
-fn argument(alloc: Global, number: u32) -> Result<TemplateArgument, OutOfMemory> {
+fn argument(alloc: Global, number: u32) -> Result<Argument, OutOfMemory> {
     let formula = match number {
-        0 => return Ok(TemplateArgument::OfType(TypeId(3))),
-        1 => return Ok(TemplateArgument::Value(3, TypeId(2))),
-        2 => return Ok(TemplateArgument::Value(4, TypeId(2))),
-        3 => return Ok(TemplateArgument::Value(3, TypeId(3))),
+        0 => return Ok(Argument::OfType(TypeId(3))),
+        1 => return Ok(Argument::Value(3, TypeId(2))),
+        2 => return Ok(Argument::Value(4, TypeId(2))),
+        3 => return Ok(Argument::Value(3, TypeId(3))),
         4 => Formula::Parameter(0, 0),
         5 => Formula::Parameter(0, 1),
         _ => Formula::Value(3, TypeId(2)),
     };
-    Ok(TemplateArgument::Computed(Box::new(alloc, formula)?))
+    Ok(Argument::Computed(Box::new(alloc, formula)?))
 }
 
 // 14.4: arguments that differ make another class, and the same arguments the same one.
@@ -243,20 +244,20 @@ fn specialisation_of_a_specialisation(rt: HostRuntime) -> Result<(), Fail> {
         &mut graph,
         alloc,
         template,
-        TemplateArgument::OfType(TypeId(0)),
+        Argument::OfType(TypeId(0)),
     )?;
     assert!(rt; inner == ClassId(1));
     let outer = special(
         &mut graph,
         alloc,
         template,
-        TemplateArgument::OfType(TypeId(1)),
+        Argument::OfType(TypeId(1)),
     )?;
     assert!(rt; outer == ClassId(2));
     assert!(rt; graph.specialisation(plain).is_none());
     match graph.specialisation(outer) {
         Some(of) => {
-            let given = [TemplateArgument::OfType(TypeId(1))];
+            let given = [Argument::OfType(TypeId(1))];
             assert!(rt; of.template == TemplateId(0));
             assert!(rt; of.arguments.as_slice() == given.as_slice());
         }

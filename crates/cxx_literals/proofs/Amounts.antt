@@ -4,7 +4,7 @@ use Rattle.std.proofs.lemmas.Bool.{cases_lt, lt-leb}
 use Rattle.std.proofs.Math.Nat.{mul-le-mul, mul-le-mul_left}
 use Rattle.cxx_model.specs.declared.base.Base.{Base}
 use Rattle.cxx_model.specs.declared.base.Base.TheVariants.{Int, Unsigned, Long, UnsignedLong, Bool as BoolType, Char, WideChar, SignedChar, UnsignedChar, Short, UnsignedShort, Float, Double, LongDouble, Void}
-use Rattle.cxx_model.specs.Spelling.{Spelled, type_of_parts, integer_by, number_by, number_kind, is_floating, digit_value, value_after, IntegerParts, with_suffix, is_u, is_l, integer_parts, integer_type, integer_types, first_holding, most_of}
+use Rattle.cxx_model.specs.Text.Spelling.{Spelled, type_of_parts, integer_by, number_by, number_kind, is_floating, digit_value, value_after, IntegerParts, with_suffix, is_u, is_l, integer_parts, integer_type, integer_types, first_holding, most_of}
 use Rattle.cxx_literals.specs.Integers.{capped_parts, capped_option}
 
 pub value_after_push : (base n : ℕ) (text : List ℕ) (b : ℕ) → value_after base n (text ++ b ∷ []) ≡ base * value_after base n text + digit_value b

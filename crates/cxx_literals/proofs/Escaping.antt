@@ -7,7 +7,7 @@ use Rattle.std.specs.List.{list_any, prefix_len}
 use Rattle.std.specs.Char.{is_ascii_hexdigit}
 use Rattle.cxx_model.specs.declared.token.TokenReason.TheVariants as reason
 use Rattle.cxx_model.specs.declared.token.TokenKind.TheVariants.{Character}
-use Rattle.cxx_model.specs.Spelling.{Good, Ill, Letter, Value, Unknown, Universal, Escape, escape, escape_by, simple_escape, octal_escape, hexadecimal_escape, universal_escape, put_letter, letters, is_octal, most_value, is_bad_letter, is_universal_letter, character_by}
+use Rattle.cxx_model.specs.Text.Spelling.{Good, Ill, Letter, Value, Unknown, Universal, Escape, escape, escape_by, simple_escape, octal_escape, hexadecimal_escape, universal_escape, put_letter, letters, is_octal, most_value, is_bad_letter, is_universal_letter, character_by}
 use Rattle.cxx_literals.specs.Escapes.{letter_at, capped_letter}
 
 -- ---- what an escape spells

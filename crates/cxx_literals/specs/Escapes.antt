@@ -1,7 +1,7 @@
 -- The characters of a literal, of which a great value counts as one that no type holds.
 use Rattle.std.specs.Prelude.{ℕ, suc, ◌^◌, ◌==◌, min, if◌then◌else◌, List, [], ◌∷◌}
-use Rattle.cxx_model.specs.Spelling as spec
-use Rattle.cxx_model.specs.Spelling.{Escape, escape}
+use Rattle.cxx_model.specs.Text.Spelling as spec
+use Rattle.cxx_model.specs.Text.Spelling.{Escape, escape}
 use Rattle.cxx_literals.specs.declared.letters.Letter.{Letter}
 use Rattle.cxx_literals.specs.declared.letters.Letter.TheVariants.{Value, Unknown, Universal}
 use Rattle.cxx_literals.specs.declared.letters.Found.{Found}

@@ -1,7 +1,7 @@
 -- The parts of an integer literal, of which a great value counts as one that no type holds.
 use Rattle.std.specs.Prelude.{ℕ, Bool, false, ◌^◌, min, List, [], ◌∷◌, if◌then◌else◌, Option, Some, None}
 use Rattle.std.specs.Char.{is_ascii_digit, is_ascii_hexdigit}
-use Rattle.cxx_model.specs.Spelling.{IntegerParts, is_octal, is_x, begins_with_hex, with_digits}
+use Rattle.cxx_model.specs.Text.Spelling.{IntegerParts, is_octal, is_x, begins_with_hex, with_digits}
 use Rattle.cxx_literals.specs.declared.integers.IntegerParts as code
 use Rattle.cxx_literals.specs.declared.integers.Radix.{Radix}
 use Rattle.cxx_literals.specs.declared.integers.Radix.TheVariants.{Decimal, Octal, Hexadecimal}

@@ -1,5 +1,5 @@
 ghost use Rattle.std.specs.Prelude.{◌≡◌};
-ghost use Rattle.cxx_model.specs.Spelling as spec;
+ghost use Rattle.cxx_model.specs.Text.Spelling as spec;
 
 /// `+` and `-`.
 pub fn is_sign(b: u8) -> bool

@@ -1,7 +1,7 @@
 //! Floating literals (2.13.3), which the profile leaves out.
 
 ghost use Rattle.std.specs.Prelude.{◌≡◌};
-ghost use Rattle.cxx_model.specs.Spelling as spec;
+ghost use Rattle.cxx_model.specs.Text.Spelling as spec;
 ghost use Rattle.cxx_literals.specs.Floats.{is_fraction};
 
 use crate::bytes::{is_exponent, is_l, is_sign};

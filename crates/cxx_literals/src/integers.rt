@@ -2,7 +2,7 @@
 
 ghost use Rattle.std.specs.Prelude.{◌≡◌, ◌≤◌, length, true, false, [], ◌∷◌};
 ghost use Rattle.std.specs.List.{prefix_len};
-ghost use Rattle.cxx_model.specs.Spelling as spec;
+ghost use Rattle.cxx_model.specs.Text.Spelling as spec;
 ghost use Rattle.cxx_literals.specs.Integers.{parts_option, parts_of, capped_option, base_of, test_of, hexadecimal_parts, zero_parts};
 
 use crate::bytes::{is_l, is_u, is_x};

@@ -1,7 +1,7 @@
 //! The values of digits.
 
 ghost use Rattle.std.specs.Prelude.{◌≡◌, ◌≤◌, ◌<◌, ◌+◌, ◌*◌, ◌^◌, min};
-ghost use Rattle.cxx_model.specs.Spelling as spec;
+ghost use Rattle.cxx_model.specs.Text.Spelling as spec;
 
 use crate::bytes::digit_value;
 

@@ -1,1 +1,3 @@
+-- What names, conversions and operators mean, a folder for each layer.
+pub mod Lookups
 pub mod Conversions

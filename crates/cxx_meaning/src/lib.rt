@@ -1,5 +1,8 @@
-//! What the declarations of a unit mean. The definitions in `specs/` say it; beside them stand the plain types that
-//! they and the code above share.
+//! What names, conversions and operators mean: the definitions, in `specs/`, and plain types that they share with the
+//! code above.
+//!
+//! They speak of a graph of declarations with types as trees, and of nothing of the code. The crates above are proved
+//! equal to them.
 #![tactic(auto)]
 
 mod steps;

@@ -6,9 +6,9 @@ use Rattle.cxx_model.specs.declared.base.Base.{Base}
 use Rattle.cxx_model.specs.declared.sequence.Order.{Order}
 use Rattle.cxx_model.specs.declared.sequence.Order.TheVariants.{Better, Worse, Same}
 use Rattle.cxx_model.specs.declared.first.ArithmeticSequence.{ArithmeticSequence}
-use Rattle.cxx_model.specs.Better.{is_better_order, is_worse_order, compared, is_better}
-use Rattle.cxx_model.specs.Standard.{steps, rank}
-use Rattle.cxx_model.specs.StandardOrder.{number_of_rank, is_subsequence, order_by, else_by, is_proper_subsequence, has_better_rank, compare}
+use Rattle.cxx_model.specs.Choice.Better.{is_better_order, is_worse_order, compared, is_better}
+use Rattle.cxx_model.specs.Choice.Standard.{steps, rank}
+use Rattle.cxx_model.specs.Choice.StandardOrder.{number_of_rank, is_subsequence, order_by, else_by, is_proper_subsequence, has_better_rank, compare}
 use Rattle.cxx_model.specs.First.Candidates.{Candidate, sequences, beats}
 use Rattle.cxx_model.proofs.Champion.{and_true}
 

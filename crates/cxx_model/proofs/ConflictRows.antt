@@ -9,11 +9,11 @@ use Rattle.cxx_model.specs.declared.facts.ScopeKind.{ScopeKind}
 use Rattle.cxx_model.specs.declared.facts.ScopeKind.TheVariants as kind
 use Rattle.cxx_model.specs.declared.types.ClassId.{ClassId}
 use Rattle.cxx_model.specs.declared.types.Cv.{Cv}
-use Rattle.cxx_model.specs.Conflicts.{first_conflict}
-use Rattle.cxx_model.specs.Entities.{object_type, object_value}
-use Rattle.cxx_model.specs.Facts as facts
-use Rattle.cxx_model.specs.Facts.{CxxFact, CxxGraph, CxxName, CxxParameter, CxxPattern, Declares, spelled, conversion_to}
-use Rattle.cxx_model.specs.Types.{CxxType, CxxTypes, fundamental, class_type, pointer_to, array_of, function_of, qualified, type_parameter, no_types, type_then, unknown_bound, number_bound, no_arguments, normal}
+use Rattle.cxx_model.specs.Facts.Conflicts.{first_conflict}
+use Rattle.cxx_model.specs.Facts.Entities.{object_type, object_value}
+use Rattle.cxx_model.specs.Facts.Declarations as facts
+use Rattle.cxx_model.specs.Facts.Declarations.{CxxFact, CxxGraph, CxxName, CxxParameter, CxxPattern, Declares, unnamed, spelled, conversion_to}
+use Rattle.cxx_model.specs.Types.Trees.{CxxType, CxxTypes, fundamental, class_type, pointer_to, array_of, function_of, qualified, type_parameter, no_types, type_then, unknown_bound, number_bound, no_arguments, normal}
 
 -- ---- how rows are written
 
@@ -40,25 +40,22 @@ abbrev from_to : CxxType → CxxType → CxxType
 from_to t r = normal (function_of r (one t) false no_cv)
 
 abbrev no_flags : FunctionFlags
-no_flags = record { is_virtual = false; is_pure = false; is_explicit = false }
+no_flags = record { is_virtual = false; is_pure = false; is_explicit = false; is_implicit = false }
 
 abbrev fn : MemberKind → CxxType → Declares
 fn kind of = facts.function of kind no_flags 0 None
 
 abbrev obj : CxxType → Declares
-obj of = facts.object of member.Free None None
+obj of = facts.object of member.Free false None None
 
 abbrev data_member : MemberKind → Declares
-data_member kind = facts.object int kind None None
+data_member kind = facts.object int kind false None None
 
 abbrev put : ℕ → CxxName → Declares → CxxFact
 put scope name what = record { place = record { line = 1; column = 1 }; scope = scope; name = name; access = Public; what = what }
 
 abbrev x : CxxName
 x = spelled (codes "x")
-
-abbrev unnamed : CxxName
-unnamed = spelled []
 
 -- scope 0 is that of the unit
 abbrev unit : CxxFact
@@ -191,7 +188,7 @@ class_of None = Some (record { 0 = 0 })
 class_of (Some of) = None
 
 abbrev pattern : Option CxxType → CxxPattern
-pattern of = record { parameters = type_parameters; primary = None; arguments = no_arguments; of = of; class = class_of of; tree = record { 0 = 0 } }
+pattern of = record { parameters = type_parameters; primary = None; arguments = no_arguments; of = of; class = class_of of }
 
 -- a class template; `void x(T)`, `int x(T)` and `void x(T *)`
 abbrev patterns : List CxxPattern
@@ -396,7 +393,7 @@ object-outside = refl
 
 -- extern int x[]; extern int x[3];
 abbrev array : List CxxFact
-array = unit ∷ put 0 x (facts.object (array_of int unknown_bound) member.Free None None) ∷ put 0 x (facts.object (array_of int (number_bound 3)) member.Free None (Some (record { 0 = 1 }))) ∷ []
+array = unit ∷ put 0 x (facts.object (array_of int unknown_bound) member.Free false None None) ∷ put 0 x (facts.object (array_of int (number_bound 3)) member.Free false None (Some (record { 0 = 1 }))) ∷ []
 
 array-without-bound : object_type array 1 2 ≡ Some (array_of int unknown_bound)
 array-without-bound = refl
@@ -406,7 +403,7 @@ array-with-bound = refl
 
 -- extern const int x; const int x = 5;
 abbrev constant : List CxxFact
-constant = unit ∷ put 0 x (facts.object (qualified const_cv int) member.Free None None) ∷ put 0 x (facts.object (qualified const_cv int) member.Free (Some (pos 5)) (Some (record { 0 = 1 }))) ∷ []
+constant = unit ∷ put 0 x (facts.object (qualified const_cv int) member.Free false None None) ∷ put 0 x (facts.object (qualified const_cv int) member.Free false (Some (pos 5)) (Some (record { 0 = 1 }))) ∷ []
 
 value-not-yet : object_value constant 1 2 ≡ None
 value-not-yet = refl

@@ -2,8 +2,8 @@
 use Rattle.std.specs.Prelude.{ℕ, zero, suc, ◌≡◌, ◌<◌, ◌+◌, Bool, true, false, if◌then◌else◌, List, [], ◌∷◌, Option, Some, None, refl}
 use Rattle.std.specs.List.{slice_get}
 use Rattle.std.proofs.Common.{arith, subst}
-use Rattle.cxx_model.specs.Conflicts.{conflicts, conflict_among, first_conflict, IsFirstConflict, IsFree}
-use Rattle.cxx_model.specs.Facts.{CxxFact, CxxGraph}
+use Rattle.cxx_model.specs.Facts.Conflicts.{conflicts, conflict_among, first_conflict, IsFirstConflict, IsFree}
+use Rattle.cxx_model.specs.Facts.Declarations.{CxxFact, CxxGraph}
 
 -- the same of a part of the facts, the first of which has a number
 record IsFirstAmong (graph : CxxGraph) (start : ℕ) (facts : List CxxFact) (new : CxxFact) (number : ℕ) : Type 0 where

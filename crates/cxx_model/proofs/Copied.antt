@@ -7,12 +7,12 @@ use Rattle.cxx_model.specs.declared.types.Formula as formula
 use Rattle.cxx_model.specs.declared.types.Formula.{Formula}
 use Rattle.cxx_model.specs.declared.types.Bound.{Bound}
 use Rattle.cxx_model.specs.declared.types.Bound.TheVariants as bound
-use Rattle.cxx_model.specs.declared.types.TemplateArgument.{TemplateArgument}
-use Rattle.cxx_model.specs.declared.types.TemplateArgument.TheVariants as argument
+use Rattle.cxx_model.specs.declared.types.Argument.{Argument}
+use Rattle.cxx_model.specs.declared.types.Argument.TheVariants as argument
 use Rattle.cxx_model.specs.declared.types.TypeId.{TypeId}
-use Rattle.cxx_model.specs.Types.{CxxType, CxxArgument, CxxArguments, no_arguments, argument_then, formula_bound, formula_argument, cast_to, unary, binary}
-use Rattle.cxx_model.specs.TypeTrees.{type_at, formula_at, argument_at, arguments_at, IsArgumentBelow, AreArgumentsBelow}
-use Rattle.cxx_model.specs.Copies.{CopiesFormula, CopiesBound, CopiesArgument, CopiesArguments}
+use Rattle.cxx_model.specs.Types.Trees.{CxxType, CxxArgument, CxxArguments, no_arguments, argument_then, formula_bound, formula_argument, cast_to, unary, binary}
+use Rattle.cxx_model.specs.Types.Numbers.{type_at, formula_at, argument_at, arguments_at, IsArgumentBelow, AreArgumentsBelow}
+use Rattle.cxx_model.specs.Types.Copies.{CopiesFormula, CopiesBound, CopiesArgument, CopiesArguments}
 
 pub boxed : (f g : Formula) (a b : Box Formula Global) → CopiesFormula f g → f ≡ a.value → b.value ≡ g → CopiesFormula a.value b.value
 boxed f g a b h p q = subst (λ (x : Formula). CopiesFormula x b.value) p (subst (λ (y : Formula). CopiesFormula f y) (sym q) h)
@@ -51,8 +51,8 @@ copied-bound whole a b e h = subst (λ (x : Bound). CopiesBound x (bound.Compute
   below = λ count ok. h.below count ok;
 })
 
-pub copied-argument : (whole : TemplateArgument) (a b : Box Formula Global) → whole ≡ argument.Computed a → CopiesFormula a.value b.value → CopiesArgument whole (argument.Computed b)
-copied-argument whole a b e h = subst (λ (x : TemplateArgument). CopiesArgument x (argument.Computed b)) (sym e) (record {
+pub copied-argument : (whole : Argument) (a b : Box Formula Global) → whole ≡ argument.Computed a → CopiesFormula a.value b.value → CopiesArgument whole (argument.Computed b)
+copied-argument whole a b e h = subst (λ (x : Argument). CopiesArgument x (argument.Computed b)) (sym e) (record {
   at = λ types. ap formula_argument (h.at types);
   below = λ count ok. h.below count ok;
 })
@@ -62,19 +62,19 @@ abbrev more : CxxArguments → CxxArgument → CxxArguments
 more no_arguments a = argument_then a no_arguments
 more (argument_then b others) a = argument_then b (more others a)
 
-arguments-more : (types : List CxxType) (xs : List TemplateArgument) (x : TemplateArgument) → arguments_at types (xs ++ x ∷ []) ≡ more (arguments_at types xs) (argument_at types x)
+arguments-more : (types : List CxxType) (xs : List Argument) (x : Argument) → arguments_at types (xs ++ x ∷ []) ≡ more (arguments_at types xs) (argument_at types x)
 arguments-more types [] x = refl
 arguments-more types (y ∷ ys) x = ap (argument_then (argument_at types y)) (arguments-more types ys x)
 
-below-first : (count : ℕ) (xs : List TemplateArgument) (x : TemplateArgument) → AreArgumentsBelow count (xs ++ x ∷ []) → AreArgumentsBelow count xs × IsArgumentBelow count x
+below-first : (count : ℕ) (xs : List Argument) (x : Argument) → AreArgumentsBelow count (xs ++ x ∷ []) → AreArgumentsBelow count xs × IsArgumentBelow count x
 below-first count [] x ok = (tt, ok.0)
 below-first count (y ∷ ys) x ok = (let rest : AreArgumentsBelow count ys × IsArgumentBelow count x = below-first count ys x ok.1 in ((ok.0, rest.0), rest.1))
 
-below-more : (count : ℕ) (xs : List TemplateArgument) (x : TemplateArgument) → AreArgumentsBelow count xs → IsArgumentBelow count x → AreArgumentsBelow count (xs ++ x ∷ [])
+below-more : (count : ℕ) (xs : List Argument) (x : Argument) → AreArgumentsBelow count xs → IsArgumentBelow count x → AreArgumentsBelow count (xs ++ x ∷ [])
 below-more count [] x ok last = (last, tt)
 below-more count (y ∷ ys) x ok last = (ok.0, below-more count ys x ok.1 last)
 
-pub copied-more : (xs ys : List TemplateArgument) (x y : TemplateArgument) → CopiesArguments xs ys → CopiesArgument x y → CopiesArguments (xs ++ x ∷ []) (ys ++ y ∷ [])
+pub copied-more : (xs ys : List Argument) (x y : Argument) → CopiesArguments xs ys → CopiesArgument x y → CopiesArguments (xs ++ x ∷ []) (ys ++ y ∷ [])
 copied-more xs ys x y h k = record {
   at = λ types.
       (let p : arguments_at types ys ≡ arguments_at types xs = h.at types in
@@ -86,7 +86,7 @@ copied-more xs ys x y h k = record {
 pub copied-none : CopiesArguments [] []
 copied-none = record { at = λ types. refl; below = λ count ok. ok }
 
-pub copied-next : (xs : List TemplateArgument) (i : ℕ) (x y : TemplateArgument) (ys : List TemplateArgument) → i < length xs → x ≡ get_or xs i x → CopiesArguments (take i xs) ys → CopiesArgument x y → CopiesArguments (take (i + 1) xs) (ys ++ y ∷ [])
+pub copied-next : (xs : List Argument) (i : ℕ) (x y : Argument) (ys : List Argument) → i < length xs → x ≡ get_or xs i x → CopiesArguments (take i xs) ys → CopiesArgument x y → CopiesArguments (take (i + 1) xs) (ys ++ y ∷ [])
 copied-next xs i x y ys within is h k =
     let last : take (i + 1) xs ≡ take i xs ++ x ∷ [] = take_more xs i x within ∙ ap (λ z. take i xs ++ z ∷ []) (sym is) in
-    subst (λ (zs : List TemplateArgument). CopiesArguments zs (ys ++ y ∷ [])) (sym last) (copied-more (take i xs) ys x y h k)
+    subst (λ (zs : List Argument). CopiesArguments zs (ys ++ y ∷ [])) (sym last) (copied-more (take i xs) ys x y h k)

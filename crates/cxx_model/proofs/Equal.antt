@@ -4,11 +4,11 @@ use Rattle.cxx_model.specs.declared.types.TypeId.{TypeId}
 use Rattle.cxx_model.specs.declared.types.Formula.{Formula, Value, Parameter, Member, SizeOf, Cast', Unary', Binary', Conditional'}
 use Rattle.cxx_model.specs.declared.types.Bound.{Bound}
 use Rattle.cxx_model.specs.declared.types.Bound.TheVariants as bound
-use Rattle.cxx_model.specs.declared.types.TemplateArgument.{TemplateArgument}
-use Rattle.cxx_model.specs.declared.types.TemplateArgument.TheVariants as argument
+use Rattle.cxx_model.specs.declared.types.Argument.{Argument}
+use Rattle.cxx_model.specs.declared.types.Argument.TheVariants as argument
 use Rattle.cxx_model.specs.declared.types.TypeNode.{TypeNode}
 use Rattle.cxx_model.specs.declared.types.TypeNode.TheVariants as node
-use Rattle.cxx_model.specs.TypeTrees.{AreApart, type_at, formula_at, bound_at, argument_at, arguments_at, types_at, type_over, IsFormulaBelow, IsBoundBelow, IsArgumentBelow, AreArgumentsBelow, AreTypesBelow, IsNodeBelow}
+use Rattle.cxx_model.specs.Types.Numbers.{AreApart, type_at, formula_at, bound_at, argument_at, arguments_at, types_at, type_over, IsFormulaBelow, IsBoundBelow, IsArgumentBelow, AreArgumentsBelow, AreTypesBelow, IsNodeBelow}
 use Rattle.std.specs.Ordering.{int_eq}
 use Rattle.std.specs.Cmp.{bool_eq_equiv, int_eq_equiv}
 use Rattle.std.specs.Cmp.Lexicographic.{pointwise, same_text}
@@ -24,10 +24,10 @@ use Rattle.cxx_model.specs.declared.types.Cv.{Cv}
 use Rattle.cxx_model.specs.contracts.types.FormulaPartialEq.TheImpl as formula_test
 use Rattle.cxx_model.specs.contracts.types.FormulaPartialEq.TheImpl.Laws as formula_laws
 use Rattle.cxx_model.specs.contracts.types.BoundPartialEq.TheImpl as bound_test
-use Rattle.cxx_model.specs.contracts.types.TemplateArgumentPartialEq.TheImpl as argument_test
+use Rattle.cxx_model.specs.contracts.types.ArgumentPartialEq.TheImpl as argument_test
 use Rattle.cxx_model.specs.contracts.types.TypeIdPartialEq.TheImpl as id_test
 use Rattle.cxx_model.specs.contracts.types.TypeNodePartialEq.TheImpl as node_test
-use Rattle.cxx_model.specs.Types.{CxxType}
+use Rattle.cxx_model.specs.Types.Trees.{CxxType}
 
 abbrev pub same_formula : Formula → Formula → Bool
 same_formula = formula_test.eq-value.it
@@ -35,7 +35,7 @@ same_formula = formula_test.eq-value.it
 abbrev pub same_bound : Bound → Bound → Bool
 same_bound = bound_test.eq-value.it
 
-abbrev pub same_argument : TemplateArgument → TemplateArgument → Bool
+abbrev pub same_argument : Argument → Argument → Bool
 same_argument = argument_test.eq-value.it
 
 abbrev pub same_id : TypeId → TypeId → Bool
@@ -317,7 +317,7 @@ bound_to types (bound.Computed f) (bound.Computed f') apart ok ok2 e =
     (formula_to types f.value f'.value apart ok ok2 same-f)
 bound_to types (bound.Computed _) _ apart ok ok2 e = absurd (cc)
 
-pub argument_from : (types : List CxxType) (x y : TemplateArgument) → same_argument x y ≡ true → argument_at types x ≡ argument_at types y
+pub argument_from : (types : List CxxType) (x y : Argument) → same_argument x y ≡ true → argument_at types x ≡ argument_at types y
 argument_from types (argument.OfType of) (argument.OfType of') e =
     let same-of : of.0 ≡ of'.0 = eqb-true _ _ (e) in
     cc
@@ -333,7 +333,7 @@ argument_from types (argument.Computed f) (argument.Computed f') e =
     cc
 argument_from types (argument.Computed _) _ e = absurd (true≢false (sym e))
 
-pub argument_to : (types : List CxxType) (x y : TemplateArgument) → AreApart types → IsArgumentBelow (length types) x → IsArgumentBelow (length types) y → argument_at types x ≡ argument_at types y → same_argument x y ≡ true
+pub argument_to : (types : List CxxType) (x y : Argument) → AreApart types → IsArgumentBelow (length types) x → IsArgumentBelow (length types) y → argument_at types x ≡ argument_at types y → same_argument x y ≡ true
 argument_to types (argument.OfType of) (argument.OfType of') apart ok ok2 e =
     let same-of : type_at types of.0 ≡ type_at types of'.0 = cc in
     (eq-eqb _ _ (apart of.0 of'.0 ok ok2 same-of))
@@ -348,7 +348,7 @@ argument_to types (argument.Computed f) (argument.Computed f') apart ok ok2 e =
     (formula_to types f.value f'.value apart ok ok2 same-f)
 argument_to types (argument.Computed _) _ apart ok ok2 e = absurd (cc)
 
-pub arguments_from : (types : List CxxType) (x y : List TemplateArgument) → pointwise same_argument x y ≡ true → arguments_at types x ≡ arguments_at types y
+pub arguments_from : (types : List CxxType) (x y : List Argument) → pointwise same_argument x y ≡ true → arguments_at types x ≡ arguments_at types y
 arguments_from types [] [] e = refl
 arguments_from types [] _ e = absurd (true≢false (sym e))
 arguments_from types (x ∷ others) (x' ∷ others') e =
@@ -358,7 +358,7 @@ arguments_from types (x ∷ others) (x' ∷ others') e =
     cc
 arguments_from types (_ ∷ _) _ e = absurd (true≢false (sym e))
 
-pub arguments_to : (types : List CxxType) (x y : List TemplateArgument) → AreApart types → AreArgumentsBelow (length types) x → AreArgumentsBelow (length types) y → arguments_at types x ≡ arguments_at types y → pointwise same_argument x y ≡ true
+pub arguments_to : (types : List CxxType) (x y : List Argument) → AreApart types → AreArgumentsBelow (length types) x → AreArgumentsBelow (length types) y → arguments_at types x ≡ arguments_at types y → pointwise same_argument x y ≡ true
 arguments_to types [] [] apart ok ok2 e = refl
 arguments_to types [] _ apart ok ok2 e = absurd (cc)
 arguments_to types (x ∷ others) (x' ∷ others') apart ok ok2 e =

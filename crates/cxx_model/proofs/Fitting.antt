@@ -5,29 +5,34 @@ use Rattle.std.proofs.lemmas.Bool.{ltb-true, ltb-false}
 use Rattle.cxx_model.specs.declared.facts.Entity.{Entity}
 use Rattle.cxx_model.specs.declared.facts.Entity.TheVariants as entity
 use Rattle.cxx_model.specs.declared.facts.Fact.{Fact}
+use Rattle.cxx_model.specs.declared.facts.Name.{Name}
+use Rattle.cxx_model.specs.declared.facts.Name.TheVariants as name
 use Rattle.cxx_model.specs.declared.facts.ParameterKind.{ParameterKind}
 use Rattle.cxx_model.specs.declared.facts.ParameterKind.TheVariants.{OfType, OfValue}
 use Rattle.cxx_model.specs.declared.facts.Pattern.{Pattern}
 use Rattle.cxx_model.specs.declared.facts.Specialisation.{Specialisation}
-use Rattle.cxx_model.specs.declared.facts.TemplateParameter.{TemplateParameter}
-use Rattle.cxx_model.specs.declared.types.TemplateArgument.{TemplateArgument}
+use Rattle.cxx_model.specs.declared.facts.Parameter.{Parameter}
+use Rattle.cxx_model.specs.declared.types.Argument.{Argument}
 use Rattle.cxx_model.specs.declared.types.TypeId.{TypeId}
-use Rattle.cxx_model.specs.Facts.{CxxFact, CxxGraph, CxxName, CxxParameter, CxxPattern, CxxSpecialisation, Declares, class_at, classes_at, conversion_number, declares_at, fact_at, facts_at, fallback_at, graph_at, kind_at, name_at, parameters_at, pattern_at, patterns_at, type_of_option}
-use Rattle.cxx_model.specs.Fitted.{IsEntityBelow, IsNumberBelow, IsFactBelow, AreFactsBelow, IsClassBelow, AreClassesBelow, IsKindBelow, IsFallbackBelow, AreParametersBelow, IsTypeNumberBelow, IsPatternBelow, ArePatternsBelow, IsGraphBelow, IsTypeInRange, AreTypesInRange, IsBoundInRange, IsArgumentInRange, AreArgumentsInRange, IsFormulaInRange, Fitted}
-use Rattle.cxx_model.specs.Graph.{Graph, appended, enumerations, with_class, with_pattern}
-use Rattle.cxx_model.specs.Types.{CxxType, fundamental, class_type, enumeration, pointer_to, reference_to, array_of, function_of, qualified, type_parameter, specialisation, nested_in, CxxTypes, no_types, type_then, CxxBound, unknown_bound, number_bound, formula_bound, CxxArgument, type_argument, value_argument, formula_argument, CxxArguments, no_arguments, argument_then, CxxFormula, value_of, value_parameter, member_of, size_of, cast_to, unary, binary, conditional}
-use Rattle.cxx_model.specs.TypeTrees.{arguments_at, type_at, Keeps}
-use Rattle.cxx_model.proofs.GraphRange.{Grows, grows-fact, grows-class, grows-pattern}
+use Rattle.cxx_model.specs.Facts.Declarations.{CxxFact, CxxGraph, CxxName, CxxParameter, CxxPattern, CxxSpecialisation, Declares, class_at, classes_at, conversion_to, declares_at, fact_at, facts_at, fallback_at, graph_at, kind_at, name_at, parameters_at, pattern_at, patterns_at, type_of_option}
+use Rattle.cxx_model.specs.Facts.Fitted.{IsEntityBelow, IsNameBelow, IsFactBelow, AreFactsBelow, IsClassBelow, AreClassesBelow, IsKindBelow, IsFallbackBelow, AreParametersBelow, IsTypeNumberBelow, IsPatternBelow, ArePatternsBelow, IsGraphBelow, Fitted}
+use Rattle.cxx_model.specs.Facts.Graph.{Graph, appended, with_class, with_pattern, IsTypeInRange}
+use Rattle.cxx_model.specs.Types.Trees.{CxxType, CxxArgument, CxxArguments}
+use Rattle.cxx_model.specs.Types.Numbers.{arguments_at, type_at, Keeps}
+use Rattle.cxx_model.proofs.GraphRange.{grows-fact, grows-class, grows-pattern, type-in-range-later}
 use Rattle.cxx_model.proofs.TypeTrees.{argument_kept, argument_later, arguments_kept, arguments_later, tree_kept, tree_later}
 
 -- ---- what a graph stands for
 
-name-kept : (old new : List CxxType) (word : List ℕ) → Keeps old new → (number : Option ℕ) → conversion_number word ≡ number → IsNumberBelow (length old) number → name_at new word ≡ name_at old word
-name-kept old new word kept None e ok = cc
-name-kept old new word kept (Some n) e ok = (let same : type_at new n ≡ type_at old n = kept.same n ok in cc)
+name-kept : (old new : List CxxType) (x : Name) → Keeps old new → IsNameBelow (length old) x → name_at new x ≡ name_at old x
+name-kept old new name.Unnamed kept ok = refl
+name-kept old new (name.Spelled word) kept ok = refl
+name-kept old new (name.Operator operator) kept ok = refl
+name-kept old new (name.Conversion of) kept ok = ap conversion_to (kept.same of.0 ok)
+name-kept old new name.Destructor kept ok = refl
 
 declares-kept : (old new : List CxxType) (what : Entity) → Keeps old new → IsEntityBelow (length old) what → declares_at new what ≡ declares_at old what
-declares-kept old new (entity.Object of _ _ _) kept ok = (let same : type_at new of.0 ≡ type_at old of.0 = kept.same of.0 ok in cc)
+declares-kept old new (entity.Object of _ _ _ _) kept ok = (let same : type_at new of.0 ≡ type_at old of.0 = kept.same of.0 ok in cc)
 declares-kept old new (entity.Function of _ _ _ _) kept ok = (let same : type_at new of.0 ≡ type_at old of.0 = kept.same of.0 ok in cc)
 declares-kept old new (entity.Parameter _ _ of) kept ok = (let same : type_at new of.0 ≡ type_at old of.0 = kept.same of.0 ok in cc)
 declares-kept old new (entity.Synonym of) kept ok = (let same : type_at new of.0 ≡ type_at old of.0 = kept.same of.0 ok in cc)
@@ -48,7 +53,7 @@ declares-kept old new (entity.Friend _ _) kept ok = refl
 pub fact-kept : (old new : List CxxType) (fact : Fact) → Keeps old new → IsFactBelow (length old) fact → fact_at new fact ≡ fact_at old fact
 fact-kept old new fact kept ok =
     let whole : CxxName → Declares → CxxFact = λ name what. record { place = fact.place; scope = fact.scope.0; name = name; access = fact.access; what = what } in
-    ap (λ name. whole name (declares_at new fact.what)) (name-kept old new fact.word kept (conversion_number fact.word) refl ok.name) ∙ ap (whole (name_at old fact.word)) (declares-kept old new fact.what kept ok.what)
+    ap (λ name. whole name (declares_at new fact.what)) (name-kept old new fact.name kept ok.name) ∙ ap (whole (name_at old fact.name)) (declares-kept old new fact.what kept ok.what)
 
 facts-kept : (old new : List CxxType) (facts : List Fact) → Keeps old new → AreFactsBelow (length old) facts → facts_at new facts ≡ facts_at old facts
 facts-kept old new [] kept ok = refl
@@ -68,11 +73,11 @@ kind-kept : (old new : List CxxType) (k : ParameterKind) → Keeps old new → I
 kind-kept old new OfType kept ok = refl
 kind-kept old new (OfValue of) kept ok = ap Some (tree_kept old new of kept ok)
 
-fallback-kept : (old new : List CxxType) (argument : Option TemplateArgument) → Keeps old new → IsFallbackBelow (length old) argument → fallback_at new argument ≡ fallback_at old argument
+fallback-kept : (old new : List CxxType) (argument : Option Argument) → Keeps old new → IsFallbackBelow (length old) argument → fallback_at new argument ≡ fallback_at old argument
 fallback-kept old new None kept ok = refl
 fallback-kept old new (Some argument) kept ok = ap Some (argument_kept old new argument kept ok)
 
-parameters-kept : (old new : List CxxType) (parameters : List TemplateParameter) → Keeps old new → AreParametersBelow (length old) parameters → parameters_at new parameters ≡ parameters_at old parameters
+parameters-kept : (old new : List CxxType) (parameters : List Parameter) → Keeps old new → AreParametersBelow (length old) parameters → parameters_at new parameters ≡ parameters_at old parameters
 parameters-kept old new [] kept ok = refl
 parameters-kept old new (x ∷ xs) kept ok =
     let whole : Option CxxType → Option CxxArgument → CxxParameter = λ of fallback. record { of = of; fallback = fallback } in
@@ -88,7 +93,7 @@ type-kept old new (Some of) kept ok = ap Some (kept.same of.0 ok)
 
 pattern-kept : (old new : List CxxType) (pattern : Pattern) → Keeps old new → IsPatternBelow (length old) pattern → pattern_at new pattern ≡ pattern_at old pattern
 pattern-kept old new pattern kept ok =
-    let whole : List CxxParameter → CxxArguments → Option CxxType → CxxPattern = λ parameters arguments of. record { parameters = parameters; primary = pattern.primary; arguments = arguments; of = of; class = pattern.class; tree = pattern.tree } in
+    let whole : List CxxParameter → CxxArguments → Option CxxType → CxxPattern = λ parameters arguments of. record { parameters = parameters; primary = pattern.primary; arguments = arguments; of = of; class = pattern.class } in
     ap (λ ps. whole ps (arguments_at new pattern.arguments) (type_of_option new pattern.of)) (parameters-kept old new pattern.parameters kept ok.parameters)
     ∙ ap (λ given. whole (parameters_at old pattern.parameters) given (type_of_option new pattern.of)) (arguments_kept old new pattern.arguments kept ok.arguments)
     ∙ ap (whole (parameters_at old pattern.parameters) (arguments_at old pattern.arguments)) (type-kept old new pattern.of kept ok.of)
@@ -107,12 +112,15 @@ graph-kept old new graph kept ok =
 
 -- ---- numbers of types below a larger count
 
-number-later : (old new : ℕ) (n : Option ℕ) → old ≤ new → IsNumberBelow old n → IsNumberBelow new n
-number-later old new None more ok = tt
-number-later old new (Some n) more ok = omega arith
+name-below-later : (old new : ℕ) (x : Name) → old ≤ new → IsNameBelow old x → IsNameBelow new x
+name-below-later old new name.Unnamed more ok = tt
+name-below-later old new (name.Spelled word) more ok = tt
+name-below-later old new (name.Operator operator) more ok = tt
+name-below-later old new (name.Conversion of) more ok = omega arith
+name-below-later old new name.Destructor more ok = tt
 
 entity-below-later : (old new : ℕ) (what : Entity) → old ≤ new → IsEntityBelow old what → IsEntityBelow new what
-entity-below-later old new (entity.Object of _ _ _) more ok = omega arith
+entity-below-later old new (entity.Object of _ _ _ _) more ok = omega arith
 entity-below-later old new (entity.Function of _ _ _ _) more ok = omega arith
 entity-below-later old new (entity.Parameter _ _ of) more ok = omega arith
 entity-below-later old new (entity.Synonym of) more ok = omega arith
@@ -133,7 +141,7 @@ entity-below-later old new (entity.Friend _ _) more ok = tt
 facts-below-later : (old new : ℕ) (facts : List Fact) → old ≤ new → AreFactsBelow old facts → AreFactsBelow new facts
 facts-below-later old new [] more ok = tt
 facts-below-later old new (x ∷ xs) more ok =
-    (record { name = number-later old new (conversion_number x.word) more ok.0.name; what = entity-below-later old new x.what more ok.0.what }, facts-below-later old new xs more ok.1)
+    (record { name = name-below-later old new x.name more ok.0.name; what = entity-below-later old new x.what more ok.0.what }, facts-below-later old new xs more ok.1)
 
 class-below-later : (old new : ℕ) (class : Option Specialisation) → old ≤ new → IsClassBelow old class → IsClassBelow new class
 class-below-later old new None more ok = tt
@@ -147,11 +155,11 @@ kind-below-later : (old new : ℕ) (k : ParameterKind) → old ≤ new → IsKin
 kind-below-later old new OfType more ok = tt
 kind-below-later old new (OfValue of) more ok = tree_later old new of more ok
 
-fallback-below-later : (old new : ℕ) (argument : Option TemplateArgument) → old ≤ new → IsFallbackBelow old argument → IsFallbackBelow new argument
+fallback-below-later : (old new : ℕ) (argument : Option Argument) → old ≤ new → IsFallbackBelow old argument → IsFallbackBelow new argument
 fallback-below-later old new None more ok = tt
 fallback-below-later old new (Some argument) more ok = argument_later old new argument more ok
 
-parameters-below-later : (old new : ℕ) (parameters : List TemplateParameter) → old ≤ new → AreParametersBelow old parameters → AreParametersBelow new parameters
+parameters-below-later : (old new : ℕ) (parameters : List Parameter) → old ≤ new → AreParametersBelow old parameters → AreParametersBelow new parameters
 parameters-below-later old new [] more ok = tt
 parameters-below-later old new (x ∷ xs) more ok = (kind-below-later old new x.kind more ok.0, fallback-below-later old new x.fallback more ok.1, parameters-below-later old new xs more ok.2)
 
@@ -163,50 +171,6 @@ patterns-below-later : (old new : ℕ) (patterns : List Pattern) → old ≤ new
 patterns-below-later old new [] more ok = tt
 patterns-below-later old new (x ∷ xs) more ok =
     (record { parameters = parameters-below-later old new x.parameters more ok.0.parameters; arguments = arguments_later old new x.arguments more ok.0.arguments; of = type-below-later old new x.of more ok.0.of }, patterns-below-later old new xs more ok.1)
-
--- ---- what types name, in a larger graph
-
-mutual
-  pub type-in-range-later : (old new : Graph) → Grows old new → (t : CxxType) → IsTypeInRange old t → IsTypeInRange new t
-  type-in-range-later old new more (fundamental base) ok = tt
-  type-in-range-later old new more (class_type n) ok = (let grown : length old.classes ≤ length new.classes = more.classes in omega arith)
-  type-in-range-later old new more (enumeration n) ok = (let grown : enumerations old.facts ≤ enumerations new.facts = more.enums in omega arith)
-  type-in-range-later old new more (pointer_to t) ok = type-in-range-later old new more t ok
-  type-in-range-later old new more (reference_to t) ok = type-in-range-later old new more t ok
-  type-in-range-later old new more (array_of t bound) ok = (type-in-range-later old new more t ok.0, bound-in-range-later old new more bound ok.1)
-  type-in-range-later old new more (function_of r ts ellipsis cv) ok = (type-in-range-later old new more r ok.0, types-in-range-later old new more ts ok.1)
-  type-in-range-later old new more (qualified cv t) ok = type-in-range-later old new more t ok
-  type-in-range-later old new more (type_parameter depth index) ok = tt
-  type-in-range-later old new more (specialisation n given) ok = (let grown : length old.patterns ≤ length new.patterns = more.patterns in let here : n < length old.patterns = ok.0 in (omega arith, arguments-in-range-later old new more given ok.1))
-  type-in-range-later old new more (nested_in t word) ok = type-in-range-later old new more t ok
-
-  types-in-range-later : (old new : Graph) → Grows old new → (ts : CxxTypes) → AreTypesInRange old ts → AreTypesInRange new ts
-  types-in-range-later old new more no_types ok = tt
-  types-in-range-later old new more (type_then t ts) ok = (type-in-range-later old new more t ok.0, types-in-range-later old new more ts ok.1)
-
-  bound-in-range-later : (old new : Graph) → Grows old new → (b : CxxBound) → IsBoundInRange old b → IsBoundInRange new b
-  bound-in-range-later old new more unknown_bound ok = tt
-  bound-in-range-later old new more (number_bound n) ok = tt
-  bound-in-range-later old new more (formula_bound f) ok = formula-in-range-later old new more f ok
-
-  argument-in-range-later : (old new : Graph) → Grows old new → (a : CxxArgument) → IsArgumentInRange old a → IsArgumentInRange new a
-  argument-in-range-later old new more (type_argument t) ok = type-in-range-later old new more t ok
-  argument-in-range-later old new more (value_argument value t) ok = type-in-range-later old new more t ok
-  argument-in-range-later old new more (formula_argument f) ok = formula-in-range-later old new more f ok
-
-  arguments-in-range-later : (old new : Graph) → Grows old new → (given : CxxArguments) → AreArgumentsInRange old given → AreArgumentsInRange new given
-  arguments-in-range-later old new more no_arguments ok = tt
-  arguments-in-range-later old new more (argument_then a others) ok = (argument-in-range-later old new more a ok.0, arguments-in-range-later old new more others ok.1)
-
-  formula-in-range-later : (old new : Graph) → Grows old new → (f : CxxFormula) → IsFormulaInRange old f → IsFormulaInRange new f
-  formula-in-range-later old new more (value_of value t) ok = type-in-range-later old new more t ok
-  formula-in-range-later old new more (value_parameter depth index) ok = tt
-  formula-in-range-later old new more (member_of t word) ok = type-in-range-later old new more t ok
-  formula-in-range-later old new more (size_of t) ok = type-in-range-later old new more t ok
-  formula-in-range-later old new more (cast_to t f) ok = (type-in-range-later old new more t ok.0, formula-in-range-later old new more f ok.1)
-  formula-in-range-later old new more (unary operator f) ok = formula-in-range-later old new more f ok
-  formula-in-range-later old new more (binary operator f g) ok = (formula-in-range-later old new more f ok.0, formula-in-range-later old new more g ok.1)
-  formula-in-range-later old new more (conditional f g h) ok = (formula-in-range-later old new more f ok.0, formula-in-range-later old new more g ok.1, formula-in-range-later old new more h ok.2)
 
 -- ---- one more of each
 

@@ -2,8 +2,8 @@
 use Rattle.std.proofs.Common.{◌≡◌, ◌≤◌, ◌<◌, ℕ, zero, suc, Bool, true, false, cond, List, [], ◌∷◌, length, take, Option, Some, None, refl, sym, ap, ◌∙◌, ⊎_elim, arith}
 use Rattle.std.proofs.lemmas.Bool.{cases_lt}
 use Rattle.cxx_model.specs.declared.token.TokenReason.TheVariants as reason
-use Rattle.cxx_model.specs.Spelling.{Spelled, Blank, Ill, is_white, begins_word, begins_number, is_quote, word_kind, number_kind, number_in, number_beside, first_of, operators, digraphs, operator_by, operator, literal, hash, slash, percent, spelling_of}
-use Rattle.cxx_model.specs.Tokens.{Piece, IsLongest, or_shorter, longest_within, front}
+use Rattle.cxx_model.specs.Text.Spelling.{Spelled, Blank, Ill, is_white, begins_word, begins_number, is_quote, word_kind, number_kind, number_in, number_beside, first_of, operators, digraphs, operator_by, operator, literal, hash, slash, percent, spelling_of}
+use Rattle.cxx_model.specs.Text.Tokens.{Piece, IsLongest, or_shorter, longest_within, front}
 
 -- ---- a front that is longest is the front
 

@@ -1,5 +1,5 @@
 -- A graph in range stays in range.
-use Rattle.std.specs.Prelude.{◌≡◌, ◌<◌, ◌≤◌, refl, Bool, true, false, List, [], ◌∷◌, ◌++◌, length, Option, Some, None}
+use Rattle.std.specs.Prelude.{ℕ, suc, ◌+◌, ◌≡◌, ◌<◌, ◌≤◌, refl, Bool, true, false, List, [], ◌∷◌, ◌++◌, length, Option, Some, None}
 use Rattle.std.proofs.Common.{subst, sym, append_assoc, append-nil, arith, length-append}
 use Rattle.cxx_model.specs.declared.facts.Entity.{Entity}
 use Rattle.cxx_model.specs.declared.facts.Entity.TheVariants as entity
@@ -10,13 +10,13 @@ use Rattle.cxx_model.specs.declared.facts.Pattern.{Pattern}
 use Rattle.cxx_model.specs.declared.facts.ScopeKind.{ScopeKind}
 use Rattle.cxx_model.specs.declared.facts.ScopeKind.TheVariants as kind
 use Rattle.cxx_model.specs.declared.facts.Specialisation.{Specialisation}
-use Rattle.cxx_model.specs.declared.facts.TemplateParameter.{TemplateParameter}
+use Rattle.cxx_model.specs.declared.facts.Parameter.{Parameter}
 use Rattle.cxx_model.specs.declared.types.ClassId.{ClassId}
 use Rattle.cxx_model.specs.declared.types.ScopeId.{ScopeId}
 use Rattle.cxx_model.specs.declared.types.TemplateId.{TemplateId}
-use Rattle.cxx_model.specs.declared.types.TypeTree as tree
-use Rattle.cxx_model.specs.declared.types.TypeTree.{TypeTree}
-use Rattle.cxx_model.specs.Graph.{Graph, InRange, MayFollow, EachMayFollow, appended, counted, enumerations, is_enumeration, with_class, with_pattern, IsClassInRange, AreClassesInRange, IsClassNumberInRange, IsEntityInRange, IsKindInRange, IsKindOfParameterInRange, AreParametersInRange, IsPatternInRange, ArePatternsInRange, IsRowInRange, IsScopeInRange, IsTemplateInRange, IsTreeInRange}
+use Rattle.cxx_model.specs.Types.Trees.{CxxType, fundamental, class_type, enumeration, pointer_to, reference_to, array_of, function_of, qualified, type_parameter, specialisation, nested_in, CxxTypes, no_types, type_then, CxxBound, unknown_bound, number_bound, formula_bound, CxxArgument, type_argument, value_argument, formula_argument, CxxArguments, no_arguments, argument_then, CxxFormula, value_of, value_parameter, member_of, size_of, cast_to, unary, binary, conditional}
+use Rattle.cxx_model.specs.Types.Numbers.{tree_at}
+use Rattle.cxx_model.specs.Facts.Graph.{Graph, InRange, MayFollow, EachMayFollow, appended, counted, enumerations, is_enumeration, with_class, with_pattern, IsClassInRange, AreClassesInRange, IsClassNumberInRange, IsEntityInRange, IsKindInRange, IsKindOfParameterInRange, AreParametersInRange, IsPatternInRange, ArePatternsInRange, IsScopeInRange, IsTemplateInRange, IsTypeInRange, AreTypesInRange, IsBoundInRange, IsArgumentInRange, AreArgumentsInRange, IsFormulaInRange}
 
 -- ---- facts
 
@@ -62,7 +62,7 @@ with_facts graph facts = record graph { facts = facts }
 
 entity-later : (facts : List Fact) (old new : Graph) → Grows (with_facts old facts) (with_facts new facts) → (fact : Fact) (what : Entity) → IsEntityInRange (with_facts old facts) fact what → IsEntityInRange (with_facts new facts) fact what
 entity-later facts old new more fact (entity.Scope parent k) ok = scope-later (with_facts old facts) (with_facts new facts) more refl fact parent k ok
-entity-later facts old new more fact (entity.Object _ _ _ _) ok = ok
+entity-later facts old new more fact (entity.Object _ _ _ _ _) ok = ok
 entity-later facts old new more fact (entity.Function _ _ _ _ _) ok = ok
 entity-later facts old new more fact (entity.Template template _ _ _ _) ok = (template-later _ _ more template ok.0, ok.1)
 entity-later facts old new more fact (entity.Parameter _ _ _) ok = ok
@@ -91,28 +91,52 @@ each-later old new classes patterns before [] ok = tt
 each-later old new classes patterns before (x ∷ xs) ok = (follow-later old new classes patterns before x ok.0, each-later old new classes patterns (before ++ x ∷ []) xs ok.1)
 
 mutual
-  pub tree-in-range-later : (old new : Graph) → Grows old new → (t : TypeTree) → IsTreeInRange old t → IsTreeInRange new t
-  tree-in-range-later old new more (tree.Plain base) ok = tt
-  tree-in-range-later old new more (tree.Class n) ok = class-later old new more n ok
-  tree-in-range-later old new more (tree.Enum n) ok = (let grown : enumerations old.facts ≤ enumerations new.facts = more.enums in omega arith)
-  tree-in-range-later old new more (tree.Pointer' p t) ok = tree-in-range-later old new more t ok
-  tree-in-range-later old new more (tree.Reference' p t) ok = tree-in-range-later old new more t ok
-  tree-in-range-later old new more (tree.Array' p t bound) ok = tree-in-range-later old new more t ok
-  tree-in-range-later old new more (tree.Function' p r shape parameters ellipsis cv) ok = (tree-in-range-later old new more r ok.0, row-in-range-later old new more parameters ok.1)
-  tree-in-range-later old new more (tree.Qualified' cv p t) ok = tree-in-range-later old new more t ok
-  tree-in-range-later old new more (tree.Parameter depth index) ok = tt
-  tree-in-range-later old new more (tree.Special n arguments) ok = template-later old new more n ok
-  tree-in-range-later old new more (tree.Nested' p t word) ok = tree-in-range-later old new more t ok
+  pub type-in-range-later : (old new : Graph) → Grows old new → (t : CxxType) → IsTypeInRange old t → IsTypeInRange new t
+  type-in-range-later old new more (fundamental base) ok = tt
+  type-in-range-later old new more (class_type n) ok = (let grown : length old.classes ≤ length new.classes = more.classes in omega arith)
+  type-in-range-later old new more (enumeration n) ok = (let grown : enumerations old.facts ≤ enumerations new.facts = more.enums in omega arith)
+  type-in-range-later old new more (pointer_to t) ok = type-in-range-later old new more t ok
+  type-in-range-later old new more (reference_to t) ok = type-in-range-later old new more t ok
+  type-in-range-later old new more (array_of t bound) ok = (type-in-range-later old new more t ok.0, bound-in-range-later old new more bound ok.1)
+  type-in-range-later old new more (function_of r ts ellipsis cv) ok = (type-in-range-later old new more r ok.0, types-in-range-later old new more ts ok.1)
+  type-in-range-later old new more (qualified cv t) ok = type-in-range-later old new more t ok
+  type-in-range-later old new more (type_parameter depth index) ok = tt
+  type-in-range-later old new more (specialisation n given) ok = (let grown : length old.patterns ≤ length new.patterns = more.patterns in let here : n < length old.patterns = ok.0 in (omega arith, arguments-in-range-later old new more given ok.1))
+  type-in-range-later old new more (nested_in t word) ok = type-in-range-later old new more t ok
 
-  row-in-range-later : (old new : Graph) → Grows old new → {m : _} → (row : tree.Row_of-TypeTree m) → IsRowInRange old row → IsRowInRange new row
-  row-in-range-later old new more tree.end_of-TypeTree ok = tt
-  row-in-range-later old new more (tree.more_of-TypeTree t rest) ok = (tree-in-range-later old new more t ok.0, row-in-range-later old new more rest ok.1)
+  types-in-range-later : (old new : Graph) → Grows old new → (ts : CxxTypes) → AreTypesInRange old ts → AreTypesInRange new ts
+  types-in-range-later old new more no_types ok = tt
+  types-in-range-later old new more (type_then t ts) ok = (type-in-range-later old new more t ok.0, types-in-range-later old new more ts ok.1)
+
+  bound-in-range-later : (old new : Graph) → Grows old new → (b : CxxBound) → IsBoundInRange old b → IsBoundInRange new b
+  bound-in-range-later old new more unknown_bound ok = tt
+  bound-in-range-later old new more (number_bound n) ok = tt
+  bound-in-range-later old new more (formula_bound f) ok = formula-in-range-later old new more f ok
+
+  argument-in-range-later : (old new : Graph) → Grows old new → (a : CxxArgument) → IsArgumentInRange old a → IsArgumentInRange new a
+  argument-in-range-later old new more (type_argument t) ok = type-in-range-later old new more t ok
+  argument-in-range-later old new more (value_argument value t) ok = type-in-range-later old new more t ok
+  argument-in-range-later old new more (formula_argument f) ok = formula-in-range-later old new more f ok
+
+  arguments-in-range-later : (old new : Graph) → Grows old new → (given : CxxArguments) → AreArgumentsInRange old given → AreArgumentsInRange new given
+  arguments-in-range-later old new more no_arguments ok = tt
+  arguments-in-range-later old new more (argument_then a others) ok = (argument-in-range-later old new more a ok.0, arguments-in-range-later old new more others ok.1)
+
+  formula-in-range-later : (old new : Graph) → Grows old new → (f : CxxFormula) → IsFormulaInRange old f → IsFormulaInRange new f
+  formula-in-range-later old new more (value_of value t) ok = type-in-range-later old new more t ok
+  formula-in-range-later old new more (value_parameter depth index) ok = tt
+  formula-in-range-later old new more (member_of t word) ok = type-in-range-later old new more t ok
+  formula-in-range-later old new more (size_of t) ok = type-in-range-later old new more t ok
+  formula-in-range-later old new more (cast_to t f) ok = (type-in-range-later old new more t ok.0, formula-in-range-later old new more f ok.1)
+  formula-in-range-later old new more (unary operator f) ok = formula-in-range-later old new more f ok
+  formula-in-range-later old new more (binary operator f g) ok = (formula-in-range-later old new more f ok.0, formula-in-range-later old new more g ok.1)
+  formula-in-range-later old new more (conditional f g h) ok = (formula-in-range-later old new more f ok.0, formula-in-range-later old new more g ok.1, formula-in-range-later old new more h ok.2)
 
 parameter-later : (old new : Graph) → Grows old new → (k : ParameterKind) → IsKindOfParameterInRange old k → IsKindOfParameterInRange new k
 parameter-later old new more OfType ok = tt
-parameter-later old new more (OfValue of) ok = tree-in-range-later old new more of ok
+parameter-later old new more (OfValue of) ok = type-in-range-later old new more (tree_at [] of) ok
 
-parameters-later : (old new : Graph) → Grows old new → (parameters : List TemplateParameter) → AreParametersInRange old parameters → AreParametersInRange new parameters
+parameters-later : (old new : Graph) → Grows old new → (parameters : List Parameter) → AreParametersInRange old parameters → AreParametersInRange new parameters
 parameters-later old new more [] ok = tt
 parameters-later old new more (x ∷ xs) ok = (parameter-later old new more x.kind ok.0, parameters-later old new more xs ok.1)
 
@@ -124,16 +148,16 @@ named-class-later : (old new : Graph) → Grows old new → (class : Option Clas
 named-class-later old new more None ok = tt
 named-class-later old new more (Some class) ok = class-later old new more class ok
 
-pub pattern-later : (old new : Graph) → Grows old new → (pattern : Pattern) → IsPatternInRange old pattern → IsPatternInRange new pattern
-pattern-later old new more pattern ok = record {
+pub pattern-later : (old new : Graph) → Grows old new → (number : ℕ) (pattern : Pattern) → IsPatternInRange old number pattern → IsPatternInRange new number pattern
+pattern-later old new more number pattern ok = record {
   parameters = parameters-later old new more pattern.parameters ok.parameters;
-  primary = named-template-later old new more pattern.primary ok.primary;
+  primary = ok.primary;
   class = named-class-later old new more pattern.class ok.class;
 }
 
-patterns-later : (old new : Graph) → Grows old new → (patterns : List Pattern) → ArePatternsInRange old patterns → ArePatternsInRange new patterns
-patterns-later old new more [] ok = tt
-patterns-later old new more (x ∷ xs) ok = (pattern-later old new more x ok.0, patterns-later old new more xs ok.1)
+patterns-later : (old new : Graph) → Grows old new → (number : ℕ) (patterns : List Pattern) → ArePatternsInRange old number patterns → ArePatternsInRange new number patterns
+patterns-later old new more number [] ok = tt
+patterns-later old new more number (x ∷ xs) ok = (pattern-later old new more number x ok.0, patterns-later old new more (suc number) xs ok.1)
 
 specialisation-later : (old new : Graph) → Grows old new → (class : Option Specialisation) → IsClassInRange old class → IsClassInRange new class
 specialisation-later old new more None ok = tt
@@ -147,9 +171,9 @@ classes-more : (graph : Graph) (classes : List (Option Specialisation)) (class :
 classes-more graph [] class ok last = (last, tt)
 classes-more graph (x ∷ xs) class ok last = (ok.0, classes-more graph xs class ok.1 last)
 
-patterns-more : (graph : Graph) (patterns : List Pattern) (pattern : Pattern) → ArePatternsInRange graph patterns → IsPatternInRange graph pattern → ArePatternsInRange graph (patterns ++ pattern ∷ [])
-patterns-more graph [] pattern ok last = (last, tt)
-patterns-more graph (x ∷ xs) pattern ok last = (ok.0, patterns-more graph xs pattern ok.1 last)
+patterns-more : (graph : Graph) (number : ℕ) (patterns : List Pattern) (pattern : Pattern) → ArePatternsInRange graph number patterns → (last : ℕ) → last ≡ number + length patterns → IsPatternInRange graph last pattern → ArePatternsInRange graph number (patterns ++ pattern ∷ [])
+patterns-more graph number [] pattern ok last is next = (let e : last ≡ number = omega arith in subst (λ (n : ℕ). IsPatternInRange graph n pattern) e next, tt)
+patterns-more graph number (x ∷ xs) pattern ok last is next = (ok.0, patterns-more graph (suc number) xs pattern ok.1 last (omega arith) next)
 
 -- ---- one more of each
 
@@ -177,7 +201,7 @@ appended-in-range graph fact ok next =
     record {
       facts = one-more (appended graph fact) [] graph.facts fact (each-later graph (appended graph fact) (omega arith) (omega arith) [] graph.facts ok.facts) next;
       classes = classes-later graph (appended graph fact) more graph.classes ok.classes;
-      patterns = patterns-later graph (appended graph fact) more graph.patterns ok.patterns;
+      patterns = patterns-later graph (appended graph fact) more 0 graph.patterns ok.patterns;
       fewer = omega (arith, length-append graph.facts (fact ∷ []));
     }
 
@@ -187,17 +211,17 @@ reserved-in-range graph class ok next =
     record {
       facts = each-later graph (with_class graph class) more.classes more.patterns [] graph.facts ok.facts;
       classes = classes-more (with_class graph class) graph.classes class (classes-later graph (with_class graph class) more graph.classes ok.classes) (specialisation-later graph (with_class graph class) more class next);
-      patterns = patterns-later graph (with_class graph class) more graph.patterns ok.patterns;
+      patterns = patterns-later graph (with_class graph class) more 0 graph.patterns ok.patterns;
       fewer = ok.fewer;
     }
 
-pub pattern-in-range : (graph : Graph) (pattern : Pattern) → InRange graph → length graph.patterns < length graph.facts → IsPatternInRange graph pattern → InRange (with_pattern graph pattern)
+pub pattern-in-range : (graph : Graph) (pattern : Pattern) → InRange graph → length graph.patterns < length graph.facts → IsPatternInRange graph (length graph.patterns) pattern → InRange (with_pattern graph pattern)
 pattern-in-range graph pattern ok fewer next =
     let more : Grows graph (with_pattern graph pattern) = grows-pattern graph pattern in
     record {
       facts = each-later graph (with_pattern graph pattern) more.classes more.patterns [] graph.facts ok.facts;
       classes = classes-later graph (with_pattern graph pattern) more graph.classes ok.classes;
-      patterns = patterns-more (with_pattern graph pattern) graph.patterns pattern (patterns-later graph (with_pattern graph pattern) more graph.patterns ok.patterns) (pattern-later graph (with_pattern graph pattern) more pattern next);
+      patterns = patterns-more (with_pattern graph pattern) 0 graph.patterns pattern (patterns-later graph (with_pattern graph pattern) more 0 graph.patterns ok.patterns) (length graph.patterns) (omega arith) (pattern-later graph (with_pattern graph pattern) more (length graph.patterns) pattern next);
       fewer = omega (arith, length-append graph.patterns (pattern ∷ []));
     }
 

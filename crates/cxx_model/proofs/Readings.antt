@@ -10,9 +10,9 @@ use Rattle.cxx_model.specs.declared.token.TokenKind.TheVariants.{Name, Keyword, 
 use Rattle.cxx_model.specs.declared.token.TokenReason.{TokenReason}
 use Rattle.cxx_model.specs.declared.token.TokenReason.TheVariants.{MixedStrings}
 use Rattle.cxx_model.specs.declared.limits.TheConstants as limits
-use Rattle.cxx_model.specs.Lexemes.{first_place, after, past}
-use Rattle.cxx_model.specs.Spelling.{Spelled, Blank, Good, Ill}
-use Rattle.cxx_model.specs.Tokens.{Piece, IsLongest, Unread, BadAt, PastTokens, Width, fresh_after, fresh_past, is_fresh, width_of, width_behind, is_mixed, is_text, is_some_width, joins, reason_at, reason_by, front, join_list, comes_after_mixed, put, ended, good, step_by, step, tokens_from, tokens_of, Stands, place_at, IsTokenList, at_end, after_blank, after_token, tokens_begun, IsBadPlace, bad_here, bad_after_blank, bad_after_token, IsPastTokens, past_at_end, past_at_token, past_after_blank, past_after_token}
+use Rattle.cxx_model.specs.Text.Lexemes.{first_place, after, past}
+use Rattle.cxx_model.specs.Text.Spelling.{Spelled, Blank, Good, Ill}
+use Rattle.cxx_model.specs.Text.Tokens.{Piece, IsLongest, Unread, BadAt, PastTokens, Width, fresh_after, fresh_past, is_fresh, width_of, width_behind, is_mixed, is_text, is_some_width, joins, reason_at, reason_by, front, join_list, comes_after_mixed, put, ended, good, step_by, step, tokens_from, tokens_of, Stands, place_at, IsTokenList, at_end, after_blank, after_token, tokens_begun, IsBadPlace, bad_here, bad_after_blank, bad_after_token, IsPastTokens, past_at_end, past_at_token, past_after_blank, past_after_token}
 use Rattle.cxx_model.proofs.Fronts.{front_is, begins}
 use Rattle.cxx_model.proofs.Spellings.{text_width}
 

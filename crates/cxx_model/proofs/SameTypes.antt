@@ -6,9 +6,9 @@ use Rattle.std.proofs.lemmas.Bool.{eqb-true, eq-eqb}
 use Rattle.cxx_model.specs.declared.base.Base.{Base}
 use Rattle.cxx_model.specs.declared.base.Base.TheVariants as plain
 use Rattle.cxx_model.specs.declared.types.Cv.{Cv}
-use Rattle.cxx_model.specs.SameType.{same_bool, same_cv, same_word, same_type, same_types, same_bound, same_argument, same_arguments, same_formula}
-use Rattle.cxx_model.specs.Standard.{same_base}
-use Rattle.cxx_model.specs.Types.{CxxType, fundamental, class_type, enumeration, pointer_to, reference_to, array_of, function_of, qualified, type_parameter, specialisation, nested_in, CxxTypes, no_types, type_then, CxxBound, unknown_bound, number_bound, formula_bound, CxxArgument, type_argument, value_argument, formula_argument, CxxArguments, no_arguments, argument_then, CxxFormula, value_of, value_parameter, member_of, size_of, cast_to, unary, binary, conditional}
+use Rattle.cxx_model.specs.Types.Same.{same_bool, same_cv, same_word, same_type, same_types, same_bound, same_argument, same_arguments, same_formula}
+use Rattle.cxx_model.specs.Choice.Standard.{same_base}
+use Rattle.cxx_model.specs.Types.Trees.{CxxType, fundamental, class_type, enumeration, pointer_to, reference_to, array_of, function_of, qualified, type_parameter, specialisation, nested_in, CxxTypes, no_types, type_then, CxxBound, unknown_bound, number_bound, formula_bound, CxxArgument, type_argument, value_argument, formula_argument, CxxArguments, no_arguments, argument_then, CxxFormula, value_of, value_parameter, member_of, size_of, cast_to, unary, binary, conditional}
 use Rattle.cxx_model.proofs.Equal.{both, join, int_told, int_tells, word_told, word_tells}
 
 bool_told : (a b : Bool) → same_bool a b ≡ true → a ≡ b

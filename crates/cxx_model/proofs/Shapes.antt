@@ -9,7 +9,7 @@ use Rattle.cxx_model.specs.declared.token.TokenKind.{TokenKind}
 use Rattle.cxx_model.specs.declared.token.TokenKind.TheVariants.{Name, Keyword, Punct, Integer, Character, Text}
 use Rattle.cxx_model.specs.declared.token.TokenReason.{TokenReason}
 use Rattle.cxx_model.specs.declared.token.TokenReason.TheVariants as reason
-use Rattle.cxx_model.specs.Spelling.{Blank, Good, Ill, is_white, is_word, begins_word, begins_number, is_number_rest, is_quote, word_by, word_kind, IntegerParts, integer_by, integer_type, number_by, number_kind, integer_parts, is_floating, Ending, Open, Closed, Past, Letter, letters, is_bad_letter, is_universal_letter, character_by, string_by, literal_ending, body_of, literal_kind, literal_by, literal, wide_literal, comment_by, comment_ending, within_line, is_newline, past_blanks, is_marker_word, marker_by, hash, alone, number_in, number_beside, first_of, keywords, alternatives, operators, digraphs, operator_by, operator, slash, backslash, percent, spelling_of}
+use Rattle.cxx_model.specs.Text.Spelling.{Blank, Good, Ill, is_white, is_word, begins_word, begins_number, is_number_rest, is_quote, word_by, word_kind, IntegerParts, integer_by, integer_type, number_by, number_kind, integer_parts, is_floating, Ending, Open, Closed, Past, Letter, letters, is_bad_letter, is_universal_letter, character_by, string_by, literal_ending, body_of, literal_kind, literal_by, literal, wide_literal, comment_by, comment_ending, within_line, is_newline, past_blanks, is_marker_word, marker_by, hash, alone, number_in, number_beside, first_of, keywords, alternatives, operators, digraphs, operator_by, operator, slash, backslash, percent, spelling_of}
 
 -- a token by its first byte
 pub data Shape (b : ℕ) (rest : List ℕ) (kind : TokenKind) : Type 0 where

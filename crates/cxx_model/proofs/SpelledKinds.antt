@@ -7,7 +7,7 @@ use Rattle.std.proofs.lemmas.List.Quantifiers.{position-Some}
 use Rattle.std.proofs.lemmas.Slice.Eq.{bytes_eq-Decides}
 use Rattle.cxx_model.specs.declared.token.TokenKind.{TokenKind}
 use Rattle.cxx_model.specs.declared.token.TokenKind.TheVariants.{Name, Keyword, Punct, Integer, Character, Text, End}
-use Rattle.cxx_model.specs.Spelling.{Good, number_in, number_beside, keywords, alternatives, operators, digraphs, spelling_of}
+use Rattle.cxx_model.specs.Text.Spelling.{Good, number_in, number_beside, keywords, alternatives, operators, digraphs, spelling_of}
 use Rattle.cxx_model.proofs.Shapes.{Shape, wordy, wide, number, quoted, operated, pick, no_empty, shape, word_kind_is, number_kind_is, literal_is, operator_is}
 
 -- the text is the primary spelling of a punctuator, a word for it or its digraph

@@ -6,14 +6,14 @@ use Rattle.std.proofs.lemmas.Bool.Decides.{nat_tests}
 use Rattle.std.proofs.lemmas.Slice.Eq.{bytes_eq-Decides}
 use Rattle.std.specs.List.{list_all, list_any, position_or_len, take_while}
 use Rattle.std.specs.Char.{is_ascii_digit}
-use Rattle.cxx_model.specs.Spelling.{Spelled, Blank, Good, Ill, Ending, Open, Closed, Past, is_white, is_word, begins_word, begins_number, is_number_rest, is_quote, word_kind, number_kind, alone, number_in, number_beside, first_of, keywords, alternatives, operators, digraphs, operator_by, operator, closed_if_last, literal_ending, literal_by, literal_kind, body_of, literal, wide_literal, comment_ending, comment_by, is_newline, within_line, past_blanks, is_marker_word, marker_by, hash, slash, backslash, percent, spelling_of, Letter, letters, character_by, string_by, is_bad_letter, is_universal_letter, word_by, number_by, integer_by, integer_type, integer_parts, is_floating, IntegerParts}
-use Rattle.cxx_model.specs.Continuing.{starts, number_goes_on, last_of, begins_comment, is_colon, BeginsOperator, IsLongestBy, Goes, comment, starts_with, alone_goes_on, operator_goes_on}
+use Rattle.cxx_model.specs.Text.Spelling.{Spelled, Blank, Good, Ill, Ending, Open, Closed, Past, is_white, is_word, begins_word, begins_number, is_number_rest, is_quote, word_kind, number_kind, alone, number_in, number_beside, first_of, keywords, alternatives, operators, digraphs, operator_by, operator, closed_if_last, literal_ending, literal_by, literal_kind, body_of, literal, wide_literal, comment_ending, comment_by, is_newline, within_line, past_blanks, is_marker_word, marker_by, hash, slash, backslash, percent, spelling_of, Letter, letters, character_by, string_by, is_bad_letter, is_universal_letter, word_by, number_by, integer_by, integer_type, integer_parts, is_floating, IntegerParts}
+use Rattle.cxx_model.specs.Text.Continuing.{starts, number_goes_on, last_of, begins_comment, is_colon, BeginsOperator, IsLongestBy, Goes, comment, starts_with, alone_goes_on, operator_goes_on}
 use Rattle.cxx_model.specs.declared.base.Base.{Base}
 use Rattle.cxx_model.specs.declared.token.TokenKind.{TokenKind}
 use Rattle.cxx_model.specs.declared.token.TokenKind.TheVariants.{Name, Keyword, Punct, Integer, Character, Text, End}
 use Rattle.cxx_model.specs.declared.token.TokenReason.{TokenReason}
 use Rattle.cxx_model.specs.declared.token.TokenReason.TheVariants as reason
-use Rattle.cxx_model.specs.Tokens.{IsLongest, width_of, is_some_width}
+use Rattle.cxx_model.specs.Text.Tokens.{IsLongest, width_of, is_some_width}
 
 -- ---- bytes
 

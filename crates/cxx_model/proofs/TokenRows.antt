@@ -7,8 +7,8 @@ use Rattle.cxx_model.specs.declared.token.TokenKind.TheVariants.{Name, Punct, Te
 use Rattle.cxx_model.specs.declared.token.TokenReason.{TokenReason}
 use Rattle.cxx_model.specs.declared.token.TokenReason.TheVariants as reason
 use Rattle.cxx_model.specs.declared.punct.TheConstants as punct
-use Rattle.cxx_model.specs.Spelling.{keywords, alternatives, operators, digraphs, word_kind, number_kind, operator, literal, hash, slash, percent, spelling_of, literal_type, literal_value, string_length}
-use Rattle.cxx_model.specs.Tokens.{Unread, BadAt, PastTokens, longest_within, front, tokens_from, tokens_of}
+use Rattle.cxx_model.specs.Text.Spelling.{keywords, alternatives, operators, digraphs, word_kind, number_kind, operator, literal, hash, slash, percent, spelling_of, literal_type, literal_value, string_length}
+use Rattle.cxx_model.specs.Text.Tokens.{Unread, BadAt, PastTokens, longest_within, front, tokens_from, tokens_of}
 
 -- the kinds and spans of the tokens, or the column and the reason
 data Seen : Type 0 where

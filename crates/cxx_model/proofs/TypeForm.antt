@@ -3,7 +3,7 @@ use Rattle.std.specs.Prelude.{Bool, true, false, ◌||◌, if◌then◌else◌, 
 use Rattle.std.proofs.Common.{ap, ◌∙◌, sym}
 use Rattle.std.proofs.Math.Bool.{or_assoc}
 use Rattle.cxx_model.specs.declared.types.Cv.{Cv}
-use Rattle.cxx_model.specs.Types.{CxxType, fundamental, class_type, enumeration, pointer_to, reference_to, array_of, function_of, qualified, type_parameter, specialisation, nested_in, CxxTypes, no_types, type_then, CxxBound, unknown_bound, number_bound, formula_bound, CxxArgument, type_argument, value_argument, formula_argument, CxxArguments, no_arguments, argument_then, CxxFormula, value_of, value_parameter, member_of, size_of, cast_to, unary, binary, conditional, any_cv, merged, layered, with_cv, unqualified, adjusted, takes_cv, is_adjusted, normal, normal_parameters, normal_bound, normal_argument, normal_arguments, normal_formula, IsNormal, AreParameters, IsNormalBound, IsNormalArgument, AreNormalArguments, IsNormalFormula}
+use Rattle.cxx_model.specs.Types.Trees.{CxxType, fundamental, class_type, enumeration, pointer_to, reference_to, array_of, function_of, qualified, type_parameter, specialisation, nested_in, CxxTypes, no_types, type_then, CxxBound, unknown_bound, number_bound, formula_bound, CxxArgument, type_argument, value_argument, formula_argument, CxxArguments, no_arguments, argument_then, CxxFormula, value_of, value_parameter, member_of, size_of, cast_to, unary, binary, conditional, any_cv, merged, layered, with_cv, unqualified, adjusted, takes_cv, is_adjusted, normal, normal_parameters, normal_bound, normal_argument, normal_arguments, normal_formula, IsNormal, AreParameters, IsNormalBound, IsNormalArgument, AreNormalArguments, IsNormalFormula}
 
 -- what a type that takes cv is with cv
 pub with_cv_layered : (cv : Cv) (t : CxxType) → IsTrue (takes_cv t) → with_cv cv t ≡ layered cv t

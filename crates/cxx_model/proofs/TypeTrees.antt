@@ -4,15 +4,15 @@ use Rattle.cxx_model.specs.declared.types.TypeId.{TypeId}
 use Rattle.cxx_model.specs.declared.types.Formula.{Formula, Value, Parameter, Member, SizeOf, Cast', Unary', Binary', Conditional'}
 use Rattle.cxx_model.specs.declared.types.Bound.{Bound}
 use Rattle.cxx_model.specs.declared.types.Bound.TheVariants as bound
-use Rattle.cxx_model.specs.declared.types.TemplateArgument.{TemplateArgument}
-use Rattle.cxx_model.specs.declared.types.TemplateArgument.TheVariants as argument
+use Rattle.cxx_model.specs.declared.types.Argument.{Argument}
+use Rattle.cxx_model.specs.declared.types.Argument.TheVariants as argument
 use Rattle.cxx_model.specs.declared.types.TypeNode.{TypeNode}
 use Rattle.cxx_model.specs.declared.types.TypeNode.TheVariants as node
 use Rattle.cxx_model.specs.declared.types.TypeTree as tree
 use Rattle.cxx_model.specs.declared.types.TypeTree.{TypeTree}
-use Rattle.cxx_model.specs.TypeTrees.{type_at, formula_at, bound_at, argument_at, arguments_at, types_at, type_over, tree_at, row_at, IsFormulaBelow, IsBoundBelow, IsArgumentBelow, AreArgumentsBelow, AreTypesBelow, IsNodeBelow, IsTreeBelow, IsRowBelow, Keeps}
+use Rattle.cxx_model.specs.Types.Numbers.{type_at, formula_at, bound_at, argument_at, arguments_at, types_at, type_over, tree_at, row_at, IsFormulaBelow, IsBoundBelow, IsArgumentBelow, AreArgumentsBelow, AreTypesBelow, IsNodeBelow, IsTreeBelow, IsRowBelow, Keeps}
 use Rattle.std.proofs.Common.{arith}
-use Rattle.cxx_model.specs.Types.{CxxType, IsNormal, IsNormalFormula, IsNormalBound, IsNormalArgument, AreNormalArguments}
+use Rattle.cxx_model.specs.Types.Trees.{CxxType, IsNormal, IsNormalFormula, IsNormalBound, IsNormalArgument, AreNormalArguments}
 
 pub formula_later : (old new : ℕ) (x : Formula) → old ≤ new → IsFormulaBelow old x → IsFormulaBelow new x
 formula_later old new (Value value of) le ok = let below-of : of.0 < old = ok in omega arith
@@ -29,12 +29,12 @@ bound_later old new bound.Unknown le ok = tt
 bound_later old new (bound.Number n) le ok = tt
 bound_later old new (bound.Computed f) le ok = formula_later old new f.value le ok
 
-pub argument_later : (old new : ℕ) (x : TemplateArgument) → old ≤ new → IsArgumentBelow old x → IsArgumentBelow new x
+pub argument_later : (old new : ℕ) (x : Argument) → old ≤ new → IsArgumentBelow old x → IsArgumentBelow new x
 argument_later old new (argument.OfType of) le ok = let below-of : of.0 < old = ok in omega arith
 argument_later old new (argument.Value value of) le ok = let below-of : of.0 < old = ok in omega arith
 argument_later old new (argument.Computed f) le ok = formula_later old new f.value le ok
 
-pub arguments_later : (old new : ℕ) (x : List TemplateArgument) → old ≤ new → AreArgumentsBelow old x → AreArgumentsBelow new x
+pub arguments_later : (old new : ℕ) (x : List Argument) → old ≤ new → AreArgumentsBelow old x → AreArgumentsBelow new x
 arguments_later old new [] le ok = tt
 arguments_later old new (x ∷ others) le ok = (argument_later old new x le ok.0, arguments_later old new others le ok.1)
 
@@ -108,7 +108,7 @@ bound_kept old new (bound.Computed f) kept ok =
     let same-f : formula_at new f.value ≡ formula_at old f.value = formula_kept old new f.value kept ok in
     cc
 
-pub argument_kept : (old new : List CxxType) (x : TemplateArgument) → Keeps old new → IsArgumentBelow (length old) x → argument_at new x ≡ argument_at old x
+pub argument_kept : (old new : List CxxType) (x : Argument) → Keeps old new → IsArgumentBelow (length old) x → argument_at new x ≡ argument_at old x
 argument_kept old new (argument.OfType of) kept ok =
     let same-of : type_at new of.0 ≡ type_at old of.0 = kept.same of.0 ok in
     cc
@@ -119,7 +119,7 @@ argument_kept old new (argument.Computed f) kept ok =
     let same-f : formula_at new f.value ≡ formula_at old f.value = formula_kept old new f.value kept ok in
     cc
 
-pub arguments_kept : (old new : List CxxType) (x : List TemplateArgument) → Keeps old new → AreArgumentsBelow (length old) x → arguments_at new x ≡ arguments_at old x
+pub arguments_kept : (old new : List CxxType) (x : List Argument) → Keeps old new → AreArgumentsBelow (length old) x → arguments_at new x ≡ arguments_at old x
 arguments_kept old new [] kept ok = refl
 arguments_kept old new (x ∷ others) kept ok =
     let same-x : argument_at new x ≡ argument_at old x = argument_kept old new x kept ok.0 in
@@ -224,11 +224,11 @@ bound_normal types bound.Unknown each ok = tt
 bound_normal types (bound.Number n) each ok = tt
 bound_normal types (bound.Computed f) each ok = formula_normal types f.value each ok
 
-pub argument_normal : (types : List CxxType) (x : TemplateArgument) → ((i : ℕ) → i < length types → IsNormal (type_at types i)) → IsArgumentBelow (length types) x → IsNormalArgument (argument_at types x)
+pub argument_normal : (types : List CxxType) (x : Argument) → ((i : ℕ) → i < length types → IsNormal (type_at types i)) → IsArgumentBelow (length types) x → IsNormalArgument (argument_at types x)
 argument_normal types (argument.OfType of) each ok = each of.0 ok
 argument_normal types (argument.Value value of) each ok = each of.0 ok
 argument_normal types (argument.Computed f) each ok = formula_normal types f.value each ok
 
-pub arguments_normal : (types : List CxxType) (x : List TemplateArgument) → ((i : ℕ) → i < length types → IsNormal (type_at types i)) → AreArgumentsBelow (length types) x → AreNormalArguments (arguments_at types x)
+pub arguments_normal : (types : List CxxType) (x : List Argument) → ((i : ℕ) → i < length types → IsNormal (type_at types i)) → AreArgumentsBelow (length types) x → AreNormalArguments (arguments_at types x)
 arguments_normal types [] each ok = tt
 arguments_normal types (x ∷ others) each ok = (argument_normal types x each ok.0, arguments_normal types others each ok.1)

@@ -9,9 +9,9 @@ use Rattle.cxx_model.specs.declared.stop.LimitKind.TheVariants.{Bytes, Tokens, O
 use Rattle.cxx_model.specs.declared.token.Token.{Token}
 use Rattle.cxx_model.specs.First.Plain.{plain}
 use Rattle.cxx_model.specs.First.Reading.{reading_of}
-use Rattle.cxx_model.specs.Lexemes.{lexemes}
+use Rattle.cxx_model.specs.Text.Lexemes.{lexemes}
 use Rattle.cxx_model.specs.Stops.{Answer, Stopped, Faulty, Limited, fault, token_reason_text}
-use Rattle.cxx_model.specs.Tokens.{Unread, BadAt, PastTokens, tokens_of}
+use Rattle.cxx_model.specs.Text.Tokens.{Unread, BadAt, PastTokens, tokens_of}
 
 pub data UnitOutcome : Type 0 where
   Whole : Reading → UnitOutcome

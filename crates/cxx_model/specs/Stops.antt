@@ -7,7 +7,7 @@ use Rattle.cxx_model.specs.declared.stop.Stop.{Stop}
 use Rattle.cxx_model.specs.declared.stop.Stop.TheVariants as stop
 use Rattle.cxx_model.specs.declared.token.TokenReason.{TokenReason}
 use Rattle.cxx_model.specs.declared.token.TokenReason.TheVariants as reason
-use Rattle.cxx_model.specs.Lexemes.{Lexeme, place_of}
+use Rattle.cxx_model.specs.Text.Lexemes.{Lexeme, place_of}
 use Rattle.std.specs.Prelude.{ℕ}
 
 -- the first fault of a unit, or the quantity that it passes

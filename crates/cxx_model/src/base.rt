@@ -1,6 +1,7 @@
-/// The fundamental types (3.9.1): the arithmetic types, and `void`.
+/// The fundamental types (3.9.1): `void`, and the arithmetic types.
 #[derive(Clone, Copy, Debug, PartialEq, Eq, Hash)]
 pub enum Base {
+    Void,
     Bool,
     Char,
     SignedChar,
@@ -15,5 +16,4 @@ pub enum Base {
     Float,
     Double,
     LongDouble,
-    Void,
 }

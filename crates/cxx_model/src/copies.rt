@@ -1,11 +1,11 @@
 //! Copies of what holds a formula.
 
 ghost use Rattle.std.specs.Prelude.{IfOk};
-ghost use Rattle.cxx_model.specs.Copies.{CopiesFormula, CopiesBound, CopiesArgument, CopiesArguments};
+ghost use Rattle.cxx_model.specs.Types.Copies.{CopiesFormula, CopiesBound, CopiesArgument, CopiesArguments};
 
 use crate::listed::Listed;
 use crate::memory::OutOfMemory;
-use crate::types::{Bound, Formula, TemplateArgument, TemplateArgumentList};
+use crate::types::{Bound, Formula, Argument, ArgumentList};
 use std::alloc::Global;
 
 fn copy_formula(alloc: Global, formula: &Formula) -> Result<Formula, OutOfMemory>
@@ -57,16 +57,16 @@ pub fn copy_bound(alloc: Global, bound: &Bound) -> Result<Bound, OutOfMemory>
 
 fn copy_argument(
     alloc: Global,
-    argument: &TemplateArgument,
-) -> Result<TemplateArgument, OutOfMemory>
+    argument: &Argument,
+) -> Result<Argument, OutOfMemory>
     ensures { IfOk result (CopiesArgument argument.now) }
 {
     match argument {
-        TemplateArgument::OfType(of) => Ok(TemplateArgument::OfType(*of)),
-        TemplateArgument::Value(value, of) => Ok(TemplateArgument::Value(*value, *of)),
-        TemplateArgument::Computed(formula) => {
+        Argument::OfType(of) => Ok(Argument::OfType(*of)),
+        Argument::Value(value, of) => Ok(Argument::Value(*value, *of)),
+        Argument::Computed(formula) => {
             let formula = Box::new(alloc, copy_formula(alloc, formula)?)?;
-            Ok(TemplateArgument::Computed(formula))
+            Ok(Argument::Computed(formula))
         }
     }
 }
@@ -74,8 +74,8 @@ fn copy_argument(
 /// A copy of arguments: the same ones, whatever types their numbers name.
 pub fn copy_arguments(
     alloc: Global,
-    arguments: &[TemplateArgument],
-) -> Result<TemplateArgumentList, OutOfMemory>
+    arguments: &[Argument],
+) -> Result<ArgumentList, OutOfMemory>
     ensures { IfOk result (CopiesArguments arguments.now) }
 {
     let mut copies = Listed::new(alloc);

@@ -3,12 +3,12 @@
 use crate::listed::{Listed, Word};
 use crate::place::Place;
 use crate::types::{
-    ClassId, EnumId, FactId, ScopeId, TemplateArgument, TemplateArgumentList, TemplateId, TreeId,
+    ClassId, EnumId, FactId, ScopeId, Argument, ArgumentList, TemplateId, TreeId,
     TypeId, TypeTree,
 };
 
 /// How a function, an object or a template stands to a class (9.2, 9.3, 9.4, 12).
-#[derive(Clone, Copy, Debug, PartialEq, Eq)]
+#[derive(Clone, Copy, PartialEq, Eq)]
 pub enum MemberKind {
     /// No member of a class.
     Free,
@@ -20,24 +20,39 @@ pub enum MemberKind {
 }
 
 /// 11
-#[derive(Clone, Copy, Debug, PartialEq, Eq)]
+#[derive(Clone, Copy, PartialEq, Eq)]
 pub enum Access {
     Public,
     Protected,
     Private,
 }
 
-/// The words of a function's declaration (7.1.2, 10.4).
-#[derive(Clone, Copy, Debug, PartialEq, Eq)]
+/// What is said of a function besides its type (7.1.2, 10.4, 12).
+#[derive(Clone, Copy, PartialEq, Eq)]
 pub struct FunctionFlags {
     /// The word is written, or a base has such a function (10.3).
     pub is_virtual: bool,
     pub is_pure: bool,
     pub is_explicit: bool,
+    /// No declaration is written: the class declares it by itself (12.1, 12.8).
+    pub is_implicit: bool,
+}
+
+/// The name that a declaration declares (3, 12.1, 12.3.2, 12.4, 13.5).
+#[derive(PartialEq, Eq, Drop)]
+pub enum Name {
+    /// What has no name, a constructor among them.
+    Unnamed,
+    Spelled(Word),
+    /// An operator function, by the number of the operator.
+    Operator(u8),
+    /// A conversion function, by the type to which it converts.
+    Conversion(TypeId),
+    Destructor,
 }
 
 /// What a scope is of (3.3).
-#[derive(Clone, Copy, Debug, PartialEq, Eq)]
+#[derive(Clone, Copy, PartialEq, Eq)]
 pub enum ScopeKind {
     /// A namespace, or the unit itself.
     Space,
@@ -48,7 +63,7 @@ pub enum ScopeKind {
 }
 
 /// What a fact declares. `first` is the entity's first declaration, and absent in that one itself.
-#[derive(Clone, Copy, Debug, PartialEq, Eq)]
+#[derive(Clone, Copy, PartialEq, Eq)]
 pub enum Entity {
     Scope {
         parent: Option<ScopeId>,
@@ -57,6 +72,8 @@ pub enum Entity {
     Object {
         of: TypeId,
         member: MemberKind,
+        /// 7.1.1
+        is_mutable: bool,
         /// The value of a const object that an integral constant expression initializes (5.19).
         value: Option<i128>,
         first: Option<FactId>,
@@ -135,45 +152,45 @@ pub enum Entity {
 }
 
 /// A declaration: where it stands, the scope and the name that it declares, and what.
-#[derive(Debug, Drop)]
+#[derive(Drop)]
 pub struct Fact {
     pub place: Place,
     pub scope: ScopeId,
-    pub word: Word,
+    pub name: Name,
     pub access: Access,
     pub what: Entity,
 }
 
 /// The template and the arguments of a class (14.7).
-#[derive(Debug, PartialEq, Eq, Hash, Drop)]
+#[derive(PartialEq, Eq, Hash, Drop)]
 pub struct Specialisation {
     pub template: TemplateId,
-    pub arguments: TemplateArgumentList,
+    pub arguments: ArgumentList,
 }
 
 /// What a parameter of a template is (14.1).
-#[derive(Debug, Drop)]
+#[derive(Drop)]
 pub enum ParameterKind {
     OfType,
     OfValue(TypeTree),
 }
 
 /// A parameter of a template, with its default argument (14.1).
-#[derive(Debug, Drop)]
-pub struct TemplateParameter {
+#[derive(Drop)]
+pub struct Parameter {
     pub kind: ParameterKind,
-    pub fallback: Option<TemplateArgument>,
+    pub fallback: Option<Argument>,
 }
 
-pub type TemplateParameterList = Listed<TemplateParameter>;
+pub type ParameterList = Listed<Parameter>;
 
 /// A template (14).
-#[derive(Debug, Drop)]
+#[derive(Drop)]
 pub struct Pattern {
-    pub parameters: TemplateParameterList,
+    pub parameters: ParameterList,
     /// The template of which this is a partial specialisation (14.5.4), and its arguments.
     pub primary: Option<TemplateId>,
-    pub arguments: TemplateArgumentList,
+    pub arguments: ArgumentList,
     /// The type of a function template.
     pub of: Option<TypeId>,
     /// The class of a class template.

@@ -18,7 +18,7 @@ pub type ItemList = Listed<Item>;
 pub type CallList = Listed<Call>;
 
 /// What a name was declared as.
-#[derive(Debug, Drop)]
+#[derive(Drop)]
 pub enum Declared {
     /// A function, by its result and the types of its parameters.
     Function(Base, BaseList),
@@ -27,7 +27,7 @@ pub enum Declared {
 }
 
 /// A declaration of a name. Its number is its place among the declarations of the unit, from 0.
-#[derive(Debug, Drop)]
+#[derive(Drop)]
 pub struct Declaration {
     pub place: Place,
     pub word: Word,
@@ -35,7 +35,7 @@ pub struct Declaration {
 }
 
 /// A literal, and the casts that are written around it, the outermost first.
-#[derive(Debug, Drop)]
+#[derive(Drop)]
 pub struct Argument {
     pub casts: BaseList,
     /// The type of the literal.
@@ -44,7 +44,7 @@ pub struct Argument {
 }
 
 /// A call, and the casts that are written around it, the outermost first.
-#[derive(Debug, Drop)]
+#[derive(Drop)]
 pub struct Initializer {
     pub casts: BaseList,
     /// The called name.
@@ -59,14 +59,14 @@ pub struct Initializer {
 }
 
 /// What one declaration of the unit says besides its name and type.
-#[derive(Debug, Drop)]
+#[derive(Drop)]
 pub enum Item {
     Function,
     Object(Initializer),
 }
 
 /// A standard conversion sequence between arithmetic types (13.3.3.1.1): identity where it has no step.
-#[derive(Clone, Copy, Debug, PartialEq, Eq)]
+#[derive(Clone, Copy, PartialEq, Eq)]
 pub struct ArithmeticSequence {
     pub from: Base,
     pub to: Base,
@@ -74,7 +74,7 @@ pub struct ArithmeticSequence {
 }
 
 /// A call as it was decided.
-#[derive(Debug, Drop)]
+#[derive(Drop)]
 pub struct Call {
     /// The place of the called name.
     pub place: Place,
@@ -87,7 +87,7 @@ pub struct Call {
 }
 
 /// A unit as it was read: each declaration and, beside it, its item; and each call, in order.
-#[derive(Debug, Drop)]
+#[derive(Drop)]
 pub struct Reading {
     pub options: Options,
     pub declarations: DeclarationList,

@@ -4,14 +4,14 @@ use crate::listed::{Listed, NumberList};
 use crate::types::{ClassId, FactId, FactList};
 
 /// A declaration, and the positions of the bases that lead to its class, from 1.
-#[derive(Debug, Drop)]
+#[derive(Drop)]
 pub struct Hit {
     pub fact: FactId,
     pub path: NumberList,
 }
 
 /// What the lookup of a member finds (10.2).
-#[derive(Debug, Drop)]
+#[derive(Drop)]
 pub enum MemberFound {
     /// The first facts of the entities, ascending, and the least path to them.
     Set(FactList, NumberList),
@@ -21,7 +21,7 @@ pub enum MemberFound {
 }
 
 /// What an unqualified or a qualified lookup finds (3.4.1, 3.4.3.2).
-#[derive(Debug, Drop)]
+#[derive(Drop)]
 pub enum Found {
     /// The first facts of the entities, ascending.
     Set(FactList),
@@ -33,7 +33,7 @@ pub enum Found {
 }
 
 /// The classes and namespaces that argument-dependent lookup asks (3.4.2).
-#[derive(Debug, Drop)]
+#[derive(Drop)]
 pub struct Associated {
     pub classes: NumberList,
     pub spaces: NumberList,

@@ -1,7 +1,7 @@
 use std::alloc::{AllocError, AllocFailed};
 
 /// There was no memory.
-#[derive(Clone, Copy, Debug, PartialEq, Eq)]
+#[derive(Clone, Copy, PartialEq, Eq)]
 pub struct OutOfMemory;
 
 impl From<AllocError> for OutOfMemory {

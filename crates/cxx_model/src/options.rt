@@ -1,5 +1,5 @@
 /// What the user chooses for a run.
-#[derive(Clone, Copy, Debug, PartialEq, Eq)]
+#[derive(Clone, Copy, PartialEq, Eq)]
 pub struct Options {
     /// How deep instances of templates may nest.
     pub depth: u32,

@@ -4,10 +4,10 @@ use crate::evidence::Reason;
 use crate::listed::{Listed, NumberList, Word};
 use crate::place::Place;
 use crate::sequence::{Operand, OperandList, SequenceList};
-use crate::types::{ClassId, FactId, FactList, ScopeId, TemplateArgumentList, TypeId, TypeIdList};
+use crate::types::{ClassId, FactId, FactList, ScopeId, ArgumentList, TypeId, TypeIdList};
 
 /// What is asked (13.3.1).
-#[derive(Clone, Copy, Debug, PartialEq, Eq)]
+#[derive(Clone, Copy, PartialEq, Eq)]
 pub enum QuestionKind {
     Call,
     /// The number of the operator's spelling.
@@ -19,7 +19,7 @@ pub enum QuestionKind {
 }
 
 /// Which function is meant (13.3).
-#[derive(Debug, Drop)]
+#[derive(Drop)]
 pub struct Question {
     pub kind: QuestionKind,
     pub place: Place,
@@ -32,7 +32,7 @@ pub struct Question {
     pub object: Option<Operand>,
     pub arguments: OperandList,
     /// The template arguments that are written.
-    pub explicit: TemplateArgumentList,
+    pub explicit: ArgumentList,
     /// The type that a construction or conversion leads to.
     pub target: Option<TypeId>,
     /// What stands before it is seen: the count of the facts.
@@ -42,10 +42,10 @@ pub struct Question {
 }
 
 /// A function that may be meant (13.3.1).
-#[derive(Debug, Drop)]
+#[derive(Drop)]
 pub enum Candidate {
     /// A declared one, with the arguments of its template.
-    Named(FactId, TemplateArgumentList),
+    Named(FactId, ArgumentList),
     /// A built-in operator, by the types of its parameters (13.6).
     BuiltIn(TypeIdList),
 }
@@ -64,7 +64,7 @@ pub type OutcomeList = Listed<Outcome>;
 pub type ReasonList = Listed<Reason>;
 
 /// A candidate, and the first one that it does not beat, counted from 1 (13.3.3).
-#[derive(Clone, Copy, Debug, PartialEq, Eq)]
+#[derive(Clone, Copy, PartialEq, Eq)]
 pub struct Counter {
     pub candidate: u32,
     pub rival: u32,
@@ -73,13 +73,13 @@ pub struct Counter {
 pub type CounterList = Listed<Counter>;
 
 /// The answer to a question (13.3.3).
-#[derive(Debug, Drop)]
+#[derive(Drop)]
 pub enum Choice {
     /// The best viable candidate, counted from 1. A built-in one has no function.
     Chosen {
         candidate: u32,
         function: Option<FactId>,
-        arguments: TemplateArgumentList,
+        arguments: ArgumentList,
         sequences: SequenceList,
     },
     /// The reason of each candidate.
@@ -94,7 +94,7 @@ pub enum Choice {
 }
 
 /// What a call keeps of one viable candidate.
-#[derive(Debug, Drop)]
+#[derive(Drop)]
 pub struct Row {
     /// Counted from 1.
     pub candidate: u32,
@@ -111,7 +111,7 @@ pub struct Row {
 pub type RowList = Listed<Row>;
 
 /// A call as it was decided.
-#[derive(Debug, Drop)]
+#[derive(Drop)]
 pub struct Call {
     pub place: Place,
     pub candidates: CandidateList,
@@ -129,11 +129,11 @@ pub struct Call {
 pub type CallList = Listed<Call>;
 
 /// What a name means where a value is read (3.4).
-#[derive(Debug, Drop)]
+#[derive(Drop)]
 pub struct Named {
     pub facts: FactList,
     /// The template arguments that are written.
-    pub explicit: TemplateArgumentList,
+    pub explicit: ArgumentList,
     /// The class in which a member was looked up.
     pub naming: Option<ClassId>,
     /// The positions of the bases that lead to a member, from 1 (10.2).
@@ -141,7 +141,7 @@ pub struct Named {
 }
 
 /// What a built-in operator does: the types of its operands, and what it gives (clause 5).
-#[derive(Debug, Drop)]
+#[derive(Drop)]
 pub struct BuiltIn {
     pub operands: TypeIdList,
     pub result: TypeId,

@@ -4,7 +4,7 @@ use crate::listed::Listed;
 use crate::types::{FactId, TypeId};
 
 /// What is known of the value of an operand, as far as a conversion asks for it (4.2, 4.10).
-#[derive(Clone, Copy, Debug, PartialEq, Eq)]
+#[derive(Clone, Copy, PartialEq, Eq)]
 pub enum ConstantKind {
     No,
     /// An integral constant expression of integer type with the value zero.
@@ -16,7 +16,7 @@ pub enum ConstantKind {
 }
 
 /// What an expression is to a conversion or an operator (3.10): its type, which is never a reference.
-#[derive(Clone, Copy, Debug, PartialEq, Eq)]
+#[derive(Clone, Copy, PartialEq, Eq)]
 pub struct Operand {
     pub of: TypeId,
     pub lvalue: bool,
@@ -26,7 +26,7 @@ pub struct Operand {
 pub type OperandList = Listed<Operand>;
 
 /// The lvalue transformation of a standard conversion sequence (4.1 to 4.3).
-#[derive(Clone, Copy, Debug, PartialEq, Eq)]
+#[derive(Clone, Copy, PartialEq, Eq)]
 pub enum First {
     LvalueToRvalue,
     ArrayToPointer,
@@ -34,7 +34,7 @@ pub enum First {
 }
 
 /// The promotion or conversion of a standard conversion sequence (4.5 to 4.10, 4.12, 13.3.3.1).
-#[derive(Clone, Copy, Debug, PartialEq, Eq)]
+#[derive(Clone, Copy, PartialEq, Eq)]
 pub enum Second {
     IntegralPromotion,
     FloatingPromotion,
@@ -47,7 +47,7 @@ pub enum Second {
 }
 
 /// A standard conversion sequence (13.3.3.1.1): identity where it has no step.
-#[derive(Clone, Copy, Debug, PartialEq, Eq)]
+#[derive(Clone, Copy, PartialEq, Eq)]
 pub struct StandardSequence {
     pub from: Operand,
     pub to: TypeId,
@@ -60,7 +60,7 @@ pub struct StandardSequence {
 }
 
 /// An implicit conversion sequence (13.3.3.1).
-#[derive(Clone, Copy, Debug, PartialEq, Eq)]
+#[derive(Clone, Copy, PartialEq, Eq)]
 pub enum Sequence {
     Standard(StandardSequence),
     /// A converting constructor or a conversion function, and the standard sequences on both sides of it.
@@ -77,7 +77,7 @@ pub enum Sequence {
 pub type SequenceList = Listed<Sequence>;
 
 /// The rank of a sequence (13.3.3.1.1, table 9), best first.
-#[derive(Clone, Copy, Debug, PartialEq, Eq)]
+#[derive(Clone, Copy, PartialEq, Eq)]
 pub enum Rank {
     Exact,
     Promotion,
@@ -85,7 +85,7 @@ pub enum Rank {
 }
 
 /// How one sequence stands to another (13.3.3.2).
-#[derive(Clone, Copy, Debug, PartialEq, Eq)]
+#[derive(Clone, Copy, PartialEq, Eq)]
 pub enum Order {
     Better,
     Worse,

@@ -6,7 +6,7 @@ ghost use Rattle.cxx_model.specs.declared.stop.Stop.TheVariants as stop;
 use crate::evidence::EvidenceList;
 use crate::listed::Text;
 use crate::place::Place;
-use crate::types::{ClassId, FactId, TemplateArgumentList};
+use crate::types::{ClassId, FactId, ArgumentList};
 use std::alloc::{AllocError, AllocFailed};
 
 /// Which quantity was passed.
@@ -25,7 +25,7 @@ pub enum LimitKind {
 }
 
 /// What is wrong with a unit: where, the text that says it, and what it rests on.
-#[derive(Debug, Drop)]
+#[derive(Drop)]
 pub struct Fault {
     pub place: Place,
     pub text: Text,
@@ -33,7 +33,7 @@ pub struct Fault {
 }
 
 /// Why a unit is not read to its end.
-#[derive(Debug, Drop)]
+#[derive(Drop)]
 pub enum Stop {
     Fault(Box<Fault>),
     Limit(LimitKind),
@@ -41,7 +41,7 @@ pub enum Stop {
 }
 
 /// Why a question about a class has no answer yet.
-#[derive(Clone, Copy, Debug, PartialEq, Eq)]
+#[derive(Clone, Copy, PartialEq, Eq)]
 pub enum Wait {
     /// The class must be complete first (14.7.1).
     Needs(ClassId),
@@ -49,7 +49,7 @@ pub enum Wait {
 }
 
 /// Why a question that may reserve classes has no answer.
-#[derive(Clone, Copy, Debug, PartialEq, Eq)]
+#[derive(Clone, Copy, PartialEq, Eq)]
 pub enum Halt {
     /// The class must be complete first (14.7.1).
     Needs(ClassId),
@@ -58,20 +58,20 @@ pub enum Halt {
 }
 
 /// What must be read before a reader goes on.
-#[derive(Debug, Drop)]
+#[derive(Drop)]
 pub enum Need {
     /// The definition of a class (14.7.1).
     Class(ClassId),
     /// A default argument of a specialisation, by its index among the parameters (14.7.1).
     Default {
         function: FactId,
-        arguments: TemplateArgumentList,
+        arguments: ArgumentList,
         index: u32,
     },
 }
 
 /// Why a reader does not go on.
-#[derive(Debug, Drop)]
+#[derive(Drop)]
 pub enum Pause {
     Needs(Need),
     Stop(Stop),

@@ -13,7 +13,7 @@ pub enum TokenKind {
 }
 
 /// A token of a text: the bytes from `from` up to and without `to`.
-#[derive(Clone, Copy, Debug, PartialEq, Eq)]
+#[derive(Clone, Copy, PartialEq, Eq)]
 pub struct Token {
     pub kind: TokenKind,
     pub place: Place,

@@ -1,6 +1,7 @@
 //! The trees of a reading: what was read, and what each part of it means.
 
 use crate::evidence::LinkList;
+use crate::facts::Access;
 use crate::instances::InstanceKey;
 use crate::listed::{Listed, NumberList, Text, Word};
 use crate::place::Place;
@@ -10,7 +11,7 @@ use crate::types::{ClassId, EnumId, FactId, ScopeId, TreeId, TypeId};
 pub type TreeIdList = Listed<TreeId>;
 
 /// One name of a path, with the trees of its template arguments where some are written (14.2).
-#[derive(Debug, Drop)]
+#[derive(Drop)]
 pub struct PathPart {
     pub word: Word,
     pub place: Place,
@@ -20,7 +21,7 @@ pub struct PathPart {
 pub type PathPartList = Listed<PathPart>;
 
 /// A name as it is written, with its qualifiers (3.4.3).
-#[derive(Debug, Drop)]
+#[derive(Drop)]
 pub struct Path {
     /// Whether `::` stands before it.
     pub global: bool,
@@ -28,7 +29,7 @@ pub struct Path {
 }
 
 /// What a name is to a reader of tokens.
-#[derive(Clone, Copy, Debug, PartialEq, Eq)]
+#[derive(Clone, Copy, PartialEq, Eq)]
 pub enum Kind {
     OfType,
     OfTemplate,
@@ -39,7 +40,7 @@ pub enum Kind {
 }
 
 /// A part of a reading: a production, what it covers, and what it means.
-#[derive(Debug, Drop)]
+#[derive(Drop)]
 pub struct Node {
     /// The number of the production.
     pub production: u8,
@@ -66,7 +67,7 @@ pub struct Node {
 }
 
 /// How an object is initialized (8.5).
-#[derive(Clone, Copy, Debug, PartialEq, Eq)]
+#[derive(Clone, Copy, PartialEq, Eq)]
 pub enum Form {
     Copy,
     Direct,
@@ -75,7 +76,7 @@ pub enum Form {
 }
 
 /// What a statement converts an expression to (6.4, 6.6.3).
-#[derive(Clone, Copy, Debug, PartialEq, Eq)]
+#[derive(Clone, Copy, PartialEq, Eq)]
 pub enum Target {
     Condition,
     Switch,
@@ -85,7 +86,7 @@ pub enum Target {
 }
 
 /// Where an expression stands.
-#[derive(Clone, Copy, Debug, PartialEq, Eq)]
+#[derive(Clone, Copy, PartialEq, Eq)]
 pub struct Here {
     pub scope: ScopeId,
     /// What stands before it is seen: the count of the facts.
@@ -96,10 +97,16 @@ pub struct Here {
     pub this_type: Option<TypeId>,
     /// The enumeration whose list is being read (7.2).
     pub enumeration: Option<EnumId>,
+    /// The access of the members that are declared here (11).
+    pub access: Access,
+    /// The class whose list of members is open (9.2).
+    pub class: Option<ClassId>,
+    /// The result of the function whose body is read (6.6.3).
+    pub result: Option<TypeId>,
 }
 
 /// A name that was bound, in the order of reading.
-#[derive(Debug, Drop)]
+#[derive(Drop)]
 pub struct Use {
     /// The scope in which the name was looked up.
     pub scope: ScopeId,
@@ -114,7 +121,7 @@ pub struct Use {
 pub type UseList = Listed<Use>;
 
 /// What is read by itself: a declaration of a namespace, a body, a default argument or an instance.
-#[derive(Debug, Drop)]
+#[derive(Drop)]
 pub struct Part {
     pub tree: TreeId,
     pub scope: ScopeId,

@@ -14,9 +14,9 @@ use Rattle.cxx_model.specs.declared.keyword.TheConstants as keyword
 use Rattle.cxx_model.specs.First.Candidates.{outermost, type_of_argument}
 use Rattle.cxx_model.specs.First.Plain.{Entry, place_in, convert, convert_each, normal_call, convert_call, normal_item, normal_declaration, normal_declarations, normal_items}
 use Rattle.cxx_model.specs.First.Words.{keyword_word, unsigned_word, char_word, short_word, long_word, double_word, spell_base, others_separated, separated, spell_casts, kind_of_literal, literal_word, spell_argument, spell_call, spell_initializer, spell_item, spell_declared, line_words, lines}
-use Rattle.cxx_model.specs.Names.{printed_name}
-use Rattle.cxx_model.specs.Standard.{same_base}
-use Rattle.cxx_model.specs.Written.{Written, line_of, is_tight_before, is_tight_after, open_word, close_word, comma_word, semicolon_word, equals_word, less_word, greater_word, static_cast_word, name_word}
+use Rattle.cxx_model.specs.Printing.Names.{printed_name}
+use Rattle.cxx_model.specs.Choice.Standard.{same_base}
+use Rattle.cxx_model.specs.Printing.Written.{Written, line_of, is_tight_before, is_tight_after, open_word, close_word, comma_word, semicolon_word, equals_word, less_word, greater_word, static_cast_word, name_word}
 use Rattle.cxx_plain.specs.Texts.{base_text, cast_front, casts_front, casts_back, conversion_front, conversion_back, separator, texts_from, argument_text, converted_text, passed_text, arguments_text, call_text, initializer_text, declared_text, line_text, section_text}
 
 -- the text behind a word that leaves a gap

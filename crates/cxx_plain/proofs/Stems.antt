@@ -4,7 +4,7 @@ use Rattle.std.specs.Prelude.{codes, if◌then◌else◌}
 use Rattle.std.specs.Char.{is_ascii_digit}
 use Rattle.std.specs.List.{list_all}
 use Rattle.std.proofs.Math.Seq.{take-suc, drop-cons}
-use Rattle.cxx_model.specs.Names.{is_digits, is_tag, untagged, or_n, stem}
+use Rattle.cxx_model.specs.Printing.Names.{is_digits, is_tag, untagged, or_n, stem}
 
 pub is_digits_some : (text : List ℕ) → (length text ≡ 0 → ⊥) → is_digits text ≡ list_all is_ascii_digit text
 is_digits_some [] some = absurd (some refl)

@@ -11,8 +11,8 @@ use Rattle.cxx_model.specs.declared.first.Item.{Item}
 use Rattle.cxx_model.specs.declared.first.Item.TheVariants as item
 use Rattle.cxx_model.specs.First.Candidates.{outermost, type_of_argument}
 use Rattle.cxx_model.specs.First.Plain.{Entry}
-use Rattle.cxx_model.specs.Names.{printed_name}
-use Rattle.cxx_model.specs.Standard.{same_base}
+use Rattle.cxx_model.specs.Printing.Names.{printed_name}
+use Rattle.cxx_model.specs.Choice.Standard.{same_base}
 
 unfoldable pub base_text : Base → List ℕ
 base_text base.Bool = codes "bool"

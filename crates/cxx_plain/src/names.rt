@@ -1,6 +1,6 @@
 //! The stem of a printed name.
 ghost use Rattle.std.specs.Prelude.{◌≡◌};
-ghost use Rattle.cxx_model.specs.Names.{is_digits, is_tag, untagged, stem};
+ghost use Rattle.cxx_model.specs.Printing.Names.{is_digits, is_tag, untagged, stem};
 
 /// Whether these are one or more digits.
 fn is_digits(text: &[u8]) -> bool

@@ -1,6 +1,6 @@
 //! The texts of reports.
 ghost use Rattle.std.specs.Prelude.{◌≡◌, ◌<◌, ◌++◌, OnOk, IfOk, codes, decimal};
-ghost use Rattle.cxx_model.specs.Reports.{by_bases_text, evidence_lines, evidence_text, link_text, number_after, path_text, place_text, reason_text, report, shown_text, substitution_text};
+ghost use Rattle.cxx_model.specs.Printing.Reports.{by_bases_text, evidence_lines, evidence_text, link_text, number_after, path_text, place_text, reason_text, report, shown_text, substitution_text};
 
 use cxx_model::{Evidence, Fault, Link, Place, Reason, Shown, SubstitutionText};
 use itoa::Buffer;

@@ -1,8 +1,8 @@
 //! The words of a line.
 ghost use Rattle.std.specs.Prelude.{◌≡◌, ◌+◌, ◌<◌, ◌++◌, length, OnOk, slice_get, codes};
 ghost use Rattle.cxx_model.specs.First.Candidates.{outermost, type_of_argument};
-ghost use Rattle.cxx_model.specs.Names.{printed_name};
-ghost use Rattle.cxx_model.specs.Standard.{same_base};
+ghost use Rattle.cxx_model.specs.Printing.Names.{printed_name};
+ghost use Rattle.cxx_model.specs.Choice.Standard.{same_base};
 ghost use Rattle.cxx_plain.specs.Texts.{base_text, cast_front, casts_front, casts_back, conversion_front, conversion_back, separator, texts_from, argument_text, converted_text, passed_text, arguments_text, call_text, initializer_text, item_text, declared_text, line_text};
 ghost use Rattle.cxx_plain.specs.Numbers.{number_at};
 

@@ -14,10 +14,10 @@ use Rattle.cxx_model.specs.declared.token.TokenKind.TheVariants.{Name, Punct}
 use Rattle.cxx_model.specs.declared.limits.TheConstants as limits
 use Rattle.cxx_model.specs.First.Reading.{punct_at, type_at, more_at, list_at, is_punct, literal_at, cast_at, cast_argument, argument_by, argument_opened, arguments_opened, is_literal, begins_argument, put_first}
 use Rattle.cxx_model.specs.First.Words.{spell_base, separated, others_separated, spell_argument, kind_of_literal}
-use Rattle.cxx_model.specs.Lexemes.{Lexeme, kind_of}
-use Rattle.cxx_model.specs.Spelling.{literal_type}
+use Rattle.cxx_model.specs.Text.Lexemes.{Lexeme, kind_of}
+use Rattle.cxx_model.specs.Text.Spelling.{literal_type}
 use Rattle.cxx_model.specs.Stops.{Reads, Limited, ◌>>=◌}
-use Rattle.cxx_model.specs.Written.{Written, open_word, close_word, less_word, greater_word, static_cast_word}
+use Rattle.cxx_model.specs.Printing.Written.{Written, open_word, close_word, less_word, greater_word, static_cast_word}
 use Rattle.cxx_read_back.specs.Lines.{is_keyword_type, IsKeywordType, IsArgument}
 use Rattle.cxx_read_back.proofs.Standing.{standing, Reached, reaches, meets, just, then_reaches}
 

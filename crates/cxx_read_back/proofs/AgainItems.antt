@@ -16,9 +16,9 @@ use Rattle.cxx_model.specs.declared.stop.LimitKind.TheVariants.{Nesting, Facts}
 use Rattle.cxx_model.specs.First.Candidates.{call_of}
 use Rattle.cxx_model.specs.First.Reading.{punct_at, type_at, name_at, call_at, cast_initializer, initializer_by, initializer_opened, initializer_at, declare, has_clash, function_at, object_at, item_at, begins_type}
 use Rattle.cxx_model.specs.First.Words.{spell_base, spell_casts, spell_call, spell_initializer, spell_declared, separated}
-use Rattle.cxx_model.specs.Lexemes.{Lexeme}
+use Rattle.cxx_model.specs.Text.Lexemes.{Lexeme}
 use Rattle.cxx_model.specs.Stops.{Reads, ◌>>=◌}
-use Rattle.cxx_model.specs.Written.{Written, close_word, semicolon_word, name_word, open_word, equals_word}
+use Rattle.cxx_model.specs.Printing.Written.{Written, close_word, semicolon_word, name_word, open_word, equals_word}
 use Rattle.cxx_read_back.specs.Lines.{IsKeywordType, IsCallAmong, IsLineAmong, IsPrinted, AreNumbered}
 use Rattle.cxx_read_back.proofs.Standing.{standing, Reached, reaches, meets, then_reaches}
 use Rattle.cxx_read_back.proofs.Again.{arguments_opened_again, cast_again, type_again, list_again, parameters_again}

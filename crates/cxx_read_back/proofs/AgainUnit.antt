@@ -20,9 +20,9 @@ use Rattle.cxx_model.specs.declared.stop.LimitKind.{LimitKind}
 use Rattle.cxx_model.specs.declared.stop.LimitKind.TheVariants.{Facts}
 use Rattle.cxx_model.specs.First.Reading.{item_at, items_at, reading_of, empty, is_end}
 use Rattle.cxx_model.specs.First.Words.{spell_base, spell_declared, line_words, lines, joined, spell_casts, spell_argument, literal_word, spell_call, spell_item, separated, others_separated}
-use Rattle.cxx_model.specs.Lexemes.{Lexeme, kind_of}
+use Rattle.cxx_model.specs.Text.Lexemes.{Lexeme, kind_of}
 use Rattle.cxx_model.specs.Stops.{Answer, Reads, Limited, ◌>>=◌}
-use Rattle.cxx_model.specs.Written.{Written, written, close_word, semicolon_word, name_word, open_word, equals_word, static_cast_word, less_word, greater_word, comma_word}
+use Rattle.cxx_model.specs.Printing.Written.{Written, written, close_word, semicolon_word, name_word, open_word, equals_word, static_cast_word, less_word, greater_word, comma_word}
 use Rattle.cxx_written.specs.ReadsAs.{end_word}
 use Rattle.cxx_read_back.specs.Lines.{IsCallAmong, IsLineAmong, AreLinesAmong, AreNumbered, bare}
 use Rattle.cxx_read_back.proofs.Standing.{standing, stands, place_at, Reached, reaches, meets}

@@ -12,12 +12,12 @@ use Rattle.cxx_model.specs.declared.token.Token.{Token}
 use Rattle.cxx_model.specs.First.Plain.{normal, plain, functions_of, named_by}
 use Rattle.cxx_model.specs.First.Reading.{reading_of, empty}
 use Rattle.cxx_model.specs.First.Words.{lines}
-use Rattle.cxx_model.specs.Lexemes.{lexemes}
+use Rattle.cxx_model.specs.Text.Lexemes.{lexemes}
 use Rattle.cxx_model.specs.Outcome.{Whole, PastLimit, read_outcome, tokens_outcome, outcome_of}
-use Rattle.cxx_model.specs.ReadsBack.{ReadsBack, IsTooLarge, PlainReadsBack}
+use Rattle.cxx_model.specs.Printing.ReadsBack.{ReadsBack, IsTooLarge, PlainReadsBack}
 use Rattle.cxx_model.specs.Stops.{Answer, Faulty, Limited}
-use Rattle.cxx_model.specs.Tokens.{Unread, BadAt, PastTokens, tokens_of}
-use Rattle.cxx_model.specs.Written.{line_of}
+use Rattle.cxx_model.specs.Text.Tokens.{Unread, BadAt, PastTokens, tokens_of}
+use Rattle.cxx_model.specs.Printing.Written.{line_of}
 use Rattle.cxx_model.proofs.Answers.{either_is}
 use Rattle.cxx_written.specs.ReadsAs.{ReadsAs}
 use Rattle.cxx_written.proofs.FirstWords.{printed_are_tokens}

@@ -17,8 +17,8 @@ use Rattle.cxx_model.specs.declared.first.Reading.{Reading}
 use Rattle.cxx_model.specs.declared.limits.TheConstants as limits
 use Rattle.cxx_model.specs.First.Candidates.{is_object, outermost, type_of_argument}
 use Rattle.cxx_model.specs.First.Plain.{Entry, entries_from, is_object_entry, in_text_order, numbers, place_in, convert, convert_each, normal_call, convert_call, normal_item, normal_declaration, normal_declarations, normal_items, normal}
-use Rattle.cxx_model.specs.Names.{printed_name}
-use Rattle.cxx_model.specs.Standard.{row, same_base}
+use Rattle.cxx_model.specs.Printing.Names.{printed_name}
+use Rattle.cxx_model.specs.Choice.Standard.{row, same_base}
 use Rattle.cxx_written.specs.Line.{IsName}
 use Rattle.cxx_written.proofs.Names.{printed_is_name}
 use Rattle.cxx_read_back.specs.Lines.{IsKeywordType, IsArgument, IsCallAmong, IsLineAmong, AreLinesAmong, AreExact, IsExact, AreNumbered, bare}

@@ -10,7 +10,7 @@ use Rattle.cxx_model.specs.declared.first.Declared.TheVariants.{Function, Object
 use Rattle.cxx_model.specs.declared.first.Item.{Item}
 use Rattle.cxx_model.specs.declared.first.Item.TheVariants as item
 use Rattle.cxx_model.specs.First.Words.{kind_of_literal}
-use Rattle.cxx_model.specs.Spelling.{Spelled, Blank, Good, Ill, spelling_of, literal_type, literal_type_by}
+use Rattle.cxx_model.specs.Text.Spelling.{Spelled, Blank, Good, Ill, spelling_of, literal_type, literal_type_by}
 use Rattle.cxx_model.proofs.FirstForm.Words.{literal_kind}
 use Rattle.cxx_written.specs.Line.{IsName}
 use Rattle.cxx_written.specs.Printable.{IsLiteral, IsPrintableItem, ArePrintable}

@@ -1,12 +1,12 @@
 -- Worked units: the plain form is a unit, with itself as its plain form.
 use Rattle.std.specs.Prelude.{◌≡◌, ℕ, List, refl, codes}
 use Rattle.std.specs.Fmt.{digits}
-use Rattle.cxx_model.specs.Spelling.{spelling_of, keywords, alternatives, operators, digraphs, word_kind, number_kind, operator, literal, hash, slash, percent, literal_type}
-use Rattle.cxx_model.specs.Tokens.{tokens_of, tokens_from, front, longest_within}
-use Rattle.cxx_model.specs.Names.{stem, printed_name}
-use Rattle.cxx_model.specs.Standard.{standard_sequence}
-use Rattle.cxx_model.specs.StandardOrder.{compare}
-use Rattle.cxx_model.specs.Better.{is_better}
+use Rattle.cxx_model.specs.Text.Spelling.{spelling_of, keywords, alternatives, operators, digraphs, word_kind, number_kind, operator, literal, hash, slash, percent, literal_type}
+use Rattle.cxx_model.specs.Text.Tokens.{tokens_of, tokens_from, front, longest_within}
+use Rattle.cxx_model.specs.Printing.Names.{stem, printed_name}
+use Rattle.cxx_model.specs.Choice.Standard.{standard_sequence}
+use Rattle.cxx_model.specs.Choice.StandardOrder.{compare}
+use Rattle.cxx_model.specs.Choice.Better.{is_better}
 use Rattle.cxx_model.specs.First.Candidates.{candidates, chosen, refusals, ties, choice, call_of}
 use Rattle.cxx_model.specs.First.Reading.{punct_at, type_at, name_at, more_at, list_at, misplaced, literal_at, cast_at, argument_by, argument_opened, arguments_opened, call_at, initializer_by, initializer_opened, initializer_at, declare, function_at, object_at, item_at, items_at, reading_of}
 use Rattle.cxx_model.specs.First.Words.{spell_base, line_words}

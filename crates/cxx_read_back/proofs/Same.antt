@@ -13,8 +13,8 @@ use Rattle.cxx_model.specs.declared.first.Item.{Item}
 use Rattle.cxx_model.specs.declared.first.Item.TheVariants as item
 use Rattle.cxx_model.specs.declared.first.Reading.{Reading}
 use Rattle.cxx_model.specs.First.Plain.{Entry, entries_from, is_object_entry, in_text_order, numbers, place_in, convert_each, normal_call, convert_call, normal_item, normal_declaration, normal_declarations, normal_items, normal}
-use Rattle.cxx_model.specs.Lexemes.{nowhere}
-use Rattle.cxx_model.specs.Names.{printed_name}
+use Rattle.cxx_model.specs.Text.Lexemes.{nowhere}
+use Rattle.cxx_model.specs.Printing.Names.{printed_name}
 use Rattle.cxx_written.proofs.Names.{printed_again}
 use Rattle.cxx_read_back.specs.Lines.{IsCallAmong, IsLineAmong, AreLinesAmong, AreExact, IsExact, IsPrinted, AreNumbered, bare}
 use Rattle.cxx_read_back.specs.Normal.{DeclaresObject, HasFunctionsFirst, AreExactLines, IsNormal}

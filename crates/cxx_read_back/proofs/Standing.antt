@@ -2,9 +2,9 @@
 use Rattle.std.proofs.Common.{◌≡◌, ℕ, zero, suc, List, [], ◌∷◌, map, Ok, Err, refl, sym, ap, ◌∙◌, subst}
 use Rattle.cxx_model.specs.declared.place.Place.{Place}
 use Rattle.cxx_model.specs.declared.stop.LimitKind.{LimitKind}
-use Rattle.cxx_model.specs.Lexemes.{Lexeme, nowhere}
+use Rattle.cxx_model.specs.Text.Lexemes.{Lexeme, nowhere}
 use Rattle.cxx_model.specs.Stops.{Reads, Limited, ◌>>=◌}
-use Rattle.cxx_model.specs.Written.{Written, written}
+use Rattle.cxx_model.specs.Printing.Written.{Written, written}
 
 -- the words, the first of them at the place number n
 abbrev pub standing : (ℕ → Place) → ℕ → List Written → List Lexeme

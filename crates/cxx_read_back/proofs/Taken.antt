@@ -13,10 +13,10 @@ use Rattle.cxx_model.specs.declared.stop.LimitKind.TheVariants.{Arguments}
 use Rattle.cxx_model.specs.declared.token.TokenKind.{TokenKind}
 use Rattle.cxx_model.specs.declared.token.TokenKind.TheVariants.{Name, Keyword}
 use Rattle.cxx_model.specs.First.Reading.{punct_at, type_at, type_of_kind, type_of_keyword, name_at, more_at, list_at, is_punct, is_name, behind, put_first, literal_at, cast_at, cast_argument, argument_by, argument_opened, arguments_opened, begins_argument}
-use Rattle.cxx_model.specs.Lexemes.{Lexeme, kind_of}
-use Rattle.cxx_model.specs.Spelling.{Good}
+use Rattle.cxx_model.specs.Text.Lexemes.{Lexeme, kind_of}
+use Rattle.cxx_model.specs.Text.Spelling.{Good}
 use Rattle.cxx_model.specs.Stops.{Reads, Limited, ◌>>=◌}
-use Rattle.cxx_model.specs.Written.{Written, written}
+use Rattle.cxx_model.specs.Printing.Written.{Written, written}
 use Rattle.cxx_model.proofs.Answers.{done_is, stopped, bind_ok, either_is}
 use Rattle.cxx_model.proofs.FirstForm.Taken as model
 use Rattle.cxx_written.specs.Line.{IsName}

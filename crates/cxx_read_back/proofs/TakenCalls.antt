@@ -17,7 +17,7 @@ use Rattle.cxx_model.specs.declared.place.Place.{Place}
 use Rattle.cxx_model.specs.declared.punct.TheConstants as punct
 use Rattle.cxx_model.specs.First.Candidates.{Candidate, Contender, candidates, candidate_of, candidate_by, chosen, contenders, has_word, is_viable, types_of, bound}
 use Rattle.cxx_model.specs.First.Reading.{call_at, cast_initializer, initializer_by, initializer_opened, initializer_at}
-use Rattle.cxx_model.specs.Lexemes.{Lexeme}
+use Rattle.cxx_model.specs.Text.Lexemes.{Lexeme}
 use Rattle.cxx_model.specs.Stops.{Reads}
 use Rattle.cxx_model.proofs.Answers.{either_is}
 use Rattle.cxx_model.proofs.FirstForm.Bound.{call_means}

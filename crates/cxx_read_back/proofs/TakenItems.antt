@@ -15,7 +15,7 @@ use Rattle.cxx_model.specs.declared.limits.TheConstants as limits
 use Rattle.cxx_model.specs.declared.punct.TheConstants as punct
 use Rattle.cxx_model.specs.declared.stop.LimitKind.TheVariants.{Facts}
 use Rattle.cxx_model.specs.First.Reading.{type_at, is_end, behind, function_at, object_at, item_at, items_at, reading_of, empty, begins_type, with_function, with_object}
-use Rattle.cxx_model.specs.Lexemes.{Lexeme, kind_of}
+use Rattle.cxx_model.specs.Text.Lexemes.{Lexeme, kind_of}
 use Rattle.cxx_model.specs.Stops.{Limited, ◌>>=◌}
 use Rattle.cxx_model.proofs.Answers.{done_is, stopped, bind_ok, either_is}
 use Rattle.cxx_model.proofs.FirstForm.Taken as model

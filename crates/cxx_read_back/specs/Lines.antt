@@ -11,10 +11,10 @@ use Rattle.cxx_model.specs.declared.first.Initializer.{Initializer}
 use Rattle.cxx_model.specs.declared.first.Item.{Item}
 use Rattle.cxx_model.specs.declared.first.Item.TheVariants as item
 use Rattle.cxx_model.specs.First.Candidates.{outermost, type_of_argument}
-use Rattle.cxx_model.specs.Lexemes.{nowhere}
-use Rattle.cxx_model.specs.Names.{printed_name}
-use Rattle.cxx_model.specs.Spelling.{literal_type}
-use Rattle.cxx_model.specs.Standard.{same_base}
+use Rattle.cxx_model.specs.Text.Lexemes.{nowhere}
+use Rattle.cxx_model.specs.Printing.Names.{printed_name}
+use Rattle.cxx_model.specs.Text.Spelling.{literal_type}
+use Rattle.cxx_model.specs.Choice.Standard.{same_base}
 use Rattle.cxx_written.specs.Line.{IsName}
 
 -- the types that the first form reads, each by one keyword

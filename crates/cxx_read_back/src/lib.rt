@@ -7,7 +7,7 @@
 ghost use Rattle.std.specs.Prelude.{◌≡◌, ◌+◌, ℕ, List, Some, slice_get};
 ghost use Rattle.cxx_model.specs.First.Plain.{normal};
 ghost use Rattle.cxx_model.specs.Outcome.{Whole, outcome_of};
-ghost use Rattle.cxx_model.specs.ReadsBack.{PlainReadsBack};
+ghost use Rattle.cxx_model.specs.Printing.ReadsBack.{PlainReadsBack};
 ghost use Rattle.cxx_model.specs.declared.first.Declaration.{Declaration};
 ghost use Rattle.cxx_model.specs.declared.options.Options.{Options};
 ghost use Rattle.cxx_model.specs.declared.first.Reading.{Reading};

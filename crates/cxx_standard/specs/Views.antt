@@ -6,9 +6,9 @@ use Rattle.cxx_model.specs.declared.sequence.Operand.{Operand}
 use Rattle.cxx_model.specs.declared.sequence.StandardSequence.{StandardSequence}
 use Rattle.cxx_model.specs.declared.types.Cv.{Cv}
 use Rattle.cxx_model.specs.declared.types.TypeId.{TypeId}
-use Rattle.cxx_model.specs.Graph.{Graph, enumerations}
-use Rattle.cxx_model.specs.Types.{CxxType}
-use Rattle.cxx_model.specs.TypeTrees.{type_at}
+use Rattle.cxx_model.specs.Facts.Graph.{Graph, enumerations}
+use Rattle.cxx_model.specs.Types.Trees.{CxxType}
+use Rattle.cxx_model.specs.Types.Numbers.{type_at}
 use Rattle.cxx_meaning.specs.Conversions.Kinds.{CxxKind, no_value, arithmetic, enumerated, pointing, of_class, other, cv_of, signature}
 use Rattle.cxx_meaning.specs.Conversions.Standard.{CxxOperand, CxxStandard}
 use Rattle.cxx_standard.specs.declared.kinds.TypeKind.{TypeKind}

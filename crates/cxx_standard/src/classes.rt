@@ -1,6 +1,6 @@
 //! Base classes.
 ghost use Rattle.std.specs.Prelude.{◌<◌, length};
-ghost use Rattle.cxx_model.specs.Facts.{graph_at};
+ghost use Rattle.cxx_model.specs.Facts.Declarations.{graph_at};
 ghost use Rattle.cxx_meaning.specs.Conversions.Derived.{is_derived as is_derived_of};
 ghost use Rattle.cxx_standard.specs.Views.{Computes};
 

@@ -1,7 +1,7 @@
 //! The cv words of types (3.9.3, 4.4).
 ghost use Rattle.std.specs.Prelude.{◌≡◌, ◌<◌, ◌∷◌, length, IfSome};
-ghost use Rattle.cxx_model.specs.SameType.{same_cv as same_cv_of, same_bool as same_bool_of};
-ghost use Rattle.cxx_model.specs.TypeTrees.{type_at};
+ghost use Rattle.cxx_model.specs.Types.Same.{same_cv as same_cv_of, same_bool as same_bool_of};
+ghost use Rattle.cxx_model.specs.Types.Numbers.{type_at};
 ghost use Rattle.cxx_meaning.specs.Conversions.Kinds.{no_cv as no_cv_of, cv_of as cv_of_type, signature, is_cv_within as is_cv_within_of};
 ghost use Rattle.cxx_meaning.specs.Conversions.Order.{are_within as are_within_of};
 ghost use Rattle.cxx_meaning.specs.Conversions.Standard.{may_widen as may_widen_of, is_widened as is_widened_of, only_const as only_const_of, widens as widens_of};

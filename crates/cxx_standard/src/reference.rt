@@ -1,8 +1,8 @@
 //! Steps by which a reference is bound (8.5.3).
 ghost use Rattle.std.specs.Prelude.{◌≡◌, ◌<◌, length};
-ghost use Rattle.cxx_model.specs.Facts.{graph_at};
-ghost use Rattle.cxx_model.specs.Fitted.{Fitted};
-ghost use Rattle.cxx_model.specs.TypeTrees.{type_at};
+ghost use Rattle.cxx_model.specs.Facts.Declarations.{graph_at};
+ghost use Rattle.cxx_model.specs.Facts.Fitted.{Fitted};
+ghost use Rattle.cxx_model.specs.Types.Numbers.{type_at};
 ghost use Rattle.cxx_meaning.specs.Conversions.Asking.{Gives};
 ghost use Rattle.cxx_meaning.specs.Conversions.Kinds.{kind_of as kind_of_type};
 ghost use Rattle.cxx_meaning.specs.Conversions.Standard as standard;

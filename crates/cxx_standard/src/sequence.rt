@@ -1,7 +1,7 @@
 ghost use Rattle.std.specs.Prelude.{◌≡◌, ◌<◌, length, IfOk, IfSome};
-ghost use Rattle.cxx_model.specs.Facts.{graph_at};
-ghost use Rattle.cxx_model.specs.Fitted.{Fitted};
-ghost use Rattle.cxx_model.specs.TypeTrees.{type_at};
+ghost use Rattle.cxx_model.specs.Facts.Declarations.{graph_at};
+ghost use Rattle.cxx_model.specs.Facts.Fitted.{Fitted};
+ghost use Rattle.cxx_model.specs.Types.Numbers.{type_at};
 ghost use Rattle.cxx_meaning.specs.Conversions.Asking.{Gives};
 ghost use Rattle.cxx_meaning.specs.Conversions.Standard as standard;
 ghost use Rattle.cxx_standard.specs.Views.{found_at, operand_at};

@@ -1,9 +1,9 @@
 //! Tests of types and of what a graph says of classes and enumerations.
 ghost use Rattle.std.specs.Prelude.{◌≡◌, ◌<◌, length, Bool};
-ghost use Rattle.cxx_model.specs.Facts.{graph_at};
-ghost use Rattle.cxx_model.specs.Graph.{enumerations};
-ghost use Rattle.cxx_model.specs.SameType.{same_type};
-ghost use Rattle.cxx_model.specs.TypeTrees.{type_at};
+ghost use Rattle.cxx_model.specs.Facts.Declarations.{graph_at};
+ghost use Rattle.cxx_model.specs.Facts.Graph.{enumerations};
+ghost use Rattle.cxx_model.specs.Types.Same.{same_type};
+ghost use Rattle.cxx_model.specs.Types.Numbers.{type_at};
 ghost use Rattle.cxx_meaning.specs.Conversions.Enumerations.{promoted as promoted_of};
 ghost use Rattle.cxx_meaning.specs.Conversions.Kinds.{is_similar, is_same_unqualified};
 ghost use Rattle.cxx_meaning.specs.Conversions.Pending.{is_pending as is_pending_of};

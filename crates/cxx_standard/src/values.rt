@@ -1,12 +1,12 @@
 //! Steps from a value to a type that is no reference (clause 4).
 ghost use Rattle.std.specs.Prelude.{◌≡◌, ◌<◌, length, List};
 ghost use Rattle.std.specs.Option.{option_map};
-ghost use Rattle.cxx_model.specs.Facts.{graph_at};
-ghost use Rattle.cxx_model.specs.Fitted.{Fitted};
-ghost use Rattle.cxx_model.specs.Standard as arithmetic;
-ghost use Rattle.cxx_model.specs.Graph.{enumerations};
-ghost use Rattle.cxx_model.specs.Types.{CxxType};
-ghost use Rattle.cxx_model.specs.TypeTrees.{type_at};
+ghost use Rattle.cxx_model.specs.Facts.Declarations.{graph_at};
+ghost use Rattle.cxx_model.specs.Facts.Fitted.{Fitted};
+ghost use Rattle.cxx_model.specs.Choice.Standard as arithmetic;
+ghost use Rattle.cxx_model.specs.Facts.Graph.{enumerations};
+ghost use Rattle.cxx_model.specs.Types.Trees.{CxxType};
+ghost use Rattle.cxx_model.specs.Types.Numbers.{type_at};
 ghost use Rattle.cxx_meaning.specs.Conversions.Asking.{Gives};
 ghost use Rattle.cxx_meaning.specs.Conversions.Kinds.{kind_of as kind_of_type};
 ghost use Rattle.cxx_meaning.specs.Conversions.Standard as standard;

@@ -7,8 +7,8 @@ use Rattle.std.proofs.lemmas.List.Sums.{prefix_len-le-length}
 use Rattle.std.specs.List.{list_all, list_any, prefix_len, take_while}
 use Rattle.std.specs.Char.{is_ascii_digit}
 use Rattle.cxx_model.specs.declared.token.TokenReason.TheVariants as reason
-use Rattle.cxx_model.specs.Spelling.{Blank, Ill, is_blank, is_word, is_newline, within_line, marker_by, is_marker_word, past_blanks, hash}
-use Rattle.cxx_model.specs.Continuing.{starts, IsLongestBy}
+use Rattle.cxx_model.specs.Text.Spelling.{Blank, Ill, is_blank, is_word, is_newline, within_line, marker_by, is_marker_word, past_blanks, hash}
+use Rattle.cxx_model.specs.Text.Continuing.{starts, IsLongestBy}
 use Rattle.cxx_model.proofs.Spellings.{longest_under, within_line_append, take_from}
 use Rattle.cxx_tokens.specs.MarkerWords.{makes_marker}
 use Rattle.cxx_tokens.proofs.Scans.{same_by}

@@ -8,9 +8,9 @@ use Rattle.std.proofs.lemmas.List.Sums.{prefix_len-le-length}
 use Rattle.std.specs.List.{list_all, prefix_len}
 use Rattle.std.specs.Char.{is_ascii_digit}
 use Rattle.cxx_model.specs.declared.token.TokenReason.TheVariants as reason
-use Rattle.cxx_model.specs.Spelling.{Spelled, Blank, Ill, alone, is_white, is_word, begins_word, begins_number, is_number_rest, is_quote, word_kind, number_kind, operator, number_beside, literal, within_line, hash, slash, backslash, percent, spelling_of}
-use Rattle.cxx_model.specs.Continuing.{starts, number_goes_on, last_of, begins_comment, is_colon, comment, BeginsOperator, IsLongestBy}
-use Rattle.cxx_model.specs.Tokens.{IsLongest}
+use Rattle.cxx_model.specs.Text.Spelling.{Spelled, Blank, Ill, alone, is_white, is_word, begins_word, begins_number, is_number_rest, is_quote, word_kind, number_kind, operator, number_beside, literal, within_line, hash, slash, backslash, percent, spelling_of}
+use Rattle.cxx_model.specs.Text.Continuing.{starts, number_goes_on, last_of, begins_comment, is_colon, comment, BeginsOperator, IsLongestBy}
+use Rattle.cxx_model.specs.Text.Tokens.{IsLongest}
 use Rattle.cxx_model.proofs.Fronts.{IsSpelled, operator_alone}
 use Rattle.cxx_model.proofs.Spellings.{blank_front, word_longest, number_front, operator_front, longest_under, longest_of, longest_from, spells_narrow, spells_word, spells_hash, spells_slash, spells_backslash, spells_percent, quote_is_no_word}
 use Rattle.cxx_tokens.specs.declared.piece.Spelled as code

@@ -3,9 +3,9 @@ use Rattle.std.proofs.Common.{◌≡◌, ◌≤◌, ℕ, ◌+◌, true, false, �
 use Rattle.std.proofs.lemmas.Bool.{and_from, and_parts, cases_Bool}
 use Rattle.std.specs.List.{list_all}
 use Rattle.cxx_model.specs.declared.place.Place.{Place}
-use Rattle.cxx_model.specs.Lexemes.{after, past}
-use Rattle.cxx_model.specs.Spelling.{is_word, is_number_rest}
-use Rattle.cxx_model.specs.Continuing.{number_goes_on, last_of}
+use Rattle.cxx_model.specs.Text.Lexemes.{after, past}
+use Rattle.cxx_model.specs.Text.Spelling.{is_word, is_number_rest}
+use Rattle.cxx_model.specs.Text.Continuing.{number_goes_on, last_of}
 use Rattle.cxx_model.proofs.Readings.{past_append}
 
 pub all_word_push : (text : List ℕ) (b : ℕ) → list_all is_word text ≡ true → is_word b ≡ true → list_all is_word (text ++ b ∷ []) ≡ true

@@ -5,8 +5,8 @@ use Rattle.std.proofs.lemmas.List.{take_more}
 use Rattle.std.proofs.lemmas.Bool.{or_from}
 use Rattle.std.specs.List.{list_any}
 use Rattle.cxx_model.specs.declared.token.TokenReason.TheVariants as reason
-use Rattle.cxx_model.specs.Spelling.{Spelled, Blank, Ill, Ending, is_quote, is_newline, within_line, comment_ending, literal_ending, literal_kind, literal}
-use Rattle.cxx_model.specs.Continuing.{IsLongestBy, Goes, comment}
+use Rattle.cxx_model.specs.Text.Spelling.{Spelled, Blank, Ill, Ending, is_quote, is_newline, within_line, comment_ending, literal_ending, literal_kind, literal}
+use Rattle.cxx_model.specs.Text.Continuing.{IsLongestBy, Goes, comment}
 use Rattle.cxx_model.proofs.Spellings.{goes_more, comment_closed, comment_open, literal_closed, literal_open, line_longest}
 
 pub goes_at : (f g h : List ℕ → Ending) (rest : List ℕ) (i : ℕ) → i < length rest → Goes f g (take i rest) → ((text : List ℕ) → g (get_or rest i 0 ∷ text) ≡ h text) → Goes f h (take (i + 1) rest)

@@ -11,7 +11,7 @@ use Rattle.cxx_model.specs.declared.token.TokenKind.{TokenKind}
 use Rattle.cxx_model.specs.declared.token.TokenKind.TheVariants.{Name, Keyword, Punct, Integer, Character, Text, End}
 use Rattle.cxx_model.specs.declared.token.TokenReason.{TokenReason}
 use Rattle.cxx_model.specs.declared.token.TokenReason.TheVariants as reason
-use Rattle.cxx_model.specs.Spelling.{Spelled, Blank, Good, Ill, Ending, Open, Closed, Past, Letter, Value, Unknown, Universal, alone, is_white, begins_word, begins_number, is_number_rest, is_quote, is_word, is_newline, is_marker_word, number_in, number_beside, keywords, alternatives, operators, digraphs, first_of, word_by, word_kind, number_kind, number_by, integer_by, integer_type, integer_types, integer_parts, IntegerParts, is_floating, first_holding, most_of, operator_by, operator, within_line, marker_by, past_blanks, hash, comment_by, comment_ending, slash, backslash, percent, literal_by, literal_ending, literal_kind, literal, wide_literal, body_of, literal_body, letters, character_by, string_by, is_bad_letter, is_universal_letter, is_wide, spelling_of, literal_type, literal_type_by, literal_value, literal_value_by, value_of_parts, value_of_letters, signed_value, type_of_parts}
+use Rattle.cxx_model.specs.Text.Spelling.{Spelled, Blank, Good, Ill, Ending, Open, Closed, Past, Letter, Value, Unknown, Universal, alone, is_white, begins_word, begins_number, is_number_rest, is_quote, is_word, is_newline, is_marker_word, number_in, number_beside, keywords, alternatives, operators, digraphs, first_of, word_by, word_kind, number_kind, number_by, integer_by, integer_type, integer_types, integer_parts, IntegerParts, is_floating, first_holding, most_of, operator_by, operator, within_line, marker_by, past_blanks, hash, comment_by, comment_ending, slash, backslash, percent, literal_by, literal_ending, literal_kind, literal, wide_literal, body_of, literal_body, letters, character_by, string_by, is_bad_letter, is_universal_letter, is_wide, spelling_of, literal_type, literal_type_by, literal_value, literal_value_by, value_of_parts, value_of_letters, signed_value, type_of_parts}
 use Rattle.cxx_model.proofs.Spellings.{LiteralShape, in_narrow, in_wide, literal_shape, good_is_closed, literal_is_closed, cond_is}
 use Rattle.cxx_literals.specs.Integers.{capped_parts, capped_option}
 use Rattle.cxx_literals.proofs.Amounts.{most_fits}

@@ -8,9 +8,9 @@ use Rattle.cxx_model.specs.declared.token.TokenKind.{TokenKind}
 use Rattle.cxx_model.specs.declared.token.TokenKind.TheVariants.{End}
 use Rattle.cxx_model.specs.declared.token.TokenReason.{TokenReason}
 use Rattle.cxx_model.specs.declared.limits.TheConstants as limits
-use Rattle.cxx_model.specs.Lexemes.{first_place, past}
-use Rattle.cxx_model.specs.Spelling.{Spelled, Blank, Good, Ill}
-use Rattle.cxx_model.specs.Tokens.{Unread, BadAt, PastTokens, IsLongest, Width, fresh_past, is_text, is_some_width, is_mixed, width_of, width_behind, joins, tokens_begun, reason_at, join, join_list, put, tokens_from, tokens_of, IsTokenList, IsBadPlace, IsPastTokens}
+use Rattle.cxx_model.specs.Text.Lexemes.{first_place, past}
+use Rattle.cxx_model.specs.Text.Spelling.{Spelled, Blank, Good, Ill}
+use Rattle.cxx_model.specs.Text.Tokens.{Unread, BadAt, PastTokens, IsLongest, Width, fresh_past, is_text, is_some_width, is_mixed, width_of, width_behind, joins, tokens_begun, reason_at, join, join_list, put, tokens_from, tokens_of, IsTokenList, IsBadPlace, IsPastTokens}
 use Rattle.cxx_model.proofs.Readings.{reads_end, reads_blank, reads_token, reads_full, reads_bad, ill_has_reason, text_is_wide, means_at, tokens_of_list, tokens_of_bad, tokens_of_limit, lies_within}
 use Rattle.cxx_tokens.specs.declared.fault.TokenFault.{TokenFault}
 use Rattle.cxx_tokens.specs.declared.fault.TokenFault.TheVariants.{Bad, Limit, OutOfMemory}

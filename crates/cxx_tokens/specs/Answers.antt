@@ -5,7 +5,7 @@ use Rattle.cxx_model.specs.declared.place.Place.{Place}
 use Rattle.cxx_model.specs.declared.token.Token.{Token}
 use Rattle.cxx_model.specs.declared.stop.LimitKind.TheVariants.{Tokens}
 use Rattle.cxx_model.specs.declared.limits.TheConstants as limits
-use Rattle.cxx_model.specs.Tokens.{Unread, BadAt, PastTokens, put, tokens_from, tokens_of, IsBadPlace, IsPastTokens, Width, is_text, is_some_width}
+use Rattle.cxx_model.specs.Text.Tokens.{Unread, BadAt, PastTokens, put, tokens_from, tokens_of, IsBadPlace, IsPastTokens, Width, is_text, is_some_width}
 use Rattle.cxx_tokens.specs.declared.fault.TokenFault.{TokenFault}
 use Rattle.cxx_tokens.specs.declared.fault.TokenFault.TheVariants.{Bad, Limit, OutOfMemory}
 

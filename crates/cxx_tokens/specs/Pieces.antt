@@ -1,9 +1,9 @@
 -- The pieces of the code as those of the definitions.
 use Rattle.std.specs.Prelude.{◌≡◌, ℕ, Bool, false, ◌==◌, ◌&&◌, List, [], ◌∷◌, length, take, nat_le, if◌then◌else◌, Option, Some, None}
-use Rattle.cxx_model.specs.Spelling as spelling
-use Rattle.cxx_model.specs.Spelling.{operator, operators, digraphs, first_of, number_in, number_beside, is_white, begins_word, is_quote, begins_number}
-use Rattle.cxx_model.specs.Continuing.{BeginsOperator, starts}
-use Rattle.cxx_model.specs.Tokens as tokens
+use Rattle.cxx_model.specs.Text.Spelling as spelling
+use Rattle.cxx_model.specs.Text.Spelling.{operator, operators, digraphs, first_of, number_in, number_beside, is_white, begins_word, is_quote, begins_number}
+use Rattle.cxx_model.specs.Text.Continuing.{BeginsOperator, starts}
+use Rattle.cxx_model.specs.Text.Tokens as tokens
 use Rattle.cxx_tokens.specs.declared.piece.Spelled.{Spelled}
 use Rattle.cxx_tokens.specs.declared.piece.Spelled.TheVariants.{Blank, Good, Ill}
 use Rattle.cxx_tokens.specs.declared.piece.Piece.{Piece}

@@ -1,8 +1,8 @@
 //! Comments, and the ends of lines (2.7).
 
 ghost use Rattle.std.specs.Prelude.{◌≡◌, ◌==◌, ◌&&◌};
-ghost use Rattle.cxx_model.specs.Spelling as spec;
-ghost use Rattle.cxx_model.specs.Continuing.{IsLongestBy, comment};
+ghost use Rattle.cxx_model.specs.Text.Spelling as spec;
+ghost use Rattle.cxx_model.specs.Text.Continuing.{IsLongestBy, comment};
 ghost use Rattle.cxx_tokens.specs.Pieces.{spelled};
 
 use crate::bytes::is_newline;

@@ -1,9 +1,9 @@
 //! The longest piece at the front of a text (2.4).
 
 ghost use Rattle.std.specs.Prelude.{◌≡◌, ◌<◌, true, false, length};
-ghost use Rattle.cxx_model.specs.Tokens.{IsLongest};
-ghost use Rattle.cxx_model.specs.Continuing as goes;
-ghost use Rattle.cxx_model.specs.Spelling as spec;
+ghost use Rattle.cxx_model.specs.Text.Tokens.{IsLongest};
+ghost use Rattle.cxx_model.specs.Text.Continuing as goes;
+ghost use Rattle.cxx_model.specs.Text.Spelling as spec;
 ghost use Rattle.cxx_tokens.specs.Pieces.{piece_of, spelled_option, begins_with, IsOtherText};
 
 use crate::bytes::{begins_word, is_quote, is_white};

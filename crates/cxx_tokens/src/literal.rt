@@ -3,7 +3,7 @@
 ghost use Rattle.std.specs.Prelude.{◌≡◌, ◌<◌, ◌*◌, ◌^◌, pos, if◌then◌else◌, ℕ, List, Some, false, IsSome};
 ghost use Rattle.std.specs.List.{list_any};
 ghost use Rattle.cxx_model.specs.declared.token.TokenKind.TheVariants.{Integer, Character};
-ghost use Rattle.cxx_model.specs.Spelling as spec;
+ghost use Rattle.cxx_model.specs.Text.Spelling as spec;
 
 use crate::front::spelling_of;
 use crate::numbers::type_of;

@@ -1,8 +1,8 @@
 //! Marker lines and directives.
 
 ghost use Rattle.std.specs.Prelude.{◌≡◌, true};
-ghost use Rattle.cxx_model.specs.Spelling as spec;
-ghost use Rattle.cxx_model.specs.Continuing.{IsLongestBy};
+ghost use Rattle.cxx_model.specs.Text.Spelling as spec;
+ghost use Rattle.cxx_model.specs.Text.Continuing.{IsLongestBy};
 ghost use Rattle.cxx_tokens.specs.Pieces.{spelled};
 ghost use Rattle.cxx_tokens.specs.MarkerWords.{makes_marker};
 

@@ -1,9 +1,9 @@
 //! Number tokens (2.9, 2.13.1, 2.13.3).
 
 ghost use Rattle.std.specs.Prelude.{◌≡◌, ◌≤◌, None, true, false, length, take, drop};
-ghost use Rattle.cxx_model.specs.Spelling as spec;
-ghost use Rattle.cxx_model.specs.Continuing as goes;
-ghost use Rattle.cxx_model.specs.Tokens.{IsLongest};
+ghost use Rattle.cxx_model.specs.Text.Spelling as spec;
+ghost use Rattle.cxx_model.specs.Text.Continuing as goes;
+ghost use Rattle.cxx_model.specs.Text.Tokens.{IsLongest};
 ghost use Rattle.cxx_tokens.specs.Pieces.{spelled, piece_of, begins_numeral};
 
 use crate::bytes::number_goes_on;

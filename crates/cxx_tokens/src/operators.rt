@@ -1,8 +1,8 @@
 //! Operators and punctuators (2.5, 2.12).
 
 ghost use Rattle.std.specs.Prelude.{◌≡◌, ◌<◌, length};
-ghost use Rattle.cxx_model.specs.Spelling as spec;
-ghost use Rattle.cxx_model.specs.Tokens.{IsLongest};
+ghost use Rattle.cxx_model.specs.Text.Spelling as spec;
+ghost use Rattle.cxx_model.specs.Text.Tokens.{IsLongest};
 ghost use Rattle.cxx_tokens.specs.Pieces.{spelled_option, operator_number, operator_of, operator_at, piece_of, IsOperatorText};
 
 use crate::piece::{Piece, Spelled};

@@ -1,8 +1,8 @@
 //! Literals in quotes (2.13.2, 2.13.4).
 
 ghost use Rattle.std.specs.Prelude.{◌≡◌, ◌==◌, ◌&&◌, not, true};
-ghost use Rattle.cxx_model.specs.Spelling as spec;
-ghost use Rattle.cxx_model.specs.Continuing.{IsLongestBy};
+ghost use Rattle.cxx_model.specs.Text.Spelling as spec;
+ghost use Rattle.cxx_model.specs.Text.Continuing.{IsLongestBy};
 ghost use Rattle.cxx_tokens.specs.Pieces.{spelled};
 
 use crate::bytes::is_newline;

@@ -5,7 +5,7 @@ ghost use Rattle.cxx_model.specs.declared.limits.TheConstants as limits;
 ghost use Rattle.cxx_model.specs.declared.place.Place.{Place};
 ghost use Rattle.cxx_model.specs.declared.token.Token.{Token};
 ghost use Rattle.cxx_model.specs.declared.token.TokenReason.{TokenReason};
-ghost use Rattle.cxx_model.specs.Tokens.{BadAt, PastTokens, IsTokenList, IsBadPlace, IsPastTokens};
+ghost use Rattle.cxx_model.specs.Text.Tokens.{BadAt, PastTokens, IsTokenList, IsBadPlace, IsPastTokens};
 ghost use Rattle.cxx_tokens.specs.Answers as answers;
 ghost use Rattle.cxx_tokens.specs.Pieces.{width_seen};
 

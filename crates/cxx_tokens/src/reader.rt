@@ -1,8 +1,8 @@
 //! What of a text is still to be read, and what the bytes before tell.
 
 ghost use Rattle.std.specs.Prelude.{◌≡◌, ◌≤◌, ◌<◌, ◌+◌, ◌-◌, ◌^◌, true, None, length, take, drop};
-ghost use Rattle.cxx_model.specs.Lexemes as spec;
-ghost use Rattle.cxx_model.specs.Tokens.{fresh_after, fresh_past};
+ghost use Rattle.cxx_model.specs.Text.Lexemes as spec;
+ghost use Rattle.cxx_model.specs.Text.Tokens.{fresh_after, fresh_past};
 
 use crate::bytes::is_blank;
 use crate::width::Width;

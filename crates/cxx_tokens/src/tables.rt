@@ -1,7 +1,7 @@
 //! The tables of spellings.
 
 ghost use Rattle.std.specs.Prelude.{◌≡◌, ◌<◌, length, position, bytes_eq, map, IfSome};
-ghost use Rattle.cxx_model.specs.Spelling as spec;
+ghost use Rattle.cxx_model.specs.Text.Spelling as spec;
 
 /// The place of a spelling in a table.
 pub fn number_in(table: &[&[u8]], text: &[u8]) -> Option<usize>

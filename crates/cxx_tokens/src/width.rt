@@ -1,7 +1,7 @@
 //! Strings side by side (2.1, 2.13.4).
 
 ghost use Rattle.std.specs.Prelude.{◌≡◌};
-ghost use Rattle.cxx_model.specs.Tokens as spec;
+ghost use Rattle.cxx_model.specs.Text.Tokens as spec;
 ghost use Rattle.cxx_tokens.specs.Pieces.{spelled, width_seen};
 
 use crate::piece::Spelled;

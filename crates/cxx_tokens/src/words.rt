@@ -1,9 +1,9 @@
 //! Keywords, names, operators that are words, and wide literals (2.5, 2.10, 2.11).
 
 ghost use Rattle.std.specs.Prelude.{◌≡◌, true};
-ghost use Rattle.cxx_model.specs.Spelling as spec;
-ghost use Rattle.cxx_model.specs.Continuing as goes;
-ghost use Rattle.cxx_model.specs.Tokens.{IsLongest};
+ghost use Rattle.cxx_model.specs.Text.Spelling as spec;
+ghost use Rattle.cxx_model.specs.Text.Continuing as goes;
+ghost use Rattle.cxx_model.specs.Text.Tokens.{IsLongest};
 ghost use Rattle.cxx_tokens.specs.Pieces.{spelled, piece_of, begins_wide};
 
 use crate::bytes::is_quote;

@@ -9,8 +9,8 @@ use Rattle.cxx_model.specs.declared.types.Signature.{Signature}
 use Rattle.cxx_model.specs.declared.types.TypeId.{TypeId}
 use Rattle.cxx_model.specs.declared.types.TypeTree as tree
 use Rattle.cxx_model.specs.declared.types.TypeTree.{TypeTree}
-use Rattle.cxx_model.specs.Types.{CxxType, CxxTypes, no_types, type_then, array_of, function_of, normal, normal_bound, normal_parameters, adjusted, with_cv, merged}
-use Rattle.cxx_model.specs.TypeTrees.{type_at, types_at, tree_at, bound_at, IsTreeBelow, IsBoundBelow, AreTypesBelow, Keeps}
+use Rattle.cxx_model.specs.Types.Trees.{CxxType, CxxTypes, no_types, type_then, array_of, function_of, normal, normal_bound, normal_parameters, adjusted, with_cv, merged}
+use Rattle.cxx_model.specs.Types.Numbers.{type_at, types_at, tree_at, bound_at, IsTreeBelow, IsBoundBelow, AreTypesBelow, Keeps}
 use Rattle.cxx_model.proofs.TypeForm.{normal_is_normal, with_cv_merges}
 use Rattle.cxx_model.proofs.TypeTrees.{bound_kept, bound_later, tree_kept, tree_later, types_kept, types_later, Keeps-refl, Keeps-trans}
 use Rattle.cxx_types.specs.Trees.{trees_at, AreTreesBelow}

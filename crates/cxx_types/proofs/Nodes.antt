@@ -8,8 +8,8 @@ use Rattle.std.proofs.lemmas.Option.{slice_get-get_or}
 use Rattle.std.proofs.lemmas.List.Folds.{list_any_at}
 use Rattle.cxx_model.specs.declared.types.TypeNode.{TypeNode}
 use Rattle.cxx_model.specs.declared.base.Base.TheVariants.{Void}
-use Rattle.cxx_model.specs.Types.{CxxType, IsNormal, fundamental}
-use Rattle.cxx_model.specs.TypeTrees.{AreApart, type_at, type_over, IsNodeBelow, Keeps}
+use Rattle.cxx_model.specs.Types.Trees.{CxxType, IsNormal, fundamental}
+use Rattle.cxx_model.specs.Types.Numbers.{AreApart, type_at, type_over, IsNodeBelow, Keeps}
 use Rattle.cxx_model.proofs.TypeTrees.{node_kept, node_later, Keeps-refl, Keeps-trans}
 use Rattle.std.proofs.lemmas.Bool.{ltb-true, ltb-false}
 use Rattle.indexmap.specs.IndexSet.{insert_key}

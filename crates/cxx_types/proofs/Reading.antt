@@ -7,14 +7,14 @@ use Rattle.cxx_model.specs.declared.types.Bound.{Bound}
 use Rattle.cxx_model.specs.declared.types.Cv.{Cv}
 use Rattle.cxx_model.specs.declared.types.Signature.{Signature}
 use Rattle.cxx_model.specs.declared.types.TemplateId.{TemplateId}
-use Rattle.cxx_model.specs.declared.types.TemplateArgument.{TemplateArgument}
+use Rattle.cxx_model.specs.declared.types.Argument.{Argument}
 use Rattle.cxx_model.specs.declared.types.TypeId.{TypeId}
 use Rattle.cxx_model.specs.declared.types.TypeNode.{TypeNode}
 use Rattle.cxx_model.specs.declared.types.TypeNode.TheVariants as node
 use Rattle.cxx_model.specs.declared.types.TypeTree as tree
 use Rattle.cxx_model.specs.declared.types.TypeTree.{TypeTree}
-use Rattle.cxx_model.specs.Types.{CxxType, CxxTypes, no_types, type_then, function_of}
-use Rattle.cxx_model.specs.TypeTrees.{type_at, types_at, tree_at, type_over, IsTreeBelow, IsNodeBelow, IsBoundBelow, AreArgumentsBelow, AreTypesBelow}
+use Rattle.cxx_model.specs.Types.Trees.{CxxType, CxxTypes, no_types, type_then, function_of}
+use Rattle.cxx_model.specs.Types.Numbers.{type_at, types_at, tree_at, type_over, IsTreeBelow, IsNodeBelow, IsBoundBelow, AreArgumentsBelow, AreTypesBelow}
 use Rattle.cxx_model.proofs.TypeTrees.{bound_later, arguments_later}
 use Rattle.cxx_types.specs.Trees.{trees_at, AreTreesBelow}
 use Rattle.cxx_types.proofs.Rows.{function-at}
@@ -24,10 +24,10 @@ bound-within count n x element bound form within below =
     let parts : IsNodeBelow n (node.Array element bound) = subst (λ (y : TypeNode). IsNodeBelow n y) form below in
     bound_later n count bound (omega arith) parts.1
 
-pub arguments-within : (count n : ℕ) (x : TypeNode) (template : TemplateId) (given list : List TemplateArgument) → x ≡ node.Special template given → list ≡ given → n < count → IsNodeBelow n x → AreArgumentsBelow count list
+pub arguments-within : (count n : ℕ) (x : TypeNode) (template : TemplateId) (given list : List Argument) → x ≡ node.Special template given → list ≡ given → n < count → IsNodeBelow n x → AreArgumentsBelow count list
 arguments-within count n x template given list form same within below =
     let all : AreArgumentsBelow n given = subst (λ (y : TypeNode). IsNodeBelow n y) form below in
-    arguments_later n count list (omega arith) (subst (λ (given : List TemplateArgument). AreArgumentsBelow n given) (sym same) all)
+    arguments_later n count list (omega arith) (subst (λ (given : List Argument). AreArgumentsBelow n given) (sym same) all)
 
 pub signature-at : (types : List CxxType) (n : ℕ) (x : TypeNode) (r : TypeId) (ns : List TypeId) (ellipsis : Bool) (cv : Cv) (s : Box Signature Global) → type_over types x ≡ type_at types n → x ≡ node.Function r ns ellipsis cv → tree_at types s.value.result ≡ type_at types r.0 → trees_at types s.value.parameters.items ≡ types_at types ns → s.value.ellipsis ≡ ellipsis → s.value.cv ≡ cv → tree_at types (tree.Function s) ≡ type_at types n
 signature-at types n x r ns ellipsis cv s is form p q e f =

@@ -6,8 +6,8 @@ use mathlib.Core.Former.{Count}
 use Rattle.cxx_model.specs.declared.types.Signature.{Signature}
 use Rattle.cxx_model.specs.declared.types.TypeTree as tree
 use Rattle.cxx_model.specs.declared.types.TypeTree.{TypeTree, Row_of-TypeTree, items-the_row-TypeTree, items_hidden-the_row-TypeTree-0}
-use Rattle.cxx_model.specs.Types.{CxxType, CxxTypes, function_of, type_then}
-use Rattle.cxx_model.specs.TypeTrees.{tree_at, row_at, IsTreeBelow, IsRowBelow}
+use Rattle.cxx_model.specs.Types.Trees.{CxxType, CxxTypes, function_of, type_then}
+use Rattle.cxx_model.specs.Types.Numbers.{tree_at, row_at, IsTreeBelow, IsRowBelow}
 use Rattle.cxx_types.specs.Sizes.{tree_size, row_size, trees_size}
 use Rattle.cxx_types.specs.Trees.{trees_at, AreTreesBelow}
 

@@ -5,10 +5,10 @@ use Rattle.cxx_model.specs.declared.types.Bound.{Bound}
 use Rattle.cxx_model.specs.declared.types.TypeId.{TypeId}
 use Rattle.cxx_model.specs.declared.types.TypeNode.{TypeNode}
 use Rattle.cxx_model.specs.declared.types.TypeNode.TheVariants as node
-use Rattle.cxx_model.specs.Types.{CxxType, array_of, unqualified}
-use Rattle.cxx_model.specs.TypeTrees.{type_at, bound_at, type_over, IsNodeBelow, IsBoundBelow, Keeps}
+use Rattle.cxx_model.specs.Types.Trees.{CxxType, array_of, unqualified}
+use Rattle.cxx_model.specs.Types.Numbers.{type_at, bound_at, type_over, IsNodeBelow, IsBoundBelow, Keeps}
 use Rattle.cxx_model.proofs.TypeTrees.{bound_kept, bound_later}
-use Rattle.cxx_model.specs.Copies.{CopiesBound}
+use Rattle.cxx_model.specs.Types.Copies.{CopiesBound}
 
 pub if-ok : {A E : Type 0} {P Q : A → Type 0} (r : Result A E) → ((x : A) → P x → Q x) → IfOk r P → IfOk r Q
 if-ok (Ok x) f p = f x p

@@ -2,8 +2,8 @@
 use Rattle.std.specs.Prelude.{ℕ, ◌≡◌, ◌<◌, List, [], ◌∷◌, ◌++◌, length, Some}
 use Rattle.std.specs.List.{slice_get}
 use Rattle.cxx_model.specs.declared.types.TypeNode.{TypeNode}
-use Rattle.cxx_model.specs.Types.{CxxType, IsNormal}
-use Rattle.cxx_model.specs.TypeTrees.{type_at, type_over, AreApart, IsNodeBelow}
+use Rattle.cxx_model.specs.Types.Trees.{CxxType, IsNormal}
+use Rattle.cxx_model.specs.Types.Numbers.{type_at, type_over, AreApart, IsNodeBelow}
 
 abbrev pub types_after : List CxxType → List TypeNode → List CxxType
 types_after done [] = done

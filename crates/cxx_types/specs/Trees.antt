@@ -1,8 +1,8 @@
 -- The types of a list of trees.
 use Rattle.std.specs.Prelude.{ℕ, List, [], ◌∷◌}
 use Rattle.cxx_model.specs.declared.types.TypeTree.{TypeTree}
-use Rattle.cxx_model.specs.Types.{CxxType, CxxTypes, no_types, type_then}
-use Rattle.cxx_model.specs.TypeTrees.{tree_at, IsTreeBelow}
+use Rattle.cxx_model.specs.Types.Trees.{CxxType, CxxTypes, no_types, type_then}
+use Rattle.cxx_model.specs.Types.Numbers.{tree_at, IsTreeBelow}
 
 abbrev pub trees_at : List CxxType → List TypeTree → CxxTypes
 trees_at types [] = no_types

@@ -1,6 +1,6 @@
 ghost use Rattle.std.specs.Prelude.{◌≡◌, ◌<◌, length, IfOk, IsTrue, false};
-ghost use Rattle.cxx_model.specs.Types.{adjusted, any_cv, array_of, layered, merged, takes_cv, unqualified};
-ghost use Rattle.cxx_model.specs.TypeTrees.{type_at, bound_at, IsBoundBelow, Keeps};
+ghost use Rattle.cxx_model.specs.Types.Trees.{adjusted, any_cv, array_of, layered, merged, takes_cv, unqualified};
+ghost use Rattle.cxx_model.specs.Types.Numbers.{type_at, bound_at, IsBoundBelow, Keeps};
 
 use crate::table::TypeTable;
 use cxx_model::{Bound, Cv, OutOfMemory, TypeId, TypeNode, copy_bound};

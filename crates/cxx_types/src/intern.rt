@@ -1,13 +1,13 @@
 ghost use Rattle.std.specs.Prelude.{◌≡◌, ◌<◌, length, IfOk, IsTrue};
-ghost use Rattle.cxx_model.specs.Types.{layered, normal, normal_arguments, normal_bound, normal_parameters, array_of, specialisation, takes_cv, with_cv, function_of, IsNormal};
-ghost use Rattle.cxx_model.specs.TypeTrees.{type_at, types_at, tree_at, type_over, arguments_at, bound_at, AreArgumentsBelow, AreTypesBelow, IsBoundBelow, IsNodeBelow, IsTreeBelow, Keeps};
+ghost use Rattle.cxx_model.specs.Types.Trees.{layered, normal, normal_arguments, normal_bound, normal_parameters, array_of, specialisation, takes_cv, with_cv, function_of, IsNormal};
+ghost use Rattle.cxx_model.specs.Types.Numbers.{type_at, types_at, tree_at, type_over, arguments_at, bound_at, AreArgumentsBelow, AreTypesBelow, IsBoundBelow, IsNodeBelow, IsTreeBelow, Keeps};
 ghost use Rattle.cxx_types.specs.Table.{AreNormal};
 ghost use Rattle.cxx_types.specs.Trees.{trees_at, AreTreesBelow};
 
 use crate::form::{merge, no_cv};
 use crate::table::TypeTable;
 use cxx_model::{
-    Bound, Cv, Listed, OutOfMemory, Signature, TemplateArgument, TemplateId, TypeId, TypeIdList,
+    Bound, Cv, Listed, OutOfMemory, Signature, Argument, TemplateId, TypeId, TypeIdList,
     TypeNode, TypeTree, Word, copy_arguments, copy_bound,
 };
 
@@ -42,7 +42,7 @@ impl TypeTable {
     fn insert_special(
         &mut self,
         template: TemplateId,
-        arguments: &[TemplateArgument],
+        arguments: &[Argument],
         cv: Cv,
     ) -> Result<TypeId, OutOfMemory>
         requires { AreArgumentsBelow (length self.old) arguments.now }

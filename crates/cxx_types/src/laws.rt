@@ -1,9 +1,9 @@
 //! What a reader expects of types, as contracts of functions that do nothing, or only call the table.
 ghost use Rattle.std.specs.Prelude.{◌≡◌, ◌<◌, ◌↔◌, length, IfOk, IsTrue};
 ghost use Rattle.cxx_model.specs.declared.types.Cv.{Cv};
-ghost use Rattle.cxx_model.specs.SameType.{same_type};
-ghost use Rattle.cxx_model.specs.Types.{CxxType, IsNormal, Similar, adjusted, is_adjusted, merged, normal, unqualified, with_cv};
-ghost use Rattle.cxx_model.specs.TypeTrees.{type_at, tree_at, IsTreeBelow};
+ghost use Rattle.cxx_model.specs.Types.Same.{same_type};
+ghost use Rattle.cxx_model.specs.Types.Trees.{CxxType, IsNormal, Similar, adjusted, is_adjusted, merged, normal, unqualified, with_cv};
+ghost use Rattle.cxx_model.specs.Types.Numbers.{type_at, tree_at, IsTreeBelow};
 
 use crate::table::TypeTable;
 use cxx_model::{OutOfMemory, TypeId, TypeTree};

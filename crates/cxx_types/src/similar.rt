@@ -1,6 +1,6 @@
 ghost use Rattle.std.specs.Prelude.{◌≡◌, ◌<◌, length, IsTrue, ◌↔◌};
-ghost use Rattle.cxx_model.specs.Types.{unqualified, Similar};
-ghost use Rattle.cxx_model.specs.TypeTrees.{type_at, bound_at, IsBoundBelow};
+ghost use Rattle.cxx_model.specs.Types.Trees.{unqualified, Similar};
+ghost use Rattle.cxx_model.specs.Types.Numbers.{type_at, bound_at, IsBoundBelow};
 
 use crate::table::TypeTable;
 use cxx_model::{Bound, TypeId, TypeNode};

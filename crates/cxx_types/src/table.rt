@@ -1,6 +1,6 @@
 ghost use Rattle.std.specs.Prelude.{◌≡◌, ◌<◌, [], length, IfOk, IsTrue, ◌↔◌};
-ghost use Rattle.cxx_model.specs.Types.{IsNormal};
-ghost use Rattle.cxx_model.specs.TypeTrees.{type_at, type_over, IsNodeBelow, Keeps};
+ghost use Rattle.cxx_model.specs.Types.Trees.{IsNormal};
+ghost use Rattle.cxx_model.specs.Types.Numbers.{type_at, type_over, IsNodeBelow, Keeps};
 
 use cxx_model::{OutOfMemory, TypeId, TypeNode};
 use indexmap::IndexSet;
@@ -17,8 +17,8 @@ pub struct TypeTable {
 impl Model for TypeTable {
     ghost use Rattle.std.specs.Prelude.{List};
     ghost use Rattle.std.specs.Coded.{coded_list};
-    ghost use Rattle.cxx_model.specs.Types.{CxxType};
-    ghost use Rattle.cxx_model.specs.TypeCode.{coded_type};
+    ghost use Rattle.cxx_model.specs.Types.Trees.{CxxType};
+    ghost use Rattle.cxx_model.specs.Types.Code.{coded_type};
 
     ghost Value = { List CxxType };
 

@@ -1,5 +1,5 @@
 ghost use Rattle.std.specs.Prelude.{◌≡◌, ◌<◌, ◌≤◌, length, IfOk};
-ghost use Rattle.cxx_model.specs.TypeTrees.{type_at, types_at, tree_at, AreTypesBelow, IsTreeBelow};
+ghost use Rattle.cxx_model.specs.Types.Numbers.{type_at, types_at, tree_at, AreTypesBelow, IsTreeBelow};
 ghost use Rattle.cxx_types.specs.Trees.{trees_at, AreTreesBelow};
 
 use crate::table::TypeTable;

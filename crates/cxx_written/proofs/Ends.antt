@@ -9,8 +9,8 @@ use Rattle.std.specs.Prelude.{codes, if◌then◌else◌}
 use Rattle.cxx_model.specs.declared.token.TokenKind.{TokenKind}
 use Rattle.cxx_model.specs.declared.token.TokenKind.TheVariants.{Name, Keyword, Punct, Integer, Character, Text, End}
 use Rattle.cxx_model.specs.declared.punct.TheConstants as punct
-use Rattle.cxx_model.specs.Spelling.{is_white, is_word, is_quote, is_sign, number_in, keywords, operators, digraphs}
-use Rattle.cxx_model.specs.Written.{Written, has_gap}
+use Rattle.cxx_model.specs.Text.Spelling.{is_white, is_word, is_quote, is_sign, number_in, keywords, operators, digraphs}
+use Rattle.cxx_model.specs.Printing.Written.{Written, has_gap}
 use Rattle.cxx_model.proofs.Shapes.{shape, no_empty}
 use Rattle.cxx_model.proofs.SpelledKinds.{kind_spells}
 use Rattle.cxx_written.specs.Ends.{ends_punct_before, ends_before, word_ends_before, ends_before_spelling, is_apart, are_apart}

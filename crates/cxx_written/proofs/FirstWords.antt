@@ -17,9 +17,9 @@ use Rattle.cxx_model.specs.declared.punct.TheConstants as punct
 use Rattle.cxx_model.specs.declared.token.TokenKind.{TokenKind}
 use Rattle.cxx_model.specs.declared.token.TokenKind.TheVariants.{Name, Keyword, Punct, Integer, Character, Text, End}
 use Rattle.cxx_model.specs.First.Words.{keyword_word, spell_base, others_separated, separated, spell_casts, kind_of_literal, literal_word, spell_argument, spell_call, spell_item, spell_declared, line_words, lines}
-use Rattle.cxx_model.specs.Spelling.{is_word, is_quote, is_sign, keywords, alternatives, operators, digraphs, word_kind, operator, spelling_of}
-use Rattle.cxx_model.specs.Tokens.{tokens_of}
-use Rattle.cxx_model.specs.Written.{Written, open_word, close_word, comma_word, semicolon_word, equals_word, less_word, greater_word, name_word, is_tight_before, is_tight_after, has_gap}
+use Rattle.cxx_model.specs.Text.Spelling.{is_word, is_quote, is_sign, keywords, alternatives, operators, digraphs, word_kind, operator, spelling_of}
+use Rattle.cxx_model.specs.Text.Tokens.{tokens_of}
+use Rattle.cxx_model.specs.Printing.Written.{Written, open_word, close_word, comma_word, semicolon_word, equals_word, less_word, greater_word, name_word, is_tight_before, is_tight_after, has_gap}
 use Rattle.cxx_written.specs.Ends.{ends_punct_before, ends_before}
 use Rattle.cxx_written.specs.Line.{is_printed_punct, is_printed, IsWord, MayTouch, MayPrecede, IsLine, IsName}
 use Rattle.cxx_written.specs.Printable.{IsLiteral, IsPrintableItem, IsPrintable, ArePrintable}

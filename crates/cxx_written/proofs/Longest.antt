@@ -4,9 +4,9 @@ use Rattle.std.proofs.lemmas.Bool.{and_right, and_parts}
 use Rattle.std.specs.List.{list_all}
 use Rattle.cxx_model.specs.declared.token.TokenKind.{TokenKind}
 use Rattle.cxx_model.specs.declared.token.TokenKind.TheVariants.{Punct, Integer, Character}
-use Rattle.cxx_model.specs.Continuing.{starts, number_goes_on, last_of, operator_goes_on}
-use Rattle.cxx_model.specs.Spelling.{Good, is_word, begins_word, begins_number, is_number_rest, is_sign, is_exponent, is_quote, word_kind, number_kind, number_in, operators, spelling_of}
-use Rattle.cxx_model.specs.Tokens.{IsLongest}
+use Rattle.cxx_model.specs.Text.Continuing.{starts, number_goes_on, last_of, operator_goes_on}
+use Rattle.cxx_model.specs.Text.Spelling.{Good, is_word, begins_word, begins_number, is_number_rest, is_sign, is_exponent, is_quote, word_kind, number_kind, number_in, operators, spelling_of}
+use Rattle.cxx_model.specs.Text.Tokens.{IsLongest}
 use Rattle.cxx_model.proofs.Shapes.{spells_anywhere}
 use Rattle.cxx_model.proofs.Spellings.{word_is_no_quote, word_longest, number_front, character_front, punct_front}
 use Rattle.cxx_written.specs.Ends.{ends_in_exponent}

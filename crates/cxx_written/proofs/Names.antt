@@ -10,8 +10,8 @@ use Rattle.std.specs.Fmt.{decimal}
 use Rattle.std.specs.List.{list_all, list_any}
 use Rattle.std.specs.Prelude.{codes}
 use Rattle.cxx_model.specs.declared.token.TokenKind.TheVariants.{Name}
-use Rattle.cxx_model.specs.Names.{is_digits, is_tag, untagged, or_n, stem, printed_name}
-use Rattle.cxx_model.specs.Spelling.{Good, is_word, begins_word, keywords, alternatives, number_beside, word_by, word_kind}
+use Rattle.cxx_model.specs.Printing.Names.{is_digits, is_tag, untagged, or_n, stem, printed_name}
+use Rattle.cxx_model.specs.Text.Spelling.{Good, is_word, begins_word, keywords, alternatives, number_beside, word_by, word_kind}
 use Rattle.cxx_model.proofs.Shapes.{shape, no_empty}
 use Rattle.cxx_model.proofs.Spellings.{spells_word}
 use Rattle.cxx_written.specs.Line.{IsName}

@@ -9,10 +9,10 @@ use Rattle.cxx_model.specs.declared.place.Place.{Place}
 use Rattle.cxx_model.specs.declared.token.TokenKind.TheVariants.{Text, End}
 use Rattle.cxx_model.specs.declared.limits.TheConstants as limits
 use Rattle.cxx_model.specs.First.Words.{joined}
-use Rattle.cxx_model.specs.Lexemes.{first_place, after, past, spelling_in, lexeme_of}
-use Rattle.cxx_model.specs.Spelling.{Good, is_white, spelling_of}
-use Rattle.cxx_model.specs.Tokens.{IsLongest, BadAt, PastTokens, Width, is_text, fresh_after, fresh_past, put, ended, tokens_from, tokens_of}
-use Rattle.cxx_model.specs.Written.{Written, written, has_gap, gap, line_of}
+use Rattle.cxx_model.specs.Text.Lexemes.{first_place, after, past, spelling_in, lexeme_of}
+use Rattle.cxx_model.specs.Text.Spelling.{Good, is_white, spelling_of}
+use Rattle.cxx_model.specs.Text.Tokens.{IsLongest, BadAt, PastTokens, Width, is_text, fresh_after, fresh_past, put, ended, tokens_from, tokens_of}
+use Rattle.cxx_model.specs.Printing.Written.{Written, written, has_gap, gap, line_of}
 use Rattle.cxx_model.proofs.Readings.{Answer, other_reason, other_joins, other_join, reads_end, reads_full, reads_spelled, reads_space}
 use Rattle.cxx_model.proofs.Shapes.{no_empty}
 use Rattle.cxx_model.proofs.Spellings.{blank_front}

@@ -7,10 +7,10 @@ use Rattle.cxx_model.specs.declared.token.TokenKind.{TokenKind}
 use Rattle.cxx_model.specs.declared.token.TokenKind.TheVariants.{Text}
 use Rattle.cxx_model.specs.First.Reading.{is_end}
 use Rattle.cxx_model.specs.First.Words.{before_end, IsSpelled, AreSpelled}
-use Rattle.cxx_model.specs.Lexemes.{Lexeme, lexeme_of, lexemes}
-use Rattle.cxx_model.specs.Spelling.{spelling_of}
-use Rattle.cxx_model.specs.Tokens.{Width, is_fresh, is_text, join_list, tokens_of, IsTokenList, at_end, after_blank, after_token}
-use Rattle.cxx_model.specs.Written.{Written, written}
+use Rattle.cxx_model.specs.Text.Lexemes.{Lexeme, lexeme_of, lexemes}
+use Rattle.cxx_model.specs.Text.Spelling.{spelling_of}
+use Rattle.cxx_model.specs.Text.Tokens.{Width, is_fresh, is_text, join_list, tokens_of, IsTokenList, at_end, after_blank, after_token}
+use Rattle.cxx_model.specs.Printing.Written.{Written, written}
 use Rattle.cxx_model.proofs.Readings.{means_at}
 use Rattle.cxx_model.proofs.Shapes.{spells_anywhere}
 use Rattle.cxx_written.specs.ReadsAs.{end_word, IsReadWord}

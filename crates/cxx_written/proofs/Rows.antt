@@ -5,8 +5,8 @@ use Rattle.cxx_model.specs.declared.keyword.TheConstants as keyword
 use Rattle.cxx_model.specs.declared.punct.TheConstants as punct
 use Rattle.cxx_model.specs.declared.token.TokenKind.TheVariants.{Punct, Integer, Character}
 use Rattle.cxx_model.specs.First.Words.{keyword_word}
-use Rattle.cxx_model.specs.Names.{stem}
-use Rattle.cxx_model.specs.Written.{Written, open_word, close_word, semicolon_word, greater_word, name_word, line_of}
+use Rattle.cxx_model.specs.Printing.Names.{stem}
+use Rattle.cxx_model.specs.Printing.Written.{Written, open_word, close_word, semicolon_word, greater_word, name_word, line_of}
 use Rattle.cxx_written.specs.Ends.{are_apart, word_ends_before}
 
 int_word : Written

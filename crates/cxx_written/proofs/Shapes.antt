@@ -6,7 +6,7 @@ use Rattle.std.specs.Prelude.{codes}
 use Rattle.cxx_model.specs.declared.token.TokenKind.{TokenKind}
 use Rattle.cxx_model.specs.declared.token.TokenKind.TheVariants.{Name, Keyword, Punct, Integer, Character, Text}
 use Rattle.cxx_model.specs.declared.punct.TheConstants as punct
-use Rattle.cxx_model.specs.Spelling.{Good, is_word, begins_word, begins_number, is_number_rest, is_quote, word_kind, number_kind, literal, spelling_of}
+use Rattle.cxx_model.specs.Text.Spelling.{Good, is_word, begins_word, begins_number, is_number_rest, is_quote, word_kind, number_kind, literal, spelling_of}
 use Rattle.cxx_model.proofs.Shapes.{Shape, wordy, wide, number, quoted, operated, word_kind_is, number_kind_is, literal_is, operator_is}
 use Rattle.cxx_model.proofs.FirstForm.Words.{open_is, close_is, comma_is, semicolon_is, equals_is, less_is, greater_is}
 use Rattle.cxx_model.proofs.SpelledKinds.{IsOnlySpelling, kind_spells, only_spelling}

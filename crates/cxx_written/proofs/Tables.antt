@@ -3,7 +3,7 @@ use Rattle.std.proofs.Common.{◌≡◌, ℕ, Bool, true, false, cond, ◌&&◌,
 use Rattle.std.proofs.lemmas.Bool.{and_left, and_right, or_parts, or_from, both_ways}
 use Rattle.std.proofs.lemmas.Slice.Eq.{bytes_eq-Decides}
 use Rattle.std.specs.List.{list_any, position_or_len}
-use Rattle.cxx_model.specs.Spelling.{number_in, number_beside}
+use Rattle.cxx_model.specs.Text.Spelling.{number_in, number_beside}
 
 passes_all : (test : List ℕ → Bool) (table : List (List ℕ)) → list_any test table ≡ false → position_or_len test table ≡ length table
 passes_all test [] none = refl

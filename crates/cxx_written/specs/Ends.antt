@@ -4,8 +4,8 @@ use Rattle.std.specs.Str.{bytes_eq}
 use Rattle.cxx_model.specs.declared.punct.TheConstants as punct
 use Rattle.cxx_model.specs.declared.token.TokenKind.{TokenKind}
 use Rattle.cxx_model.specs.declared.token.TokenKind.TheVariants.{Name, Keyword, Punct, Integer, Character, Text, End}
-use Rattle.cxx_model.specs.Spelling.{is_word, is_quote, is_sign, is_exponent}
-use Rattle.cxx_model.specs.Written.{Written, has_gap}
+use Rattle.cxx_model.specs.Text.Spelling.{is_word, is_quote, is_sign, is_exponent}
+use Rattle.cxx_model.specs.Printing.Written.{Written, has_gap}
 use Rattle.cxx_written.specs.Line.{is_printed_punct}
 
 -- `=` ends before anything but `=`; `<` before what is none of `<` `=` `:` `%`; `>` before what is neither `>` nor `=`;

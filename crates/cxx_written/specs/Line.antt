@@ -3,9 +3,9 @@ use Rattle.std.specs.Prelude.{◌≡◌, ◌≢◌, ℕ, Bool, true, false, ◌|
 use Rattle.cxx_model.specs.declared.punct.TheConstants as punct
 use Rattle.cxx_model.specs.declared.token.TokenKind.{TokenKind}
 use Rattle.cxx_model.specs.declared.token.TokenKind.TheVariants.{Name, Keyword, Punct, Integer, Character, Text, End}
-use Rattle.cxx_model.specs.Spelling.{Good, spelling_of}
-use Rattle.cxx_model.specs.Tokens.{IsLongest}
-use Rattle.cxx_model.specs.Written.{Written, has_gap}
+use Rattle.cxx_model.specs.Text.Spelling.{Good, spelling_of}
+use Rattle.cxx_model.specs.Text.Tokens.{IsLongest}
+use Rattle.cxx_model.specs.Printing.Written.{Written, has_gap}
 
 -- the punctuators of the first form: ( ) , ; = < >
 abbrev pub is_printed_punct : ℕ → Bool

@@ -6,7 +6,7 @@ use Rattle.cxx_model.specs.declared.first.Declaration.{Declaration}
 use Rattle.cxx_model.specs.declared.first.Item.{Item}
 use Rattle.cxx_model.specs.declared.first.Item.TheVariants as item
 use Rattle.cxx_model.specs.First.Words.{kind_of_literal}
-use Rattle.cxx_model.specs.Spelling.{Good, spelling_of}
+use Rattle.cxx_model.specs.Text.Spelling.{Good, spelling_of}
 use Rattle.cxx_written.specs.Line.{IsName}
 
 -- the spelling of an argument is that of a literal of its type

@@ -3,9 +3,9 @@ use Rattle.std.specs.Prelude.{◌≡◌, ◌⊎◌, List, [], ◌∷◌, ◌++�
 use Rattle.cxx_model.specs.declared.token.Token.{Token}
 use Rattle.cxx_model.specs.declared.token.TokenKind.TheVariants.{Text, End}
 use Rattle.cxx_model.specs.First.Words.{joined}
-use Rattle.cxx_model.specs.Lexemes.{lexemes}
-use Rattle.cxx_model.specs.Tokens.{Unread, BadAt, PastTokens}
-use Rattle.cxx_model.specs.Written.{Written, written, line_of}
+use Rattle.cxx_model.specs.Text.Lexemes.{lexemes}
+use Rattle.cxx_model.specs.Text.Tokens.{Unread, BadAt, PastTokens}
+use Rattle.cxx_model.specs.Printing.Written.{Written, written, line_of}
 use Rattle.cxx_written.specs.Line.{IsSpelled}
 
 -- the end of the unit, which is its last token

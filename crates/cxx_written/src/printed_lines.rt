@@ -3,9 +3,9 @@
 ghost use Rattle.std.specs.Prelude.{◌≡◌, ℕ, List, map, true};
 ghost use Rattle.std.specs.List.{AllByRecursion};
 ghost use Rattle.cxx_model.specs.First.Words.{AreSpelled, line_words, lines};
-ghost use Rattle.cxx_model.specs.Lexemes.{lexemes};
-ghost use Rattle.cxx_model.specs.Tokens.{tokens_of};
-ghost use Rattle.cxx_model.specs.Written.{Written, written};
+ghost use Rattle.cxx_model.specs.Text.Lexemes.{lexemes};
+ghost use Rattle.cxx_model.specs.Text.Tokens.{tokens_of};
+ghost use Rattle.cxx_model.specs.Printing.Written.{Written, written};
 ghost use Rattle.cxx_model.specs.declared.first.Declaration.{Declaration};
 ghost use Rattle.cxx_model.specs.declared.first.Item.{Item};
 ghost use Rattle.cxx_model.specs.declared.token.Token.{Token};

@@ -1,7 +1,7 @@
 //! Printed names.
 
 ghost use Rattle.std.specs.Prelude.{◌≡◌, ◌≢◌, ◌<◌, ◌^◌, ℕ, List, [], ◌∷◌, length};
-ghost use Rattle.cxx_model.specs.Names.{stem, printed_name};
+ghost use Rattle.cxx_model.specs.Printing.Names.{stem, printed_name};
 ghost use Rattle.cxx_written.specs.Line.{IsName};
 
 /// The stem of a printed name is the stem of the name: digits are not added twice.

@@ -1,8 +1,8 @@
 -- Base classes (10), and classes that are not complete yet (14.7.1).
 use Rattle.std.specs.Prelude.{ℕ, zero, suc, ◌≡◌, Bool, true, false, ◌&&◌, ◌||◌, not, nat_eq, List, [], ◌∷◌, length, Option, Some, None}
 use Rattle.std.specs.List.{slice_get}
-use Rattle.cxx_model.specs.Facts.{CxxFact, CxxGraph, Declares}
-use Rattle.cxx_model.specs.Facts as facts
+use Rattle.cxx_model.specs.Facts.Declarations.{CxxFact, CxxGraph, Declares}
+use Rattle.cxx_model.specs.Facts.Declarations as facts
 
 -- whether a fact says that the class has a base that passes a test
 abbrev pub has_base : (ℕ → Bool) → ℕ → Option CxxFact → Bool

@@ -1,9 +1,9 @@
 -- Enumerations (7.2).
 use Rattle.std.specs.Prelude.{ℕ, ℤ, Bool, true, false, nat_eq, if◌then◌else◌, List, [], ◌∷◌, Option}
 use Rattle.cxx_model.specs.declared.base.Base.{Base}
-use Rattle.cxx_model.specs.Facts as facts
-use Rattle.cxx_model.specs.Facts.{CxxFact, CxxGraph, Declares}
-use Rattle.cxx_model.specs.Integral.{promoted_of_values}
+use Rattle.cxx_model.specs.Facts.Declarations as facts
+use Rattle.cxx_model.specs.Facts.Declarations.{CxxFact, CxxGraph, Declares}
+use Rattle.cxx_model.specs.Types.Integral.{promoted_of_values}
 
 -- 7.2: the values of the enumerators of an enumeration
 abbrev pub values_in : ℕ → List CxxFact → List ℤ

@@ -7,9 +7,9 @@ use Rattle.cxx_model.specs.declared.sequence.Order.TheVariants.{Better, Worse, S
 use Rattle.cxx_model.specs.declared.sequence.Second.{Second}
 use Rattle.cxx_model.specs.declared.sequence.Second.TheVariants as second
 use Rattle.cxx_model.specs.declared.types.Cv.{Cv}
-use Rattle.cxx_model.specs.Facts.{CxxGraph}
-use Rattle.cxx_model.specs.StandardOrder.{number_of_rank, same_step}
-use Rattle.cxx_model.specs.Types.{CxxType, reference_to}
+use Rattle.cxx_model.specs.Facts.Declarations.{CxxGraph}
+use Rattle.cxx_model.specs.Choice.StandardOrder.{number_of_rank, same_step}
+use Rattle.cxx_model.specs.Types.Trees.{CxxType, reference_to}
 use Rattle.cxx_meaning.specs.Conversions.Derived.{is_derived}
 use Rattle.cxx_meaning.specs.Conversions.Kinds.{CxxKind, no_value, pointing, of_class, kind_of, value_kind, cv_of, signature, is_cv_within, is_similar, is_same_unqualified}
 use Rattle.cxx_meaning.specs.Conversions.Standard.{CxxStandard, rank}

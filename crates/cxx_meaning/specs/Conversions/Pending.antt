@@ -5,8 +5,8 @@ use Rattle.cxx_model.specs.declared.facts.ScopeKind.{ScopeKind}
 use Rattle.cxx_model.specs.declared.facts.ScopeKind.TheVariants as kind
 use Rattle.cxx_model.specs.declared.types.ClassId.{ClassId}
 use Rattle.cxx_model.specs.declared.types.TemplateId.{TemplateId}
-use Rattle.cxx_model.specs.Facts as facts
-use Rattle.cxx_model.specs.Facts.{CxxFact, CxxGraph, CxxPattern, CxxSpecialisation, Declares}
+use Rattle.cxx_model.specs.Facts.Declarations as facts
+use Rattle.cxx_model.specs.Facts.Declarations.{CxxFact, CxxGraph, CxxPattern, CxxSpecialisation, Declares}
 
 -- 9: whether a fact begins the class, which is then open, or ends it
 abbrev pub begins_or_ends : ℕ → Declares → Bool

@@ -11,13 +11,13 @@ use Rattle.cxx_model.specs.declared.sequence.First.TheVariants as first
 use Rattle.cxx_model.specs.declared.sequence.Second.{Second}
 use Rattle.cxx_model.specs.declared.sequence.Second.TheVariants as second
 use Rattle.cxx_model.specs.declared.types.Cv.{Cv}
-use Rattle.cxx_model.specs.Bases.{base_row}
-use Rattle.cxx_model.specs.Facts.{CxxGraph}
-use Rattle.cxx_model.specs.SameType.{same_type, same_cv}
+use Rattle.cxx_model.specs.Types.Bases.{base_row}
+use Rattle.cxx_model.specs.Facts.Declarations.{CxxGraph}
+use Rattle.cxx_model.specs.Types.Same.{same_type, same_cv}
 use Rattle.cxx_model.specs.declared.sequence.Rank.{Rank}
 use Rattle.cxx_model.specs.declared.sequence.Rank.TheVariants.{Exact}
-use Rattle.cxx_model.specs.Standard.{same_base, second_step, rank_of_step}
-use Rattle.cxx_model.specs.Types.{CxxType, fundamental, reference_to, array_of, function_of}
+use Rattle.cxx_model.specs.Choice.Standard.{same_base, second_step, rank_of_step}
+use Rattle.cxx_model.specs.Types.Trees.{CxxType, fundamental, reference_to, array_of, function_of}
 use Rattle.cxx_meaning.specs.Conversions.Asking.{Asked, ◌>>=◌}
 use Rattle.cxx_meaning.specs.Conversions.Derived.{is_derived}
 use Rattle.cxx_meaning.specs.Conversions.Enumerations.{promoted}

@@ -15,7 +15,7 @@ use Rattle.cxx_model.specs.declared.first.Reading.{Reading}
 use Rattle.cxx_model.specs.declared.limits.TheConstants as limits
 use Rattle.cxx_model.specs.declared.place.Place.{Place}
 use Rattle.cxx_model.specs.declared.stop.LimitKind.TheVariants.{Candidates, Facts}
-use Rattle.cxx_model.specs.Lexemes.{Lexeme, kind_of}
+use Rattle.cxx_model.specs.Text.Lexemes.{Lexeme, kind_of}
 use Rattle.cxx_model.specs.Stops.{Reads, Limited, ◌>>=◌, not_built_at, undeclared_at}
 use Rattle.cxx_model.specs.First.Candidates.{Candidate, Contender, names_object, is_declared, candidates, contenders, contender_beats, position_of, chosen, types_of, bound, choice_by, choice, call_of}
 use Rattle.cxx_model.specs.First.Reading.{cast_initializer, initializer_by, initializer_opened, initializer_at, is_end, item_at, items_at, empty, reading_of}

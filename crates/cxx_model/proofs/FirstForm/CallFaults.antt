@@ -19,7 +19,7 @@ use Rattle.cxx_model.specs.declared.overload.Outcome.TheVariants.{NotViable}
 use Rattle.cxx_model.specs.declared.place.Place.{Place}
 use Rattle.cxx_model.specs.declared.stop.Fault.{Fault}
 use Rattle.cxx_model.specs.declared.stop.LimitKind.TheVariants.{Candidates}
-use Rattle.cxx_model.specs.Better.{IsBest, best, counter, beats_if_other}
+use Rattle.cxx_model.specs.Choice.Better.{IsBest, best, counter, beats_if_other}
 use Rattle.cxx_model.specs.First.Candidates.{Candidate, Contender, has_word, is_object, is_declared, names_object, candidates, contenders, contender_beats, position_of, chosen, is_viable, outcome, refusal, refusals, shown, tie, ties, types_of, choice_by, choice, call_of}
 use Rattle.cxx_model.specs.First.Told.{IsRival, IsTie, AreTies, IsRefusal, AreRefusals, IsUndeclared, IsDeclared, IsObject, IsQuestionFault, NoViableFunction, AmbiguousCall, UndeclaredCall, ObjectCall}
 use Rattle.cxx_model.specs.Stops.{Faulty, Limited, not_built_at, undeclared_at}

@@ -10,8 +10,8 @@ use Rattle.cxx_model.specs.declared.first.Initializer.{Initializer}
 use Rattle.cxx_model.specs.declared.first.Reading.{Reading}
 use Rattle.cxx_model.specs.declared.keyword.TheConstants as keyword
 use Rattle.cxx_model.specs.declared.punct.TheConstants as punct
-use Rattle.cxx_model.specs.Lexemes.{Lexeme, kind_of, place_of, spelling_ahead}
-use Rattle.cxx_model.specs.Spelling.{literal_type}
+use Rattle.cxx_model.specs.Text.Lexemes.{Lexeme, kind_of, place_of, spelling_ahead}
+use Rattle.cxx_model.specs.Text.Spelling.{literal_type}
 use Rattle.cxx_model.specs.Stops.{Reads, Stopped, ◌>>=◌, not_built_at, undeclared_at}
 use Rattle.cxx_model.specs.First.Candidates.{call_of, is_declared}
 use Rattle.cxx_model.specs.First.Reading.{is_punct, is_keyword, is_name, is_literal, type_of_kind, type_by, name_by, literal_by, literal_at, argument_by, cast_argument, behind, punct_at, type_at, name_at, list_at, begins_type, arguments_opened, misplaced, cast_at, call_at, cast_initializer, begins_call, initializer_by, initializer_at, has_clash, added, declare, with_function, with_object, function_at, object_at, item_at}

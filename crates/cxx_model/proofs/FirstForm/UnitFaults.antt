@@ -24,8 +24,8 @@ use Rattle.cxx_model.specs.declared.token.TokenReason.TheVariants as reason
 use Rattle.cxx_model.specs.First.Candidates.{is_declared, call_of, types_of}
 use Rattle.cxx_model.specs.First.Reading.{is_punct, is_keyword, is_name, is_literal, is_end, is_some_base, type_of_kind, type_by, name_by, literal_by, literal_at, argument_by, argument_opened, arguments_opened, begins_argument, cast_argument, behind, punct_at, type_at, name_at, put_first, more_at, list_at, begins_type, misplaced, cast_at, call_at, cast_initializer, begins_call, initializer_by, initializer_opened, initializer_at, has_clash, added, declare, with_function, with_object, function_at, object_at, item_at, items_at, empty, reading_of}
 use Rattle.cxx_model.specs.First.Told.{IsUndeclared, IsQuestionFault, NoViableFunction, AmbiguousCall, UndeclaredCall, ObjectCall, IsChoiceText, ReadsTo, none_more, one_more, IsInCasts, no_cast, one_cast, IsCallFault, with_own, StopsInObject, before_initializer, IsToldFault, IsUndeclaredName, IsUndeclaredFault}
-use Rattle.cxx_model.specs.Lexemes.{Lexeme, kind_of, place_of, spelling_ahead}
-use Rattle.cxx_model.specs.Spelling.{literal_type}
+use Rattle.cxx_model.specs.Text.Lexemes.{Lexeme, kind_of, place_of, spelling_ahead}
+use Rattle.cxx_model.specs.Text.Spelling.{literal_type}
 use Rattle.cxx_model.specs.Stops.{Answer, Reads, Stopped, Faulty, Limited, ◌>>=◌, not_built_at, undeclared_at, unread, token_reason_text}
 use Rattle.cxx_model.proofs.Answers.{stopped}
 use Rattle.cxx_model.proofs.Champion.{first_of, later_of}

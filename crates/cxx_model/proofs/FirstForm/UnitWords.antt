@@ -14,9 +14,9 @@ use Rattle.cxx_model.specs.declared.first.Reading.{Reading}
 use Rattle.cxx_model.specs.declared.limits.TheConstants as limits
 use Rattle.cxx_model.specs.declared.punct.TheConstants as punct
 use Rattle.cxx_model.specs.declared.stop.LimitKind.TheVariants.{Facts}
-use Rattle.cxx_model.specs.Lexemes.{Lexeme, kind_of}
+use Rattle.cxx_model.specs.Text.Lexemes.{Lexeme, kind_of}
 use Rattle.cxx_model.specs.Stops.{Limited, ◌>>=◌}
-use Rattle.cxx_model.specs.Written.{Written, open_word, close_word, comma_word, semicolon_word, equals_word, less_word, greater_word, static_cast_word, name_word}
+use Rattle.cxx_model.specs.Printing.Written.{Written, open_word, close_word, comma_word, semicolon_word, equals_word, less_word, greater_word, static_cast_word, name_word}
 use Rattle.cxx_model.specs.First.Reading.{is_punct, is_end, behind, type_at, begins_type, item_at, items_at, empty, reading_of}
 use Rattle.cxx_model.specs.First.Words.{spell_base, others_separated, separated, spell_casts, literal_word, spell_argument, spell_call, spell_initializer, spell_item, spell_declared, line_words, lines, joined, words_of, words_before_end, AreSpelled}
 use Rattle.cxx_model.proofs.Answers.{done, stopped, done_is, bind_ok, either_is}

@@ -15,11 +15,11 @@ use Rattle.cxx_model.specs.declared.punct.TheConstants as punct
 use Rattle.cxx_model.specs.declared.stop.LimitKind.TheVariants.{Arguments}
 use Rattle.cxx_model.specs.declared.token.TokenKind.{TokenKind}
 use Rattle.cxx_model.specs.declared.token.TokenKind.TheVariants.{Name, Keyword, Punct, Integer, Character, Text, End}
-use Rattle.cxx_model.specs.Lexemes.{Lexeme, kind_of, spelling_ahead}
-use Rattle.cxx_model.specs.Spelling.{Good, spelling_of, literal_type, literal_type_by, IntegerParts, type_of_parts, integer_parts, is_wide, integer_types, first_holding, most_of, keywords, alternatives, operators, digraphs, number_in}
+use Rattle.cxx_model.specs.Text.Lexemes.{Lexeme, kind_of, spelling_ahead}
+use Rattle.cxx_model.specs.Text.Spelling.{Good, spelling_of, literal_type, literal_type_by, IntegerParts, type_of_parts, integer_parts, is_wide, integer_types, first_holding, most_of, keywords, alternatives, operators, digraphs, number_in}
 use Rattle.cxx_model.specs.Stops.{Reads, Stopped, Limited, ◌>>=◌}
-use Rattle.cxx_model.specs.Tokens.{is_text}
-use Rattle.cxx_model.specs.Written.{Written, written, open_word, close_word, comma_word, less_word, greater_word, static_cast_word, name_word}
+use Rattle.cxx_model.specs.Text.Tokens.{is_text}
+use Rattle.cxx_model.specs.Printing.Written.{Written, written, open_word, close_word, comma_word, less_word, greater_word, static_cast_word, name_word}
 use Rattle.cxx_model.specs.First.Reading.{is_punct, is_keyword, is_name, is_literal, is_end, behind, type_of_keyword, type_of_kind, punct_at, type_at, name_at, put_first, more_at, list_at, begins_argument, literal_at, cast_at, cast_argument, cast_initializer, argument_by, argument_opened, arguments_opened, call_at, initializer_by, initializer_opened, initializer_at}
 use Rattle.cxx_model.specs.First.Words.{keyword_word, spell_base, others_separated, separated, kind_of_literal, spell_argument, spell_initializer, before_end, words_before_end, IsSpelled, AreSpelled}
 use Rattle.cxx_model.proofs.Answers.{done, stopped, done_is, bind_ok, either_is}

@@ -6,7 +6,7 @@ use Rattle.cxx_model.specs.declared.first.Initializer.{Initializer}
 use Rattle.cxx_model.specs.declared.first.Item.{Item}
 use Rattle.cxx_model.specs.declared.first.Item.TheVariants as item
 use Rattle.cxx_model.specs.declared.first.Reading.{Reading}
-use Rattle.cxx_model.specs.Better.{IsBest}
+use Rattle.cxx_model.specs.Choice.Better.{IsBest}
 use Rattle.cxx_model.specs.First.Candidates.{Contender, candidates, contenders, contender_beats, position_of, outcome, types_of}
 
 -- The call means one of the functions of its name that are declared before it: the one that is viable and better than

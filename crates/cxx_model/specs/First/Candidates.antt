@@ -20,9 +20,9 @@ use Rattle.cxx_model.specs.declared.stop.LimitKind.TheVariants.{Candidates}
 use Rattle.cxx_model.specs.declared.evidence.Reason.TheVariants.{TooFewArguments, TooManyArguments}
 use Rattle.cxx_model.specs.declared.evidence.Shown.{Shown}
 use Rattle.cxx_model.specs.declared.evidence.Shown.TheVariants.{Declared as ShownAt}
-use Rattle.cxx_model.specs.Better.{is_better, best, counter}
-use Rattle.cxx_model.specs.Standard.{standard_sequence}
-use Rattle.cxx_model.specs.StandardOrder.{compare}
+use Rattle.cxx_model.specs.Choice.Better.{is_better, best, counter}
+use Rattle.cxx_model.specs.Choice.Standard.{standard_sequence}
+use Rattle.cxx_model.specs.Choice.StandardOrder.{compare}
 use Rattle.cxx_model.specs.Stops.{Answer, Stopped, Faulty, Limited, not_built_at, undeclared_at}
 
 -- ---- names

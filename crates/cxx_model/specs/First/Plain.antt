@@ -11,10 +11,10 @@ use Rattle.cxx_model.specs.declared.first.Item.TheVariants as item
 use Rattle.cxx_model.specs.declared.first.Reading.{Reading}
 use Rattle.cxx_model.specs.First.Candidates.{is_object, outermost, type_of_argument}
 use Rattle.cxx_model.specs.First.Words.{lines}
-use Rattle.cxx_model.specs.Lexemes.{nowhere}
-use Rattle.cxx_model.specs.Names.{printed_name}
-use Rattle.cxx_model.specs.Standard.{same_base}
-use Rattle.cxx_model.specs.Written.{line_of}
+use Rattle.cxx_model.specs.Text.Lexemes.{nowhere}
+use Rattle.cxx_model.specs.Printing.Names.{printed_name}
+use Rattle.cxx_model.specs.Choice.Standard.{same_base}
+use Rattle.cxx_model.specs.Printing.Written.{line_of}
 
 -- ---- order
 

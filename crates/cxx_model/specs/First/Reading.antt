@@ -22,9 +22,9 @@ use Rattle.cxx_model.specs.declared.stop.LimitKind.TheVariants.{Nesting, Facts, 
 use Rattle.cxx_model.specs.declared.token.TokenKind.{TokenKind}
 use Rattle.cxx_model.specs.declared.token.TokenKind.TheVariants.{Name, Keyword, Punct, Integer, Character, End}
 use Rattle.cxx_model.specs.First.Candidates.{has_word, is_declared, call_of}
-use Rattle.cxx_model.specs.Lexemes.{Lexeme, kind_of, place_of, spelling_ahead}
-use Rattle.cxx_model.specs.Spelling.{literal_type}
-use Rattle.cxx_model.specs.Standard.{same_base}
+use Rattle.cxx_model.specs.Text.Lexemes.{Lexeme, kind_of, place_of, spelling_ahead}
+use Rattle.cxx_model.specs.Text.Spelling.{literal_type}
+use Rattle.cxx_model.specs.Choice.Standard.{same_base}
 use Rattle.cxx_model.specs.Stops.{Answer, Reads, Limited, ◌>>=◌, not_built_at, undeclared_at, unread}
 
 -- ---- single tokens

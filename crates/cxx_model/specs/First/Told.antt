@@ -17,10 +17,10 @@ use Rattle.cxx_model.specs.declared.overload.Outcome.TheVariants.{NotViable}
 use Rattle.cxx_model.specs.declared.place.Place.{Place}
 use Rattle.cxx_model.specs.declared.punct.TheConstants as punct
 use Rattle.cxx_model.specs.declared.stop.Fault.{Fault}
-use Rattle.cxx_model.specs.Better.{IsBest}
+use Rattle.cxx_model.specs.Choice.Better.{IsBest}
 use Rattle.cxx_model.specs.First.Candidates.{Candidate, Contender, candidates, contenders, contender_beats, outcome, position_of, shown, types_of}
 use Rattle.cxx_model.specs.First.Reading.{is_punct, is_keyword, is_name, is_end, begins_type, type_at, name_at, arguments_opened, item_at, empty}
-use Rattle.cxx_model.specs.Lexemes.{Lexeme, kind_of}
+use Rattle.cxx_model.specs.Text.Lexemes.{Lexeme, kind_of}
 use Rattle.cxx_model.specs.Stops.{Faulty}
 
 -- ---- evidence

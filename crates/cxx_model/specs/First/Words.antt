@@ -15,10 +15,10 @@ use Rattle.cxx_model.specs.declared.keyword.TheConstants as keyword
 use Rattle.cxx_model.specs.declared.token.TokenKind.{TokenKind}
 use Rattle.cxx_model.specs.declared.token.TokenKind.TheVariants.{Keyword, Integer, Character}
 use Rattle.cxx_model.specs.First.Reading.{is_end}
-use Rattle.cxx_model.specs.Lexemes.{Lexeme}
-use Rattle.cxx_model.specs.Spelling.{Good, spelling_of}
-use Rattle.cxx_model.specs.Tokens.{is_text}
-use Rattle.cxx_model.specs.Written.{Written, written, open_word, close_word, comma_word, semicolon_word, equals_word, less_word, greater_word, static_cast_word, name_word}
+use Rattle.cxx_model.specs.Text.Lexemes.{Lexeme}
+use Rattle.cxx_model.specs.Text.Spelling.{Good, spelling_of}
+use Rattle.cxx_model.specs.Text.Tokens.{is_text}
+use Rattle.cxx_model.specs.Printing.Written.{Written, written, open_word, close_word, comma_word, semicolon_word, equals_word, less_word, greater_word, static_cast_word, name_word}
 
 abbrev pub keyword_word : ℕ → List ℕ → Written
 keyword_word n text = record { kind = Keyword n; spelling = text }

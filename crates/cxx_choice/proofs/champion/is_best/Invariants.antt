@@ -1,6 +1,6 @@
 use Rattle.std.proofs.Common.{◌≡◌, drop, map}
 use Rattle.std.specs.List.{list_all}
-use Rattle.cxx_model.specs.Better.{beats_if_other}
+use Rattle.cxx_model.specs.Choice.Better.{beats_if_other}
 use Rattle.cxx_model.specs.First.Candidates.{position_of, contender_beats}
 use Rattle.cxx_choice.specs.Views.{contender_at}
 use Rattle.cxx_choice.proofs.champion.is_best.Given as goal

@@ -1,6 +1,6 @@
 use Rattle.std.proofs.Common.{◌≡◌, false, length}
-use Rattle.cxx_model.specs.Better.{compared}
-use Rattle.cxx_model.specs.StandardOrder.{compare}
+use Rattle.cxx_model.specs.Choice.Better.{compared}
+use Rattle.cxx_model.specs.Choice.StandardOrder.{compare}
 use Rattle.cxx_model.specs.First.Candidates.{sequences}
 use Rattle.cxx_choice.proofs.Loops.{verdict}
 use Rattle.cxx_choice.proofs.viable.is_better_function.Given as goal

@@ -1,7 +1,7 @@
 use Rattle.std.proofs.Common.{◌≡◌, ◌-◌, ◌+◌, true, false, ap, sym, ◌∙◌, arith}
 use Rattle.std.proofs.lemmas.Result.{err_from_is_err_and}
 use Rattle.cxx_model.specs.declared.limits.TheConstants as limits
-use Rattle.cxx_model.specs.Lexemes.{kind_of}
+use Rattle.cxx_model.specs.Text.Lexemes.{kind_of}
 use Rattle.cxx_model.specs.First.Reading.{is_end, items_at}
 use Rattle.cxx_model.proofs.FirstForm.Taken.{item_counts}
 use Rattle.cxx_decl.specs.Views.{left}

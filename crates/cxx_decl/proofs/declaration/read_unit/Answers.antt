@@ -1,4 +1,4 @@
-use Rattle.cxx_model.specs.Lexemes.{lexemes}
+use Rattle.cxx_model.specs.Text.Lexemes.{lexemes}
 use Rattle.cxx_decl.proofs.Whole.{best, words}
 use Rattle.cxx_decl.proofs.declaration.read_unit.Goals as goal
 

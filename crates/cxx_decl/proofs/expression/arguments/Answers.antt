@@ -2,7 +2,7 @@ use Rattle.std.proofs.Common.{◌≡◌, true, false, ap, sym, ◌∙◌}
 use Rattle.std.proofs.lemmas.Result.{err_from_is_err_and}
 use Rattle.cxx_model.specs.declared.limits.TheConstants as limits
 use Rattle.cxx_model.specs.declared.punct.TheConstants as punct
-use Rattle.cxx_model.specs.Lexemes.{kind_of}
+use Rattle.cxx_model.specs.Text.Lexemes.{kind_of}
 use Rattle.cxx_model.specs.First.Reading.{is_punct, list_at, argument_by, argument_opened, begins_argument}
 use Rattle.cxx_decl.specs.Views.{left}
 use Rattle.cxx_decl.proofs.Lists.{goes, ends, stops, full, over, stops_over}

@@ -1,6 +1,6 @@
 use Rattle.std.proofs.Common.{sym, subst}
 use Rattle.cxx_model.specs.declared.facts.Fact.{Fact}
-use Rattle.cxx_model.specs.Graph.{InRange, appended}
+use Rattle.cxx_model.specs.Facts.Graph.{InRange, appended}
 use Rattle.cxx_graph.specs.Sample.{sample}
 use Rattle.cxx_graph.proofs.Sampled.{declared-in-range, scopes-after}
 use Rattle.cxx_graph.proofs.tests.declare.Goals as goal

@@ -1,5 +1,5 @@
 use Rattle.std.proofs.Common.{◌≡◌, ◌<◌, length}
-use Rattle.cxx_model.specs.Graph.{scopes}
+use Rattle.cxx_model.specs.Facts.Graph.{scopes}
 use Rattle.cxx_graph.proofs.tests.fill.Given as goal
 
 abbrev pub invariant-loop : goal.invariant-loop

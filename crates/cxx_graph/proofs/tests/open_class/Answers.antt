@@ -2,7 +2,7 @@ use Rattle.std.proofs.Common.{ap, sym, subst, refl, [], ◌∷◌, Some}
 use Rattle.cxx_model.specs.declared.facts.Entity.TheVariants as entity
 use Rattle.cxx_model.specs.declared.facts.Fact.{Fact}
 use Rattle.cxx_model.specs.declared.facts.ScopeKind.TheVariants as kind
-use Rattle.cxx_model.specs.Graph.{InRange, appended, scopes}
+use Rattle.cxx_model.specs.Facts.Graph.{InRange, appended, scopes}
 use Rattle.cxx_graph.specs.Sample.{sample}
 use Rattle.cxx_graph.proofs.Sampled.{declared-in-range, scopes-opened}
 use Rattle.cxx_graph.proofs.tests.open_class.Goals as goal

@@ -1,7 +1,7 @@
 use Rattle.std.proofs.Common.{◌≡◌, sym, ap, ◌∙◌, arith, false}
 use Rattle.cxx_literals.proofs.Escaping.{letters_go, universal_capped}
 use Rattle.cxx_literals.specs.Escapes.{letter_at}
-use Rattle.cxx_model.specs.Spelling.{is_universal_letter}
+use Rattle.cxx_model.specs.Text.Spelling.{is_universal_letter}
 use Rattle.cxx_literals.proofs.letters.any_universal.Goals as goal
 
 pub loop-rest-preserved : goal.loop-rest-preserved

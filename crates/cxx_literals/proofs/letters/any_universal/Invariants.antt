@@ -1,6 +1,6 @@
 use Rattle.std.proofs.Common.{◌≡◌, length}
 use Rattle.std.specs.List.{list_any}
-use Rattle.cxx_model.specs.Spelling.{letters, is_universal_letter}
+use Rattle.cxx_model.specs.Text.Spelling.{letters, is_universal_letter}
 use Rattle.cxx_literals.proofs.letters.any_universal.Given as goal
 
 abbrev pub invariant-loop-rest : goal.invariant-loop-rest

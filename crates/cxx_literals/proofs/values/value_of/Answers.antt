@@ -1,6 +1,6 @@
 use Rattle.std.proofs.Common.{◌≡◌, ◌<◌, ◌+◌, ◌*◌, ◌^◌, min, length, get_or, take, arith, ◌∙◌, ap}
 use Rattle.std.proofs.lemmas.List.{take_more}
-use Rattle.cxx_model.specs.Spelling.{value_after, digit_value}
+use Rattle.cxx_model.specs.Text.Spelling.{value_after, digit_value}
 use Rattle.cxx_literals.proofs.Amounts.{value_after_push, too_much}
 use Rattle.cxx_literals.proofs.values.value_of.Goals as goal
 

@@ -1,5 +1,5 @@
 use Rattle.std.proofs.Common.{◌≡◌, ◌^◌, min, take}
-use Rattle.cxx_model.specs.Spelling.{value_after}
+use Rattle.cxx_model.specs.Text.Spelling.{value_after}
 use Rattle.cxx_literals.proofs.values.value_of.Given as goal
 
 abbrev pub invariant-loop-b : goal.invariant-loop-b

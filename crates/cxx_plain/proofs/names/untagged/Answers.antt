@@ -1,6 +1,6 @@
 use Rattle.std.proofs.Common.{◌≡◌, ◌-◌, length, sym, ap, ◌∙◌, take, drop, arith}
 use Rattle.std.proofs.lemmas.Grind.{common_steps}
-use Rattle.cxx_model.specs.Names.{is_tag}
+use Rattle.cxx_model.specs.Printing.Names.{is_tag}
 use Rattle.cxx_plain.proofs.Stems.{untagged_more}
 use Rattle.cxx_plain.proofs.names.untagged.Goals as goal
 

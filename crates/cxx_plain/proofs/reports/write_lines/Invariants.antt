@@ -1,6 +1,6 @@
 -- what is written and the rest are the whole
 use Rattle.std.proofs.Common.{◌≡◌, ◌≤◌, ◌+◌, ◌++◌, drop}
-use Rattle.cxx_model.specs.Reports.{evidence_lines}
+use Rattle.cxx_model.specs.Printing.Reports.{evidence_lines}
 use Rattle.cxx_plain.proofs.reports.write_lines.Given as goal
 
 abbrev pub invariant-loop-one : goal.invariant-loop-one

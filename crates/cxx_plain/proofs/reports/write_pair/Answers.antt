@@ -1,7 +1,7 @@
 use Rattle.std.proofs.Common.{◌++◌, ap, ◌∙◌, append_assoc}
 use Rattle.std.specs.Prelude.{codes}
 use Rattle.std.proofs.lemmas.Result.{on_ok_weaker}
-use Rattle.cxx_model.specs.Reports.{shown_text}
+use Rattle.cxx_model.specs.Printing.Reports.{shown_text}
 use Rattle.cxx_plain.proofs.reports.write_pair.Goals as goal
 
 pub returns : goal.returns

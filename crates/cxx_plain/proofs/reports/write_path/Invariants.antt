@@ -1,6 +1,6 @@
 -- what is written and the rest are the whole
 use Rattle.std.proofs.Common.{◌≡◌, ◌++◌, drop}
-use Rattle.cxx_model.specs.Reports.{spaced_numbers}
+use Rattle.cxx_model.specs.Printing.Reports.{spaced_numbers}
 use Rattle.cxx_plain.proofs.reports.write_path.Given as goal
 
 abbrev pub invariant-loop-number : goal.invariant-loop-number

@@ -1,5 +1,5 @@
 use Rattle.std.proofs.Common.{sym, ◌∙◌, arith, false}
-use Rattle.cxx_model.specs.Spelling.{comment_ending}
+use Rattle.cxx_model.specs.Text.Spelling.{comment_ending}
 use Rattle.cxx_model.proofs.Spellings.{goes_start}
 use Rattle.cxx_tokens.proofs.Scans.{comment_more, comment_ends, comment_runs_out}
 use Rattle.cxx_tokens.proofs.comments.comment.Goals as goal

@@ -1,7 +1,7 @@
 use Rattle.std.proofs.Common.{take}
 use Rattle.std.specs.Prelude.{false}
-use Rattle.cxx_model.specs.Spelling.{comment_ending}
-use Rattle.cxx_model.specs.Continuing.{Goes}
+use Rattle.cxx_model.specs.Text.Spelling.{comment_ending}
+use Rattle.cxx_model.specs.Text.Continuing.{Goes}
 use Rattle.cxx_tokens.proofs.comments.comment.Given as goal
 
 abbrev pub invariant-loop-i : goal.invariant-loop-i

@@ -1,6 +1,6 @@
 use Rattle.std.proofs.Common.{◌≡◌, take, false}
 use Rattle.std.specs.List.{list_any}
-use Rattle.cxx_model.specs.Spelling.{is_newline}
+use Rattle.cxx_model.specs.Text.Spelling.{is_newline}
 use Rattle.cxx_tokens.proofs.comments.line_len.Given as goal
 
 abbrev pub invariant-loop-i : goal.invariant-loop-i

@@ -1,6 +1,6 @@
 use Rattle.std.proofs.Common.{◌≡◌, ◌<◌, true, length, get_or, take, sym, arith}
 use Rattle.std.proofs.lemmas.List.{take_more}
-use Rattle.cxx_model.specs.Continuing.{number_goes_on, last_of}
+use Rattle.cxx_model.specs.Text.Continuing.{number_goes_on, last_of}
 use Rattle.cxx_tokens.proofs.Pushes.{number_rest_push, last_of_push}
 use Rattle.cxx_tokens.proofs.numbers.number_len.Goals as goal
 

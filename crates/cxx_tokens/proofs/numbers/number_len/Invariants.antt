@@ -1,6 +1,6 @@
 use Rattle.std.proofs.Common.{◌≡◌, true, take}
-use Rattle.cxx_model.specs.Spelling.{is_number_rest}
-use Rattle.cxx_model.specs.Continuing.{last_of}
+use Rattle.cxx_model.specs.Text.Spelling.{is_number_rest}
+use Rattle.cxx_model.specs.Text.Continuing.{last_of}
 use Rattle.cxx_tokens.proofs.numbers.number_len.Given as goal
 
 abbrev pub invariant-loop-i : goal.invariant-loop-i

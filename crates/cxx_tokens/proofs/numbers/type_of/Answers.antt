@@ -1,5 +1,5 @@
 use Rattle.cxx_literals.specs.Integers.{parts_of}
-use Rattle.cxx_model.specs.Spelling.{integer_parts}
+use Rattle.cxx_model.specs.Text.Spelling.{integer_parts}
 use Rattle.cxx_literals.proofs.Amounts.{typed}
 use Rattle.cxx_tokens.proofs.numbers.type_of.Goals as goal
 

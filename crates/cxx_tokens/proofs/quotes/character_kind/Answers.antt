@@ -1,7 +1,7 @@
 use Rattle.std.proofs.Common.{◌≡◌, sym, ap, ◌∙◌, arith, false, true}
 use Rattle.cxx_literals.proofs.Escaping.{character_bad, character_multi, character_one, universal_capped}
 use Rattle.cxx_literals.specs.Escapes.{letter_at}
-use Rattle.cxx_model.specs.Spelling.{is_universal_letter}
+use Rattle.cxx_model.specs.Text.Spelling.{is_universal_letter}
 use Rattle.cxx_tokens.proofs.quotes.character_kind.Goals as goal
 
 pub returns-then-any_bad : goal.returns-then-any_bad

@@ -1,5 +1,5 @@
 use Rattle.std.proofs.Common.{sym, ◌∙◌, arith, false}
-use Rattle.cxx_model.specs.Spelling.{literal_ending}
+use Rattle.cxx_model.specs.Text.Spelling.{literal_ending}
 use Rattle.cxx_model.proofs.Spellings.{goes_start}
 use Rattle.cxx_tokens.specs.Pieces.{spelled}
 use Rattle.cxx_tokens.proofs.Scans.{literal_more, literal_ends_at, literal_breaks, literal_runs_out}

@@ -1,6 +1,6 @@
 use Rattle.std.proofs.Common.{take, false}
-use Rattle.cxx_model.specs.Spelling.{literal_ending}
-use Rattle.cxx_model.specs.Continuing.{Goes}
+use Rattle.cxx_model.specs.Text.Spelling.{literal_ending}
+use Rattle.cxx_model.specs.Text.Continuing.{Goes}
 use Rattle.cxx_tokens.proofs.quotes.literal.Given as goal
 
 abbrev pub invariant-loop-i : goal.invariant-loop-i

@@ -1,7 +1,7 @@
 use Rattle.std.proofs.Common.{◌≡◌, sym, None}
 use Rattle.std.proofs.lemmas.Result.{err_from_is_err_and}
-use Rattle.cxx_model.specs.Tokens.{IsLongest, reason_at, is_mixed, width_of}
-use Rattle.cxx_model.specs.Spelling.{Blank, Good, Ill}
+use Rattle.cxx_model.specs.Text.Tokens.{IsLongest, reason_at, is_mixed, width_of}
+use Rattle.cxx_model.specs.Text.Spelling.{Blank, Good, Ill}
 use Rattle.cxx_model.proofs.Readings.{ill_has_reason}
 use Rattle.cxx_tokens.specs.Pieces.{spelled, width_seen}
 use Rattle.cxx_tokens.proofs.Steps.{passes_blank, passes_token, added_fits, added_sound, refuses_token, finds_bad}

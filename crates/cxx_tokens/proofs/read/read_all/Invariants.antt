@@ -1,6 +1,6 @@
 use Rattle.std.proofs.Common.{◌≡◌, ◌≤◌, length}
 use Rattle.cxx_model.specs.declared.limits.TheConstants as limits
-use Rattle.cxx_model.specs.Tokens.{tokens_of}
+use Rattle.cxx_model.specs.Text.Tokens.{tokens_of}
 use Rattle.cxx_tokens.specs.Answers.{list_at, IsSound}
 use Rattle.cxx_tokens.specs.Pieces.{width_seen}
 use Rattle.cxx_tokens.proofs.read.read_all.Given as goal

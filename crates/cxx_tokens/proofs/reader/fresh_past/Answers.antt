@@ -1,6 +1,6 @@
 use Rattle.std.proofs.Common.{◌<◌, length, get_or, take, arith, ap, ◌∙◌}
 use Rattle.std.proofs.lemmas.List.{take_more}
-use Rattle.cxx_model.specs.Tokens.{fresh_after}
+use Rattle.cxx_model.specs.Text.Tokens.{fresh_after}
 use Rattle.cxx_model.proofs.Readings.{fresh_append}
 use Rattle.std.specs.Prelude.{[], ◌∷◌}
 use Rattle.cxx_tokens.proofs.reader.fresh_past.Goals as goal

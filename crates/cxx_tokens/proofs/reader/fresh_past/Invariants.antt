@@ -1,5 +1,5 @@
 use Rattle.std.proofs.Common.{◌≡◌, take}
-use Rattle.cxx_model.specs.Tokens.{fresh_past}
+use Rattle.cxx_model.specs.Text.Tokens.{fresh_past}
 use Rattle.cxx_tokens.proofs.reader.fresh_past.Given as goal
 
 abbrev pub invariant-loop-b : goal.invariant-loop-b

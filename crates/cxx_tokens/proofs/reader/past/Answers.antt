@@ -1,6 +1,6 @@
 use Rattle.std.proofs.Common.{◌≡◌, ◌<◌, length, get_or, take, ap, arith}
 use Rattle.std.proofs.lemmas.List.{take_more}
-use Rattle.cxx_model.specs.Lexemes.{after}
+use Rattle.cxx_model.specs.Text.Lexemes.{after}
 use Rattle.cxx_tokens.proofs.Pushes.{past_push, after_line, after_column}
 use Rattle.cxx_tokens.proofs.reader.past.Goals as goal
 

@@ -1,5 +1,5 @@
 use Rattle.std.proofs.Common.{◌≡◌, ◌≤◌, ◌+◌, take}
-use Rattle.cxx_model.specs.Lexemes.{past}
+use Rattle.cxx_model.specs.Text.Lexemes.{past}
 use Rattle.cxx_tokens.proofs.reader.past.Given as goal
 
 abbrev pub invariant-loop-b : goal.invariant-loop-b

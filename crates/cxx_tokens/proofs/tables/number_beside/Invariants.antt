@@ -1,5 +1,5 @@
 use Rattle.std.proofs.Common.{◌≡◌, map, drop}
-use Rattle.cxx_model.specs.Spelling.{number_beside}
+use Rattle.cxx_model.specs.Text.Spelling.{number_beside}
 use Rattle.cxx_tokens.proofs.tables.number_beside.Given as goal
 
 abbrev pub invariant-loop-entry : goal.invariant-loop-entry

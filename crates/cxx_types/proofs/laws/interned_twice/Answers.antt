@@ -1,6 +1,6 @@
 use Rattle.std.proofs.Common.{ap, sym, ◌∙◌, length, ◌≡◌}
-use Rattle.cxx_model.specs.Types.{normal}
-use Rattle.cxx_model.specs.TypeTrees.{type_at, tree_at}
+use Rattle.cxx_model.specs.Types.Trees.{normal}
+use Rattle.cxx_model.specs.Types.Numbers.{type_at, tree_at}
 use Rattle.cxx_model.proofs.TypeTrees.{tree_kept, tree_later}
 use Rattle.cxx_types.proofs.laws.interned_twice.Goals as goal
 

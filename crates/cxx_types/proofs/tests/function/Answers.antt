@@ -1,7 +1,7 @@
 use Rattle.std.proofs.Common.{ap, sym, subst, ◌∙◌, List, [], ◌∷◌, ◌++◌, ◌≡◌, Result, IfOk}
 use Rattle.cxx_model.specs.declared.types.Signature.{Signature}
 use Rattle.cxx_model.specs.declared.types.TypeTree.{TypeTree}
-use Rattle.cxx_model.specs.TypeTrees.{IsTreeBelow}
+use Rattle.cxx_model.specs.Types.Numbers.{IsTreeBelow}
 use Rattle.cxx_model.specs.declared.memory.OutOfMemory.{OutOfMemory}
 use Rattle.cxx_types.specs.Free.{IsFree}
 use Rattle.cxx_types.specs.Trees.{AreTreesBelow}

@@ -1,7 +1,7 @@
 use Rattle.std.proofs.Common.{sym, subst, ◌∙◌, ◌≡◌, ◌<◌, ◌+◌, List, length, true, slice_set, arith, refl}
 use Rattle.std.proofs.Math.ListN.{length-set}
 use Rattle.cxx_model.specs.declared.facts.Fact.{Fact}
-use Rattle.cxx_model.specs.Graph.{Graph, InRange, appended}
+use Rattle.cxx_model.specs.Facts.Graph.{Graph, InRange, appended}
 use Rattle.cxx_graph.specs.Stored.{IsStored, classes_of, graph_of}
 use Rattle.cxx_graph.proofs.Classes.{length-classes, stored-fact}
 use Rattle.cxx_graph.proofs.Marks.{marked-same, marked-ended, class-reserved}

@@ -1,6 +1,6 @@
 use Rattle.std.proofs.Common.{ap, ◌∙◌}
-use Rattle.cxx_model.specs.TypeTrees.{arguments_at}
-use Rattle.cxx_model.specs.Graph.{IsReservedAlready}
+use Rattle.cxx_model.specs.Types.Numbers.{arguments_at}
+use Rattle.cxx_model.specs.Facts.Graph.{IsReservedAlready}
 use Rattle.cxx_graph.specs.Reserved.{IsUnknown}
 use Rattle.cxx_graph.proofs.Classes.{already-for, reserved-for, unknown-for}
 use Rattle.cxx_graph.proofs.graph.Graph.reserve_class.Goals as goal

@@ -2,8 +2,8 @@ use Rattle.std.proofs.Common.{ap, sym, subst, ◌∙◌, length, List, ◌≡◌
 use Rattle.cxx_model.specs.declared.types.Signature.{Signature}
 use Rattle.cxx_model.specs.declared.types.TypeId.{TypeId}
 use Rattle.cxx_model.specs.declared.types.TypeTree.{TypeTree}
-use Rattle.cxx_model.specs.Types.{AreParameters, normal, normal_parameters}
-use Rattle.cxx_model.specs.TypeTrees.{tree_at}
+use Rattle.cxx_model.specs.Types.Trees.{AreParameters, normal, normal_parameters}
+use Rattle.cxx_model.specs.Types.Numbers.{tree_at}
 use Rattle.cxx_model.proofs.TypeForm.{with_cv_none, normal_is_normal, normal_parameters_is_normal}
 use Rattle.cxx_model.proofs.TypeTrees.{tree_later}
 use Rattle.cxx_types.specs.Sizes.{tree_size, trees_size}

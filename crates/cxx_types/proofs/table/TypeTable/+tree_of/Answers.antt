@@ -1,7 +1,7 @@
 use Rattle.std.proofs.Common.{ap, sym, subst, ◌∙◌, length, ◌≡◌, ◌<◌, ◌+◌, ◌*◌, slice_index_or, arith}
 use Rattle.cxx_model.specs.declared.types.Signature.{Signature}
 use Rattle.cxx_model.specs.declared.types.TypeTree.{TypeTree}
-use Rattle.cxx_model.specs.TypeTrees.{tree_at, types_at, IsTreeBelow}
+use Rattle.cxx_model.specs.Types.Numbers.{tree_at, types_at, IsTreeBelow}
 use Rattle.cxx_types.specs.Trees.{trees_at, AreTreesBelow}
 use Rattle.cxx_types.proofs.Reading.{bound-within, arguments-within, signature-at, number-inside, next-read}
 use Rattle.cxx_types.proofs.Rows.{below-function}

@@ -1,5 +1,5 @@
 use Rattle.std.proofs.Common.{take, length, ◌≡◌, ◌+◌, ◌*◌}
-use Rattle.cxx_model.specs.TypeTrees.{types_at}
+use Rattle.cxx_model.specs.Types.Numbers.{types_at}
 use Rattle.cxx_types.specs.Trees.{trees_at, AreTreesBelow}
 use Rattle.cxx_types.proofs.table.TypeTable.+tree_of.Given as goal
 

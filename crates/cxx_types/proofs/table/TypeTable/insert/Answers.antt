@@ -1,8 +1,8 @@
 use Rattle.std.proofs.Common.{sym, subst, length, List, ◌<◌, arith}
 use Rattle.std.proofs.lemmas.Option.{slice_get_within}
 use Rattle.cxx_model.specs.declared.types.TypeNode.{TypeNode}
-use Rattle.cxx_model.specs.Types.{CxxType, IsNormal}
-use Rattle.cxx_model.specs.TypeTrees.{type_over, IsNodeBelow, Keeps}
+use Rattle.cxx_model.specs.Types.Trees.{CxxType, IsNormal}
+use Rattle.cxx_model.specs.Types.Numbers.{type_over, IsNodeBelow, Keeps}
 use Rattle.cxx_types.specs.Table.{types_of, AreNormal, IsTable}
 use Rattle.cxx_types.proofs.Nodes.{table-insert, Keeps-insert, type-of-stored, length-types}
 use Rattle.cxx_types.proofs.table.TypeTable.insert.Goals as goal

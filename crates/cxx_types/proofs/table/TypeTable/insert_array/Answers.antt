@@ -1,6 +1,6 @@
 use Rattle.std.proofs.Common.{ap, sym, ◌∙◌}
-use Rattle.cxx_model.specs.Types.{array_of}
-use Rattle.cxx_model.specs.TypeTrees.{type_at, bound_at}
+use Rattle.cxx_model.specs.Types.Trees.{array_of}
+use Rattle.cxx_model.specs.Types.Numbers.{type_at, bound_at}
 use Rattle.cxx_model.proofs.TypeForm.{normal_bound_fixed}
 use Rattle.cxx_model.proofs.TypeTrees.{bound_normal}
 use Rattle.cxx_types.proofs.Steps.{if-ok}

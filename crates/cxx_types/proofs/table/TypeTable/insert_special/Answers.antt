@@ -1,6 +1,6 @@
 use Rattle.std.proofs.Common.{ap, sym, ◌∙◌, length}
-use Rattle.cxx_model.specs.Types.{layered, specialisation}
-use Rattle.cxx_model.specs.TypeTrees.{arguments_at}
+use Rattle.cxx_model.specs.Types.Trees.{layered, specialisation}
+use Rattle.cxx_model.specs.Types.Numbers.{arguments_at}
 use Rattle.cxx_model.proofs.TypeForm.{normal_arguments_fixed}
 use Rattle.cxx_model.proofs.TypeTrees.{arguments_normal}
 use Rattle.cxx_types.proofs.Steps.{if-ok}

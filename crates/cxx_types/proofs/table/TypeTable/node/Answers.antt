@@ -1,8 +1,8 @@
 use Rattle.std.proofs.Common.{sym, ◌∙◌, subst, length, List, ◌≡◌, ◌<◌, arith, ap, Some}
 use Rattle.std.specs.List.{slice_get}
 use Rattle.std.specs.Option.{option_copied}
-use Rattle.cxx_model.specs.Types.{CxxType}
-use Rattle.cxx_model.specs.TypeTrees.{type_at, type_over}
+use Rattle.cxx_model.specs.Types.Trees.{CxxType}
+use Rattle.cxx_model.specs.Types.Numbers.{type_at, type_over}
 use Rattle.cxx_types.specs.Table.{types_of}
 use Rattle.cxx_types.proofs.Nodes.{type-of-node, length-types}
 use Rattle.cxx_types.proofs.table.TypeTable.node.Goals as goal

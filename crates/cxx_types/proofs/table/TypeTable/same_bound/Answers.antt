@@ -1,5 +1,5 @@
 use Rattle.std.proofs.Common.{sym, subst, ◌∙◌}
-use Rattle.cxx_model.specs.TypeTrees.{AreApart}
+use Rattle.cxx_model.specs.Types.Numbers.{AreApart}
 use Rattle.cxx_model.proofs.Equal.{bound_from, bound_to}
 use Rattle.cxx_types.proofs.table.TypeTable.same_bound.Goals as goal
 

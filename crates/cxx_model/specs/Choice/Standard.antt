@@ -7,7 +7,7 @@ use Rattle.cxx_model.specs.declared.sequence.Second.TheVariants.{IntegralPromoti
 use Rattle.cxx_model.specs.declared.first.ArithmeticSequence.{ArithmeticSequence}
 use Rattle.cxx_model.specs.declared.sequence.Rank.{Rank}
 use Rattle.cxx_model.specs.declared.sequence.Rank.TheVariants.{Exact, Promotion, Conversion}
-use Rattle.cxx_model.specs.Bases.{base_row}
+use Rattle.cxx_model.specs.Types.Bases.{base_row}
 
 -- What conversions ask of a fundamental type by itself.
 pub record Row : Type 0 where

@@ -5,13 +5,13 @@ use Rattle.cxx_model.specs.declared.types.TypeId.{TypeId}
 use Rattle.cxx_model.specs.declared.types.Formula.{Formula, Value, Parameter, Member, SizeOf, Cast', Unary', Binary', Conditional'}
 use Rattle.cxx_model.specs.declared.types.Bound.{Bound}
 use Rattle.cxx_model.specs.declared.types.Bound.TheVariants as bound
-use Rattle.cxx_model.specs.declared.types.TemplateArgument.{TemplateArgument}
-use Rattle.cxx_model.specs.declared.types.TemplateArgument.TheVariants as argument
+use Rattle.cxx_model.specs.declared.types.Argument.{Argument}
+use Rattle.cxx_model.specs.declared.types.Argument.TheVariants as argument
 use Rattle.cxx_model.specs.declared.types.TypeNode.{TypeNode}
 use Rattle.cxx_model.specs.declared.types.TypeNode.TheVariants as node
 use Rattle.cxx_model.specs.declared.types.TypeTree as tree
 use Rattle.cxx_model.specs.declared.types.TypeTree.{TypeTree}
-use Rattle.cxx_model.specs.Types.{CxxType, fundamental, class_type, enumeration, pointer_to, reference_to, array_of, function_of, qualified, type_parameter, specialisation, nested_in, CxxTypes, no_types, type_then, CxxBound, unknown_bound, number_bound, formula_bound, CxxArgument, type_argument, value_argument, formula_argument, CxxArguments, no_arguments, argument_then, CxxFormula, value_of, value_parameter, member_of, size_of, cast_to, unary, binary, conditional}
+use Rattle.cxx_model.specs.Types.Trees.{CxxType, fundamental, class_type, enumeration, pointer_to, reference_to, array_of, function_of, qualified, type_parameter, specialisation, nested_in, CxxTypes, no_types, type_then, CxxBound, unknown_bound, number_bound, formula_bound, CxxArgument, type_argument, value_argument, formula_argument, CxxArguments, no_arguments, argument_then, CxxFormula, value_of, value_parameter, member_of, size_of, cast_to, unary, binary, conditional}
 
 -- the type with a number; past the end of the list, any
 abbrev pub type_at : List CxxType → ℕ → CxxType
@@ -32,12 +32,12 @@ bound_at types bound.Unknown = unknown_bound
 bound_at types (bound.Number n) = number_bound n
 bound_at types (bound.Computed f) = formula_bound (formula_at types f.value)
 
-abbrev pub argument_at : List CxxType → TemplateArgument → CxxArgument
+abbrev pub argument_at : List CxxType → Argument → CxxArgument
 argument_at types (argument.OfType of) = type_argument (type_at types of.0)
 argument_at types (argument.Value value of) = value_argument value (type_at types of.0)
 argument_at types (argument.Computed f) = formula_argument (formula_at types f.value)
 
-abbrev pub arguments_at : List CxxType → List TemplateArgument → CxxArguments
+abbrev pub arguments_at : List CxxType → List Argument → CxxArguments
 arguments_at types [] = no_arguments
 arguments_at types (a ∷ others) = argument_then (argument_at types a) (arguments_at types others)
 
@@ -94,12 +94,12 @@ IsBoundBelow count bound.Unknown = Unit {0}
 IsBoundBelow count (bound.Number n) = Unit {0}
 IsBoundBelow count (bound.Computed f) = IsFormulaBelow count f.value
 
-abbrev pub IsArgumentBelow : ℕ → TemplateArgument → Type 0
+abbrev pub IsArgumentBelow : ℕ → Argument → Type 0
 IsArgumentBelow count (argument.OfType of) = of.0 < count
 IsArgumentBelow count (argument.Value value of) = of.0 < count
 IsArgumentBelow count (argument.Computed f) = IsFormulaBelow count f.value
 
-abbrev pub AreArgumentsBelow : ℕ → List TemplateArgument → Type 0
+abbrev pub AreArgumentsBelow : ℕ → List Argument → Type 0
 AreArgumentsBelow count [] = Unit {0}
 AreArgumentsBelow count (a ∷ others) = IsArgumentBelow count a × AreArgumentsBelow count others
 

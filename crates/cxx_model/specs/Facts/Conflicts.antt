@@ -6,22 +6,25 @@ use Rattle.cxx_model.specs.declared.facts.MemberKind.TheVariants as member
 use Rattle.cxx_model.specs.declared.facts.ScopeKind.{ScopeKind}
 use Rattle.cxx_model.specs.declared.facts.ScopeKind.TheVariants as kind
 use Rattle.cxx_model.specs.declared.types.TemplateId.{TemplateId}
-use Rattle.cxx_model.specs.Entities.{entity_by, same_entity, has_no_bound, scope_kinds}
-use Rattle.cxx_model.specs.Facts as facts
-use Rattle.cxx_model.specs.Facts.{CxxFact, CxxGraph, CxxName, CxxParameter, CxxPattern, Declares, spelled, conversion_to}
-use Rattle.cxx_model.specs.SameType.{same_bool, same_bound, same_cv, same_type, same_types, same_word}
-use Rattle.cxx_model.specs.Types as types
-use Rattle.cxx_model.specs.Types.{CxxType}
+use Rattle.cxx_model.specs.Facts.Entities.{entity_by, same_entity, has_no_bound, scope_kinds}
+use Rattle.cxx_model.specs.Facts.Declarations as facts
+use Rattle.cxx_model.specs.Facts.Declarations.{CxxFact, CxxGraph, CxxName, CxxParameter, CxxPattern, Declares, unnamed, spelled, operator_function, conversion_to, destructor}
+use Rattle.cxx_model.specs.Types.Same.{same_bool, same_bound, same_cv, same_type, same_types, same_word}
+use Rattle.cxx_model.specs.Types.Trees as types
+use Rattle.cxx_model.specs.Types.Trees.{CxxType}
 
 -- ---- names
 
 abbrev pub same_name : CxxName → CxxName → Bool
+same_name unnamed unnamed = true
 same_name (spelled one) (spelled two) = same_word one two
+same_name (operator_function one) (operator_function two) = nat_eq one two
 same_name (conversion_to one) (conversion_to two) = same_type one two
+same_name destructor destructor = true
 same_name _ _ = false
 
 abbrev pub has_name : CxxName → Bool
-has_name (spelled []) = false
+has_name unnamed = false
 has_name _ = true
 
 -- ---- types of objects and functions
@@ -99,7 +102,7 @@ is_hidden (facts.enumeration n) = true
 is_hidden _ = false
 
 abbrev pub hides : Declares → Bool
-hides (facts.object of member value first) = true
+hides (facts.object of member is_mutable value first) = true
 hides (facts.function of member flags defaults first) = true
 hides (facts.enumerator n value) = true
 hides _ = false
@@ -145,7 +148,7 @@ templates_agree graph one kind two =
 -- The two declarations may stand side by side in one scope; neither is a using-declaration.
 abbrev pub may_stand : CxxGraph → Declares → Declares → Bool
 may_stand graph (facts.function one kind _ _ _) (facts.function two other _ _ _) = functions_agree one kind two other
-may_stand graph (facts.object one kind _ _) (facts.object two other _ _) = objects_agree one kind two other
+may_stand graph (facts.object one kind _ _ _) (facts.object two other _ _ _) = objects_agree one kind two other
 may_stand graph (facts.template one kind _ _ _) (facts.template two other _ _ _) = templates_agree graph one kind two
 may_stand graph (facts.template one kind _ _ _) (facts.function _ _ _ _ _) = is_of_function (pattern_of graph one)
 may_stand graph (facts.function _ _ _ _ _) (facts.template two other _ _ _) = is_of_function (pattern_of graph two)

@@ -4,11 +4,11 @@ use Rattle.std.specs.List.{slice_get}
 use Rattle.cxx_model.specs.declared.facts.ScopeKind.{ScopeKind}
 use Rattle.cxx_model.specs.declared.facts.ScopeKind.TheVariants as kind
 use Rattle.cxx_model.specs.declared.types.FactId.{FactId}
-use Rattle.cxx_model.specs.Facts as facts
-use Rattle.cxx_model.specs.Facts.{CxxFact, Declares}
-use Rattle.cxx_model.specs.SameType.{same_type}
-use Rattle.cxx_model.specs.Types as types
-use Rattle.cxx_model.specs.Types.{CxxType}
+use Rattle.cxx_model.specs.Facts.Declarations as facts
+use Rattle.cxx_model.specs.Facts.Declarations.{CxxFact, Declares}
+use Rattle.cxx_model.specs.Types.Same.{same_type}
+use Rattle.cxx_model.specs.Types.Trees as types
+use Rattle.cxx_model.specs.Types.Trees.{CxxType}
 
 -- ---- entities
 
@@ -25,7 +25,7 @@ first_or number (Some first) = first.0
 -- The entity of a fact that declares it itself. Names of one type are one entity (7.1.3), and so are the openings of a
 -- namespace (7.3.1).
 abbrev pub entity_by : ℕ → Declares → CxxEntity
-entity_by number (facts.object of member value first) = of_fact (first_or number first)
+entity_by number (facts.object of member is_mutable value first) = of_fact (first_or number first)
 entity_by number (facts.function of member flags defaults first) = of_fact (first_or number first)
 entity_by number (facts.template template member defaults is_explicit first) = of_fact (first_or number first)
 entity_by number (facts.injected class) = of_type (types.class_type class.0)
@@ -97,7 +97,7 @@ object_said all cut entity number [] = []
 object_said all cut entity number (fact ∷ others) = by fact.what (object_said all cut entity (suc number) others)
   where
     by : Declares → List ObjectSaid → List ObjectSaid
-    by (facts.object of member value first) later = if nat_eq (first_or number first) entity && is_seen all cut number fact then record { of = of; value = value } ∷ later else later
+    by (facts.object of member is_mutable value first) later = if nat_eq (first_or number first) entity && is_seen all cut number fact then record { of = of; value = value } ∷ later else later
     by _ later = later
 
 abbrev pub has_no_bound : CxxType → Bool

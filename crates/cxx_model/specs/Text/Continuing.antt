@@ -2,7 +2,7 @@
 use Rattle.std.specs.Prelude.{◌≡◌, ◌≤◌, ◌<◌, ℕ, Bool, true, false, ◌&&◌, ◌||◌, ◌==◌, List, [], ◌∷◌, ◌++◌, length, take, Option, Some, None}
 use Rattle.std.specs.List.{list_any}
 use Rattle.std.specs.Char.{is_ascii_digit}
-use Rattle.cxx_model.specs.Spelling.{Spelled, Ending, comment_by, comment_ending, is_white, is_word, begins_word, begins_number, is_sign, is_exponent, is_quote, operators, digraphs}
+use Rattle.cxx_model.specs.Text.Spelling.{Spelled, Ending, comment_by, comment_ending, is_white, is_word, begins_word, begins_number, is_sign, is_exponent, is_quote, operators, digraphs}
 
 -- the first byte of a text passes a test
 abbrev pub starts : (ℕ → Bool) → List ℕ → Bool

@@ -7,8 +7,8 @@ use Rattle.cxx_model.specs.declared.token.TokenKind.TheVariants.{Text, End}
 use Rattle.cxx_model.specs.declared.token.TokenReason.{TokenReason}
 use Rattle.cxx_model.specs.declared.token.TokenReason.TheVariants.{StrayByte, MixedStrings, FloatingLiteral, MultiCharacter, UniversalName}
 use Rattle.cxx_model.specs.declared.limits.TheConstants as limits
-use Rattle.cxx_model.specs.Lexemes.{first_place, after, past}
-use Rattle.cxx_model.specs.Spelling.{Spelled, Blank, Good, Ill, is_blank, spelling_of}
+use Rattle.cxx_model.specs.Text.Lexemes.{first_place, after, past}
+use Rattle.cxx_model.specs.Text.Spelling.{Spelled, Blank, Good, Ill, is_blank, spelling_of}
 
 -- a front of a text, and what it spells
 pub record Piece : Type 0 where

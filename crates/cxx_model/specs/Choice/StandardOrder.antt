@@ -7,7 +7,7 @@ use Rattle.cxx_model.specs.declared.sequence.Rank.{Rank}
 use Rattle.cxx_model.specs.declared.sequence.Rank.TheVariants.{Exact, Promotion, Conversion}
 use Rattle.cxx_model.specs.declared.sequence.Order.{Order}
 use Rattle.cxx_model.specs.declared.sequence.Order.TheVariants.{Better, Worse, Same}
-use Rattle.cxx_model.specs.Standard.{steps, rank}
+use Rattle.cxx_model.specs.Choice.Standard.{steps, rank}
 
 -- how two values stand to each other by a test that says which is the better one
 abbrev pub order_by : {S : Type 0} → (S → S → Bool) → S → S → Order

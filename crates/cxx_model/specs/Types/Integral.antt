@@ -5,7 +5,7 @@ use Rattle.std.specs.Bool.{nat_lt}
 use Rattle.std.specs.List.{list_all, list_any}
 use Rattle.cxx_model.specs.declared.base.Base.{Base}
 use Rattle.cxx_model.specs.declared.base.Base.TheVariants as base
-use Rattle.cxx_model.specs.Bases.{base_row}
+use Rattle.cxx_model.specs.Types.Bases.{base_row}
 
 -- how many bits the values of an integral type take, the sign among them
 abbrev pub width : Base → ℕ

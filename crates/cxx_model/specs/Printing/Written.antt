@@ -4,7 +4,7 @@ use Rattle.cxx_model.specs.declared.keyword.TheConstants as keyword
 use Rattle.cxx_model.specs.declared.punct.TheConstants as punct
 use Rattle.cxx_model.specs.declared.token.TokenKind.{TokenKind}
 use Rattle.cxx_model.specs.declared.token.TokenKind.TheVariants.{Name, Keyword, Punct}
-use Rattle.cxx_model.specs.Lexemes.{Lexeme}
+use Rattle.cxx_model.specs.Text.Lexemes.{Lexeme}
 
 -- a token without its place
 pub record Written : Type 0 where

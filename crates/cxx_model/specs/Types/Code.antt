@@ -1,30 +1,14 @@
 -- Types as values of ghost state, by which two types are told apart.
-use Rattle.std.specs.Prelude.{ℕ, Bool, ◌≡◌, refl}
+use Rattle.std.specs.Prelude.{Bool, ◌≡◌, refl}
 use Rattle.std.proofs.Common.{ap, ◌∙◌}
 use base.Stored.{Gv, gnil, gnum, gcons, Coded, coded_ℕ, coded_ℤ, coded_bool, coded_list}
 use Rattle.cxx_model.specs.declared.base.Base.{Base}
 use Rattle.cxx_model.specs.declared.base.Base.TheVariants as plain
 use Rattle.cxx_model.specs.declared.types.Cv.{Cv}
-use Rattle.cxx_model.specs.Types.{CxxType, fundamental, class_type, enumeration, pointer_to, reference_to, array_of, function_of, qualified, type_parameter, specialisation, nested_in, CxxTypes, no_types, type_then, CxxBound, unknown_bound, number_bound, formula_bound, CxxArgument, type_argument, value_argument, formula_argument, CxxArguments, no_arguments, argument_then, CxxFormula, value_of, value_parameter, member_of, size_of, cast_to, unary, binary, conditional}
+use Rattle.cxx_model.specs.Types.Bases.{base_row}
+use Rattle.cxx_model.specs.Types.Trees.{CxxType, fundamental, class_type, enumeration, pointer_to, reference_to, array_of, function_of, qualified, type_parameter, specialisation, nested_in, CxxTypes, no_types, type_then, CxxBound, unknown_bound, number_bound, formula_bound, CxxArgument, type_argument, value_argument, formula_argument, CxxArguments, no_arguments, argument_then, CxxFormula, value_of, value_parameter, member_of, size_of, cast_to, unary, binary, conditional}
 
-abbrev base_number : Base → ℕ
-base_number plain.Bool = 0
-base_number plain.Char = 1
-base_number plain.SignedChar = 2
-base_number plain.UnsignedChar = 3
-base_number plain.Short = 4
-base_number plain.UnsignedShort = 5
-base_number plain.Int = 6
-base_number plain.Unsigned = 7
-base_number plain.Long = 8
-base_number plain.UnsignedLong = 9
-base_number plain.WideChar = 10
-base_number plain.Float = 11
-base_number plain.Double = 12
-base_number plain.LongDouble = 13
-base_number plain.Void = 14
-
-base_same : (x y : Base) → gnum (base_number x) ≡ gnum (base_number y) → x ≡ y
+base_same : (x y : Base) → gnum (base_row x).number ≡ gnum (base_row y).number → x ≡ y
 base_same plain.Bool plain.Bool e = refl
 base_same plain.Bool _ e = cc
 base_same plain.Char plain.Char e = refl
@@ -69,7 +53,7 @@ cv_same x y e =
 
 abbrev mutual
   pub type_code : CxxType → Gv
-  type_code (fundamental base) = gcons (gnum 0) (gcons (gnum (base_number base)) gnil)
+  type_code (fundamental base) = gcons (gnum 0) (gcons (gnum (base_row base).number) gnil)
   type_code (class_type n) = gcons (gnum 1) (gcons (gnum n) gnil)
   type_code (enumeration n) = gcons (gnum 2) (gcons (gnum n) gnil)
   type_code (pointer_to t) = gcons (gnum 3) (gcons (type_code t) gnil)

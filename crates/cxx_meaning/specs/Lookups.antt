@@ -1,0 +1,1 @@
+-- What lookups find (3.4, 7.3, 10.2).

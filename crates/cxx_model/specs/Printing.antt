@@ -1,0 +1,4 @@
+pub mod Names
+pub mod ReadsBack
+pub mod Reports
+pub mod Written

@@ -1,0 +1,4 @@
+pub mod Continuing
+pub mod Lexemes
+pub mod Spelling
+pub mod Tokens
