@@ -1,7 +1,7 @@
 use cxx_model::{First, Second};
 
 /// The steps of a standard conversion sequence, without the two types between which it leads (13.3.3.1.1).
-#[derive(Clone, Copy, Debug, PartialEq, Eq)]
+#[derive(Clone, Copy)]
 pub struct SequenceSteps {
     pub first: Option<First>,
     pub second: Option<Second>,

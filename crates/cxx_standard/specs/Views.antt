@@ -10,9 +10,12 @@ use Rattle.cxx_model.specs.Facts.Graph.{Graph, enumerations}
 use Rattle.cxx_model.specs.Types.Trees.{CxxType}
 use Rattle.cxx_model.specs.Types.Numbers.{type_at}
 use Rattle.cxx_meaning.specs.Conversions.Kinds.{CxxKind, no_value, arithmetic, enumerated, pointing, of_class, other, cv_of, signature}
+use Rattle.cxx_meaning.specs.Conversions.Order.{CxxWay, between_pointers, to_void, between_classes, no_way}
 use Rattle.cxx_meaning.specs.Conversions.Standard.{CxxOperand, CxxStandard}
 use Rattle.cxx_standard.specs.declared.kinds.TypeKind.{TypeKind}
 use Rattle.cxx_standard.specs.declared.kinds.TypeKind.TheVariants as kind
+use Rattle.cxx_standard.specs.declared.order.Way.{Way}
+use Rattle.cxx_standard.specs.declared.order.Way.TheVariants as way
 
 abbrev pub kind_at : List CxxType → TypeKind → CxxKind
 kind_at types kind.Void = no_value
@@ -52,6 +55,19 @@ found_at types found = option_map (sequence_at types) found
 pub record IsSequenceBelow (count : ℕ) (sequence : StandardSequence) : Type 0 where
   pub from : sequence.from.of.0 < count
   pub to : sequence.to.0 < count
+
+abbrev pub way_at : Way → CxxWay
+way_at (way.Pointers one two) = between_pointers one.0 two.0
+way_at (way.ToVoid one) = to_void one.0
+way_at (way.Classes one two) = between_classes one.0 two.0
+way_at way.Neither = no_way
+
+-- each class that is named is there
+abbrev pub IsWayInRange : Graph → CxxWay → Type 0
+IsWayInRange graph (between_pointers m n) = (m < length graph.classes) × (n < length graph.classes)
+IsWayInRange graph (to_void m) = m < length graph.classes
+IsWayInRange graph (between_classes m n) = (m < length graph.classes) × (n < length graph.classes)
+IsWayInRange graph no_way = Unit {0}
 
 -- what is answered, unless memory ran out
 abbrev pub Computes : {A : Type 0} → Result A OutOfMemory → A → Type 0

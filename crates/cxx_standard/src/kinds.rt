@@ -1,4 +1,4 @@
-ghost use Rattle.std.specs.Prelude.{◌≡◌, ◌<◌, length};
+ghost use Rattle.std.specs.Prelude.{◌≡◌, ◌<◌, [], length};
 ghost use Rattle.cxx_model.specs.Facts.Fitted.{Fitted};
 ghost use Rattle.cxx_model.specs.Types.Numbers.{type_at};
 ghost use Rattle.cxx_meaning.specs.Conversions.Kinds.{kind_of as kind_of_type, kind_of_base, value_kind as value_kind_of, is_function as is_function_type};

@@ -4,7 +4,7 @@
 mod classes;
 mod kinds;
 mod levels;
-// mod order;
+mod order;
 mod reference;
 mod sequence;
 mod table;
@@ -13,5 +13,5 @@ mod values;
 pub use kinds::TypeKind;
 pub use kinds::kind_of;
 pub use kinds::value_kind;
-// pub use order::compare;
+pub use order::compare;
 pub use sequence::standard_sequence;

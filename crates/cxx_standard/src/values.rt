@@ -1,5 +1,5 @@
 //! Steps from a value to a type that is no reference (clause 4).
-ghost use Rattle.std.specs.Prelude.{◌≡◌, ◌<◌, length, List};
+ghost use Rattle.std.specs.Prelude.{◌≡◌, ◌<◌, [], length, List};
 ghost use Rattle.std.specs.Option.{option_map};
 ghost use Rattle.cxx_model.specs.Facts.Declarations.{graph_at};
 ghost use Rattle.cxx_model.specs.Facts.Fitted.{Fitted};

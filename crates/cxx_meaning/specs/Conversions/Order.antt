@@ -40,7 +40,7 @@ is_proper_part one two = (is_part one two && not (is_part two one)) && (is_ident
 
 -- ---- ranks
 
-unfoldable pub has_better_rank : CxxStandard → CxxStandard → Bool
+abbrev pub has_better_rank : CxxStandard → CxxStandard → Bool
 has_better_rank one two = nat_lt (number_of_rank (rank one)) (number_of_rank (rank two))
 
 -- ---- pointers to `bool`
@@ -123,17 +123,25 @@ same_first _ _ = false
 abbrev pub differ_at_end : CxxStandard → CxxStandard → Bool
 differ_at_end one two = (one.third && two.third) && (same_first one.first two.first && (is_step_within one.second two.second && is_step_within two.second one.second))
 
--- 13.3.3.2: the two differ in their qualification alone, and the words behind the `*` of the first are fewer
+-- 4.4: two similar types, the first with fewer words behind its `*`s
+abbrev pub has_fewer_words : CxxType → CxxType → Bool
+has_fewer_words one two = is_similar one two && (are_within (signature one) (signature two) && not (are_within (signature two) (signature one)))
+
+-- 13.3.3.2: the two differ in their qualification alone, and the first adds fewer words
 unfoldable pub is_less_qualified : CxxStandard → CxxStandard → Bool
-is_less_qualified one two = differ_at_end one two && (is_similar (target one.to) (target two.to) && (are_within (signature (target one.to)) (signature (target two.to)) && not (are_within (signature (target two.to)) (signature (target one.to)))))
+is_less_qualified one two = differ_at_end one two && has_fewer_words (target one.to) (target two.to)
 
 -- ---- references
 
--- 13.3.3.2: both are bound to references, to one type but for its own cv words, and the first has fewer
+-- 3.9.3: the same type but for its own cv words, of which the first has fewer
+abbrev pub refers_to_fewer : CxxType → CxxType → Bool
+refers_to_fewer one two = is_same_unqualified one two && (is_cv_within (cv_of one) (cv_of two) && not (is_cv_within (cv_of two) (cv_of one)))
+
 unfoldable pub refers_to_less : CxxType → CxxType → Bool
-refers_to_less (reference_to one) (reference_to two) = is_same_unqualified one two && (is_cv_within (cv_of one) (cv_of two) && not (is_cv_within (cv_of two) (cv_of one)))
+refers_to_less (reference_to one) (reference_to two) = refers_to_fewer one two
 refers_to_less _ _ = false
 
+-- 13.3.3.2: both are bound to references, the first to the less qualified type
 unfoldable pub is_bound_to_less : CxxStandard → CxxStandard → Bool
 is_bound_to_less one two = refers_to_less one.to two.to
 
@@ -149,11 +157,17 @@ told true false = Better
 told false true = Worse
 told _ _ = Same
 
+abbrev pub told_by : (CxxStandard → CxxStandard → Bool) → CxxStandard → CxxStandard → Order
+told_by better one two = told (better one two) (better two one)
+
+abbrev pub else_by : Order → Order → Order
+else_by Same later = later
+else_by order later = order
+
 abbrev pub first_told : List Order → Order
 first_told [] = Same
-first_told (Same ∷ later) = first_told later
-first_told (order ∷ later) = order
+first_told (order ∷ later) = else_by order (first_told later)
 
 -- 13.3.3.2: the first criterion that tells the two apart decides
 unfoldable pub order_of : CxxGraph → CxxStandard → CxxStandard → Order
-order_of graph one two = first_told (map (λ better. told (better one two) (better two one)) (criteria graph))
+order_of graph one two = first_told (map (λ better. told_by better one two) (criteria graph))

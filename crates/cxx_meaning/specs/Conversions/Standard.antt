@@ -251,10 +251,10 @@ standard_sequence graph from to = do
 
 -- ---- ranks (13.3.3.1.1, table 9)
 
+abbrev pub rank_of : Option Second → Rank
+rank_of None = Exact
+rank_of (Some step) = rank_of_step step
+
 -- the rank of a sequence is that of its worst step; lvalue transformations and qualifications are exact
 abbrev pub rank : CxxStandard → Rank
-rank sequence = of_step sequence.second
-  where
-    of_step : Option Second → Rank
-    of_step None = Exact
-    of_step (Some step) = rank_of_step step
+rank sequence = rank_of sequence.second
