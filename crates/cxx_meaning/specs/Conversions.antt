@@ -6,3 +6,6 @@ pub mod Derived
 pub mod Enumerations
 pub mod Standard
 pub mod Order
+pub mod Arithmetic
+pub mod Pointers
+pub mod BuiltIn

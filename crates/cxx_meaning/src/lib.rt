@@ -5,6 +5,9 @@
 //! equal to them.
 #![tactic(auto)]
 
+mod operator;
 mod steps;
 
+pub use operator::BinaryFamily;
+pub use operator::UnaryFamily;
 pub use steps::SequenceSteps;
