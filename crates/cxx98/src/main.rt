@@ -2,7 +2,7 @@
 #![tactic(auto)]
 
 use cxx_command::run;
-use cxx_edge::{StdSink, StdSource};
+use cxx_edge::{StdSink, StdSource, write_all};
 use std::alloc::AllocError;
 use std::process::ExitCode;
 use std::rt::Env;
@@ -10,6 +10,9 @@ use std::{env, io};
 
 /// The status where the words find no memory.
 const NO_MEMORY: u8 = 6;
+
+/// The status where an output cannot be written.
+const CANNOT_WRITE: u8 = 4;
 
 /// Why there are no words to hand on.
 enum WordsFault {
@@ -49,13 +52,22 @@ fn no_text<R: AllocGlobal>(rt: &R) -> Result<Vec<String>, AllocError> {
     Ok(words)
 }
 
+/// Says that the words find no memory.
+fn no_memory<W: io::Write + Drop>(stderr: W) -> ExitCode {
+    let mut err = StdSink::new(stderr);
+    match write_all(&mut err, b"out of memory\n") {
+        Ok(()) => ExitCode::from(NO_MEMORY),
+        Err(_) => ExitCode::from(CANNOT_WRITE),
+    }
+}
+
 fn main(rt: HostRuntime) -> ExitCode {
     let words = match words(&rt) {
         Ok(words) => words,
-        Err(WordsFault::OutOfMemory) => return ExitCode::from(NO_MEMORY),
+        Err(WordsFault::OutOfMemory) => return no_memory(rt.stderr()),
         Err(WordsFault::NotUnderstood) => match no_text(&rt) {
             Ok(words) => words,
-            Err(AllocError) => return ExitCode::from(NO_MEMORY),
+            Err(AllocError) => return no_memory(rt.stderr()),
         },
     };
     let mut source = StdSource::new(rt.stdin());

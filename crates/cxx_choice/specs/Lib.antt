@@ -1,1 +1,3 @@
+pub mod Asymmetry
+pub mod Contests
 pub mod Views

@@ -118,7 +118,7 @@ fn second_step(from: Base, to: Base) -> Option<Second>
 }
 
 /// The sequence that leads from an rvalue of one arithmetic type to another.
-#[tactic(auto, unfolding(cxx_model::specs::Standard::standard_sequence))]
+#[tactic(auto, unfolding(cxx_model::specs::Choice::Standard::standard_sequence))]
 pub(crate) fn standard_sequence(from: Base, to: Base) -> ArithmeticSequence
     ensures { result ≡ sequence_of from to }
 {
@@ -186,7 +186,7 @@ fn has_better_rank(one: ArithmeticSequence, two: ArithmeticSequence) -> bool
 }
 
 /// How one sequence stands to another: first by the proper subsequence, then by the rank.
-#[tactic(auto, unfolding(cxx_model::specs::StandardOrder::compare))]
+#[tactic(auto, unfolding(cxx_model::specs::Choice::StandardOrder::compare))]
 pub(crate) fn compare(one: ArithmeticSequence, two: ArithmeticSequence) -> Order
     ensures { result ≡ order_of one two }
 {

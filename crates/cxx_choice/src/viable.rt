@@ -5,6 +5,7 @@ ghost use Rattle.cxx_model.specs.declared.limits.TheConstants as limits;
 ghost use Rattle.cxx_model.specs.Choice.Better.{is_better as is_better_function, is_better_order, is_worse_order};
 ghost use Rattle.cxx_model.specs.Choice.StandardOrder.{compare as compare_sequences};
 ghost use Rattle.cxx_model.specs.First.Candidates.{outcome as outcome_of, is_viable as is_viable_candidate, sequences, beats as beats_candidate, contenders as contenders_of, shown as shown_contender, refusal as refusal_of, refusals as refusals_of};
+ghost use Rattle.cxx_choice.specs.Contests.{AreNumbered};
 ghost use Rattle.cxx_choice.specs.Views.{candidate_at, contender_at};
 
 use crate::candidate::Candidate;
@@ -49,14 +50,16 @@ fn viable_contender<'a>(
     }
 }
 
-/// The viable candidates.
+/// The viable candidates, each with a greater number than the one before it.
+#[tactic(auto, using(crate::proofs::Contests::contenders_numbered))]
 pub fn contenders<'a>(
     alloc: Global,
     arguments: &[Base],
     all: &[Candidate<'a>],
 ) -> Result<Vec<Contender<'a>>, AllocError>
     requires { length all.now ≤ limits.MOST_CANDIDATES }
-    ensures { IfOk result (λ viable. map contender_at viable.items ≡ contenders_of arguments.now (map candidate_at all.now)) }
+    ensures viable { IfOk result (λ viable. map contender_at viable.items ≡ contenders_of arguments.now (map candidate_at all.now)) }
+    ensures numbered { IfOk result (λ viable. AreNumbered 1 (map contender_at viable.items)) }
 {
     let mut viable = Vec::new(alloc);
     for (i, candidate) in all.iter().enumerate() {
@@ -126,7 +129,7 @@ fn is_better(order: Order) -> bool
 
 /// Whether the first function is better than the second: no argument has a worse sequence, and some argument has a
 /// better one.
-#[tactic(auto, using(crate::proofs::Loops::verdict_more, crate::proofs::Loops::verdict_worse), unfolding(cxx_model::specs::Better::is_better))]
+#[tactic(auto, using(crate::proofs::Loops::verdict_more, crate::proofs::Loops::verdict_worse), unfolding(cxx_model::specs::Choice::Better::is_better))]
 fn is_better_function(arguments: &[Base], one: &[Base], two: &[Base]) -> bool
     ensures { result ≡ is_better_function compare_sequences (sequences arguments.now one.now) (sequences arguments.now two.now) }
 {

@@ -5,6 +5,8 @@ use Rattle.std.proofs.lemmas.Bool.Decides.{nat_tests}
 use Rattle.std.proofs.lemmas.List.{length-replicate}
 use Rattle.std.specs.Prelude.{◌==◌, Option, Result, Some, None, codes, Ok, Err}
 use Rattle.cxx_edge.specs.Source.{IsLonger}
+use Rattle.cxx_model.specs.declared.fault.FaultText.{FaultText}
+use Rattle.cxx_model.specs.declared.fault.FaultText.TheVariants as says
 use Rattle.cxx_model.specs.declared.options.Options.{Options}
 use Rattle.cxx_model.specs.declared.first.Reading.{Reading}
 use Rattle.cxx_model.specs.declared.limits.TheConstants as limits
@@ -20,7 +22,7 @@ use Rattle.cxx_model.specs.First.Reading.{reading_of}
 use Rattle.cxx_model.specs.Text.Lexemes.{Lexeme, lexemes}
 use Rattle.cxx_model.specs.Outcome.{UnitDue, Writes, Reports, Names, UnitOutcome, Whole, Broken, PastLimit, outcome_of, read_outcome, tokens_outcome, due_of, due_for}
 use Rattle.cxx_model.specs.Printing.ReadsBack.{PlainReadsBack}
-use Rattle.cxx_model.specs.Stops.{Answer as Reads, Faulty, Limited, token_reason_text}
+use Rattle.cxx_model.specs.Stops.{Answer as Reads, Faulty, Limited}
 use Rattle.cxx_model.specs.Text.Tokens.{Unread, BadAt, PastTokens, tokens_of}
 use Rattle.cxx_model.specs.Printing.Reports.{report, limit_report}
 use Rattle.cxx_model.proofs.FirstForm.UnitFaults.{IsNameText, token_text, token_name_text}
@@ -125,19 +127,19 @@ record IsReadBroken (options : Options) (bytes : List ℕ) (tokens : Result (Lis
   stops : reading_of options (lexemes bytes list) ≡ Err (Faulty fault)
 
 -- no bad token has such a text
-abbrev NoToken : (List ℕ → Type 0) → Type 0
-NoToken T = (why : TokenReason) → T (token_reason_text why) → ⊥
+abbrev NoToken : (FaultText → Type 0) → Type 0
+NoToken T = (why : TokenReason) → T (says.BadToken why) → ⊥
 
-tokens_broken : (T : List ℕ → Type 0) → NoToken T → (options : Options) (bytes : List ℕ) (tokens : Result (List Token) Unread) (fault : Fault) → T fault.text → tokens_outcome options bytes tokens ≡ Broken fault → IsReadBroken options bytes tokens fault
+tokens_broken : (T : FaultText → Type 0) → NoToken T → (options : Options) (bytes : List ℕ) (tokens : Result (List Token) Unread) (fault : Fault) → T fault.text → tokens_outcome options bytes tokens ≡ Broken fault → IsReadBroken options bytes tokens fault
 tokens_broken T other options bytes (Ok list) fault text is = record { list = list; lists = refl; stops = read_broken (reading_of options (lexemes bytes list)) fault is }
 tokens_broken T other options bytes (Err (BadAt place reason)) fault text is = absurd (other reason (subst (λ (f : Fault). T f.text) (sym (broken_same _ fault is)) text))
 tokens_broken T other options bytes (Err PastTokens) fault text is = absurd (cc)
 
-unless_long_broken : (long : Bool) (T : List ℕ → Type 0) → NoToken T → (options : Options) (bytes : List ℕ) (tokens : Result (List Token) Unread) (fault : Fault) → T fault.text → cond long (PastLimit Bytes) (tokens_outcome options bytes tokens) ≡ Broken fault → IsReadBroken options bytes tokens fault
+unless_long_broken : (long : Bool) (T : FaultText → Type 0) → NoToken T → (options : Options) (bytes : List ℕ) (tokens : Result (List Token) Unread) (fault : Fault) → T fault.text → cond long (PastLimit Bytes) (tokens_outcome options bytes tokens) ≡ Broken fault → IsReadBroken options bytes tokens fault
 unless_long_broken true T other options bytes tokens fault text is = absurd (cc)
 unless_long_broken false T other options bytes tokens fault text is = tokens_broken T other options bytes tokens fault text is
 
-read_to_fault : (T : List ℕ → Type 0) → NoToken T → (options : Options) (bytes : List ℕ) (fault : Fault) → T fault.text → outcome_of options bytes ≡ Broken fault → IsReadBroken options bytes (tokens_of bytes) fault
+read_to_fault : (T : FaultText → Type 0) → NoToken T → (options : Options) (bytes : List ℕ) (fault : Fault) → T fault.text → outcome_of options bytes ≡ Broken fault → IsReadBroken options bytes (tokens_of bytes) fault
 unfolding outcome_of
 read_to_fault T other options bytes fault text is = unless_long_broken (nat_lt limits.MOST_BYTES (length bytes)) T other options bytes (tokens_of bytes) fault text is
 
@@ -146,7 +148,7 @@ read_to_fault T other options bytes fault text is = unless_long_broken (nat_lt l
 pub record Laws : Type 0 where
   pub best : (options : Options) (tokens : List Lexeme) (reading : Reading) → reading_of options tokens ≡ Ok reading → EachCallIsBest reading
   pub told : (options : Options) (tokens : List Lexeme) (fault : Fault) → reading_of options tokens ≡ Err (Faulty fault) → IsChoiceText fault.text → IsToldFault options tokens fault
-  pub undeclared : (options : Options) (tokens : List Lexeme) (fault : Fault) → reading_of options tokens ≡ Err (Faulty fault) → (word : List ℕ) → fault.text ≡ codes "undeclared name " ++ word → IsUndeclaredFault options tokens fault word
+  pub undeclared : (options : Options) (tokens : List Lexeme) (fault : Fault) → reading_of options tokens ≡ Err (Faulty fault) → (word : List ℕ) → fault.text ≡ says.UndeclaredName word → IsUndeclaredFault options tokens fault word
   pub back : (options : Options) (bytes : List ℕ) → PlainReadsBack options bytes
 
 written_of : {K E : Type 0} (laws : Laws) (input text : List ℕ) (out : Change K) (err : Change E) → due input ≡ Writes text → TookAll out text → IsUntouched err → (reading : Reading) × IsWritten input reading out err

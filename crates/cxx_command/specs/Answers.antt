@@ -1,11 +1,11 @@
 -- What the parts of a run answer before anything is written.
 use Rattle.std.specs.Prelude.{◌≡◌, ℕ, List, [], codes}
+use Rattle.cxx_model.specs.declared.fault.FaultText.TheVariants as says
 use Rattle.cxx_model.specs.declared.place.Place.{Place}
 use Rattle.cxx_model.specs.declared.stop.Fault.{Fault}
 use Rattle.cxx_model.specs.declared.token.TokenReason.{TokenReason}
 use Rattle.cxx_model.specs.Outcome.{UnitDue, Writes, Reports, Names}
 use Rattle.cxx_model.specs.Printing.Reports.{report, limit_report}
-use Rattle.cxx_model.specs.Stops.{token_reason_text}
 use Rattle.cxx_command.specs.declared.answers.Answer.{Answer}
 use Rattle.cxx_command.specs.declared.answers.Answer.TheVariants as answer
 use Rattle.cxx_command.specs.Run.{due, IsUnderstood, AgreesWith, IsTold}
@@ -25,7 +25,7 @@ DeliversAnswer answer.NoMemory out err status = IsTold err out (codes "out of me
 
 -- the fault of a bad token
 abbrev pub token_fault : Place → TokenReason → Fault
-token_fault place reason = record { place = place; text = token_reason_text reason; evidence = [] }
+token_fault place reason = record { place = place; text = says.BadToken reason; evidence = [] }
 
 -- the answer is this unit's due, unless there is no memory
 abbrev pub IsUnitAnswer : UnitDue → Answer → Type 0

@@ -1,5 +1,6 @@
 -- What a run owes, and what its status says.
 use Rattle.std.specs.Prelude.{◌≡◌, ◌≢◌, ◌⊎◌, ◌++◌, ℕ, List, [], Option, Some, None, Ok, ⊤, codes}
+use Rattle.cxx_model.specs.declared.fault.FaultText.TheVariants as says
 use Rattle.cxx_model.specs.declared.options.Options.{Options}
 use Rattle.cxx_model.specs.declared.first.Reading.{Reading}
 use Rattle.cxx_model.specs.declared.stop.Fault.{Fault}
@@ -103,7 +104,7 @@ pub record IsWritten {K E : Type 0} (input : List ℕ) (reading : Reading) (out 
 -- it is an undeclared name, the input is tokens, and this name stands among them with no declaration before.
 pub record IsTrueFault (input : List ℕ) (fault : Fault) : Type 0 where
   pub choice : IsChoiceText fault.text → (tokens : List Token) × (tokens_of input ≡ Ok tokens) × IsToldFault default_options (lexemes input tokens) fault
-  pub undeclared : (word : List ℕ) → fault.text ≡ codes "undeclared name " ++ word → (tokens : List Token) × (tokens_of input ≡ Ok tokens) × IsUndeclaredFault default_options (lexemes input tokens) fault word
+  pub undeclared : (word : List ℕ) → fault.text ≡ says.UndeclaredName word → (tokens : List Token) × (tokens_of input ≡ Ok tokens) × IsUndeclaredFault default_options (lexemes input tokens) fault word
 
 pub record IsAnswer {X S K E : Type 0} (words : List X) (source : Change S) (out : Change K) (err : Change E) (status : ℕ) : Type 0 where
   -- What is due is delivered. The rest follows from this, and says it status by status.

@@ -21,7 +21,7 @@ fn tell<K: Sink>(sink: &mut K, text: &[u8], said: u8) -> u8
     }
 }
 
-#[tactic(auto, unfolding(cxx_model::specs::Reports::limit_report))]
+#[tactic(auto, unfolding(cxx_model::specs::Printing::Reports::limit_report))]
 fn limit_text(limit: LimitKind) -> &'static [u8]
     ensures { result.now ≡ limit_report limit }
 {

@@ -4,16 +4,17 @@ ghost use Rattle.cxx_model.specs.Text.Lexemes.{lexemes};
 ghost use Rattle.cxx_model.specs.First.Reading.{reading_of};
 ghost use Rattle.cxx_model.specs.Outcome as spec;
 ghost use Rattle.cxx_command.specs.Answers.{IsUnitAnswer, token_fault};
-ghost use Rattle.cxx_model.specs.Stops.{token_reason_text};
 ghost use Rattle.cxx_command.specs.Run.{due, default_options};
 
 use crate::answers::Answer;
 use cxx_decl::read_unit;
 use cxx_model::first::Reading;
-use cxx_model::{Fault, LimitKind, Listed, Options, Place, Stop, Token, TokenReason};
+use cxx_model::{
+    EvidenceList, Fault, FaultText, LimitKind, Options, Place, Stop, Token, TokenReason,
+};
 use cxx_plain::{PlainFault, plain, report};
 use cxx_tokens::{TokenFault, tokens};
-use std::alloc::{AllocError, Global};
+use std::alloc::Global;
 
 /// What no words choose.
 const DEFAULT_OPTIONS: Options = Options { depth: 64 };
@@ -27,41 +28,15 @@ fn reported(alloc: Global, fault: &Fault) -> Answer
     }
 }
 
-fn reason_text(reason: TokenReason) -> &'static [u8]
-    ensures { result.now ≡ token_reason_text reason }
-{
-    match reason {
-        TokenReason::StrayByte => b"stray byte",
-        TokenReason::UnfinishedComment => b"unfinished comment",
-        TokenReason::UnfinishedLiteral => b"unfinished literal",
-        TokenReason::BadEscape => b"bad escape",
-        TokenReason::BadNumber => b"bad number",
-        TokenReason::NumberTooLarge => b"number too large",
-        TokenReason::Directive => b"directive",
-        TokenReason::MixedStrings => b"mixed strings",
-        TokenReason::FloatingLiteral => b"left out: floating literal",
-        TokenReason::MultiCharacter => b"left out: multi-character literal",
-        TokenReason::UniversalName => b"left out: universal character name",
-    }
-}
-
-fn fault_at(alloc: Global, place: Place, reason: TokenReason) -> Result<Fault, AllocError>
-    ensures { IfOk result (λ fault. fault ≡ token_fault place reason) }
-{
-    Ok(Fault {
-        place,
-        text: Listed::from_slice(alloc, reason_text(reason))?,
-        evidence: Listed::new(alloc),
-    })
-}
-
 fn bad_token(alloc: Global, place: Place, reason: TokenReason) -> Answer
     ensures { IsUnitAnswer (spec.Reports (token_fault place reason)) result }
 {
-    match fault_at(alloc, place, reason) {
-        Ok(fault) => reported(alloc, &fault),
-        Err(_) => Answer::NoMemory,
-    }
+    let fault = Fault {
+        place,
+        text: FaultText::BadToken(reason),
+        evidence: EvidenceList::new(alloc),
+    };
+    reported(alloc, &fault)
 }
 
 fn printed(alloc: Global, reading: &Reading) -> Answer

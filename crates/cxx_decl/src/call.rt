@@ -11,7 +11,9 @@ use crate::numbers::Seen;
 use crate::scope::{candidates, is_declared, names_object};
 use cxx_choice::{Candidate, Contender, chosen, contenders, outcome, refusals, ties};
 use cxx_model::first::{Argument, ArgumentList, BaseList, Call, Initializer};
-use cxx_model::{Base, Fault, LimitKind, NumberList, OutcomeList, Place, Stop, Text, Word, limits};
+use cxx_model::{
+    Base, Fault, FaultText, LimitKind, NumberList, OutcomeList, Place, Stop, Word, limits,
+};
 use std::alloc::{AllocError, Global};
 
 /// The type of an argument: that of its outermost cast, and else that of its literal.
@@ -63,9 +65,8 @@ fn no_viable(
     requires { length all.now ≤ limits.MOST_CANDIDATES }
     ensures { IfOk result (λ fault. Faulty fault.value ≡ no_viable_at place (refusals_of types.now (map candidate_at all.now))) }
 {
-    let text = Text::from_slice(alloc, b"no viable function")?;
     let evidence = refusals(alloc, types, all)?;
-    fault_with(alloc, place, text, evidence)
+    fault_with(alloc, place, FaultText::NoViableFunction, evidence)
 }
 
 fn ambiguous(
@@ -76,9 +77,8 @@ fn ambiguous(
 ) -> Result<Box<Fault>, AllocError>
     ensures { IfOk result (λ fault. Faulty fault.value ≡ ambiguous_at place (ties_of types.now (map contender_at viable.now))) }
 {
-    let text = Text::from_slice(alloc, b"ambiguous call")?;
     let evidence = ties(alloc, types, viable)?;
-    fault_with(alloc, place, text, evidence)
+    fault_with(alloc, place, FaultText::AmbiguousCall, evidence)
 }
 
 /// A call that means this candidate.

@@ -16,6 +16,7 @@ use crate::expression::initializer;
 use crate::fault::not_built;
 use crate::numbers::{Numbers, Seen};
 use cxx_choice::is_same;
+use cxx_hash::Key;
 use cxx_model::first::{
     BaseList, CallList, Declaration, DeclarationList, Declared, Item, ItemList, Reading,
 };
@@ -238,11 +239,16 @@ fn is_end(kind: TokenKind) -> bool
 }
 
 /// Declarations up to the end of the unit.
-fn items(alloc: Global, cursor: &mut Cursor, so_far: &mut Reading) -> Result<(), Stop>
+fn items(
+    alloc: Global,
+    key: Key,
+    cursor: &mut Cursor,
+    so_far: &mut Reading,
+) -> Result<(), Stop>
     requires { so_far.old.declarations ≡ [] }
     ensures { Gives (λ _. so_far.new) result (items_at limits.MOST_DECLARATIONS so_far.old (left cursor.old)) }
 {
-    let mut numbers = Numbers::new(alloc);
+    let mut numbers = Numbers::new(alloc, key);
     for done in 0..limits::MOST_DECLARATIONS {
         if is_end(cursor.kind()) {
             return Ok(());
@@ -278,7 +284,7 @@ fn read_all(
         items: ItemList::new(alloc),
         calls: CallList::new(alloc),
     };
-    items(alloc, &mut cursor, &mut so_far)?;
+    items(alloc, Key::of(bytes), &mut cursor, &mut so_far)?;
     Ok(so_far)
 }
 

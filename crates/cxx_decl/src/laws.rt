@@ -1,9 +1,10 @@
 //! Laws of the definitions that the readers keep to.
 
-ghost use Rattle.std.specs.Prelude.{◌≡◌, ◌++◌, ℕ, List, Ok, Err, true, false, codes};
+ghost use Rattle.std.specs.Prelude.{◌≡◌, ℕ, List, Ok, Err, true, false};
 ghost use Rattle.cxx_model.specs.declared.base.Base.{Base};
 ghost use Rattle.cxx_model.specs.declared.first.Argument.{Argument};
 ghost use Rattle.cxx_model.specs.declared.first.Declaration.{Declaration};
+ghost use Rattle.cxx_model.specs.declared.fault.FaultText.TheVariants as says;
 ghost use Rattle.cxx_model.specs.declared.options.Options.{Options};
 ghost use Rattle.cxx_model.specs.declared.first.Reading.{Reading};
 ghost use Rattle.cxx_model.specs.declared.place.Place.{Place};
@@ -37,7 +38,7 @@ pub fn faults_are_told()
 /// Where a broken unit's fault is an undeclared name, the declarations before it were read whole, a name with this
 /// spelling stands where the fault is, behind the `=` of the object that follows them, and no declaration before has it.
 pub fn undeclared_names_are_told()
-    ensures { (options : Options) (ahead : List Lexeme) (fault : Fault) → reading_of options ahead ≡ Err (Faulty fault) → (word : List ℕ) → fault.text ≡ codes "undeclared name " ++ word → IsUndeclaredFault options ahead fault word }
+    ensures { (options : Options) (ahead : List Lexeme) (fault : Fault) → reading_of options ahead ≡ Err (Faulty fault) → (word : List ℕ) → fault.text ≡ says.UndeclaredName word → IsUndeclaredFault options ahead fault word }
 {}
 
 /// The words of a whole reading are those of its unit.

@@ -2,8 +2,10 @@
 
 ghost use Rattle.std.specs.Prelude.{◌≡◌, ℕ, ◌++◌, ◌∷◌, [], List, if◌then◌else◌, OnOk};
 ghost use Rattle.std.specs.Str.{bytes_eq};
+ghost use Rattle.indexmap.specs.IndexMap.{hasher_of};
 ghost use Rattle.cxx_decl.specs.Numbers.{those_in, kept, numbers_from, Keeps};
 
+use cxx_hash::Key;
 use cxx_model::first::Declaration;
 use indexmap::IndexMap;
 use std::alloc::{AllocError, Global};
@@ -11,7 +13,7 @@ use std::alloc::{AllocError, Global};
 /// For each declared word the numbers of its declarations, in order.
 #[derive(Drop)]
 pub(crate) struct Numbers<'a> {
-    by_word: IndexMap<&'a [u8], Vec<u32>>,
+    by_word: IndexMap<&'a [u8], Vec<u32>, Key>,
 }
 
 fn or_none(alloc: Global, numbers: Option<Vec<u32>>) -> Vec<u32>
@@ -24,11 +26,13 @@ fn or_none(alloc: Global, numbers: Option<Vec<u32>>) -> Vec<u32>
 }
 
 impl<'a> Numbers<'a> {
-    pub fn new(alloc: Global) -> Numbers<'a>
-        ensures { (word : List ℕ) → kept result word ≡ [] }
+    /// No declarations. Words are hashed by the key.
+    pub fn new(alloc: Global, key: Key) -> Numbers<'a>
+        ensures none { (word : List ℕ) → kept result word ≡ [] }
+        ensures hashed { hasher_of result.by_word ≡ key }
     {
         Numbers {
-            by_word: IndexMap::new(alloc),
+            by_word: IndexMap::with_hasher(alloc, key),
         }
     }
 

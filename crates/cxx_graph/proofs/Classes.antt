@@ -17,7 +17,7 @@ use Rattle.cxx_model.specs.declared.types.ClassId.{ClassId}
 use Rattle.cxx_model.specs.declared.types.Argument.{Argument}
 use Rattle.cxx_model.specs.declared.types.TemplateId.{TemplateId}
 use Rattle.cxx_model.specs.Facts.Graph.{Graph, InRange, AreSameArguments, IsClassInRange, IsPatternInRange, IsReservedAlready, IsReservedFor, IsSpecialisationOf, appended, with_class}
-use Rattle.cxx_model.proofs.GraphRange.{pattern-in-range, reserved-in-range}
+use Rattle.cxx_graph.proofs.GraphRange.{pattern-in-range, reserved-in-range}
 use Rattle.cxx_graph.specs.Reserved.{IsNew, IsUnknown, KeepsClasses}
 use Rattle.cxx_graph.specs.Stored.{AreClassesApart, IsMarked, IsPlaced, IsStored, classes_of, graph_of, held}
 use Rattle.cxx_graph.proofs.Marks.{get-more, marked-class, open-class}

@@ -15,7 +15,7 @@ use Rattle.cxx_model.specs.declared.place.Place.{Place}
 use Rattle.cxx_model.specs.declared.types.ClassId.{ClassId}
 use Rattle.cxx_model.specs.declared.types.ScopeId.{ScopeId}
 use Rattle.cxx_model.specs.Facts.Graph.{Graph, InRange, IsEntityInRange, EachMayFollow, MayFollow, appended, completes, is_complete}
-use Rattle.cxx_model.proofs.GraphRange.{may-follow}
+use Rattle.cxx_graph.proofs.GraphRange.{may-follow}
 use Rattle.cxx_graph.specs.Ended.{ended}
 use Rattle.cxx_graph.specs.Stored.{IsMarked}
 

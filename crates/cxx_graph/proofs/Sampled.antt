@@ -4,7 +4,7 @@ use Rattle.std.proofs.Common.{ap, ◌∙◌, arith}
 use Rattle.cxx_model.specs.declared.facts.Entity.{Entity}
 use Rattle.cxx_model.specs.declared.facts.Fact.{Fact}
 use Rattle.cxx_model.specs.Facts.Graph.{Graph, InRange, IsEntityInRange, MayFollow, appended, count, counted, scopes}
-use Rattle.cxx_model.proofs.GraphRange.{appended-in-range}
+use Rattle.cxx_graph.proofs.GraphRange.{appended-in-range}
 
 follows : (graph : Graph) (facts : List Fact) (fact : Fact) → fact.scope.0 < scopes facts → IsEntityInRange (record graph { facts = facts }) fact fact.what → MayFollow (record graph { facts = facts }) fact
 follows graph [] fact scope names = absurd (omega arith)

@@ -1,5 +1,4 @@
 -- Facts of no name at one place, for tests.
-use Rattle.std.specs.Prelude.{[]}
 use Rattle.cxx_model.specs.declared.facts.Access.TheVariants.{Public}
 use Rattle.cxx_model.specs.declared.facts.Entity.{Entity}
 use Rattle.cxx_model.specs.declared.facts.Fact.{Fact}

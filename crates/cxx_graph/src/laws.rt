@@ -5,7 +5,7 @@ ghost use Rattle.cxx_model.specs.declared.facts.Pattern.{Pattern};
 ghost use Rattle.cxx_model.specs.declared.facts.Specialisation.{Specialisation};
 ghost use Rattle.cxx_model.specs.declared.types.Argument.{Argument as Argument};
 ghost use Rattle.cxx_model.specs.declared.types.TemplateId.{TemplateId as Template};
-ghost use Rattle.cxx_model.specs.Facts.Conflicts.{first_conflict, IsFirstConflict, IsFree};
+ghost use Rattle.cxx_model.specs.Facts.Conflicts.{clash, first_conflict, IsFirstConflict, IsFree};
 ghost use Rattle.cxx_model.specs.Facts.Declarations.{CxxFact, CxxGraph, graph_at};
 ghost use Rattle.cxx_model.specs.Facts.Fitted.{Fitted, IsClassBelow, IsFactBelow, IsGraphBelow, IsPatternBelow};
 ghost use Rattle.cxx_model.specs.Types.Trees.{CxxType};
@@ -49,6 +49,11 @@ pub fn meaning_is_kept()
 pub fn conflicts_are_found()
     ensures found { (graph : CxxGraph) (new : CxxFact) (number : ℕ) → first_conflict graph new ≡ Some number → IsFirstConflict graph new number }
     ensures none { (graph : CxxGraph) (new : CxxFact) → first_conflict graph new ≡ None → IsFree graph new }
+{}
+
+/// Of two declarations that clash it makes no difference which one stands first.
+pub fn conflicts_agree()
+    ensures { (graph : CxxGraph) (m n : ℕ) (one two : CxxFact) → clash graph m one n two ≡ clash graph n two m one }
 {}
 
 /// What has one class is one specialisation: of the same template for the same arguments.

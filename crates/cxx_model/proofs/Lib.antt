@@ -13,8 +13,4 @@ pub mod Spellings
 mod TokenRows
 pub mod TypeForm
 pub mod TypeTrees
-pub mod Conflicting
-mod ConflictRows
-pub mod Fitting
-pub mod GraphRange
 pub mod SameTypes

@@ -1,7 +1,9 @@
 use Rattle.std.proofs.Common.{append_assoc}
 use Rattle.std.specs.Prelude.{◌≡◌, ℕ, List, [], ◌∷◌, refl, codes}
+use Rattle.cxx_model.specs.declared.fault.FaultText.TheVariants as says
 use Rattle.cxx_model.specs.Text.Spelling.{spelling_of, keywords, alternatives, operators, digraphs, word_kind, number_kind, operator, literal, hash, slash, percent, literal_type}
 use Rattle.cxx_model.specs.Text.Tokens.{tokens_of, tokens_from, front, longest_within}
+use Rattle.cxx_model.specs.Printing.Reports.{fault_text}
 use Rattle.cxx_model.specs.Printing.Names.{stem, printed_name}
 use Rattle.cxx_model.specs.Choice.Standard.{standard_sequence}
 use Rattle.cxx_model.specs.Choice.StandardOrder.{compare}
@@ -23,7 +25,7 @@ outcome text = outcome_of (record { depth = 64 }) text
 text_of : UnitOutcome → List ℕ
 unfolding spell_base line_words in_text_order normal plain stem
 text_of (Whole r) = plain r
-text_of (Broken f) = f.text
+text_of (Broken f) = fault_text f.text
 text_of (PastLimit k) = codes "limit"
 
 zero_ : text_of (outcome []) ≡ []
@@ -34,19 +36,19 @@ one : text_of (outcome (codes "int f(int); int f(char); int x = f('a');")) ≡ c
 unfolding outcome text_of
 one = simp append_assoc
 
-two : outcome (codes "int *p;") ≡ Broken (record { place = record { line = 1; column = 5 }; text = codes "not built"; evidence = [] })
+two : outcome (codes "int *p;") ≡ Broken (record { place = record { line = 1; column = 5 }; text = says.NotBuilt; evidence = [] })
 unfolding outcome
 two = refl
 
-three : outcome (codes "int f(long); int f(double); int x = f(1);") ≡ Broken (record { place = record { line = 1; column = 37 }; text = codes "ambiguous call"; evidence = DoesNotBeat (Declared 1 (record { line = 1; column = 5 })) (Declared 2 (record { line = 1; column = 18 })) ∷ DoesNotBeat (Declared 2 (record { line = 1; column = 18 })) (Declared 1 (record { line = 1; column = 5 })) ∷ [] })
+three : outcome (codes "int f(long); int f(double); int x = f(1);") ≡ Broken (record { place = record { line = 1; column = 37 }; text = says.AmbiguousCall; evidence = DoesNotBeat (Declared 1 (record { line = 1; column = 5 })) (Declared 2 (record { line = 1; column = 18 })) ∷ DoesNotBeat (Declared 2 (record { line = 1; column = 18 })) (Declared 1 (record { line = 1; column = 5 })) ∷ [] })
 unfolding outcome
 three = refl
 
-four : outcome (codes "int f(int, int); int x = f(1);") ≡ Broken (record { place = record { line = 1; column = 26 }; text = codes "no viable function"; evidence = Refused (Declared 1 (record { line = 1; column = 5 })) TooFewArguments ∷ [] })
+four : outcome (codes "int f(int, int); int x = f(1);") ≡ Broken (record { place = record { line = 1; column = 26 }; text = says.NoViableFunction; evidence = Refused (Declared 1 (record { line = 1; column = 5 })) TooFewArguments ∷ [] })
 unfolding outcome
 four = refl
 
-five : outcome (codes "int x = y;") ≡ Broken (record { place = record { line = 1; column = 9 }; text = codes "undeclared name y"; evidence = [] })
+five : outcome (codes "int x = y;") ≡ Broken (record { place = record { line = 1; column = 9 }; text = says.UndeclaredName (codes "y"); evidence = [] })
 unfolding outcome
 five = refl
 

@@ -11,24 +11,24 @@ use Rattle.cxx_model.specs.Choice.Standard.{same_base}
 use Rattle.cxx_model.specs.Types.Trees.{CxxType, fundamental, class_type, enumeration, pointer_to, reference_to, array_of, function_of, qualified, type_parameter, specialisation, nested_in, CxxTypes, no_types, type_then, CxxBound, unknown_bound, number_bound, formula_bound, CxxArgument, type_argument, value_argument, formula_argument, CxxArguments, no_arguments, argument_then, CxxFormula, value_of, value_parameter, member_of, size_of, cast_to, unary, binary, conditional}
 use Rattle.cxx_model.proofs.Equal.{both, join, int_told, int_tells, word_told, word_tells}
 
-bool_told : (a b : Bool) → same_bool a b ≡ true → a ≡ b
+pub bool_told : (a b : Bool) → same_bool a b ≡ true → a ≡ b
 bool_told true true e = refl
 bool_told true false e = cc
 bool_told false true e = cc
 bool_told false false e = refl
 
-bool_itself : (a : Bool) → same_bool a a ≡ true
+pub bool_itself : (a : Bool) → same_bool a a ≡ true
 bool_itself true = refl
 bool_itself false = refl
 
-cv_told : (a b : Cv) → same_cv a b ≡ true → a ≡ b
+pub cv_told : (a b : Cv) → same_cv a b ≡ true → a ≡ b
 cv_told a b e =
     let one : Bool → Cv = λ x. record { is_const = x; is_volatile = a.is_volatile } in
     let two : Bool → Cv = λ x. record { is_const = b.is_const; is_volatile = x } in
     let parts : (same_bool a.is_const b.is_const ≡ true) × (same_bool a.is_volatile b.is_volatile ≡ true) = both _ _ e in
     ap one (bool_told _ _ parts.0) ∙ ap two (bool_told _ _ parts.1)
 
-cv_itself : (a : Cv) → same_cv a a ≡ true
+pub cv_itself : (a : Cv) → same_cv a a ≡ true
 cv_itself a = join _ _ (bool_itself a.is_const) (bool_itself a.is_volatile)
 
 base_told : (a b : Base) → same_base a b ≡ true → a ≡ b

@@ -7,8 +7,8 @@ use Rattle.cxx_model.specs.declared.token.TokenKind.TheVariants.{Name, Punct, Te
 use Rattle.cxx_model.specs.declared.token.TokenReason.{TokenReason}
 use Rattle.cxx_model.specs.declared.token.TokenReason.TheVariants as reason
 use Rattle.cxx_model.specs.declared.punct.TheConstants as punct
-use Rattle.cxx_model.specs.Text.Spelling.{keywords, alternatives, operators, digraphs, word_kind, number_kind, operator, literal, hash, slash, percent, spelling_of, literal_type, literal_value, string_length}
-use Rattle.cxx_model.specs.Text.Tokens.{Unread, BadAt, PastTokens, longest_within, front, tokens_from, tokens_of}
+use Rattle.cxx_model.specs.Text.Spelling.{keywords, alternatives, operators, digraphs, word_kind, number_kind, operator, literal, hash, slash, percent, spelling_of, literal_type, literal_value, piece_length}
+use Rattle.cxx_model.specs.Text.Tokens.{Unread, BadAt, PastTokens, longest_within, front, lengths_from, string_length, tokens_from, tokens_of}
 
 -- the kinds and spans of the tokens, or the column and the reason
 data Seen : Type 0 where
@@ -121,6 +121,7 @@ values : (literal_value (codes "'\\377'") ≡ Some (negsuc 0)) × (literal_value
 unfolding literal_value spelling_of word_kind number_kind operator literal hash slash percent keywords alternatives operators digraphs
 values = (refl, refl, refl, refl, refl, refl, refl, refl)
 
-lengths : (string_length (codes "\"a\\x41\\101b\"") ≡ 4) × (string_length (codes "L\"\"") ≡ 0)
-unfolding string_length
-lengths = (refl, refl)
+lengths : (string_length (codes "\"a\\x41\\101b\"") ≡ 4) × (string_length (codes "L\"\"") ≡ 0) × (string_length (codes "\"a\" \"b\"") ≡ 2) × (string_length (codes "\"ab\"/*\"c\"*/\"d\"") ≡ 3)
+    × (string_length (codes "\"a\"\n# 1 \"b.c\"\n\"c\"") ≡ 2)
+unfolding string_length lengths_from piece_length front longest_within spelling_of word_kind number_kind operator literal hash slash percent keywords alternatives operators digraphs
+lengths = (refl, refl, refl, refl, refl)

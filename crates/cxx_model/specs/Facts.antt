@@ -3,3 +3,4 @@ pub mod Declarations
 pub mod Entities
 pub mod Fitted
 pub mod Graph
+pub mod Here

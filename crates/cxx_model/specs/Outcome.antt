@@ -1,5 +1,6 @@
 -- What a unit is: whole, broken, or past a limit. There is exactly one outcome for each text.
 use Rattle.std.specs.Prelude.{ℕ, if◌then◌else◌, nat_lt, List, length, Result, Ok, Err}
+use Rattle.cxx_model.specs.declared.fault.FaultText.TheVariants as says
 use Rattle.cxx_model.specs.declared.options.Options.{Options}
 use Rattle.cxx_model.specs.declared.first.Reading.{Reading}
 use Rattle.cxx_model.specs.declared.limits.TheConstants as limits
@@ -10,7 +11,7 @@ use Rattle.cxx_model.specs.declared.token.Token.{Token}
 use Rattle.cxx_model.specs.First.Plain.{plain}
 use Rattle.cxx_model.specs.First.Reading.{reading_of}
 use Rattle.cxx_model.specs.Text.Lexemes.{lexemes}
-use Rattle.cxx_model.specs.Stops.{Answer, Stopped, Faulty, Limited, fault, token_reason_text}
+use Rattle.cxx_model.specs.Stops.{Answer, Stopped, Faulty, Limited, fault}
 use Rattle.cxx_model.specs.Text.Tokens.{Unread, BadAt, PastTokens, tokens_of}
 
 pub data UnitOutcome : Type 0 where
@@ -29,7 +30,7 @@ read_outcome (Err why) = stopped_outcome why
 -- a bad token is the first fault of all
 abbrev pub tokens_outcome : Options → List ℕ → Result (List Token) Unread → UnitOutcome
 tokens_outcome options bytes (Ok tokens) = read_outcome (reading_of options (lexemes bytes tokens))
-tokens_outcome options bytes (Err (BadAt place reason)) = stopped_outcome (fault place (token_reason_text reason))
+tokens_outcome options bytes (Err (BadAt place reason)) = stopped_outcome (fault place (says.BadToken reason))
 tokens_outcome options bytes (Err PastTokens) = PastLimit Tokens
 
 unfoldable pub outcome_of : Options → List ℕ → UnitOutcome

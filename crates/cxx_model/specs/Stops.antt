@@ -1,14 +1,13 @@
 -- What a reader answers: a value, or why the unit is read no further. And what the code's answer means.
-use Rattle.std.specs.Prelude.{◌≡◌, ◌++◌, List, [], Result, Ok, Err, codes}
+use Rattle.std.specs.Prelude.{ℕ, ◌≡◌, List, [], Result, Ok, Err}
+use Rattle.cxx_model.specs.declared.fault.FaultText.{FaultText}
+use Rattle.cxx_model.specs.declared.fault.FaultText.TheVariants as says
 use Rattle.cxx_model.specs.declared.place.Place.{Place}
 use Rattle.cxx_model.specs.declared.stop.Fault.{Fault}
 use Rattle.cxx_model.specs.declared.stop.LimitKind.{LimitKind}
 use Rattle.cxx_model.specs.declared.stop.Stop.{Stop}
 use Rattle.cxx_model.specs.declared.stop.Stop.TheVariants as stop
-use Rattle.cxx_model.specs.declared.token.TokenReason.{TokenReason}
-use Rattle.cxx_model.specs.declared.token.TokenReason.TheVariants as reason
 use Rattle.cxx_model.specs.Text.Lexemes.{Lexeme, place_of}
-use Rattle.std.specs.Prelude.{ℕ}
 
 -- the first fault of a unit, or the quantity that it passes
 pub data Stopped : Type 0 where
@@ -29,28 +28,15 @@ abbrev pub ◌>>=◌ : {A B : Type 0} → Answer A → (A → Answer B) → Answ
 
 -- ---- faults that rest on nothing but their place
 
-abbrev pub token_reason_text : TokenReason → List ℕ
-token_reason_text reason.StrayByte = codes "stray byte"
-token_reason_text reason.UnfinishedComment = codes "unfinished comment"
-token_reason_text reason.UnfinishedLiteral = codes "unfinished literal"
-token_reason_text reason.BadEscape = codes "bad escape"
-token_reason_text reason.BadNumber = codes "bad number"
-token_reason_text reason.NumberTooLarge = codes "number too large"
-token_reason_text reason.Directive = codes "directive"
-token_reason_text reason.MixedStrings = codes "mixed strings"
-token_reason_text reason.FloatingLiteral = codes "left out: floating literal"
-token_reason_text reason.MultiCharacter = codes "left out: multi-character literal"
-token_reason_text reason.UniversalName = codes "left out: universal character name"
-
-abbrev pub fault : Place → List ℕ → Stopped
+abbrev pub fault : Place → FaultText → Stopped
 fault place text = Faulty (record { place = place; text = text; evidence = [] })
 
 -- a form that the profile does not read yet
 abbrev pub not_built_at : Place → Stopped
-not_built_at place = fault place (codes "not built")
+not_built_at place = fault place says.NotBuilt
 
 abbrev pub undeclared_at : Place → List ℕ → Stopped
-undeclared_at place word = fault place (codes "undeclared name " ++ word)
+undeclared_at place word = fault place (says.UndeclaredName word)
 
 -- no production goes on with the token ahead
 abbrev pub unread : {A : Type 0} → List Lexeme → Answer A

@@ -81,9 +81,10 @@ impl<T: Drop> Listed<T> {
         Ok(())
     }
 
-    /// Adds an element before the others.
+    /// Adds an element before the others. An `Err` changes nothing.
     pub fn push_front(&mut self, item: T) -> Result<(), AllocError>
-        ensures { OnOk result (self.new ≡ item ∷ self.old) }
+        ensures ok { OnOk result (self.new ≡ item ∷ self.old) }
+        ensures err { OnErr result (self.new ≡ self.old) }
     {
         self.items.insert(0, item)?;
         Ok(())

@@ -4,7 +4,7 @@ ghost use Rattle.std.specs.Prelude.{◌≡◌};
 ghost use Rattle.cxx_model.specs.declared.stop.Stop.TheVariants as stop;
 
 use crate::evidence::EvidenceList;
-use crate::listed::Text;
+use crate::fault::FaultText;
 use crate::place::Place;
 use crate::types::{ClassId, FactId, ArgumentList};
 use std::alloc::{AllocError, AllocFailed};
@@ -24,11 +24,11 @@ pub enum LimitKind {
     Output,
 }
 
-/// What is wrong with a unit: where, the text that says it, and what it rests on.
+/// What is wrong with a unit: where, what a report says of it, and what it rests on.
 #[derive(Drop)]
 pub struct Fault {
     pub place: Place,
-    pub text: Text,
+    pub text: FaultText,
     pub evidence: EvidenceList,
 }
 

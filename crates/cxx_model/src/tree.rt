@@ -1,7 +1,6 @@
 //! The trees of a reading: what was read, and what each part of it means.
 
 use crate::evidence::LinkList;
-use crate::facts::Access;
 use crate::instances::InstanceKey;
 use crate::listed::{Listed, NumberList, Text, Word};
 use crate::place::Place;
@@ -97,12 +96,6 @@ pub struct Here {
     pub this_type: Option<TypeId>,
     /// The enumeration whose list is being read (7.2).
     pub enumeration: Option<EnumId>,
-    /// The access of the members that are declared here (11).
-    pub access: Access,
-    /// The class whose list of members is open (9.2).
-    pub class: Option<ClassId>,
-    /// The result of the function whose body is read (6.6.3).
-    pub result: Option<TypeId>,
 }
 
 /// A name that was bound, in the order of reading.

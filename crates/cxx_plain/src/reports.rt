@@ -1,8 +1,10 @@
 //! The texts of reports.
 ghost use Rattle.std.specs.Prelude.{◌≡◌, ◌<◌, ◌++◌, OnOk, IfOk, codes, decimal};
-ghost use Rattle.cxx_model.specs.Printing.Reports.{by_bases_text, evidence_lines, evidence_text, link_text, number_after, path_text, place_text, reason_text, report, shown_text, substitution_text};
+ghost use Rattle.cxx_model.specs.Printing.Reports.{by_bases_text, evidence_lines, evidence_text, fault_text, form_text, link_text, number_after, path_text, place_text, reason_text, report, shown_text, substitution_text, token_reason_text};
 
-use cxx_model::{Evidence, Fault, Link, Place, Reason, Shown, SubstitutionText};
+use cxx_model::{
+    Evidence, Fault, FaultText, LeftOut, Link, Place, Reason, Shown, SubstitutionText, TokenReason,
+};
 use itoa::Buffer;
 use std::alloc::{AllocError, Global};
 
@@ -243,15 +245,113 @@ fn write_lines(out: &mut Vec<u8>, evidence: &[Evidence]) -> Result<(), AllocErro
     Ok(())
 }
 
+fn reason_name(reason: TokenReason) -> &'static [u8]
+    ensures { result.now ≡ token_reason_text reason }
+{
+    match reason {
+        TokenReason::StrayByte => b"stray byte",
+        TokenReason::UnfinishedComment => b"unfinished comment",
+        TokenReason::UnfinishedLiteral => b"unfinished literal",
+        TokenReason::BadEscape => b"bad escape",
+        TokenReason::BadNumber => b"bad number",
+        TokenReason::NumberTooLarge => b"number too large",
+        TokenReason::Directive => b"directive",
+        TokenReason::MixedStrings => b"mixed strings",
+        TokenReason::FloatingLiteral => b"left out: floating literal",
+        TokenReason::MultiCharacter => b"left out: multi-character literal",
+        TokenReason::UniversalName => b"left out: universal character name",
+    }
+}
+
+fn form_name(form: LeftOut) -> &'static [u8]
+    ensures { result.now ≡ form_text form }
+{
+    match form {
+        LeftOut::Exception => b"exception",
+        LeftOut::ExceptionSpecification => b"exception specification",
+        LeftOut::Typeid => b"typeid",
+        LeftOut::DynamicCast => b"dynamic_cast",
+        LeftOut::VirtualBase => b"virtual base",
+        LeftOut::Export => b"export",
+        LeftOut::TemplateTemplateParameter => b"template template parameter",
+        LeftOut::ParameterKind => b"parameter kind",
+        LeftOut::ConversionFunctionTemplate => b"conversion function template",
+        LeftOut::DependentSizeof => b"dependent sizeof",
+        LeftOut::PointerToMember => b"pointer to member",
+        LeftOut::AddressOfSeveralFunctions => b"address of several functions",
+        LeftOut::SurrogateCall => b"surrogate call",
+        LeftOut::OperatorNew => b"operator new",
+        LeftOut::PlacementNew => b"placement new",
+        LeftOut::DestructorCall => b"destructor call",
+        LeftOut::NewOfADeclarator => b"new of a declarator",
+        LeftOut::BitField => b"bit-field",
+        LeftOut::AnonymousUnion => b"anonymous union",
+        LeftOut::LocalClass => b"local class",
+        LeftOut::Goto => b"goto",
+        LeftOut::Label => b"label",
+        LeftOut::Asm => b"asm",
+        LeftOut::BraceElision => b"brace elision",
+        LeftOut::ClassConditional => b"class conditional",
+        LeftOut::ArrayOfDefaultedConstruction => b"array of defaulted construction",
+        LeftOut::CopyConstructorWithParameters => b"copy constructor with parameters",
+        LeftOut::ExplicitCopyConstructor => b"explicit copy constructor",
+        LeftOut::ConstructorOfEllipsis => b"constructor of ellipsis",
+        LeftOut::DefaultedPart => b"defaulted part",
+        LeftOut::ConditionNameInStep => b"condition name in step",
+    }
+}
+
+/// Writes what is wrong, behind the place.
+fn write_fault(out: &mut Vec<u8>, text: &FaultText) -> Result<(), AllocError>
+    ensures { OnOk result (out.new.items ≡ out.old.items ++ fault_text text.now) }
+{
+    match text {
+        FaultText::BadToken(reason) => write(out, reason_name(*reason)),
+        FaultText::NotBuilt => write(out, b"not built"),
+        FaultText::SyntaxError => write(out, b"syntax error"),
+        FaultText::LeftOut(form) => write_two(out, b"left out: ", form_name(*form)),
+        FaultText::UndeclaredName(word) => write_two(out, b"undeclared name ", word.as_slice()),
+        FaultText::AmbiguousName(word) => write_two(out, b"ambiguous name ", word.as_slice()),
+        FaultText::WrongKindOfName(word) => {
+            write_two(out, b"wrong kind of name ", word.as_slice())
+        }
+        FaultText::ConflictingDeclaration(word) => {
+            write_two(out, b"conflicting declaration of ", word.as_slice())
+        }
+        FaultText::AmbiguousCall => write(out, b"ambiguous call"),
+        FaultText::NoViableFunction => write(out, b"no viable function"),
+        FaultText::AmbiguousConversion => write(out, b"ambiguous conversion"),
+        FaultText::NoConversion => write(out, b"no conversion"),
+        FaultText::OperandsDoNotFit => write(out, b"operands do not fit"),
+        FaultText::IncompleteClass => write(out, b"incomplete class"),
+        FaultText::AmbiguousBase => write(out, b"ambiguous base"),
+        FaultText::AmbiguousSpecialisation => write(out, b"ambiguous specialisation"),
+        FaultText::WrongTemplateArguments => write(out, b"wrong template arguments"),
+        FaultText::SpecialisationAfterUse => write(out, b"specialisation after use"),
+        FaultText::NotAConstant => write(out, b"not a constant"),
+        FaultText::ConstantOverflow => write(out, b"constant overflow"),
+        FaultText::DivisionByZero => write(out, b"division by zero"),
+        FaultText::DepthLimit(depth) => write_before(out, b"depth limit ", *depth),
+    }
+}
+
+/// Writes a text and another one behind it.
+fn write_two(out: &mut Vec<u8>, front: &[u8], back: &[u8]) -> Result<(), AllocError>
+    ensures { OnOk result (out.new.items ≡ out.old.items ++ (front.now ++ back.now)) }
+{
+    write(out, front)?;
+    write(out, back)
+}
+
 /// The report of a fault: where it is and what it says, and a line for each piece of evidence.
-#[tactic(auto, unfolding(cxx_model::specs::Reports::report))]
+#[tactic(auto, unfolding(cxx_model::specs::Printing::Reports::report))]
 pub fn report(alloc: Global, fault: &Fault) -> Result<Vec<u8>, AllocError>
     ensures { IfOk result (λ text. text.items ≡ report fault.now) }
 {
     let mut out = Vec::new(alloc);
     write_place(&mut out, fault.place)?;
     write(&mut out, b": ")?;
-    write(&mut out, fault.text.as_slice())?;
+    write_fault(&mut out, &fault.text)?;
     write(&mut out, b"\n")?;
     write_lines(&mut out, fault.evidence.as_slice())?;
     Ok(out)

@@ -207,7 +207,7 @@ fn number_of(numbers: &[usize], chosen: u32) -> usize
     }
 }
 
-#[tactic(auto, unfolding(cxx_model::specs::Names::printed_name))]
+#[tactic(auto, unfolding(cxx_model::specs::Printing::Names::printed_name))]
 fn write_name(page: &mut Page, number: usize, word: &[u8]) -> Result<(), PlainFault>
     ensures ok { OnOk result (page.new ≡ page.old ++ printed_name number word.now) }
     ensures full { result ≡ Err PlainFault.Limit → MOST_OUTPUT < length page.old + length (printed_name number word.now) }

@@ -21,7 +21,7 @@ fn is_wide(text: &[u8]) -> bool
 }
 
 /// The type of an integer or character literal by its spelling (2.13.1, 2.13.2).
-#[tactic(auto, unfolding(cxx_model::specs::Spelling::literal_type))]
+#[tactic(auto, unfolding(cxx_model::specs::Text::Spelling::literal_type))]
 pub fn literal_type(spelling: &[u8]) -> Option<Base>
     ensures { result ≡ spec.literal_type spelling.now }
 {
@@ -114,7 +114,7 @@ fn character_value(text: &[u8]) -> Option<i128>
 }
 
 /// The value of an integer or character literal by its spelling (2.13.1, 2.13.2).
-#[tactic(auto, unfolding(cxx_model::specs::Spelling::literal_value))]
+#[tactic(auto, unfolding(cxx_model::specs::Text::Spelling::literal_value))]
 pub fn literal_value(spelling: &[u8]) -> Option<i128>
     ensures { result ≡ spec.literal_value spelling.now }
 {

@@ -9,7 +9,7 @@ use crate::piece::{Piece, Spelled};
 use crate::tables::{number_beside, number_in};
 use cxx_model::{TokenKind, TokenReason, punct};
 
-#[tactic(auto, unfolding(cxx_model::specs::Spelling::operators))]
+#[tactic(auto, unfolding(cxx_model::specs::Text::Spelling::operators))]
 fn primary_number(text: &[u8]) -> Option<u8>
     ensures { result ≡ spec.number_in spec.operators text.now }
 {
@@ -19,7 +19,7 @@ fn primary_number(text: &[u8]) -> Option<u8>
     }
 }
 
-#[tactic(auto, unfolding(cxx_model::specs::Spelling::digraphs))]
+#[tactic(auto, unfolding(cxx_model::specs::Text::Spelling::digraphs))]
 fn digraph_number(text: &[u8]) -> Option<u8>
     ensures { result ≡ spec.number_beside spec.digraphs text.now }
 {
@@ -37,7 +37,7 @@ fn operator_number(text: &[u8]) -> Option<u8>
 }
 
 /// What a whole text spells as an operator. Each byte spells something by itself.
-#[tactic(auto, unfolding(cxx_model::specs::Spelling::operator))]
+#[tactic(auto, unfolding(cxx_model::specs::Text::Spelling::operator))]
 fn operator_of(text: &[u8]) -> Option<Spelled>
     requires { 0 < length text.now }
     ensures { spelled_option result ≡ operator_of text.now }

@@ -13,7 +13,7 @@ use crate::runs::word_len;
 use crate::tables::{number_beside, number_in};
 use cxx_model::{TokenKind, keyword, punct};
 
-#[tactic(auto, unfolding(cxx_model::specs::Spelling::keywords))]
+#[tactic(auto, unfolding(cxx_model::specs::Text::Spelling::keywords))]
 fn keyword_of(text: &[u8]) -> Option<u8>
     ensures { result ≡ spec.number_in spec.keywords text.now }
 {
@@ -23,14 +23,14 @@ fn keyword_of(text: &[u8]) -> Option<u8>
     }
 }
 
-#[tactic(auto, unfolding(cxx_model::specs::Spelling::alternatives))]
+#[tactic(auto, unfolding(cxx_model::specs::Text::Spelling::alternatives))]
 fn alternative_of(text: &[u8]) -> Option<u8>
     ensures { result ≡ spec.number_beside spec.alternatives text.now }
 {
     number_beside(&punct::ALTERNATIVES, text)
 }
 
-#[tactic(auto, unfolding(cxx_model::specs::Spelling::word_kind))]
+#[tactic(auto, unfolding(cxx_model::specs::Text::Spelling::word_kind))]
 fn word_kind(text: &[u8]) -> Spelled
     ensures { spelled result ≡ spec.word_kind text.now }
 {

@@ -1,107 +1,162 @@
 -- What interning makes of a tree, step by step.
-use Rattle.std.specs.Prelude.{ℕ, zero, suc, ◌≡◌, ◌<◌, ◌+◌, List, [], ◌∷◌, ◌++◌, length, Box, refl}
+use Rattle.std.specs.Prelude.{ℕ, zero, suc, ◌≡◌, ◌<◌, ◌≤◌, ◌+◌, Bool, List, [], ◌∷◌, ◌++◌, length, Box, Result, Ok, Err, IsErr, refl}
 use Rattle.std.proofs.Common.{ap, sym, subst, ◌∙◌, take, get_or, arith}
 use Rattle.std.proofs.lemmas.List.{take_more}
 use Rattle.std.specs.declared.alloc.Global.{Global}
+use Rattle.cxx_model.specs.declared.memory.OutOfMemory.{OutOfMemory}
 use Rattle.cxx_model.specs.declared.types.Bound.{Bound}
 use Rattle.cxx_model.specs.declared.types.Cv.{Cv}
 use Rattle.cxx_model.specs.declared.types.Signature.{Signature}
+use Rattle.cxx_model.specs.declared.types.Argument.{Argument}
+use Rattle.cxx_model.specs.declared.types.TemplateId.{TemplateId}
 use Rattle.cxx_model.specs.declared.types.TypeId.{TypeId}
 use Rattle.cxx_model.specs.declared.types.TypeTree as tree
 use Rattle.cxx_model.specs.declared.types.TypeTree.{TypeTree}
-use Rattle.cxx_model.specs.Types.Trees.{CxxType, CxxTypes, no_types, type_then, array_of, function_of, normal, normal_bound, normal_parameters, adjusted, with_cv, merged}
-use Rattle.cxx_model.specs.Types.Numbers.{type_at, types_at, tree_at, bound_at, IsTreeBelow, IsBoundBelow, AreTypesBelow, Keeps}
-use Rattle.cxx_model.proofs.TypeForm.{normal_is_normal, with_cv_merges}
-use Rattle.cxx_model.proofs.TypeTrees.{bound_kept, bound_later, tree_kept, tree_later, types_kept, types_later, Keeps-refl, Keeps-trans}
+use Rattle.cxx_model.specs.Types.Copies.{CopiesArguments, CopiesBound}
+use Rattle.cxx_model.specs.Facts.Graph.{Graph, IsTypeInRange, AreTypesInRange}
+use Rattle.cxx_model.specs.Types.Trees.{CxxType, CxxTypes, no_types, type_then, array_of, function_of, specialisation, adjusted, normal, normal_arguments, normal_bound, normal_parameters, with_cv}
+use Rattle.cxx_model.specs.Types.Numbers.{type_at, types_at, tree_at, arguments_at, bound_at, IsTreeBelow, AreArgumentsBelow, IsBoundBelow, AreTypesBelow, Keeps}
+use Rattle.cxx_model.proofs.TypeForm.{normal_arguments_fixed, normal_bound_fixed}
+use Rattle.cxx_model.proofs.TypeTrees.{arguments_normal, bound_kept, bound_later, bound_normal, tree_kept, tree_later, types_kept, Keeps-trans}
+use Rattle.cxx_types.specs.Makes.{AreInRange, Makes, MakesEach}
+use Rattle.cxx_types.specs.Parameters.{adjusted_types, normal_types}
+use Rattle.cxx_types.specs.Table.{AreNormal}
 use Rattle.cxx_types.specs.Trees.{trees_at, AreTreesBelow}
+use Rattle.cxx_types.proofs.Making.{AreMadeSoFar, makes_same, makes_stopped, makes_then, one_more_made, with_last}
+use Rattle.cxx_types.proofs.Ranges.{parameters-range, with-cv-range}
 use Rattle.cxx_types.proofs.Rows.{function-below, function-at, trees-at-kept}
 
-pub array-bound : (old mid : List CxxType) (t : TypeTree) (element : Box TypeTree Global) (bound : Bound) → t ≡ tree.Array element bound → IsTreeBelow (length old) t → Keeps old mid → IsBoundBelow (length mid) bound
-array-bound old mid t element bound form ok kept =
-    let parts : IsTreeBelow (length old) (tree.Array element bound) = subst (λ (x : TypeTree). IsTreeBelow (length old) x) form ok in
-    bound_later (length old) (length mid) bound kept.grows parts.1
+-- ---- an array
 
-pub interned-array : (old mid new : List CxxType) (cv : Cv) (t : TypeTree) (element : Box TypeTree Global) (inner : TypeTree) (bound : Bound) (e n : ℕ) → t ≡ tree.Array element bound → inner ≡ element.value → IsTreeBelow (length old) t → Keeps old mid → type_at mid e ≡ with_cv cv (normal (tree_at old inner)) → type_at new n ≡ array_of (type_at mid e) (normal_bound (bound_at mid bound)) → type_at new n ≡ with_cv cv (normal (tree_at old t))
-interned-array old mid new cv t element inner bound e n form same ok kept is made =
+pub array-bound : (old mid : List CxxType) (t : TypeTree) (element : Box TypeTree Global) (bound copy : Bound) → t ≡ tree.Array element bound → IsTreeBelow (length old) t → CopiesBound bound copy → Keeps old mid → IsBoundBelow (length mid) copy
+array-bound old mid t element bound copy form ok copies kept =
     let parts : IsTreeBelow (length old) (tree.Array element bound) = subst (λ (x : TypeTree). IsTreeBelow (length old) x) form ok in
-    let p : bound_at mid bound ≡ bound_at old bound = bound_kept old mid bound kept parts.1 in
-    let q : type_at mid e ≡ with_cv cv (normal (tree_at old element.value)) = is ∙ ap (λ x. with_cv cv (normal (tree_at old x))) same in
-    made ∙ ap (λ x. array_of x (normal_bound (bound_at mid bound))) q ∙ ap (λ b. array_of (with_cv cv (normal (tree_at old element.value))) (normal_bound b)) p ∙ sym (ap (λ x. with_cv cv (normal (tree_at old x))) form)
+    copies.below (length mid) (bound_later (length old) (length mid) bound kept.grows parts.1)
+
+pub interned-array : (old mid new : List CxxType) (t : TypeTree) (element : Box TypeTree Global) (inner : TypeTree) (bound copy : Bound) (e : TypeId) (result : Result TypeId OutOfMemory) → t ≡ tree.Array element bound → inner ≡ element.value → IsTreeBelow (length old) t → AreNormal old → CopiesBound bound copy → Makes old mid (Ok e) (normal (tree_at old inner)) → Makes mid new result (array_of (type_at mid e.0) (bound_at mid copy)) → Makes old new result (normal (tree_at old t))
+interned-array old mid new t element inner bound copy e result form same ok each copies first last =
+    let parts : IsTreeBelow (length old) (tree.Array element bound) = subst (λ (x : TypeTree). IsTreeBelow (length old) x) form ok in
+    let p : bound_at mid copy ≡ normal_bound (bound_at old bound) = copies.at mid ∙ bound_kept old mid bound first.keeps parts.1 ∙ sym (normal_bound_fixed (bound_at old bound) (bound_normal old bound each parts.1)) in
+    let made : array_of (type_at mid e.0) (bound_at mid copy) ≡ normal (tree_at old t) =
+    ap (λ x. array_of x (bound_at mid copy)) (first.made.1 ∙ ap (λ x. normal (tree_at old x)) same) ∙ ap (array_of (normal (tree_at old element.value))) p ∙ sym (ap (λ x. normal (tree_at old x)) form) in
+    makes_same old new result (array_of (type_at mid e.0) (bound_at mid copy)) (normal (tree_at old t)) made
+    (makes_then old mid new (Ok e) result (normal (tree_at old inner)) (array_of (type_at mid e.0) (bound_at mid copy)) first last (λ graph all whole. subst (λ (x : CxxType). IsTypeInRange graph x) first.made.1 whole.0))
+
+-- ---- cv
+
+qualified-is : (old : List CxxType) (t : TypeTree) (cv : Cv) (of : Box TypeTree Global) (inner : TypeTree) → t ≡ tree.Qualified cv of → inner ≡ of.value → with_cv cv (normal (tree_at old inner)) ≡ normal (tree_at old t)
+qualified-is old t cv of inner form same = ap (λ x. with_cv cv (normal (tree_at old x))) same ∙ sym (ap (λ x. normal (tree_at old x)) form)
+
+qualified-range : (old : List CxxType) (t : TypeTree) (cv : Cv) (of : Box TypeTree Global) (inner : TypeTree) (graph : Graph) → t ≡ tree.Qualified cv of → inner ≡ of.value → IsTypeInRange graph (normal (tree_at old t)) → IsTypeInRange graph (normal (tree_at old inner))
+qualified-range old t cv of inner graph form same whole = with-cv-range graph cv (normal (tree_at old inner)) (subst (λ (x : CxxType). IsTypeInRange graph x) (sym (qualified-is old t cv of inner form same)) whole)
+
+pub interned-qualified : (old mid new : List CxxType) (t : TypeTree) (cv : Cv) (of : Box TypeTree Global) (inner : TypeTree) (n : TypeId) (result : Result TypeId OutOfMemory) → t ≡ tree.Qualified cv of → inner ≡ of.value → Makes old mid (Ok n) (normal (tree_at old inner)) → Makes mid new result (with_cv cv (type_at mid n.0)) → Makes old new result (normal (tree_at old t))
+interned-qualified old mid new t cv of inner n result form same first last =
+    let made : with_cv cv (type_at mid n.0) ≡ normal (tree_at old t) = ap (with_cv cv) first.made.1 ∙ qualified-is old t cv of inner form same in
+    makes_then old mid new (Ok n) result (normal (tree_at old inner)) (normal (tree_at old t)) first (makes_same mid new result (with_cv cv (type_at mid n.0)) (normal (tree_at old t)) made last)
+    (λ graph all whole. qualified-range old t cv of inner graph form same whole)
+
+pub stopped-qualified : (old mid : List CxxType) (t : TypeTree) (cv : Cv) (of : Box TypeTree Global) (inner : TypeTree) (first result : Result TypeId OutOfMemory) → t ≡ tree.Qualified cv of → inner ≡ of.value → Makes old mid first (normal (tree_at old inner)) → IsErr result → Makes old mid result (normal (tree_at old t))
+stopped-qualified old mid t cv of inner first result form same step stopped =
+    makes_stopped old mid first result (normal (tree_at old inner)) (normal (tree_at old t)) stopped step (λ graph all whole. qualified-range old t cv of inner graph form same whole)
+
+-- ---- a specialisation
+
+pub special-below : (old : List CxxType) (t : TypeTree) (template : TemplateId) (given list copies : List Argument) → t ≡ tree.Special template given → list ≡ given → IsTreeBelow (length old) t → CopiesArguments list copies → AreArgumentsBelow (length old) copies
+special-below old t template given list copies form same ok copied =
+    copied.below (length old) (subst (λ (xs : List Argument). AreArgumentsBelow (length old) xs) (sym same) (subst (λ (x : TypeTree). IsTreeBelow (length old) x) form ok))
+
+pub interned-special : (old new : List CxxType) (t : TypeTree) (template : TemplateId) (given list copies : List Argument) (result : Result TypeId OutOfMemory) → t ≡ tree.Special template given → list ≡ given → IsTreeBelow (length old) t → AreNormal old → CopiesArguments list copies → Makes old new result (specialisation template.0 (arguments_at old copies)) → Makes old new result (normal (tree_at old t))
+interned-special old new t template given list copies result form same ok each copied makes =
+    let below : AreArgumentsBelow (length old) given = subst (λ (x : TypeTree). IsTreeBelow (length old) x) form ok in
+    let are : arguments_at old copies ≡ normal_arguments (arguments_at old given) = copied.at old ∙ ap (arguments_at old) same ∙ sym (normal_arguments_fixed (arguments_at old given) (arguments_normal old given each below)) in
+    makes_same old new result (specialisation template.0 (arguments_at old copies)) (normal (tree_at old t)) (ap (specialisation template.0) are ∙ sym (ap (λ x. normal (tree_at old x)) form)) makes
+
+-- ---- a function
 
 pub signature-below : (count : ℕ) (t : TypeTree) (s : Box Signature Global) (inner : Signature) → t ≡ tree.Function s → inner ≡ s.value → IsTreeBelow count t → IsTreeBelow count inner.result × AreTreesBelow count inner.parameters.items
 signature-below count t s inner form same ok =
     let parts : IsTreeBelow count s.value.result × AreTreesBelow count s.value.parameters.items = function-below count s (subst (λ (x : TypeTree). IsTreeBelow count x) form ok) in
     subst (λ (x : Signature). IsTreeBelow count x.result × AreTreesBelow count x.parameters.items) (sym same) parts
 
-pub interned-function : (old new : List CxxType) (cv : Cv) (t : TypeTree) (s : Box Signature Global) (inner : Signature) (n : ℕ) → t ≡ tree.Function s → inner ≡ s.value → type_at new n ≡ function_of (normal (tree_at old inner.result)) (normal_parameters (trees_at old inner.parameters.items)) inner.ellipsis inner.cv → type_at new n ≡ with_cv cv (normal (tree_at old t))
-interned-function old new cv t s inner n form same made =
-    made
-    ∙ ap (λ (x : Signature). function_of (normal (tree_at old x.result)) (normal_parameters (trees_at old x.parameters.items)) x.ellipsis x.cv) same
-    ∙ sym (ap (λ x. with_cv cv (normal x)) (function-at old s))
-    ∙ sym (ap (λ x. with_cv cv (normal (tree_at old x))) form)
+pub interned-function : (old new : List CxxType) (t : TypeTree) (s : Box Signature Global) (inner : Signature) (result : Result TypeId OutOfMemory) → t ≡ tree.Function s → inner ≡ s.value → Makes old new result (function_of (normal (tree_at old inner.result)) (normal_parameters (trees_at old inner.parameters.items)) inner.ellipsis inner.cv) → Makes old new result (normal (tree_at old t))
+interned-function old new t s inner result form same makes =
+    makes_same old new result (function_of (normal (tree_at old inner.result)) (normal_parameters (trees_at old inner.parameters.items)) inner.ellipsis inner.cv) (normal (tree_at old t))
+    (ap (λ (x : Signature). function_of (normal (tree_at old x.result)) (normal_parameters (trees_at old x.parameters.items)) x.ellipsis x.cv) same
+    ∙ sym (ap normal (function-at old s))
+    ∙ sym (ap (λ x. normal (tree_at old x)) form))
+    makes
 
-pub interned-qualified : (old new : List CxxType) (cv own both : Cv) (t : TypeTree) (of : Box TypeTree Global) (inner : TypeTree) (n : ℕ) → t ≡ tree.Qualified own of → inner ≡ of.value → both ≡ merged cv own → type_at new n ≡ with_cv both (normal (tree_at old inner)) → type_at new n ≡ with_cv cv (normal (tree_at old t))
-interned-qualified old new cv own both t of inner n form same merges made =
-    made
-    ∙ ap (λ c. with_cv c (normal (tree_at old inner))) merges
-    ∙ ap (λ x. with_cv (merged cv own) (normal (tree_at old x))) same
-    ∙ sym (with_cv_merges cv own (normal (tree_at old of.value)) (normal_is_normal (tree_at old of.value)))
-    ∙ sym (ap (λ x. with_cv cv (normal (tree_at old x))) form)
+-- the adjusted types of the one forms
+adjusted-normal : (ts : CxxTypes) → adjusted_types (normal_types ts) ≡ normal_parameters ts
+adjusted-normal no_types = refl
+adjusted-normal (type_then t ts) = ap (type_then (adjusted (normal t))) (adjusted-normal ts)
 
--- the parameters, one after another
-more : CxxTypes → CxxType → CxxTypes
-more no_types t = type_then t no_types
-more (type_then u us) t = type_then u (more us t)
+trees-now : (old now : List CxxType) (trees : List TypeTree) → Keeps old now → AreTreesBelow (length old) trees → trees_at now trees ≡ trees_at old trees
+trees-now old now trees kept ok = trees-at-kept old now trees (λ t below. tree_kept old now t kept below) ok
 
-types-more : (types : List CxxType) (ns : List TypeId) (n : TypeId) → types_at types (ns ++ n ∷ []) ≡ more (types_at types ns) (type_at types n.0)
-unfolding more
-types-more types [] n = refl
-types-more types (m ∷ ms) n = ap (type_then (type_at types m.0)) (types-more types ms n)
+pub made-signature : (old one two new : List CxxType) (s : Signature) (r : TypeId) (ns list : List TypeId) (items : List TypeTree) (result : Result TypeId OutOfMemory) → items ≡ s.parameters.items → list ≡ ns → AreNormal old → AreTreesBelow (length old) s.parameters.items → Makes old one (Ok r) (normal (tree_at old s.result)) → MakesEach one two (Ok ns) (normal_types (trees_at one items)) → Makes two new result (function_of (type_at two r.0) (adjusted_types (types_at two list)) s.ellipsis s.cv) → Makes old new result (function_of (normal (tree_at old s.result)) (normal_parameters (trees_at old s.parameters.items)) s.ellipsis s.cv)
+made-signature old one two new s r ns list items result these same form ok first each last =
+    let of : type_at two r.0 ≡ normal (tree_at old s.result) = each.keeps.same r.0 first.made.0 ∙ first.made.1 in
+    let are : trees_at one items ≡ trees_at old s.parameters.items = ap (trees_at one) these ∙ trees-now old one s.parameters.items first.keeps ok in
+    let parameters : adjusted_types (types_at two list) ≡ normal_parameters (trees_at old s.parameters.items) =
+    ap (λ (xs : List TypeId). adjusted_types (types_at two xs)) same ∙ ap adjusted_types (each.made.1 ∙ ap normal_types are) ∙ adjusted-normal (trees_at old s.parameters.items) in
+    let whole : CxxType = function_of (normal (tree_at old s.result)) (normal_parameters (trees_at old s.parameters.items)) s.ellipsis s.cv in
+    let made : Makes two new result whole = makes_same two new result (function_of (type_at two r.0) (adjusted_types (types_at two list)) s.ellipsis s.cv) whole
+    (ap (λ t. function_of t (adjusted_types (types_at two list)) s.ellipsis s.cv) of ∙ ap (λ ts. function_of (normal (tree_at old s.result)) ts s.ellipsis s.cv) parameters)
+    last in
+    record {
+      keeps = Keeps-trans old one new first.keeps (Keeps-trans one two new each.keeps made.keeps);
+      made = made.made;
+      fits = λ graph all within.
+          made.fits graph
+          (each.fits graph (first.fits graph all within.0)
+          (subst (λ (ts : CxxTypes). AreTypesInRange graph (normal_types ts)) (sym are) (parameters-range graph old s.parameters.items all form ok within.1)))
+          within;
+    }
 
-parameters-more : (types : List CxxType) (ts : List TypeTree) (t : TypeTree) → normal_parameters (trees_at types (ts ++ t ∷ [])) ≡ more (normal_parameters (trees_at types ts)) (adjusted (normal (tree_at types t)))
-unfolding more
-parameters-more types [] t = refl
-parameters-more types (u ∷ us) t = ap (type_then (adjusted (normal (tree_at types u)))) (parameters-more types us t)
+pub stopped-signature : (old one two : List CxxType) (s : Signature) (r : TypeId) (step : Result (List TypeId) OutOfMemory) (items : List TypeTree) (result : Result TypeId OutOfMemory) → items ≡ s.parameters.items → AreNormal old → AreTreesBelow (length old) s.parameters.items → Makes old one (Ok r) (normal (tree_at old s.result)) → MakesEach one two step (normal_types (trees_at one items)) → IsErr result → Makes old two result (function_of (normal (tree_at old s.result)) (normal_parameters (trees_at old s.parameters.items)) s.ellipsis s.cv)
+stopped-signature old one two s r step items (Ok number) these form ok first each stopped = absurd (cc)
+stopped-signature old one two s r step items (Err fault) these form ok first each stopped =
+    let are : trees_at one items ≡ trees_at old s.parameters.items = ap (trees_at one) these ∙ trees-now old one s.parameters.items first.keeps ok in
+    record {
+      keeps = Keeps-trans old one two first.keeps each.keeps;
+      made = tt;
+      fits = λ graph all within. each.fits graph (first.fits graph all within.0) (subst (λ (ts : CxxTypes). AreTypesInRange graph (normal_types ts)) (sym are) (parameters-range graph old s.parameters.items all form ok within.1));
+    }
 
-below-more : (count : ℕ) (ns : List TypeId) (n : TypeId) → AreTypesBelow count ns → n.0 < count → AreTypesBelow count (ns ++ n ∷ [])
-below-more count [] n ok within = (within, tt)
-below-more count (m ∷ ms) n ok within = (ok.0, below-more count ms n ok.1 within)
+-- ---- the parameters, one after another
 
 pub tree-inside : (count : ℕ) (trees : List TypeTree) (i : ℕ) (d : TypeTree) → i < length trees → AreTreesBelow count trees → IsTreeBelow count (get_or trees i d)
 tree-inside count [] i d within ok = absurd (omega arith)
 tree-inside count (t ∷ ts) zero d within ok = ok.0
 tree-inside count (t ∷ ts) (suc i) d within ok = tree-inside count ts i d (omega arith) ok.1
 
--- The numbers are those of the first trees, as parameters.
-pub record AreInterned (old now : List CxxType) (trees : List TypeTree) (numbers : List TypeId) : Type 0 where
-  pub keeps : Keeps old now
-  pub below : AreTypesBelow (length now) numbers
-  pub is : types_at now numbers ≡ normal_parameters (trees_at old trees)
+tree-there : (count : ℕ) (trees : List TypeTree) (i : ℕ) (t : TypeTree) → i < length trees → t ≡ get_or trees i t → AreTreesBelow count trees → IsTreeBelow count t
+tree-there count trees i t within is ok = subst (λ (x : TypeTree). IsTreeBelow count x) (sym is) (tree-inside count trees i t within ok)
 
-pub none-interned : (old : List CxxType) → AreInterned old old [] []
-none-interned old = record { keeps = Keeps-refl old; below = tt; is = refl }
+pub item-below : (old now : List CxxType) (trees : List TypeTree) (i : ℕ) (t : TypeTree) → Keeps old now → i < length trees → t ≡ get_or trees i t → AreTreesBelow (length old) trees → IsTreeBelow (length now) t
+item-below old now trees i t kept within is ok = tree_later (length old) (length now) t kept.grows (tree-there (length old) trees i t within is ok)
 
-pub item-below : (old now : List CxxType) (trees : List TypeTree) (numbers : List TypeId) (some : List TypeTree) (i : ℕ) (t : TypeTree) → AreInterned old now some numbers → i < length trees → t ≡ get_or trees i t → AreTreesBelow (length old) trees → IsTreeBelow (length now) t
-item-below old now trees numbers some i t so within is ok =
-    tree_later (length old) (length now) t so.keeps.grows (subst (λ (x : TypeTree). IsTreeBelow (length old) x) (sym is) (tree-inside (length old) trees i t within ok))
+item-range : (graph : Graph) (types : List CxxType) (trees : List TypeTree) (i : ℕ) (d : TypeTree) → i < length trees → AreTypesInRange graph (normal_types (trees_at types trees)) → IsTypeInRange graph (normal (tree_at types (get_or trees i d)))
+item-range graph types [] i d within each = absurd (omega arith)
+item-range graph types (t ∷ ts) zero d within each = each.0
+item-range graph types (t ∷ ts) (suc i) d within each = item-range graph types ts i d (omega arith) each.1
 
-pub next-interned : (old now mid new : List CxxType) (trees : List TypeTree) (numbers : List TypeId) (i : ℕ) (t : TypeTree) (k n : TypeId) → AreInterned old now (take i trees) numbers → i < length trees → t ≡ get_or trees i t → AreTreesBelow (length old) trees → Keeps now mid → Keeps mid new → type_at mid k.0 ≡ normal (tree_at now t) → n.0 < length new → type_at new n.0 ≡ adjusted (type_at mid k.0) → AreInterned old new (take (i + 1) trees) (numbers ++ n ∷ [])
-next-interned old now mid new trees numbers i t k n so within is ok one two interned known made =
-    let grown : Keeps now new = Keeps-trans now mid new one two in
-    let below : IsTreeBelow (length old) t = subst (λ (x : TypeTree). IsTreeBelow (length old) x) (sym is) (tree-inside (length old) trees i t within ok) in
+tree-now : (old now : List CxxType) (trees : List TypeTree) (i : ℕ) (t : TypeTree) → Keeps old now → i < length trees → t ≡ get_or trees i t → AreTreesBelow (length old) trees → normal (tree_at now t) ≡ normal (tree_at old t)
+tree-now old now trees i t kept within is ok = ap normal (tree_kept old now t kept (tree-there (length old) trees i t within is ok))
+
+pub tree-part : (old now : List CxxType) (trees : List TypeTree) (i : ℕ) (t : TypeTree) → Keeps old now → i < length trees → t ≡ get_or trees i t → AreTreesBelow (length old) trees → (graph : Graph) → AreInRange graph old → AreTypesInRange graph (normal_types (trees_at old trees)) → IsTypeInRange graph (normal (tree_at now t))
+tree-part old now trees i t kept within is ok graph all each =
+    subst (λ (x : CxxType). IsTypeInRange graph x) (sym (tree-now old now trees i t kept within is ok ∙ ap (λ x. normal (tree_at old x)) is)) (item-range graph old trees i t within each)
+
+trees-last : (types : List CxxType) (trees : List TypeTree) (t : TypeTree) → normal_types (trees_at types (trees ++ t ∷ [])) ≡ with_last (normal_types (trees_at types trees)) (normal (tree_at types t))
+trees-last types [] t = refl
+trees-last types (u ∷ us) t = ap (type_then (normal (tree_at types u))) (trees-last types us t)
+
+pub next-interned : (old now new : List CxxType) (trees : List TypeTree) (made all : List TypeId) (i : ℕ) (t : TypeTree) (n : TypeId) → AreMadeSoFar old now made (normal_types (trees_at old (take i trees))) (normal_types (trees_at old trees)) → i < length trees → t ≡ get_or trees i t → AreTreesBelow (length old) trees → Makes now new (Ok n) (normal (tree_at now t)) → all ≡ made ++ n ∷ [] → AreMadeSoFar old new all (normal_types (trees_at old (take (i + 1) trees))) (normal_types (trees_at old trees))
+next-interned old now new trees made all i t n so within is ok makes are =
     let last : take (i + 1) trees ≡ take i trees ++ t ∷ [] = take_more trees i t within ∙ ap (λ z. take i trees ++ z ∷ []) (sym is) in
-    let type-is : type_at new n.0 ≡ adjusted (normal (tree_at old t)) = made ∙ ap adjusted (interned ∙ ap normal (tree_kept old now t so.keeps below)) in
-    let before : types_at new numbers ≡ normal_parameters (trees_at old (take i trees)) = types_kept now new numbers grown so.below ∙ so.is in
-    record {
-      keeps = Keeps-trans old now new so.keeps grown;
-      below = below-more (length new) numbers n (types_later (length now) (length new) numbers grown.grows so.below) known;
-      is =
-          types-more new numbers n ∙ ap (λ ts. more ts (type_at new n.0)) before ∙ ap (more (normal_parameters (trees_at old (take i trees)))) type-is
-          ∙ sym (parameters-more old (take i trees) t) ∙ sym (ap (λ ts. normal_parameters (trees_at old ts)) last);
-    }
-
-pub made-function : (old one two new : List CxxType) (s : Signature) (r : TypeId) (ns : List TypeId) (n : ℕ) → IsTreeBelow (length old) s.result → AreTreesBelow (length old) s.parameters.items → Keeps old one → Keeps one two → r.0 < length one → type_at one r.0 ≡ normal (tree_at old s.result) → types_at two ns ≡ normal_parameters (trees_at one s.parameters.items) → type_at new n ≡ function_of (type_at two r.0) (types_at two ns) s.ellipsis s.cv → type_at new n ≡ function_of (normal (tree_at old s.result)) (normal_parameters (trees_at old s.parameters.items)) s.ellipsis s.cv
-made-function old one two new s r ns n ok each kept kept2 known is all made =
-    let p : type_at two r.0 ≡ normal (tree_at old s.result) = kept2.same r.0 known ∙ is in
-    let q : types_at two ns ≡ normal_parameters (trees_at old s.parameters.items) = all ∙ ap normal_parameters (trees-at-kept old one s.parameters.items (λ t below. tree_kept old one t kept below) each) in
-    made ∙ ap (λ x. function_of x (types_at two ns) s.ellipsis s.cv) p ∙ ap (λ x. function_of (normal (tree_at old s.result)) x s.ellipsis s.cv) q
+    let some : normal_types (trees_at old (take (i + 1) trees)) ≡ with_last (normal_types (trees_at old (take i trees))) (normal (tree_at now t)) =
+    ap (λ (xs : List TypeTree). normal_types (trees_at old xs)) last ∙ trees-last old (take i trees) t ∙ sym (ap (with_last (normal_types (trees_at old (take i trees)))) (tree-now old now trees i t so.keeps within is ok)) in
+    one_more_made old now new made all n (normal (tree_at now t)) (normal_types (trees_at old (take i trees))) (normal_types (trees_at old (take (i + 1) trees))) (normal_types (trees_at old trees)) so makes are some (tree-part old now trees i t so.keeps within is ok)

@@ -1,7 +1,8 @@
 -- The list of types of a table, and what becomes of it when a node is added.
-use Rattle.std.specs.Prelude.{ℕ, zero, suc, ◌≡◌, ◌<◌, ◌≤◌, ◌+◌, Bool, true, false, nat_lt, if◌then◌else◌, List, [], ◌∷◌, ◌++◌, length, Some, refl, ◌⊎◌}
+use Rattle.std.specs.Prelude.{ℕ, zero, suc, ◌≡◌, ◌<◌, ◌≤◌, ◌+◌, Bool, true, false, not, nat_lt, if◌then◌else◌, List, [], ◌∷◌, ◌++◌, length, map, Some, Ok, refl, ◌⊎◌}
 use Rattle.std.specs.List.{slice_get, list_any}
 use Rattle.std.proofs.Common.{ap, sym, subst, ◌∙◌, arith, get_or, ⊎_elim, length-append, add-zero, inl, inr}
+use Rattle.std.proofs.lemmas.List.{map-append}
 use Rattle.std.proofs.Math.ListN.{get_or-append}
 use Rattle.std.proofs.Math.Seq.{get_or-append_seam}
 use Rattle.std.proofs.lemmas.Option.{slice_get-get_or}
@@ -14,7 +15,12 @@ use Rattle.cxx_model.proofs.TypeTrees.{node_kept, node_later, Keeps-refl, Keeps-
 use Rattle.std.proofs.lemmas.Bool.{ltb-true, ltb-false}
 use Rattle.indexmap.specs.IndexSet.{insert_key}
 use Rattle.cxx_model.proofs.Equal.{same_node, node_from, node_to}
-use Rattle.cxx_types.specs.Table.{types_after, types_of, AreNormal, IsTable}
+use Rattle.cxx_model.specs.declared.types.TypeId.{TypeId}
+use Rattle.cxx_model.specs.Facts.Graph.{Graph, IsTypeInRange}
+use Rattle.cxx_types.specs.Levels.{level_count}
+use Rattle.cxx_types.specs.Makes.{AreInRange, Fits, Makes}
+use Rattle.cxx_types.specs.Table.{types_after, types_of, AreNormal, AreShallow, IsTable}
+use Rattle.cxx_types.proofs.Depths.{node-shallow}
 
 -- one more type
 pub Keeps-more : (types : List CxxType) (t : CxxType) → Keeps types (types ++ t ∷ [])
@@ -63,8 +69,8 @@ node-at done (y ∷ ys) (suc j) x e ok =
     let P : ℕ → Type 0 = λ n. type_at all n ≡ type_over all x in
     subst P count (node-at more ys j x e (subst (λ (n : ℕ). IsNodeBelow n x) (sym count) ok))
 
-pub type-of-node : (nodes : List TypeNode) (j : ℕ) (x : TypeNode) → IsTable nodes → slice_get nodes j ≡ Some x → type_at (types_of nodes) j ≡ type_over (types_of nodes) x
-type-of-node nodes j x table e =
+pub type-of-node : (nodes : List TypeNode) (counts : List ℕ) (j : ℕ) (x : TypeNode) → IsTable nodes counts → slice_get nodes j ≡ Some x → type_at (types_of nodes) j ≡ type_over (types_of nodes) x
+type-of-node nodes counts j x table e =
     let zeroed : 0 + j ≡ j = omega arith in
     let P : ℕ → Type 0 = λ n. type_at (types_of nodes) n ≡ type_over (types_of nodes) x in
     subst P zeroed (node-at [] nodes j x e (subst (λ (n : ℕ). IsNodeBelow n x) (sym zeroed) (table.below j x e)))
@@ -84,7 +90,7 @@ below-or-last i n h = by (nat_lt i n) refl
     by false e = inr (let g : n ≤ i = ltb-false i n e in omega arith)
 
 -- a node that is not yet there
-module _ (nodes : List TypeNode) (x : TypeNode) (table : IsTable nodes) (ok : IsNodeBelow (length (types_of nodes)) x) (form : IsNormal (type_over (types_of nodes) x)) (absent : list_any (same_node x) nodes ≡ false) where
+module _ (nodes : List TypeNode) (counts : List ℕ) (x : TypeNode) (table : IsTable nodes counts) (ok : IsNodeBelow (length (types_of nodes)) x) (form : IsNormal (type_over (types_of nodes) x)) (absent : list_any (same_node x) nodes ≡ false) where
   abbrev old : List CxxType
   old = types_of nodes
 
@@ -109,7 +115,7 @@ module _ (nodes : List TypeNode) (x : TypeNode) (table : IsTable nodes) (ok : Is
       let inside : j < length nodes = omega (arith, length-types nodes) in
       let node : TypeNode = get_or nodes j x in
       let there : slice_get nodes j ≡ Some node = slice_get-get_or nodes j x inside in
-      let is : type_at old j ≡ type_over old node = type-of-node nodes j node table there in
+      let is : type_at old j ≡ type_over old node = type-of-node nodes counts j node table there in
       let below : IsNodeBelow (length old) node = node_later j (length old) node (omega arith) (table.below j node there) in
       let same : same_node x node ≡ true = node_to old x node table.apart ok below (e ∙ is) in
       let any : list_any (same_node x) nodes ≡ true = list_any_at (same_node x) nodes j x inside same in
@@ -143,16 +149,41 @@ module _ (nodes : List TypeNode) (x : TypeNode) (table : IsTable nodes) (ok : Is
       by (inl p) = table.below i y p
       by (inr p) = subst (λ (n : TypeNode). IsNodeBelow i n) p.1 (subst (λ (n : ℕ). IsNodeBelow n x) (length-types nodes ∙ sym p.0) ok)
 
-  table-more : IsTable (nodes ++ x ∷ [])
-  table-more = record { below = below-more; apart = apart-more; normal = normal-more }
+  shallow-last : level_count (type_over old x) ≤ length old
+  shallow-last = node-shallow old (length old) x ok table.shallow
+
+  shallow-more : AreShallow new
+  shallow-more i p =
+      let P : i < length old + 1 = omega (arith, count) in
+      by (below-or-last i (length old) P)
+    where
+      by : (i < length old) ⊎ (i ≡ length old) → level_count (type_at new i) ≤ i
+      by (inl a) = subst (λ (t : CxxType). level_count t ≤ i) (sym (kept.same i a)) (table.shallow i a)
+      by (inr a) = subst (λ (n : ℕ). level_count (type_at new n) ≤ n) (sym a) (subst (λ (t : CxxType). level_count t ≤ length old) (sym last) shallow-last)
+
+  table-more : IsTable (nodes ++ x ∷ []) (counts ++ level_count (type_over old x) ∷ [])
+  table-more = record {
+    below = below-more;
+    apart = apart-more;
+    normal = normal-more;
+    shallow = shallow-more;
+    leveled = ap (λ (cs : List ℕ). cs ++ level_count (type_over old x) ∷ []) table.leveled ∙ sym (map-append level_count old (type_over old x ∷ [])) ∙ ap (map level_count) (sym new-is);
+  }
 
 -- a node that may be there
-pub table-insert : (nodes : List TypeNode) (x : TypeNode) → IsTable nodes → IsNodeBelow (length (types_of nodes)) x → IsNormal (type_over (types_of nodes) x) → IsTable (insert_key same_node nodes x)
-table-insert nodes x table ok form = by (list_any (same_node x) nodes) refl
+pub table-stays : (nodes : List TypeNode) (counts : List ℕ) (x : TypeNode) (new : Bool) → IsTable nodes counts → new ≡ not (list_any (same_node x) nodes) → new ≡ false → IsTable (insert_key same_node nodes x) counts
+table-stays nodes counts x new table is told = by (list_any (same_node x) nodes) refl
   where
-    by : (b : Bool) → list_any (same_node x) nodes ≡ b → IsTable (if b then nodes else nodes ++ x ∷ [])
+    by : (b : Bool) → list_any (same_node x) nodes ≡ b → IsTable (if b then nodes else nodes ++ x ∷ []) counts
     by true e = table
-    by false e = table-more nodes x table ok form e
+    by false e = (let wrong : false ≡ true = sym told ∙ is ∙ ap not e in cc)
+
+pub table-grows : (nodes : List TypeNode) (counts : List ℕ) (x : TypeNode) (new : Bool) → IsTable nodes counts → IsNodeBelow (length (types_of nodes)) x → IsNormal (type_over (types_of nodes) x) → new ≡ not (list_any (same_node x) nodes) → new ≡ true → IsTable (insert_key same_node nodes x) (counts ++ level_count (type_over (types_of nodes) x) ∷ [])
+table-grows nodes counts x new table ok form is told = by (list_any (same_node x) nodes) refl
+  where
+    by : (b : Bool) → list_any (same_node x) nodes ≡ b → IsTable (if b then nodes else nodes ++ x ∷ []) (counts ++ level_count (type_over (types_of nodes) x) ∷ [])
+    by true e = (let wrong : true ≡ false = sym told ∙ is ∙ ap not e in cc)
+    by false e = table-more nodes counts x table ok form e
 
 pub Keeps-insert : (nodes : List TypeNode) (x : TypeNode) → Keeps (types_of nodes) (types_of (insert_key same_node nodes x))
 Keeps-insert nodes x = by (list_any (same_node x) nodes)
@@ -161,7 +192,35 @@ Keeps-insert nodes x = by (list_any (same_node x) nodes)
     by true = Keeps-refl (types_of nodes)
     by false = subst (λ (ts : List CxxType). Keeps (types_of nodes) ts) (sym (after-more [] nodes x)) (Keeps-more (types_of nodes) (type_over (types_of nodes) x))
 
+Fits-more : (types : List CxxType) (t : CxxType) → Fits types (types ++ t ∷ []) t
+Fits-more types t graph all last i within =
+    let less : i < length types + 1 = omega (arith, length-append types (t ∷ [])) in
+    by (below-or-last i (length types) less)
+  where
+    by : (i < length types) ⊎ (i ≡ length types) → IsTypeInRange graph (type_at (types ++ t ∷ []) i)
+    by (inl a) = subst (λ (u : CxxType). IsTypeInRange graph u) (sym ((Keeps-more types t).same i a)) (all i a)
+    by (inr a) = subst (λ (n : ℕ). IsTypeInRange graph (type_at (types ++ t ∷ []) n)) (sym a) (subst (λ (u : CxxType). IsTypeInRange graph u) (sym (get_or-append_seam types t [] (fundamental Void))) last)
+
+pub Fits-insert : (nodes : List TypeNode) (x : TypeNode) → Fits (types_of nodes) (types_of (insert_key same_node nodes x)) (type_over (types_of nodes) x)
+Fits-insert nodes x = by (list_any (same_node x) nodes)
+  where
+    by : (b : Bool) → Fits (types_of nodes) (types_of (if b then nodes else nodes ++ x ∷ [])) (type_over (types_of nodes) x)
+    by true = λ graph all last. all
+    by false = subst (λ (ts : List CxxType). Fits (types_of nodes) ts (type_over (types_of nodes) x)) (sym (after-more [] nodes x)) (Fits-more (types_of nodes) (type_over (types_of nodes) x))
+
 -- the type of the number that a node has
-pub type-of-stored : (old : List CxxType) (nodes : List TypeNode) (x stored : TypeNode) (i : ℕ) → IsTable nodes → Keeps old (types_of nodes) → IsNodeBelow (length old) x → slice_get nodes i ≡ Some stored → same_node x stored ≡ true → type_at (types_of nodes) i ≡ type_over old x
-type-of-stored old nodes x stored i table kept ok e same =
-    type-of-node nodes i stored table e ∙ sym (node_from (types_of nodes) x stored same) ∙ node_kept old (types_of nodes) x kept ok
+pub type-of-stored : (old : List CxxType) (nodes : List TypeNode) (counts : List ℕ) (x stored : TypeNode) (i : ℕ) → IsTable nodes counts → Keeps old (types_of nodes) → IsNodeBelow (length old) x → slice_get nodes i ≡ Some stored → same_node x stored ≡ true → type_at (types_of nodes) i ≡ type_over old x
+type-of-stored old nodes counts x stored i table kept ok e same =
+    type-of-node nodes counts i stored table e ∙ sym (node_from (types_of nodes) x stored same) ∙ node_kept old (types_of nodes) x kept ok
+
+-- what a table is once a node was inserted
+pub made-by-insert : (old : List CxxType) (nodes keys : List TypeNode) (counts : List ℕ) (x stored : TypeNode) (i : ℕ) → types_of nodes ≡ old → keys ≡ insert_key same_node nodes x → IsTable keys counts → IsNodeBelow (length old) x → slice_get keys i ≡ Some stored → same_node x stored ≡ true → i < length keys → Makes old (types_of keys) (Ok (record { 0 = i })) (type_over old x)
+made-by-insert old nodes keys counts x stored i view are table ok there same within =
+    let P : List TypeNode → List CxxType → Type 0 = λ ks types. Keeps types (types_of ks) in
+    let Q : List TypeNode → List CxxType → Type 0 = λ ks types. Fits types (types_of ks) (type_over types x) in
+    let kept : Keeps old (types_of keys) = subst (λ (types : List CxxType). P keys types) view (subst (λ (ks : List TypeNode). P ks (types_of nodes)) (sym are) (Keeps-insert nodes x)) in
+    record {
+      keeps = kept;
+      made = (omega (arith, length-types keys), type-of-stored old keys counts x stored i table kept ok there same);
+      fits = subst (λ (types : List CxxType). Q keys types) view (subst (λ (ks : List TypeNode). Q ks (types_of nodes)) (sym are) (Fits-insert nodes x));
+    }

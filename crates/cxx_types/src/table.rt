@@ -1,6 +1,9 @@
-ghost use Rattle.std.specs.Prelude.{◌≡◌, ◌<◌, [], length, IfOk, IsTrue, ◌↔◌};
+ghost use Rattle.std.specs.Prelude.{◌≡◌, ◌<◌, ◌≤◌, ◌+◌, ◌^◌, [], length, max, IsTrue, ◌↔◌};
+ghost use Rattle.cxx_model.specs.Types.Same.{same_type};
 ghost use Rattle.cxx_model.specs.Types.Trees.{IsNormal};
-ghost use Rattle.cxx_model.specs.Types.Numbers.{type_at, type_over, IsNodeBelow, Keeps};
+ghost use Rattle.cxx_model.specs.Types.Numbers.{type_at, types_at, type_over, AreTypesBelow, IsNodeBelow};
+ghost use Rattle.cxx_types.specs.Levels.{level_count, level_counts};
+ghost use Rattle.cxx_types.specs.Makes.{Makes};
 
 use cxx_model::{OutOfMemory, TypeId, TypeNode};
 use indexmap::IndexSet;
@@ -11,6 +14,8 @@ use std::marker::Model;
 #[derive(Drop)]
 pub struct TypeTable {
     pub(crate) nodes: IndexSet<TypeNode>,
+    // The levels of each type.
+    level_counts: Vec<u64>,
     alloc: Global,
 }
 
@@ -28,7 +33,7 @@ impl Model for TypeTable {
 
     ghost view = { λ table. types_of table.nodes.keys };
 
-    ghost invariant = { λ table. IsTable table.nodes.keys };
+    ghost invariant = { λ table. IsTable table.nodes.keys table.level_counts.items };
 }
 
 impl TypeTable {
@@ -40,6 +45,7 @@ impl TypeTable {
     {
         TypeTable {
             nodes: IndexSet::new(alloc),
+            level_counts: Vec::new(alloc),
             alloc,
         }
     }
@@ -54,10 +60,22 @@ impl TypeTable {
         self.nodes.get_index(number.0 as usize).unwrap()
     }
 
+    /// The pointers, references, arrays, functions and nested names on the longest way down a type.
+    pub fn levels(&self, number: TypeId) -> u64
+        requires { number.0 < length self.now }
+        ensures is { result ≡ level_count (type_at self.now number.0) }
+        ensures small { result + 1 < 2 ^ 64 }
+    {
+        // There are fewer types than numbers of type `u64`.
+        let _ = self.level_counts.len();
+        self.level_counts[number.0 as usize]
+    }
+
     /// Whether two types are the same.
     pub fn same(&self, one: TypeId, two: TypeId) -> bool
         requires one_known { one.0 < length self.now }
         requires two_known { two.0 < length self.now }
+        ensures is { result ≡ same_type (type_at self.now one.0) (type_at self.now two.0) }
         ensures types { IsTrue result ↔ (type_at self.now one.0 ≡ type_at self.now two.0) }
         ensures numbers { IsTrue result ↔ (one ≡ two) }
     {
@@ -76,15 +94,55 @@ impl TypeTable {
         self.alloc
     }
 
-    // The number of a type whose parts stand in the table.
+    // The number of a type in the one form whose parts stand in the table.
     pub(crate) fn insert(&mut self, node: TypeNode) -> Result<TypeId, OutOfMemory>
         requires below { IsNodeBelow (length self.old) node }
         requires normal { AreNormal self.old → IsNormal (type_over self.old node) }
-        ensures keeps { Keeps self.old self.new }
-        ensures known { IfOk result (λ number. number.0 < length self.new) }
-        ensures is { IfOk result (λ number. type_at self.new number.0 ≡ type_over self.old node) }
+        ensures { Makes self.old self.new result (type_over self.old node) }
     {
-        let (index, _) = self.nodes.insert_full(node)?;
+        let levels = self.levels_over(&node);
+        self.level_counts.reserve(1)?;
+        let (index, is_new) = self.nodes.insert_full(node)?;
+        if is_new {
+            self.level_counts.push(levels)?;
+        }
         Ok(TypeId(index as u64))
+    }
+
+    // The most levels of some types.
+    fn most_levels(&self, numbers: &[TypeId]) -> u64
+        requires { AreTypesBelow (length self.now) numbers.now }
+        ensures is { result ≡ level_counts (types_at self.now numbers.now) }
+        ensures small { result + 1 < 2 ^ 64 }
+    {
+        let mut most = 0;
+        for number in numbers {
+            most = most.max(self.levels(*number));
+        }
+        most
+    }
+
+    // The levels of a type whose parts stand in the table.
+    fn levels_over(&self, node: &TypeNode) -> u64
+        requires { IsNodeBelow (length self.now) node.now }
+        ensures { result ≡ level_count (type_over self.now node.now) }
+    {
+        match node {
+            TypeNode::Pointer(of) => self.levels(*of) + 1,
+            TypeNode::Reference(of) => self.levels(*of) + 1,
+            TypeNode::Array(element, _) => self.levels(*element) + 1,
+            TypeNode::Function {
+                result,
+                parameters,
+                ..
+            } => {
+                self.levels(*result)
+                    .max(self.most_levels(parameters.as_slice()))
+                    + 1
+            }
+            TypeNode::Qualified(_, of) => self.levels(*of),
+            TypeNode::Nested(of, _) => self.levels(*of) + 1,
+            _ => 0,
+        }
     }
 }

@@ -1,6 +1,6 @@
 -- A fault of a unit with a text of the choice comes from a call in the initializer of an object, and one that names what is
 -- not declared comes from a name there.
-use Rattle.std.proofs.Common.{◌≡◌, ℕ, zero, suc, Bool, true, false, cond, not, ◌&&◌, List, [], ◌∷◌, ◌++◌, Option, Some, None, Ok, Err, codes, refl, sym, ap, subst, ◌∙◌, inl, inr, get_or, eqb, eq-eqb, drop}
+use Rattle.std.proofs.Common.{◌≡◌, ℕ, zero, suc, Bool, true, false, cond, not, ◌&&◌, List, [], ◌∷◌, ◌++◌, Option, Some, None, Ok, Err, refl, sym, ap, subst, ◌∙◌, inl, inr}
 use Rattle.std.specs.List.{Contains}
 use Rattle.cxx_model.specs.declared.base.Base.{Base}
 use Rattle.cxx_model.specs.declared.first.Argument.{Argument}
@@ -13,6 +13,8 @@ use Rattle.cxx_model.specs.declared.first.Reading.{Reading}
 use Rattle.cxx_model.specs.declared.keyword.TheConstants as keyword
 use Rattle.cxx_model.specs.declared.limits.TheConstants as limits
 use Rattle.cxx_model.specs.declared.options.Options.{Options}
+use Rattle.cxx_model.specs.declared.fault.FaultText.{FaultText}
+use Rattle.cxx_model.specs.declared.fault.FaultText.TheVariants as says
 use Rattle.cxx_model.specs.declared.place.Place.{Place}
 use Rattle.cxx_model.specs.declared.punct.TheConstants as punct
 use Rattle.cxx_model.specs.declared.stop.Fault.{Fault}
@@ -20,13 +22,12 @@ use Rattle.cxx_model.specs.declared.stop.LimitKind.{LimitKind}
 use Rattle.cxx_model.specs.declared.stop.LimitKind.TheVariants.{Facts, Arguments, Nesting}
 use Rattle.cxx_model.specs.declared.token.TokenKind.{TokenKind}
 use Rattle.cxx_model.specs.declared.token.TokenReason.{TokenReason}
-use Rattle.cxx_model.specs.declared.token.TokenReason.TheVariants as reason
 use Rattle.cxx_model.specs.First.Candidates.{is_declared, call_of, types_of}
 use Rattle.cxx_model.specs.First.Reading.{is_punct, is_keyword, is_name, is_literal, is_end, is_some_base, type_of_kind, type_by, name_by, literal_by, literal_at, argument_by, argument_opened, arguments_opened, begins_argument, cast_argument, behind, punct_at, type_at, name_at, put_first, more_at, list_at, begins_type, misplaced, cast_at, call_at, cast_initializer, begins_call, initializer_by, initializer_opened, initializer_at, has_clash, added, declare, with_function, with_object, function_at, object_at, item_at, items_at, empty, reading_of}
 use Rattle.cxx_model.specs.First.Told.{IsUndeclared, IsQuestionFault, NoViableFunction, AmbiguousCall, UndeclaredCall, ObjectCall, IsChoiceText, ReadsTo, none_more, one_more, IsInCasts, no_cast, one_cast, IsCallFault, with_own, StopsInObject, before_initializer, IsToldFault, IsUndeclaredName, IsUndeclaredFault}
 use Rattle.cxx_model.specs.Text.Lexemes.{Lexeme, kind_of, place_of, spelling_ahead}
 use Rattle.cxx_model.specs.Text.Spelling.{literal_type}
-use Rattle.cxx_model.specs.Stops.{Answer, Reads, Stopped, Faulty, Limited, ◌>>=◌, not_built_at, undeclared_at, unread, token_reason_text}
+use Rattle.cxx_model.specs.Stops.{Answer, Reads, Stopped, Faulty, Limited, ◌>>=◌, not_built_at, undeclared_at, unread}
 use Rattle.cxx_model.proofs.Answers.{stopped}
 use Rattle.cxx_model.proofs.Champion.{first_of, later_of}
 use Rattle.cxx_model.proofs.FirstForm.CallFaults.{undeclared_is, call_fault_is_told}
@@ -39,14 +40,14 @@ Only P r = (f : Fault) → r ≡ Err (Faulty f) → P f
 
 -- it is known of every form that is not built
 abbrev NoForm : (Fault → Type 0) → Type 0
-NoForm P = (place : Place) → P (record { place = place; text = codes "not built"; evidence = [] })
+NoForm P = (place : Place) → P (record { place = place; text = says.NotBuilt; evidence = [] })
 
 -- what is known of the faults with these texts
-abbrev When : (List ℕ → Type 0) → (Fault → Type 0) → Fault → Type 0
+abbrev When : (FaultText → Type 0) → (Fault → Type 0) → Fault → Type 0
 When T P f = T f.text → P f
 
 -- where no such text says that a form is not built
-no_form_when : (T : List ℕ → Type 0) (P : Fault → Type 0) → (T (codes "not built") → ⊥) → NoForm (When T P)
+no_form_when : (T : FaultText → Type 0) (P : Fault → Type 0) → (T says.NotBuilt → ⊥) → NoForm (When T P)
 no_form_when T P other place text = absurd (other text)
 
 value_only : {A : Type 0} (P : Fault → Type 0) (x : A) → Only P (Ok x)
@@ -61,65 +62,29 @@ fault_is one two e = cc
 fault_only : {A : Type 0} (P : Fault → Type 0) (one : Fault) → P one → Only {A = A} P (Err (Faulty one))
 fault_only {A} P one known f e = subst (λ (g : Fault). P g) (fault_is {A = A} one f e) known
 
--- two texts that differ in a byte
-other_byte : (k m n : ℕ) (one two : List ℕ) → get_or one k 0 ≡ m → get_or two k 0 ≡ n → eqb m n ≡ false → one ≡ two → ⊥
-other_byte k m n one two is other differs e =
-    let same : m ≡ n = sym is ∙ ap (λ text. get_or text k 0) e ∙ other in
-    absurd (cc (eq-eqb m n same, differs))
+no_form_text : IsChoiceText says.NotBuilt → ⊥
+no_form_text (inl e) = absurd cc
+no_form_text (inr e) = absurd cc
 
-by_first : (m : ℕ) (text : List ℕ) → get_or text 0 0 ≡ m → eqb m 110 ≡ false → eqb m 97 ≡ false → IsChoiceText text → ⊥
-by_first m text is no_n no_a (inl e) = other_byte 0 m 110 text (codes "no viable function") is refl no_n e
-by_first m text is no_n no_a (inr e) = other_byte 0 m 97 text (codes "ambiguous call") is refl no_a e
-
-built_text : IsChoiceText (codes "not built") → ⊥
-built_text (inl e) = other_byte 2 116 32 (codes "not built") (codes "no viable function") refl refl refl e
-built_text (inr e) = other_byte 0 110 97 (codes "not built") (codes "ambiguous call") refl refl refl e
-
-name_text : (word : List ℕ) → IsChoiceText (codes "undeclared name " ++ word) → ⊥
-name_text word = by_first 117 (codes "undeclared name " ++ word) refl refl refl
-
-large_text : IsChoiceText (codes "number too large") → ⊥
-large_text (inl e) = other_byte 1 117 111 (codes "number too large") (codes "no viable function") refl refl refl e
-large_text (inr e) = other_byte 0 110 97 (codes "number too large") (codes "ambiguous call") refl refl refl e
+name_text : (word : List ℕ) → IsChoiceText (says.UndeclaredName word) → ⊥
+name_text word (inl e) = absurd cc
+name_text word (inr e) = absurd cc
 
 -- no bad token has such a text
-pub token_text : (why : TokenReason) → IsChoiceText (token_reason_text why) → ⊥
-token_text reason.StrayByte = by_first 115 (codes "stray byte") refl refl refl
-token_text reason.UnfinishedComment = by_first 117 (codes "unfinished comment") refl refl refl
-token_text reason.UnfinishedLiteral = by_first 117 (codes "unfinished literal") refl refl refl
-token_text reason.BadEscape = by_first 98 (codes "bad escape") refl refl refl
-token_text reason.BadNumber = by_first 98 (codes "bad number") refl refl refl
-token_text reason.NumberTooLarge = large_text
-token_text reason.Directive = by_first 100 (codes "directive") refl refl refl
-token_text reason.MixedStrings = by_first 109 (codes "mixed strings") refl refl refl
-token_text reason.FloatingLiteral = by_first 108 (codes "left out: floating literal") refl refl refl
-token_text reason.MultiCharacter = by_first 108 (codes "left out: multi-character literal") refl refl refl
-token_text reason.UniversalName = by_first 108 (codes "left out: universal character name") refl refl refl
+pub token_text : (why : TokenReason) → IsChoiceText (says.BadToken why) → ⊥
+token_text why (inl e) = absurd cc
+token_text why (inr e) = absurd cc
 
 -- a text that names this word as not declared
-abbrev pub IsNameText : List ℕ → List ℕ → Type 0
-IsNameText word text = text ≡ codes "undeclared name " ++ word
+abbrev pub IsNameText : List ℕ → FaultText → Type 0
+IsNameText word text = text ≡ says.UndeclaredName word
 
-by_other_first : (m : ℕ) (text word : List ℕ) → get_or text 0 0 ≡ m → eqb m 117 ≡ false → IsNameText word text → ⊥
-by_other_first m text word is no_u e = other_byte 0 m 117 text (codes "undeclared name " ++ word) is refl no_u e
-
--- the word is what stands behind the first 16 bytes
-same_name : (one two : List ℕ) → IsNameText two (codes "undeclared name " ++ one) → one ≡ two
-same_name one two e = ap (λ (text : List ℕ). drop 16 text) e
+same_name : (one two : List ℕ) → IsNameText two (says.UndeclaredName one) → one ≡ two
+same_name one two e = cc
 
 -- no bad token has such a text
-pub token_name_text : (word : List ℕ) (why : TokenReason) → IsNameText word (token_reason_text why) → ⊥
-token_name_text word reason.StrayByte = by_other_first 115 (codes "stray byte") word refl refl
-token_name_text word reason.UnfinishedComment = other_byte 2 102 100 (codes "unfinished comment") (codes "undeclared name " ++ word) refl refl refl
-token_name_text word reason.UnfinishedLiteral = other_byte 2 102 100 (codes "unfinished literal") (codes "undeclared name " ++ word) refl refl refl
-token_name_text word reason.BadEscape = by_other_first 98 (codes "bad escape") word refl refl
-token_name_text word reason.BadNumber = by_other_first 98 (codes "bad number") word refl refl
-token_name_text word reason.NumberTooLarge = by_other_first 110 (codes "number too large") word refl refl
-token_name_text word reason.Directive = by_other_first 100 (codes "directive") word refl refl
-token_name_text word reason.MixedStrings = by_other_first 109 (codes "mixed strings") word refl refl
-token_name_text word reason.FloatingLiteral = by_other_first 108 (codes "left out: floating literal") word refl refl
-token_name_text word reason.MultiCharacter = by_other_first 108 (codes "left out: multi-character literal") word refl refl
-token_name_text word reason.UniversalName = by_other_first 108 (codes "left out: universal character name") word refl refl
+pub token_name_text : (word : List ℕ) (why : TokenReason) → IsNameText word (says.BadToken why) → ⊥
+token_name_text word why e = absurd cc
 
 -- ---- steps
 
@@ -208,7 +173,7 @@ list_only P element begins all ahead w leaves each =
 
 -- it is known of each name among these tokens that is not declared
 abbrev NoName : (Fault → Type 0) → List Declaration → List Lexeme → Type 0
-NoName P before all = (ls : List Lexeme) → Within all ls → is_name (kind_of ls) ≡ true → is_declared before (spelling_ahead ls) ≡ false → P (record { place = place_of ls; text = codes "undeclared name " ++ spelling_ahead ls; evidence = [] })
+NoName P before all = (ls : List Lexeme) → Within all ls → is_name (kind_of ls) ≡ true → is_declared before (spelling_ahead ls) ≡ false → P (record { place = place_of ls; text = says.UndeclaredName (spelling_ahead ls); evidence = [] })
 
 not_true : (b : Bool) → not b ≡ true → b ≡ false
 not_true true e = absurd cc
@@ -343,13 +308,13 @@ record CallRead (before : List Declaration) (room : ℕ) (ahead : List Lexeme) :
 
 -- What is to be known of each fault with such a text follows from a name that is not declared, and from a call whose
 -- function is not found. A form that is not built has no such text.
-record Follows (T : List ℕ → Type 0) (Q : List Declaration → List Lexeme → Fault → Type 0) : Type 0 where
-  no_form : T (codes "not built") → ⊥
+record Follows (T : FaultText → Type 0) (Q : List Declaration → List Lexeme → Fault → Type 0) : Type 0 where
+  no_form : T says.NotBuilt → ⊥
   of_name : (before : List Declaration) (all : List Lexeme) → NoName (When T (Q before all)) before all
   of_call : (before : List Declaration) (room : ℕ) (ahead : List Lexeme) (call : CallRead before room ahead) (f : Fault) → call_of before call.name.0.place call.name.0.spelling call.arguments.0 ≡ Err (Faulty f) → When T (Q before ahead) f
   in_cast : (before : List Declaration) (ahead opened : List Lexeme) (f : Fault) → is_keyword keyword.STATIC_CAST (kind_of ahead) ≡ true → CastFront (behind ahead) opened → Q before opened f → Q before ahead f
 
-call_only : (T : List ℕ → Type 0) (Q : List Declaration → List Lexeme → Fault → Type 0) (how : Follows T Q) (before : List Declaration) (room : ℕ) (ahead : List Lexeme) → Only (When T (Q before ahead)) (call_at before room ahead)
+call_only : (T : FaultText → Type 0) (Q : List Declaration → List Lexeme → Fault → Type 0) (how : Follows T Q) (before : List Declaration) (room : ℕ) (ahead : List Lexeme) → Only (When T (Q before ahead)) (call_at before room ahead)
 unfolding call_at
 call_only T Q how before room ahead =
     let P : Fault → Type 0 = When T (Q before ahead) in
@@ -368,7 +333,7 @@ call_only T Q how before room ahead =
         let a = name_taken ahead name is_name_ahead in
         taken_within ahead name.1 opened (punct_taken punct.LEFT_PARENTHESIS name.1 opened is_opened).1 (λ l m. subst (λ (ls : List Lexeme). Contains ls l) (sym a.1) (later_of name.0 name.1 l m))
 
-initializer_by_only : (T : List ℕ → Type 0) (Q : List Declaration → List Lexeme → Fault → Type 0) (how : Follows T Q) (before : List Declaration) (inside : List Lexeme → Reads (Initializer × Call)) (room : ℕ) (ahead : List Lexeme)
+initializer_by_only : (T : FaultText → Type 0) (Q : List Declaration → List Lexeme → Fault → Type 0) (how : Follows T Q) (before : List Declaration) (inside : List Lexeme → Reads (Initializer × Call)) (room : ℕ) (ahead : List Lexeme)
     → ((opened : List Lexeme) → Only (When T (Q before opened)) (inside opened)) → Only (When T (Q before ahead)) (initializer_by before inside room ahead)
 unfolding initializer_by
 initializer_by_only T Q how before inside room ahead each =
@@ -379,12 +344,12 @@ initializer_by_only T Q how before inside room ahead each =
     (λ is_cast. cast_only P unbuilt cast_initializer inside ahead (λ opened front f e text. how.in_cast before ahead opened f is_cast front (each opened f e text)))
     (λ b. misplaced_only P unbuilt before ahead ahead (λ l m. m) (how.of_name before ahead)))
 
-initializer_opened_only : (T : List ℕ → Type 0) (Q : List Declaration → List Lexeme → Fault → Type 0) (how : Follows T Q) (before : List Declaration) (room : ℕ) (ahead : List Lexeme) → Only (When T (Q before ahead)) (initializer_opened before room ahead)
+initializer_opened_only : (T : FaultText → Type 0) (Q : List Declaration → List Lexeme → Fault → Type 0) (how : Follows T Q) (before : List Declaration) (room : ℕ) (ahead : List Lexeme) → Only (When T (Q before ahead)) (initializer_opened before room ahead)
 unfolding initializer_opened
 initializer_opened_only T Q how before zero ahead = limit_only (When T (Q before ahead)) Nesting
 initializer_opened_only T Q how before (suc room) ahead = initializer_by_only T Q how before (initializer_opened before room) room ahead (initializer_opened_only T Q how before room)
 
-initializer_only : (T : List ℕ → Type 0) (Q : List Declaration → List Lexeme → Fault → Type 0) (how : Follows T Q) (before : List Declaration) (ahead : List Lexeme) → Only (When T (Q before ahead)) (initializer_at before ahead)
+initializer_only : (T : FaultText → Type 0) (Q : List Declaration → List Lexeme → Fault → Type 0) (how : Follows T Q) (before : List Declaration) (ahead : List Lexeme) → Only (When T (Q before ahead)) (initializer_at before ahead)
 unfolding initializer_at
 initializer_only T Q how before ahead = initializer_by_only T Q how before (initializer_opened before limits.MOST_NESTING) limits.MOST_NESTING ahead (initializer_opened_only T Q how before limits.MOST_NESTING)
 
@@ -426,7 +391,7 @@ initializer_here Q room so_far declared of name ahead init f is_declared is_equa
     let t = punct_front punct.EQUALS ahead init is_equals in
     record { equals = t.0; init = init; begins = t.2; is_equals = t.1; is = subst (λ (ds : List Declaration). Q ds init f) own is }
 
-object_only : (T : List ℕ → Type 0) (Q : List Declaration → List Lexeme → Fault → Type 0) (how : Follows T Q) (room : ℕ) (so_far : Reading) (of : Base) (name : Lexeme) (ahead : List Lexeme)
+object_only : (T : FaultText → Type 0) (Q : List Declaration → List Lexeme → Fault → Type 0) (how : Follows T Q) (room : ℕ) (so_far : Reading) (of : Base) (name : Lexeme) (ahead : List Lexeme)
     → Only (When T (IsInitializerFault Q (with_own so_far.declarations of name) ahead)) (object_at room so_far of name ahead)
 unfolding object_at
 object_only T Q how room so_far of name ahead =
@@ -445,7 +410,7 @@ record IsObjectFault (Q : List Declaration → List Lexeme → Fault → Type 0)
   names : name_at of.1 ≡ Ok name
   is : IsInitializerFault Q (with_own so_far.declarations of.0 name.0) name.1 f
 
-item_only : (T : List ℕ → Type 0) (Q : List Declaration → List Lexeme → Fault → Type 0) (how : Follows T Q) (room : ℕ) (so_far : Reading) (ahead : List Lexeme) → Only (When T (IsObjectFault Q so_far ahead)) (item_at room so_far ahead)
+item_only : (T : FaultText → Type 0) (Q : List Declaration → List Lexeme → Fault → Type 0) (how : Follows T Q) (room : ℕ) (so_far : Reading) (ahead : List Lexeme) → Only (When T (IsObjectFault Q so_far ahead)) (item_at room so_far ahead)
 unfolding item_at
 item_only T Q how room so_far ahead =
     let P : Fault → Type 0 = When T (IsObjectFault Q so_far ahead) in
@@ -468,7 +433,7 @@ record IsFaultFrom (Q : List Declaration → List Lexeme → Fault → Type 0) (
   stops : item_at left after rest ≡ Err (Faulty f)
   object : IsObjectFault Q after rest f
 
-fault_here : (T : List ℕ → Type 0) (Q : List Declaration → List Lexeme → Fault → Type 0) (how : Follows T Q) (room : ℕ) (so_far : Reading) (ahead : List Lexeme) → is_end (kind_of ahead) ≡ false → Only (When T (IsFaultFrom Q room so_far ahead)) (item_at room so_far ahead)
+fault_here : (T : FaultText → Type 0) (Q : List Declaration → List Lexeme → Fault → Type 0) (how : Follows T Q) (room : ℕ) (so_far : Reading) (ahead : List Lexeme) → is_end (kind_of ahead) ≡ false → Only (When T (IsFaultFrom Q room so_far ahead)) (item_at room so_far ahead)
 fault_here T Q how room so_far ahead goes_on f e text = record {
   left = room;
   after = so_far;
@@ -490,7 +455,7 @@ fault_later Q room so_far ahead item f goes_on is later = record {
   object = later.object;
 }
 
-items_only : (T : List ℕ → Type 0) (Q : List Declaration → List Lexeme → Fault → Type 0) (how : Follows T Q) (room : ℕ) (so_far : Reading) (ahead : List Lexeme) → Only (When T (IsFaultFrom Q room so_far ahead)) (items_at room so_far ahead)
+items_only : (T : FaultText → Type 0) (Q : List Declaration → List Lexeme → Fault → Type 0) (how : Follows T Q) (room : ℕ) (so_far : Reading) (ahead : List Lexeme) → Only (When T (IsFaultFrom Q room so_far ahead)) (items_at room so_far ahead)
 unfolding items_at
 items_only T Q how zero so_far ahead =
     let P : Fault → Type 0 = When T (IsFaultFrom Q zero so_far ahead) in
@@ -507,7 +472,7 @@ record IsFaultOf (Q : List Declaration → List Lexeme → Fault → Type 0) (op
   object : StopsInObject options ahead f
   is : Q (before_initializer object) object.init f
 
-unit_only : (T : List ℕ → Type 0) (Q : List Declaration → List Lexeme → Fault → Type 0) (how : Follows T Q) (options : Options) (ahead : List Lexeme) → Only (When T (IsFaultOf Q options ahead)) (reading_of options ahead)
+unit_only : (T : FaultText → Type 0) (Q : List Declaration → List Lexeme → Fault → Type 0) (how : Follows T Q) (options : Options) (ahead : List Lexeme) → Only (When T (IsFaultOf Q options ahead)) (reading_of options ahead)
 unfolding reading_of
 unit_only T Q how options ahead f e text =
     let found = items_only T Q how limits.MOST_DECLARATIONS (empty options) ahead f e text in
@@ -581,7 +546,7 @@ call_in_cast before ahead opened f is_cast front found =
 
 choice_follows : Follows IsChoiceText IsCallFault
 choice_follows = record {
-  no_form = built_text;
+  no_form = no_form_text;
   of_name = λ before all ls w named none text. absurd (name_text (spelling_ahead ls) text);
   of_call = λ before room ahead call f e text. choice_of_call before room ahead call f e;
   in_cast = call_in_cast;
@@ -598,8 +563,8 @@ abbrev Unnamed : List ℕ → List Declaration → List Lexeme → Fault → Typ
 Unnamed word before ahead f = IsUndeclaredName before ahead f word
 
 -- a name ahead is the spelling of its token
-undeclared_ahead : (word : List ℕ) (before : List Declaration) (all ls : List Lexeme) → Within all ls → is_name (kind_of ls) ≡ true → is_declared before (spelling_ahead ls) ≡ false → IsNameText word (codes "undeclared name " ++ spelling_ahead ls)
-    → IsUndeclaredName before all (record { place = place_of ls; text = codes "undeclared name " ++ spelling_ahead ls; evidence = [] }) word
+undeclared_ahead : (word : List ℕ) (before : List Declaration) (all ls : List Lexeme) → Within all ls → is_name (kind_of ls) ≡ true → is_declared before (spelling_ahead ls) ≡ false → IsNameText word (says.UndeclaredName (spelling_ahead ls))
+    → IsUndeclaredName before all (record { place = place_of ls; text = says.UndeclaredName (spelling_ahead ls); evidence = [] }) word
 undeclared_ahead word before all [] w named none text = absurd cc
 undeclared_ahead word before all (token ∷ ls) w named none text =
     let spelled : token.spelling ≡ word = same_name token.spelling word text in
@@ -617,9 +582,9 @@ undeclared_ahead word before all (token ∷ ls) w named none text =
 -- a called name is the spelling of its token
 called_by : (word : List ℕ) (before : List Declaration) (ahead : List Lexeme) (token : Lexeme) (arguments : List Base) (f : Fault) → Contains ahead token → is_name token.kind ≡ true → IsNameText word f.text → IsQuestionFault before token.place token.spelling arguments f
     → IsUndeclaredName before ahead f word
-called_by word before ahead token arguments f stands named text (NoViableFunction q) = absurd (other_byte 0 110 117 (codes "no viable function") (codes "undeclared name " ++ word) refl refl refl (sym q.says.is_text ∙ text))
-called_by word before ahead token arguments f stands named text (AmbiguousCall q) = absurd (other_byte 0 97 117 (codes "ambiguous call") (codes "undeclared name " ++ word) refl refl refl (sym q.says.is_text ∙ text))
-called_by word before ahead token arguments f stands named text (ObjectCall q) = absurd (other_byte 0 110 117 (codes "not built") (codes "undeclared name " ++ word) refl refl refl (sym q.says.is_text ∙ text))
+called_by word before ahead token arguments f stands named text (NoViableFunction q) = (let e = sym q.says.is_text ∙ text in absurd cc)
+called_by word before ahead token arguments f stands named text (AmbiguousCall q) = (let e = sym q.says.is_text ∙ text in absurd cc)
+called_by word before ahead token arguments f stands named text (ObjectCall q) = (let e = sym q.says.is_text ∙ text in absurd cc)
 called_by word before ahead token arguments f stands named text (UndeclaredCall q) =
     let spelled : token.spelling ≡ word = same_name token.spelling word (sym q.says.is_text ∙ text) in
     record {
@@ -652,8 +617,8 @@ undeclared_within word before all some f w found = record {
   bare = found.bare;
 }
 
-not_built_is_no_name : (word : List ℕ) → IsNameText word (codes "not built") → ⊥
-not_built_is_no_name word = by_other_first 110 (codes "not built") word refl refl
+not_built_is_no_name : (word : List ℕ) → IsNameText word says.NotBuilt → ⊥
+not_built_is_no_name word e = absurd cc
 
 undeclared_follows : (word : List ℕ) → Follows (IsNameText word) (Unnamed word)
 undeclared_follows word = record {
@@ -663,7 +628,7 @@ undeclared_follows word = record {
   in_cast = λ before ahead opened f is_cast front found. undeclared_within word before ahead opened f (λ l m. within_behind ahead ahead (λ l m. m) l (front_within (behind ahead) opened front l m)) found;
 }
 
-pub undeclared_is_told : (options : Options) (ahead : List Lexeme) (f : Fault) → reading_of options ahead ≡ Err (Faulty f) → (word : List ℕ) → f.text ≡ codes "undeclared name " ++ word → IsUndeclaredFault options ahead f word
+pub undeclared_is_told : (options : Options) (ahead : List Lexeme) (f : Fault) → reading_of options ahead ≡ Err (Faulty f) → (word : List ℕ) → f.text ≡ says.UndeclaredName word → IsUndeclaredFault options ahead f word
 undeclared_is_told options ahead f e word text =
     let found = unit_only (IsNameText word) (Unnamed word) (undeclared_follows word) options ahead f e text in
     record { object = found.object; is = found.is }

@@ -1,6 +1,6 @@
 -- Which facts are of one entity, and what is known of an object (clause 3, 3.5, 8.3.4).
 use Rattle.std.specs.Prelude.{ℕ, suc, ℤ, Bool, true, false, ◌&&◌, ◌||◌, if◌then◌else◌, nat_eq, nat_lt, List, [], ◌∷◌, Option, Some, None}
-use Rattle.std.specs.List.{slice_get}
+use Rattle.std.specs.List.{list_any, slice_get}
 use Rattle.cxx_model.specs.declared.facts.ScopeKind.{ScopeKind}
 use Rattle.cxx_model.specs.declared.facts.ScopeKind.TheVariants as kind
 use Rattle.cxx_model.specs.declared.types.FactId.{FactId}
@@ -35,30 +35,49 @@ entity_by number (facts.synonym of) = of_type of
 entity_by number (facts.namespace inner) = of_space inner.0
 entity_by number _ = of_fact number
 
-abbrev pub fact_of : List CxxFact → ℕ → Option CxxFact
-fact_of all number = slice_get all number
+-- what a fact stands for: a fact, by its number
+pub record Meant : Type 0 where
+  pub number : ℕ
+  pub what : Declares
 
 -- 7.3.3: a using-declaration stands for its target, which is none itself
-abbrev pub entity_of : List CxxFact → ℕ → CxxEntity
-entity_of all number = found (fact_of all number)
+abbrev pub meant_by : List CxxFact → ℕ → Declares → Meant
+meant_by all number (facts.using target) = by (slice_get all target.0)
   where
-    target_of : ℕ → Option CxxFact → CxxEntity
-    target_of target None = of_fact target
-    target_of target (Some fact) = entity_by target fact.what
+    by : Option CxxFact → Meant
+    by None = record { number = target.0; what = facts.using target }
+    by (Some fact) = record { number = target.0; what = fact.what }
+meant_by all number what = record { number = number; what = what }
 
-    by : Declares → CxxEntity
-    by (facts.using target) = target_of target.0 (fact_of all target.0)
-    by what = entity_by number what
+-- the entity of a fact, by its number
+abbrev pub entity_of : List CxxFact → ℕ → CxxEntity
+entity_of all number = by (slice_get all number)
+  where
+    of_meant : Meant → CxxEntity
+    of_meant meant = entity_by meant.number meant.what
 
-    found : Option CxxFact → CxxEntity
-    found None = of_fact number
-    found (Some fact) = by fact.what
+    by : Option CxxFact → CxxEntity
+    by None = of_fact number
+    by (Some fact) = of_meant (meant_by all number fact.what)
 
 abbrev pub same_entity : CxxEntity → CxxEntity → Bool
 same_entity (of_fact m) (of_fact n) = nat_eq m n
 same_entity (of_type one) (of_type two) = same_type one two
 same_entity (of_space m) (of_space n) = nat_eq m n
 same_entity _ _ = false
+
+-- ---- classes
+
+abbrev ends : ℕ → CxxFact → Bool
+ends class fact = by fact.what
+  where
+    by : Declares → Bool
+    by (facts.complete number) = nat_eq number.0 class
+    by _ = false
+
+-- 9.2: whether the end of a class stands among the facts
+abbrev pub has_end : ℕ → List CxxFact → Bool
+has_end class all = list_any (ends class) all
 
 -- ---- what is seen
 

@@ -1,8 +1,9 @@
 -- Which function a call means (3.4.1, 13.3.1 to 13.3.3).
-use Rattle.std.specs.Prelude.{ℕ, Bool, true, false, not, ◌&&◌, if◌then◌else◌, nat_lt, List, [], ◌∷◌, length, map, filter, filter_map, Option, Some, None, option_map, Ok, Err, codes}
+use Rattle.std.specs.Prelude.{ℕ, Bool, true, false, not, ◌&&◌, if◌then◌else◌, nat_lt, List, [], ◌∷◌, length, map, filter, filter_map, Option, Some, None, option_map, Ok, Err}
 use Rattle.std.specs.List.{list_any, enumerate_from}
 use Rattle.std.specs.Str.{bytes_eq}
 use Rattle.cxx_model.specs.declared.base.Base.{Base}
+use Rattle.cxx_model.specs.declared.fault.FaultText.TheVariants as says
 use Rattle.cxx_model.specs.declared.place.Place.{Place}
 use Rattle.cxx_model.specs.declared.first.Argument.{Argument}
 use Rattle.cxx_model.specs.declared.first.Call.{Call}
@@ -129,10 +130,10 @@ ties arguments viable = filter_map (tie arguments viable) viable
 -- ---- the call
 
 abbrev pub no_viable_at : Place → List Evidence → Stopped
-no_viable_at place evidence = Faulty (record { place = place; text = codes "no viable function"; evidence = evidence })
+no_viable_at place evidence = Faulty (record { place = place; text = says.NoViableFunction; evidence = evidence })
 
 abbrev pub ambiguous_at : Place → List Evidence → Stopped
-ambiguous_at place evidence = Faulty (record { place = place; text = codes "ambiguous call"; evidence = evidence })
+ambiguous_at place evidence = Faulty (record { place = place; text = says.AmbiguousCall; evidence = evidence })
 
 -- outermost first: the type of what stands in these casts
 abbrev pub outermost : List Base → Base → Base

@@ -1,6 +1,6 @@
 -- What is true of a fault that a call or a name leads to, in the words of 3.4.1, 5.2.2 and 13.3: its text and its evidence
 -- say no more than holds of the declarations before it.
-use Rattle.std.specs.Prelude.{◌≡◌, ◌≢◌, ◌⊎◌, ℕ, suc, ◌<◌, true, false, List, [], ◌∷◌, ◌++◌, Ok, Err, IsTrue, codes}
+use Rattle.std.specs.Prelude.{◌≡◌, ◌≢◌, ◌⊎◌, ℕ, suc, ◌<◌, true, false, List, [], ◌∷◌, ◌++◌, Ok, Err, IsTrue}
 use Rattle.std.specs.List.{Contains, AllZip, enumerate_from}
 use Rattle.cxx_model.specs.declared.base.Base.{Base}
 use Rattle.cxx_model.specs.declared.evidence.Evidence.{Evidence}
@@ -14,6 +14,8 @@ use Rattle.cxx_model.specs.declared.keyword.TheConstants as keyword
 use Rattle.cxx_model.specs.declared.limits.TheConstants as limits
 use Rattle.cxx_model.specs.declared.options.Options.{Options}
 use Rattle.cxx_model.specs.declared.overload.Outcome.TheVariants.{NotViable}
+use Rattle.cxx_model.specs.declared.fault.FaultText.{FaultText}
+use Rattle.cxx_model.specs.declared.fault.FaultText.TheVariants as says
 use Rattle.cxx_model.specs.declared.place.Place.{Place}
 use Rattle.cxx_model.specs.declared.punct.TheConstants as punct
 use Rattle.cxx_model.specs.declared.stop.Fault.{Fault}
@@ -75,20 +77,20 @@ pub record IsObject (before : List Declaration) (word : List ℕ) : Type 0 where
 -- ---- the fault of one call
 
 -- a fault with this place and this text
-pub record Says (place : Place) (text : List ℕ) (fault : Fault) : Type 0 where
+pub record Says (place : Place) (text : FaultText) (fault : Fault) : Type 0 where
   pub is_at : fault.place ≡ place
   pub is_text : fault.text ≡ text
 
 -- 13.3: functions of that name are declared, and each candidate is refused for its reason
 pub record IsNoViableFunction (before : List Declaration) (place : Place) (word : List ℕ) (arguments : List Base) (fault : Fault) : Type 0 where
-  pub says : Says place (codes "no viable function") fault
+  pub says : Says place says.NoViableFunction fault
   pub declared : IsDeclared before word
   pub no_object : ¬ (IsObject before word)
   pub refused : AreRefusals arguments (candidates before word) fault.evidence
 
 -- 13.3.3: some function is viable and none is better than every other viable one, as its line shows
 pub record IsAmbiguousCall (before : List Declaration) (place : Place) (word : List ℕ) (arguments : List Base) (fault : Fault) : Type 0 where
-  pub says : Says place (codes "ambiguous call") fault
+  pub says : Says place says.AmbiguousCall fault
   pub no_object : ¬ (IsObject before word)
   pub some_viable : Contender
   pub is_viable : Contains (contenders arguments (candidates before word)) some_viable
@@ -97,13 +99,13 @@ pub record IsAmbiguousCall (before : List Declaration) (place : Place) (word : L
 
 -- 3.4.1: the name is not declared
 pub record IsUndeclaredCall (before : List Declaration) (place : Place) (word : List ℕ) (fault : Fault) : Type 0 where
-  pub says : Says place (codes "undeclared name " ++ word) fault
+  pub says : Says place (says.UndeclaredName word) fault
   pub undeclared : IsUndeclared before word
   pub bare : fault.evidence ≡ []
 
 -- 5.2.2: an object is called, which is no form that is built
 pub record IsObjectCall (before : List Declaration) (place : Place) (word : List ℕ) (fault : Fault) : Type 0 where
-  pub says : Says place (codes "not built") fault
+  pub says : Says place says.NotBuilt fault
   pub object : IsObject before word
   pub bare : fault.evidence ≡ []
 
@@ -117,8 +119,8 @@ pub data IsQuestionFault (before : List Declaration) (place : Place) (word : Lis
 -- ---- the fault of a unit
 
 -- 13.3: the texts that only the choice of a function gives
-abbrev pub IsChoiceText : List ℕ → Type 0
-IsChoiceText text = (text ≡ codes "no viable function") ⊎ (text ≡ codes "ambiguous call")
+abbrev pub IsChoiceText : FaultText → Type 0
+IsChoiceText text = (text ≡ says.NoViableFunction) ⊎ (text ≡ says.AmbiguousCall)
 
 -- Clause 7: whole declarations are read one after another, from a reading with this room and these tokens ahead to
 -- another. Each leaves room for one less.
@@ -191,7 +193,7 @@ pub record IsUndeclaredName (before : List Declaration) (ahead : List Lexeme) (f
   pub spelled : lexeme.spelling ≡ word
   pub is_at : lexeme.place ≡ fault.place
   pub undeclared : IsUndeclared before word
-  pub is_text : fault.text ≡ codes "undeclared name " ++ word
+  pub is_text : fault.text ≡ says.UndeclaredName word
   pub bare : fault.evidence ≡ []
 
 -- 3.4.1, 8.5: behind the `=` of the object in which reading stops stands a name that is not declared

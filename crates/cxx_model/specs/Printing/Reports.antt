@@ -1,5 +1,5 @@
 -- The texts of reports.
-use Rattle.std.specs.Prelude.{ℕ, suc, true, false, Bool, List, [], ◌∷◌, ◌++◌, Option, Some, None, codes, decimal}
+use Rattle.std.specs.Prelude.{ℕ, suc, true, false, Bool, if◌then◌else◌, nat_eq, List, [], ◌∷◌, ◌++◌, Option, Some, None, codes, decimal}
 use Rattle.cxx_model.specs.declared.evidence.Evidence.{Evidence}
 use Rattle.cxx_model.specs.declared.evidence.Evidence.TheVariants.{Found, ByBases, DoesNotBeat, Refused, Uses, Chain, RowDoesNotBeat}
 use Rattle.cxx_model.specs.declared.evidence.Link.{Link}
@@ -9,10 +9,117 @@ use Rattle.cxx_model.specs.declared.evidence.Shown.{Shown}
 use Rattle.cxx_model.specs.declared.evidence.Shown.TheVariants.{Declared, BuiltIn}
 use Rattle.cxx_model.specs.declared.evidence.SubstitutionText.{SubstitutionText}
 use Rattle.cxx_model.specs.declared.evidence.SubstitutionText.TheVariants.{ForbiddenElement, SizeBelowOne, NoMemberType, MemberNoType, QualifierNoClass, PointerToReference, ReferenceToReference, ReferenceToVoid, VoidParameter, InvalidArgument}
+use Rattle.cxx_model.specs.declared.fault.FaultText.{FaultText}
+use Rattle.cxx_model.specs.declared.fault.FaultText.TheVariants as says
+use Rattle.cxx_model.specs.declared.fault.LeftOut.{LeftOut}
+use Rattle.cxx_model.specs.declared.fault.LeftOut.TheVariants as form
 use Rattle.cxx_model.specs.declared.place.Place.{Place}
+use Rattle.cxx_model.specs.declared.punct.TheConstants as punct
 use Rattle.cxx_model.specs.declared.stop.Fault.{Fault}
 use Rattle.cxx_model.specs.declared.stop.LimitKind.{LimitKind}
+use Rattle.cxx_model.specs.declared.token.TokenReason.{TokenReason}
+use Rattle.cxx_model.specs.declared.token.TokenReason.TheVariants as reason
 use Rattle.cxx_model.specs.declared.stop.LimitKind.TheVariants.{Bytes, Tokens, Nesting, Facts, Candidates, Arguments, TemplateArguments, Instances, Nodes, Output}
+use Rattle.cxx_model.specs.Facts.Declarations.{CxxName, unnamed, spelled, operator_function, conversion_to, destructor}
+use Rattle.cxx_model.specs.Text.Spelling.{operators}
+use Rattle.std.specs.List.{slice_get}
+
+-- ---- what is wrong
+
+-- why a text begins no token
+abbrev pub token_reason_text : TokenReason → List ℕ
+token_reason_text reason.StrayByte = codes "stray byte"
+token_reason_text reason.UnfinishedComment = codes "unfinished comment"
+token_reason_text reason.UnfinishedLiteral = codes "unfinished literal"
+token_reason_text reason.BadEscape = codes "bad escape"
+token_reason_text reason.BadNumber = codes "bad number"
+token_reason_text reason.NumberTooLarge = codes "number too large"
+token_reason_text reason.Directive = codes "directive"
+token_reason_text reason.MixedStrings = codes "mixed strings"
+token_reason_text reason.FloatingLiteral = codes "left out: floating literal"
+token_reason_text reason.MultiCharacter = codes "left out: multi-character literal"
+token_reason_text reason.UniversalName = codes "left out: universal character name"
+
+-- a form that the profile leaves out
+abbrev pub form_text : LeftOut → List ℕ
+form_text form.Exception = codes "exception"
+form_text form.ExceptionSpecification = codes "exception specification"
+form_text form.Typeid = codes "typeid"
+form_text form.DynamicCast = codes "dynamic_cast"
+form_text form.VirtualBase = codes "virtual base"
+form_text form.Export = codes "export"
+form_text form.TemplateTemplateParameter = codes "template template parameter"
+form_text form.ParameterKind = codes "parameter kind"
+form_text form.ConversionFunctionTemplate = codes "conversion function template"
+form_text form.DependentSizeof = codes "dependent sizeof"
+form_text form.PointerToMember = codes "pointer to member"
+form_text form.AddressOfSeveralFunctions = codes "address of several functions"
+form_text form.SurrogateCall = codes "surrogate call"
+form_text form.OperatorNew = codes "operator new"
+form_text form.PlacementNew = codes "placement new"
+form_text form.DestructorCall = codes "destructor call"
+form_text form.NewOfADeclarator = codes "new of a declarator"
+form_text form.BitField = codes "bit-field"
+form_text form.AnonymousUnion = codes "anonymous union"
+form_text form.LocalClass = codes "local class"
+form_text form.Goto = codes "goto"
+form_text form.Label = codes "label"
+form_text form.Asm = codes "asm"
+form_text form.BraceElision = codes "brace elision"
+form_text form.ClassConditional = codes "class conditional"
+form_text form.ArrayOfDefaultedConstruction = codes "array of defaulted construction"
+form_text form.CopyConstructorWithParameters = codes "copy constructor with parameters"
+form_text form.ExplicitCopyConstructor = codes "explicit copy constructor"
+form_text form.ConstructorOfEllipsis = codes "constructor of ellipsis"
+form_text form.DefaultedPart = codes "defaulted part"
+form_text form.ConditionNameInStep = codes "condition name in step"
+
+-- 13.5: the spelling of an operator; those of a call and of a subscript have two brackets
+abbrev operator_text : ℕ → List ℕ
+operator_text operator =
+    if nat_eq operator punct.LEFT_PARENTHESIS then codes "()" else (
+    if nat_eq operator punct.LEFT_BRACKET then codes "[]" else
+    spelling (slice_get operators operator))
+  where
+    spelling : Option (List ℕ) → List ℕ
+    spelling None = []
+    spelling (Some text) = text
+
+-- How a report spells a declared name: an operator function by the spelling of its operator, a conversion function
+-- without its type. A constructor stands under the name of its class, which is no name of its own.
+abbrev pub name_text : CxxName → List ℕ
+name_text unnamed = []
+name_text (spelled word) = word
+name_text (operator_function operator) = codes "operator" ++ operator_text operator
+name_text (conversion_to t) = codes "operator"
+name_text destructor = codes "~"
+
+-- what the first line of a report says behind the place
+abbrev pub fault_text : FaultText → List ℕ
+fault_text (says.BadToken why) = token_reason_text why
+fault_text says.NotBuilt = codes "not built"
+fault_text says.SyntaxError = codes "syntax error"
+fault_text (says.LeftOut what) = codes "left out: " ++ form_text what
+fault_text (says.UndeclaredName word) = codes "undeclared name " ++ word
+fault_text (says.AmbiguousName word) = codes "ambiguous name " ++ word
+fault_text (says.WrongKindOfName word) = codes "wrong kind of name " ++ word
+fault_text (says.ConflictingDeclaration word) = codes "conflicting declaration of " ++ word
+fault_text says.AmbiguousCall = codes "ambiguous call"
+fault_text says.NoViableFunction = codes "no viable function"
+fault_text says.AmbiguousConversion = codes "ambiguous conversion"
+fault_text says.NoConversion = codes "no conversion"
+fault_text says.OperandsDoNotFit = codes "operands do not fit"
+fault_text says.IncompleteClass = codes "incomplete class"
+fault_text says.AmbiguousBase = codes "ambiguous base"
+fault_text says.AmbiguousSpecialisation = codes "ambiguous specialisation"
+fault_text says.WrongTemplateArguments = codes "wrong template arguments"
+fault_text says.SpecialisationAfterUse = codes "specialisation after use"
+fault_text says.NotAConstant = codes "not a constant"
+fault_text says.ConstantOverflow = codes "constant overflow"
+fault_text says.DivisionByZero = codes "division by zero"
+fault_text (says.DepthLimit depth) = codes "depth limit " ++ decimal depth
+
+-- ---- what it rests on
 
 -- `L:C`
 abbrev pub place_text : Place → List ℕ
@@ -99,7 +206,7 @@ evidence_lines number (one ∷ others) = codes "  " ++ evidence_text number one 
 
 -- `L:C: TEXT`, and a line for each piece of evidence; the lines of a chain are numbered from 1
 unfoldable pub report : Fault → List ℕ
-report fault = place_text fault.place ++ codes ": " ++ fault.text ++ codes "\n" ++ evidence_lines 1 fault.evidence
+report fault = place_text fault.place ++ codes ": " ++ fault_text fault.text ++ codes "\n" ++ evidence_lines 1 fault.evidence
 
 abbrev pub limit_name : LimitKind → List ℕ
 limit_name Bytes = codes "bytes"

@@ -490,5 +490,5 @@ unfoldable pub literal_value : List ℕ → Option ℤ
 literal_value text = literal_value_by text (spelling_of false text)
 
 -- the number of characters of one string
-unfoldable pub string_length : List ℕ → ℕ
-string_length text = length (letters 0 (literal_body text))
+unfoldable pub piece_length : List ℕ → ℕ
+piece_length text = length (letters 0 (literal_body text))

@@ -8,7 +8,7 @@ use Rattle.cxx_model.specs.declared.token.TokenReason.{TokenReason}
 use Rattle.cxx_model.specs.declared.token.TokenReason.TheVariants.{StrayByte, MixedStrings, FloatingLiteral, MultiCharacter, UniversalName}
 use Rattle.cxx_model.specs.declared.limits.TheConstants as limits
 use Rattle.cxx_model.specs.Text.Lexemes.{first_place, after, past}
-use Rattle.cxx_model.specs.Text.Spelling.{Spelled, Blank, Good, Ill, is_blank, spelling_of}
+use Rattle.cxx_model.specs.Text.Spelling.{Spelled, Blank, Good, Ill, is_blank, piece_length, spelling_of}
 
 -- a front of a text, and what it spells
 pub record Piece : Type 0 where
@@ -159,6 +159,28 @@ tokens_from zero room before fresh at place (b ∷ text) =
 
 unfoldable pub tokens_of : List ℕ → Result (List Token) Unread
 tokens_of bytes = tokens_from 0 limits.MOST_TOKENS None true 0 first_place bytes
+
+-- ---- strings
+
+-- the characters of the piece that a text begins with, where it is a string, and of those behind it
+abbrev length_from : Option Piece → List ℕ → (ℕ → ℕ) → ℕ
+length_from None text go = go 0
+length_from (Some piece) text go = (if is_string piece.spells then piece_length (take piece.len text) else 0) + go (pred piece.len)
+  where
+    is_string : Spelled → Bool
+    is_string (Good kind) = is_text kind
+    is_string _ = false
+
+-- the characters of the strings in a text, after so many bytes that belong to the piece before; a marker line between
+-- them is no string
+unfoldable pub lengths_from : ℕ → Bool → List ℕ → ℕ
+lengths_from skip fresh [] = 0
+lengths_from (suc skip) fresh (b ∷ text) = lengths_from skip (fresh_after b fresh) text
+lengths_from zero fresh (b ∷ text) = length_from (front fresh (b ∷ text)) (b ∷ text) (λ skip. lengths_from skip (fresh_after b fresh) text)
+
+-- 2.13.4: the number of characters of a string, which may be joined from several
+unfoldable pub string_length : List ℕ → ℕ
+string_length text = lengths_from 0 false text
 
 -- ---- as a relation, in the words of the standard
 

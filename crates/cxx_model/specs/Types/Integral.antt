@@ -1,6 +1,6 @@
 -- The values of the integral types (3.9.1), in the widths of this profile: `char` has 8 bits and is signed, `short` 16,
 -- `int` and `wchar_t` 32, `long` 64.
-use Rattle.std.specs.Prelude.{ℕ, ◌^◌, ◌-◌, Bool, true, false, List, [], ◌∷◌, Option, find, ℤ, pos, negsuc}
+use Rattle.std.specs.Prelude.{ℕ, ◌^◌, ◌-◌, Bool, true, false, ◌&&◌, List, [], ◌∷◌, Option, find, ℤ, pos, negsuc}
 use Rattle.std.specs.Bool.{nat_lt}
 use Rattle.std.specs.List.{list_all, list_any}
 use Rattle.cxx_model.specs.declared.base.Base.{Base}
@@ -22,8 +22,9 @@ holds_by bits false (pos n) = nat_lt n (2 ^ bits)
 holds_by bits false (negsuc n) = false
 
 -- 3.9.1: whether the type has the value
+-- whether the values of a type are integers, and this is one of them
 abbrev pub holds : Base → ℤ → Bool
-holds of value = holds_by (width of) (signed of) value
+holds of value = nat_lt 0 (width of) && holds_by (width of) (signed of) value
 
 -- 4.5: the types to which an enumeration may be promoted, the first that holds its values
 abbrev pub promotions : List Base

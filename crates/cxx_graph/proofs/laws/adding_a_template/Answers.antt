@@ -1,4 +1,4 @@
-use Rattle.cxx_model.proofs.GraphRange.{pattern-in-range}
+use Rattle.cxx_graph.proofs.GraphRange.{pattern-in-range}
 use Rattle.cxx_graph.proofs.laws.adding_a_template.Goals as goal
 
 pub returns : goal.returns

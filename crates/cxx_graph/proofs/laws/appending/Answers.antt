@@ -1,4 +1,4 @@
-use Rattle.cxx_model.proofs.GraphRange.{appended-in-range, may-follow}
+use Rattle.cxx_graph.proofs.GraphRange.{appended-in-range, may-follow}
 use Rattle.cxx_graph.proofs.laws.appending.Goals as goal
 
 pub returns-clause-keeps : goal.returns-clause-keeps

@@ -1,4 +1,4 @@
-use Rattle.cxx_model.proofs.Conflicting.{conflict-is-first, no-conflict}
+use Rattle.cxx_graph.proofs.Conflicting.{conflict-is-first, no-conflict}
 use Rattle.cxx_graph.proofs.laws.conflicts_are_found.Goals as goal
 
 pub returns-clause-found : goal.returns-clause-found

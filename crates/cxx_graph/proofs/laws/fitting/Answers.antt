@@ -1,4 +1,4 @@
-use Rattle.cxx_model.proofs.Fitting.{fitted-fact, fitted-class, fitted-pattern, fitted-table}
+use Rattle.cxx_graph.proofs.Fitting.{fitted-fact, fitted-class, fitted-pattern, fitted-table}
 use Rattle.cxx_graph.proofs.laws.fitting.Goals as goal
 
 pub returns-clause-fact : goal.returns-clause-fact

@@ -1,4 +1,4 @@
-use Rattle.cxx_model.proofs.Fitting.{graph-kept}
+use Rattle.cxx_graph.proofs.Fitting.{graph-kept}
 use Rattle.cxx_graph.proofs.laws.meaning_is_kept.Goals as goal
 
 pub returns : goal.returns

@@ -1,4 +1,4 @@
-use Rattle.cxx_model.proofs.GraphRange.{reserved-in-range}
+use Rattle.cxx_graph.proofs.GraphRange.{reserved-in-range}
 use Rattle.cxx_graph.proofs.laws.reserving.Goals as goal
 
 pub returns : goal.returns

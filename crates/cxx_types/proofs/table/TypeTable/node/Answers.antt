@@ -16,4 +16,4 @@ unwrap-requires c =
 pub returns-clause-is : goal.returns-clause-is
 returns-clause-is c =
     let there : slice_get c.self.inside.nodes.keys c.args.number.0 ≡ Some c.unwrap.result.now = sym c.get_index.ensures.key ∙ ap option_copied c.unwrap.ensures in
-    subst (λ (ts : List CxxType). type_over ts c.unwrap.result.now ≡ type_at ts c.args.number.0) c.self.view_is (sym (type-of-node c.self.inside.nodes.keys c.args.number.0 c.unwrap.result.now c.self.invariant there))
+    subst (λ (ts : List CxxType). type_over ts c.unwrap.result.now ≡ type_at ts c.args.number.0) c.self.view_is (sym (type-of-node c.self.inside.nodes.keys c.self.inside.level_counts.items c.args.number.0 c.unwrap.result.now c.self.invariant there))

@@ -1,0 +1,2 @@
+pub mod Champions
+pub mod Counting
