@@ -7,7 +7,6 @@ ghost use Rattle.cxx_meaning.specs.Conversions.Order.{are_within as are_within_o
 ghost use Rattle.cxx_meaning.specs.Conversions.Standard.{may_widen as may_widen_of, is_widened as is_widened_of, only_const as only_const_of, widens as widens_of};
 ghost use Rattle.cxx_standard.specs.Views.{signature_at};
 
-use crate::table::similar;
 use cxx_model::{Cv, TypeId, TypeNode};
 use cxx_types::TypeTable;
 
@@ -97,7 +96,7 @@ pub(crate) fn is_widened(types: &TypeTable, one: TypeId, two: TypeId) -> bool
     requires two_known { two.0 < length types.now }
     ensures { result ≡ is_widened_of (type_at types.now one.0) (type_at types.now two.0) }
 {
-    similar(types, one, two) && may_widen(types, true, one, two)
+    types.similar(one, two) && may_widen(types, true, one, two)
 }
 
 /// Whether the two types have different cv words.

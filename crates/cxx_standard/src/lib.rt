@@ -1,6 +1,7 @@
 //! Standard conversion sequences (clause 4), their order (13.3.3.2), and sizes.
 #![tactic(auto)]
 
+mod built_in;
 mod classes;
 mod kinds;
 mod levels;

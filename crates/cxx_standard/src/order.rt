@@ -11,7 +11,6 @@ ghost use Rattle.cxx_standard.specs.Views.{kind_at, sequence_at, way_at, Compute
 use crate::classes::is_derived;
 use crate::kinds::{TypeKind, kind_of, value_kind};
 use crate::levels::{are_within, cv_of, is_cv_within};
-use crate::table::{same_unqualified, similar};
 use cxx_graph::Graph;
 use cxx_model::{ClassId, First, Order, OutOfMemory, Second, StandardSequence, TypeId, TypeNode};
 use cxx_types::TypeTable;
@@ -68,7 +67,7 @@ fn is_proper_part(types: &TypeTable, one: &StandardSequence, two: &StandardSeque
     ensures { result ≡ order.is_proper_part (sequence_at types.now one.now) (sequence_at types.now two.now) }
 {
     (is_part(one, two) && !is_part(two, one))
-        && (is_identity(one) || similar(types, target(types, one.to), target(types, two.to)))
+        && (is_identity(one) || types.similar(target(types, one.to), target(types, two.to)))
 }
 
 // ---- ranks
@@ -326,7 +325,7 @@ fn has_fewer_words(types: &TypeTable, one: TypeId, two: TypeId) -> bool
     requires two_known { two.0 < length types.now }
     ensures { result ≡ order.has_fewer_words (type_at types.now one.0) (type_at types.now two.0) }
 {
-    similar(types, one, two) && (are_within(types, one, two) && !are_within(types, two, one))
+    types.similar(one, two) && (are_within(types, one, two) && !are_within(types, two, one))
 }
 
 #[tactic(auto, unfolding(cxx_meaning::specs::Conversions::Order::is_less_qualified))]
@@ -345,7 +344,7 @@ fn refers_to_fewer(types: &TypeTable, one: TypeId, two: TypeId) -> bool
     requires two_known { two.0 < length types.now }
     ensures { result ≡ order.refers_to_fewer (type_at types.now one.0) (type_at types.now two.0) }
 {
-    same_unqualified(types, one, two)
+    types.same_unqualified(one, two)
         && (is_cv_within(cv_of(types, one), cv_of(types, two))
             && !is_cv_within(cv_of(types, two), cv_of(types, one)))
 }

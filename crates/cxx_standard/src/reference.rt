@@ -10,7 +10,6 @@ ghost use Rattle.cxx_standard.specs.Views.{kind_at, operand_at};
 
 use crate::kinds::{TypeKind, kind_of};
 use crate::levels::{cv_of, is_cv_within, only_const, same_cv};
-use crate::table::same_unqualified;
 use crate::values::{class_step, steps_of_value};
 use cxx_graph::Graph;
 use cxx_meaning::SequenceSteps;
@@ -64,7 +63,7 @@ fn related(
     requires fitted { Fitted graph.now types.now }
     ensures { Gives (λ x. x) result (standard.related (graph_at types.now graph.now) (type_at types.now from.0) (type_at types.now to.0)) }
 {
-    if same_unqualified(types, from, to) {
+    if types.same_unqualified(from, to) {
         Ok(Some(None))
     } else {
         related_kinds(alloc, graph, types, from, to)

@@ -15,7 +15,7 @@ ghost use Rattle.cxx_standard.specs.Views.{kind_at, operand_at, IsKindBelow, IsK
 use crate::classes::is_derived;
 use crate::kinds::{TypeKind, is_function, kind_of, value_kind};
 use crate::levels::{cv_of, is_cv_within, is_widened, no_cv, only_const, same_cv, widens};
-use crate::table::{is_pending, promoted, same};
+use crate::table::{is_pending, promoted};
 use cxx_graph::Graph;
 use cxx_meaning::SequenceSteps;
 use cxx_model::{Base, ClassId, ConstantKind, EnumId, First, Operand, Second, TypeId, TypeNode, Wait};
@@ -115,7 +115,7 @@ fn steps_of_pointers(
     ensures { Gives (λ x. x) result (standard.steps_of_pointers (graph_at types.now graph.now) (type_at types.now one.0) (type_at types.now two.0)) }
 {
     if is_widened(types, one, two) {
-        Ok(Some(steps_by(None, !same(types, one, two))))
+        Ok(Some(steps_by(None, !types.same(one, two))))
     } else {
         pointer_to_other(alloc, graph, types, one, two)
     }
@@ -129,7 +129,7 @@ pub(crate) fn same_base(one: Base, two: Base) -> bool
     one == two
 }
 
-fn is_floating(of: Base) -> bool
+pub(crate) fn is_floating(of: Base) -> bool
     ensures { result ≡ standard.is_floating of }
 {
     match of {
@@ -138,7 +138,7 @@ fn is_floating(of: Base) -> bool
     }
 }
 
-fn promoted_base(of: Base) -> Base
+pub(crate) fn promoted_base(of: Base) -> Base
     ensures { result ≡ standard.promoted_base of }
 {
     match of {
@@ -204,7 +204,7 @@ fn step_of_enumeration(promoted: Option<Base>, to: Base) -> Second
 
 // ---- kinds
 
-fn is_null(known: ConstantKind, of: Base) -> bool
+pub(crate) fn is_null(known: ConstantKind, of: Base) -> bool
     ensures { result ≡ standard.is_null known of }
 {
     match known {
