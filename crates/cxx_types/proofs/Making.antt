@@ -1,14 +1,11 @@
 -- How the steps that make types follow one another.
-use Rattle.std.specs.Prelude.{ℕ, ◌≡◌, ◌<◌, ◌≤◌, Bool, true, false, nat_lt, List, [], ◌∷◌, ◌++◌, length, Result, Ok, Err, IsErr, refl}
-use Rattle.std.proofs.Common.{ap, sym, subst, ◌∙◌, arith}
-use Rattle.std.proofs.lemmas.Bool.{ltb-true, ltb-false}
+use Rattle.std.specs.Prelude.{ℕ, ◌≡◌, ◌<◌, List, [], ◌∷◌, ◌++◌, length, Result, Ok, Err, IsErr, refl}
+use Rattle.std.proofs.Common.{ap, sym, subst, ◌∙◌}
 use Rattle.cxx_model.specs.declared.memory.OutOfMemory.{OutOfMemory}
 use Rattle.cxx_model.specs.declared.types.TypeId.{TypeId}
-use Rattle.cxx_model.specs.Facts.Fitted.{Fitted}
 use Rattle.cxx_model.specs.Facts.Graph.{Graph, IsTypeInRange, AreTypesInRange}
 use Rattle.cxx_model.specs.Types.Trees.{CxxType, CxxTypes, no_types, type_then}
 use Rattle.cxx_model.specs.Types.Numbers.{type_at, types_at, AreTypesBelow, Keeps}
-use Rattle.cxx_model.proofs.Fitting.{fitted-table}
 use Rattle.cxx_model.proofs.TypeTrees.{types_kept, types_later, Keeps-refl, Keeps-trans}
 use Rattle.cxx_types.specs.Makes.{AreInRange, AreMade, Fits, FitsEach, IsMade, Makes, MakesEach}
 
@@ -85,9 +82,3 @@ each_stopped old now new numbers some all step (Err fault) t so makes part stopp
 
 pub each_made : (old now : List CxxType) (numbers : List TypeId) (all : CxxTypes) → AreMadeSoFar old now numbers all all → MakesEach old now (Ok numbers) all
 each_made old now numbers all so = record { keeps = so.keeps; made = (so.below, so.is); fits = so.fits }
-
--- ---- a table and a graph
-
--- A graph that fits a table still fits it where what is made is in range of the graph.
-pub fitted_made : (graph : Graph) (old new : List CxxType) (result : Result TypeId OutOfMemory) (t : CxxType) → Fitted graph old → Makes old new result t → IsTypeInRange graph t → Fitted graph new
-fitted_made graph old new result t fitted makes within = fitted-table graph old new fitted makes.keeps (λ i after before. makes.fits graph fitted.names within i before)
