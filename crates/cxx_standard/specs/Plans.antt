@@ -1,14 +1,17 @@
 -- Types that are decided and not made yet, seen as the definitions have them.
-use Rattle.std.specs.Prelude.{ℕ, ◌≡◌, ◌<◌, List, [], ◌∷◌, length, Option, Some, None, Result, Ok, Err}
+use Rattle.std.specs.Prelude.{ℕ, ◌<◌, List, [], ◌∷◌, map, Option, Some, None, Result, Ok, Err}
 use Rattle.std.specs.Option.{option_map}
+use Rattle.cxx_model.specs.declared.sequence.Operand.{Operand}
 use Rattle.cxx_model.specs.declared.stop.Wait.{Wait}
 use Rattle.cxx_model.specs.Types.Numbers.{type_at}
 use Rattle.cxx_model.specs.Types.Trees.{CxxType, fundamental, pointer_to, with_cv, adjusted, unqualified}
 use Rattle.cxx_meaning.specs.Conversions.BuiltIn.{CxxBuiltIn}
 use Rattle.cxx_meaning.specs.Conversions.Pointers.{common_similar}
+use Rattle.cxx_meaning.specs.Conversions.Standard.{CxxOperand}
 use Rattle.cxx_standard.specs.declared.built_in.plan.Plan.{Plan}
 use Rattle.cxx_standard.specs.declared.built_in.plan.Sketch.{Sketch}
 use Rattle.cxx_standard.specs.declared.built_in.plan.Sketch.TheVariants as sketch
+use Rattle.cxx_standard.specs.Views.{operand_at}
 
 abbrev pub sketch_at : List CxxType → Sketch → CxxType
 sketch_at types (sketch.Plain of) = fundamental of
@@ -62,3 +65,11 @@ AreSketchesBelow count (Err wait) = Unit {0}
 abbrev pub IsAnswerBelow : ℕ → Result (Option Plan) Wait → Type 0
 IsAnswerBelow count (Ok plan) = ArePlansBelow count plan
 IsAnswerBelow count (Err wait) = Unit {0}
+
+abbrev pub operands_at : List CxxType → List Operand → List CxxOperand
+operands_at types operands = map (operand_at types) operands
+
+-- the numbers of the types of operands are below a count
+abbrev pub AreOperandsBelow : ℕ → List Operand → Type 0
+AreOperandsBelow count [] = Unit {0}
+AreOperandsBelow count (one ∷ others) = (one.of.0 < count) × AreOperandsBelow count others

@@ -99,7 +99,7 @@ fn is_boolean(step: Option<Second>) -> bool
     }
 }
 
-fn is_pointing(kind: TypeKind) -> bool
+pub(crate) fn is_pointing(kind: TypeKind) -> bool
     ensures { result ≡ order.is_pointing (kind_at [] kind) }
 {
     match kind {

@@ -15,7 +15,7 @@ use cxx_types::TypeTable;
 use std::alloc::Global;
 
 #[tactic(auto, unfolding(cxx_meaning::specs::Conversions::Standard::steps_between))]
-fn steps_between(
+pub(crate) fn steps_between(
     alloc: Global,
     graph: &Graph,
     types: &TypeTable,

@@ -16,6 +16,7 @@ use Rattle.cxx_meaning.specs.declared.steps.SequenceSteps.{SequenceSteps}
 use Rattle.cxx_meaning.specs.Conversions.Arithmetic.{number_of, integer_of, integral_promoted, usual}
 use Rattle.cxx_meaning.specs.Conversions.Asking.{Asked, ◌>>=◌}
 use Rattle.cxx_meaning.specs.Conversions.Kinds.{CxxKind, no_value, arithmetic, enumerated, pointing, of_class, other, kind_of, value_kind, cv_of, is_same_unqualified, is_function, is_array}
+use Rattle.cxx_meaning.specs.Conversions.Order.{is_pointing}
 use Rattle.cxx_meaning.specs.Conversions.Pointers.{is_void, is_complete_object, common_pointer}
 use Rattle.cxx_meaning.specs.Conversions.Standard.{CxxOperand, is_null, steps_between}
 
@@ -196,13 +197,20 @@ compared_as (Some common) = gives_value (common ∷ common ∷ []) bool_type
 abbrev pub compared_to_null : CxxType → ConstantKind → Base → Option CxxBuiltIn
 compared_to_null pointer known of = if is_null known of then compared_as (Some (adjusted pointer)) else None
 
-unfoldable pub compared_by : CxxGraph → CxxOperand → CxxOperand → CxxKind → CxxKind → Asked (Option CxxBuiltIn)
-compared_by graph one two (pointing s) (pointing t) = do
+unfoldable pub compared_pointers : CxxGraph → CxxType → CxxType → Asked (Option CxxBuiltIn)
+compared_pointers graph s t = do
   common ← common_pointer graph s t
   Ok (compared_as common)
+
+abbrev pub compared_numbers : CxxGraph → CxxKind → CxxKind → Option CxxBuiltIn
+compared_numbers graph k l = compared (number_of graph k) (number_of graph l)
+
+unfoldable pub compared_by : CxxGraph → CxxOperand → CxxOperand → CxxKind → CxxKind → Asked (Option CxxBuiltIn)
+compared_by graph one two (pointing s) (pointing t) = compared_pointers graph s t
 compared_by graph one two (pointing s) (arithmetic of) = Ok (compared_to_null one.of two.constant of)
+compared_by graph one two (pointing s) _ = Ok None
 compared_by graph one two (arithmetic of) (pointing t) = Ok (compared_to_null two.of one.constant of)
-compared_by graph one two k l = Ok (compared (number_of graph k) (number_of graph l))
+compared_by graph one two k l = Ok (compared_numbers graph k l)
 
 abbrev pub stored : CxxType → Option SequenceSteps → Option CxxBuiltIn
 stored of None = None
@@ -232,23 +240,32 @@ binary_by graph family.Logic one two = Ok (conditions (operand_kind one) (operan
 binary_by graph family.Assign one two = assigned graph one two
 binary_by graph family.Comma one two = Ok (second_of one two)
 
+abbrev pub is_comparison : ℕ → Bool
+is_comparison operator = nat_eq operator punct.LESS || (nat_eq operator punct.GREATER || (nat_eq operator punct.LESS_OR_EQUAL || (nat_eq operator punct.GREATER_OR_EQUAL || (nat_eq operator punct.EQUAL_TO || nat_eq operator punct.NOT_EQUAL_TO))))
+
 abbrev pub comparison_family : ℕ → Option BinaryFamily
 comparison_family operator =
-    if nat_eq operator punct.LESS || (nat_eq operator punct.GREATER || (nat_eq operator punct.LESS_OR_EQUAL || (nat_eq operator punct.GREATER_OR_EQUAL || (nat_eq operator punct.EQUAL_TO || nat_eq operator punct.NOT_EQUAL_TO)))) then Some family.Compare else (
+    if is_comparison operator then Some family.Compare else (
     if nat_eq operator punct.LOGICAL_AND || nat_eq operator punct.LOGICAL_OR then Some family.Logic else (
     if nat_eq operator punct.EQUALS then Some family.Assign else (
     if nat_eq operator punct.COMMA then Some family.Comma else (
     if nat_eq operator punct.LEFT_BRACKET then Some family.Subscript else
     None))))
 
+abbrev pub is_bits : ℕ → Bool
+is_bits operator = nat_eq operator punct.PERCENT || (nat_eq operator punct.AMPERSAND || (nat_eq operator punct.CARET || nat_eq operator punct.BAR))
+
 abbrev pub binary_family : ℕ → Option BinaryFamily
 binary_family operator =
     if nat_eq operator punct.STAR || nat_eq operator punct.SLASH then Some family.Multiply else (
     if nat_eq operator punct.PLUS then Some family.Add else (
     if nat_eq operator punct.MINUS then Some family.Subtract else (
-    if nat_eq operator punct.PERCENT || (nat_eq operator punct.AMPERSAND || (nat_eq operator punct.CARET || nat_eq operator punct.BAR)) then Some family.Bits else (
+    if is_bits operator then Some family.Bits else (
     if nat_eq operator punct.SHIFT_LEFT || nat_eq operator punct.SHIFT_RIGHT then Some family.Shift else
     comparison_family operator))))
+
+abbrev pub is_bits_assignment : ℕ → Bool
+is_bits_assignment operator = nat_eq operator punct.PERCENT_EQUALS || (nat_eq operator punct.AMPERSAND_EQUALS || (nat_eq operator punct.CARET_EQUALS || nat_eq operator punct.BAR_EQUALS))
 
 -- 5.17: the operator of a compound assignment
 abbrev pub compound_family : ℕ → Option BinaryFamily
@@ -256,24 +273,23 @@ compound_family operator =
     if nat_eq operator punct.STAR_EQUALS || nat_eq operator punct.SLASH_EQUALS then Some family.Multiply else (
     if nat_eq operator punct.PLUS_EQUALS then Some family.Add else (
     if nat_eq operator punct.MINUS_EQUALS then Some family.Subtract else (
-    if nat_eq operator punct.PERCENT_EQUALS || (nat_eq operator punct.AMPERSAND_EQUALS || (nat_eq operator punct.CARET_EQUALS || nat_eq operator punct.BAR_EQUALS)) then Some family.Bits else (
+    if is_bits_assignment operator then Some family.Bits else (
     if nat_eq operator punct.SHIFT_LEFT_EQUALS || nat_eq operator punct.SHIFT_RIGHT_EQUALS then Some family.Shift else
     None))))
-
--- 4.7 to 4.9, 4.12: whether a value is converted to an arithmetic type
-abbrev pub is_stored : CxxKind → Base → Bool
-is_stored (arithmetic from) to = true
-is_stored (pointing t) to = same_base to base.Bool
-is_stored _ to = false
 
 -- the right operand of a compound assignment is promoted where it is integral, and else left as it is
 abbrev pub promoted_operand : CxxType → Option Base → CxxType
 promoted_operand of None = adjusted of
 promoted_operand of (Some number) = fundamental (integral_promoted number)
 
+abbrev pub compound_whole : CxxGraph → CxxOperand → CxxOperand → Option CxxBuiltIn
+compound_whole graph one two = gives_object (one.of ∷ promoted_operand two.of (number_of graph (operand_kind two)) ∷ []) one.of
+
+-- 4.7 to 4.9, 4.12: The value of `E op F` with an arithmetic E is a pointer where that of F is one, and then converted to
+-- `bool` alone.
 abbrev pub compounded : CxxGraph → CxxOperand → CxxOperand → Base → Option CxxBuiltIn → Option CxxBuiltIn
 compounded graph one two to None = None
-compounded graph one two to (Some meaning) = if is_stored (kind_of meaning.result) to then gives_object (one.of ∷ promoted_operand two.of (number_of graph (operand_kind two)) ∷ []) one.of else None
+compounded graph one two to (Some meaning) = if is_pointing (operand_kind two) && not (same_base to base.Bool) then None else compound_whole graph one two
 
 abbrev pub is_additive : BinaryFamily → Bool
 is_additive family.Add = true

@@ -1,0 +1,41 @@
+-- What is made of a decided meaning of an operator.
+use Rattle.std.specs.Prelude.{ℕ, ◌≡◌, ◌<◌, List, [], ◌∷◌, length, map, Result, Ok, Err}
+use Rattle.cxx_model.specs.declared.memory.OutOfMemory.{OutOfMemory}
+use Rattle.cxx_model.specs.declared.overload.BuiltIn.{BuiltIn}
+use Rattle.cxx_model.specs.declared.types.TypeId.{TypeId}
+use Rattle.cxx_model.specs.Facts.Fitted.{Fitted}
+use Rattle.cxx_model.specs.Facts.Graph.{Graph}
+use Rattle.cxx_model.specs.Types.Numbers.{type_at, AreTypesBelow, Keeps}
+use Rattle.cxx_model.specs.Types.Trees.{CxxType}
+use Rattle.cxx_meaning.specs.Conversions.BuiltIn.{CxxBuiltIn}
+
+abbrev pub list_at : List CxxType → List TypeId → List CxxType
+list_at types numbers = map (λ number. type_at types number.0) numbers
+
+abbrev pub built_at : List CxxType → BuiltIn → CxxBuiltIn
+built_at types built = record { operands = list_at types built.operands; result = type_at types built.result.0; lvalue = built.lvalue }
+
+-- the numbers of its types are below a count
+pub record IsBuiltBelow (count : ℕ) (built : BuiltIn) : Type 0 where
+  pub operands : AreTypesBelow count built.operands
+  pub result : built.result.0 < count
+
+abbrev pub IsBuilt : List CxxType → Result BuiltIn OutOfMemory → CxxBuiltIn → Type 0
+IsBuilt new (Ok built) meaning = IsBuiltBelow (length new) built × (built_at new built ≡ meaning)
+IsBuilt new (Err fault) meaning = Unit {0}
+
+-- The types of a meaning are made: each earlier number keeps its type, and the graph and the table stay fitted.
+pub record Builds (graph : Graph) (old new : List CxxType) (result : Result BuiltIn OutOfMemory) (meaning : CxxBuiltIn) : Type 0 where
+  pub keeps : Keeps old new
+  pub built : IsBuilt new result meaning
+  pub fitted : Fitted graph new
+
+abbrev pub IsListMade : List CxxType → Result (List TypeId) OutOfMemory → List CxxType → Type 0
+IsListMade new (Ok numbers) ts = AreTypesBelow (length new) numbers × (list_at new numbers ≡ ts)
+IsListMade new (Err fault) ts = Unit {0}
+
+-- the same of a list of types
+pub record MakesList (graph : Graph) (old new : List CxxType) (result : Result (List TypeId) OutOfMemory) (ts : List CxxType) : Type 0 where
+  pub keeps : Keeps old new
+  pub made : IsListMade new result ts
+  pub fitted : Fitted graph new
