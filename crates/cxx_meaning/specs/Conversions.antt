@@ -9,3 +9,4 @@ pub mod Order
 pub mod Arithmetic
 pub mod Pointers
 pub mod BuiltIn
+pub mod Sizes

@@ -6,8 +6,10 @@
 #![tactic(auto)]
 
 mod operator;
+mod size;
 mod steps;
 
 pub use operator::BinaryFamily;
 pub use operator::UnaryFamily;
+pub use size::SizeReason;
 pub use steps::SequenceSteps;

@@ -1,16 +1,61 @@
-//! Base classes.
-ghost use Rattle.std.specs.Prelude.{◌<◌, length};
-ghost use Rattle.cxx_model.specs.Facts.Declarations.{graph_at};
-ghost use Rattle.cxx_meaning.specs.Conversions.Derived.{is_derived as is_derived_of};
+//! Base classes (10).
+ghost use Rattle.std.specs.Prelude.{◌≡◌, ◌<◌, ◌≤◌, ◌||◌, length, OnOk};
+ghost use Rattle.std.specs.List.{list_any};
+ghost use Rattle.cxx_model.specs.Facts.Declarations.{facts_at, graph_at};
+ghost use Rattle.cxx_meaning.specs.Conversions.Derived.{is_derived as is_derived_of, is_derived_before};
+ghost use Rattle.cxx_standard.specs.Numbered.{numbers_of, is_ancestor_of};
+ghost use Rattle.cxx_standard.specs.Reached.{reaches, parent_at, AreAllBelow};
 ghost use Rattle.cxx_standard.specs.Views.{Computes};
 
 use cxx_graph::Graph;
-use cxx_model::{ClassId, OutOfMemory};
+use cxx_model::{ClassId, Entity, FactId, OutOfMemory};
 use cxx_types::TypeTable;
 use std::alloc::Global;
+use std::collections::BTreeSet;
 
-/// Whether a class is derived from another (10).
-pub(crate) fn is_derived(
+fn ancestors(graph: &Graph, class: ClassId) -> &[FactId]
+    ensures { result.now ≡ numbers_of (is_ancestor_of class.0) graph.now.facts }
+{
+    let _ = graph.length();
+    let _ = class;
+    &[]
+}
+
+// The class that a fact names as a base.
+fn parent_of(graph: &Graph, number: u32) -> Option<ClassId>
+    ensures { result ≡ parent_at graph.now.facts number }
+{
+    let _ = graph.length();
+    if number == 0 { None } else { Some(ClassId(number)) }
+}
+
+// Notes the facts before some number that name bases of a class.
+fn note_bases(
+    graph: &Graph,
+    types: &TypeTable,
+    waiting: &mut BTreeSet<u32>,
+    class: ClassId,
+    base: ClassId,
+    before: u32,
+) -> Result<(), OutOfMemory>
+    requires within { before ≤ length graph.now.facts }
+    requires below { AreAllBelow before waiting.old.keys }
+    ensures below { AreAllBelow before waiting.new.keys }
+    ensures noted { OnOk result (list_any (reaches (facts_at types.now graph.now.facts) base.0) waiting.new.keys ≡ (list_any (reaches (facts_at types.now graph.now.facts) base.0) waiting.old.keys || is_derived_before (facts_at types.now graph.now.facts) before class.0 base.0)) }
+{
+    let _ = types;
+    let _ = base;
+    for number in ancestors(graph, class) {
+        if number.0 < before {
+            waiting.insert(number.0)?;
+        }
+    }
+    Ok(())
+}
+
+/// Whether a class is derived from another (10). Each base is looked at once.
+#[tactic(auto, unfolding(cxx_meaning::specs::Conversions::Derived::is_derived))]
+pub fn is_derived(
     alloc: Global,
     graph: &Graph,
     types: &TypeTable,
@@ -21,8 +66,17 @@ pub(crate) fn is_derived(
     requires base_known { base.0 < length graph.now.classes }
     ensures { Computes result (is_derived_of (graph_at types.now graph.now) class.0 base.0) }
 {
-    let _ = types;
-    let mut seen: Vec<u32> = Vec::new(alloc);
-    seen.push(class.0)?;
-    Ok(graph.complete(base))
+    let mut waiting = BTreeSet::new(alloc);
+    let mut bound = graph.length();
+    note_bases(graph, types, &mut waiting, class, base, bound)?;
+    while let Some(number) = waiting.pop_last() {
+        bound = number;
+        if let Some(parent) = parent_of(graph, number) {
+            if parent.0 == base.0 {
+                return Ok(true);
+            }
+            note_bases(graph, types, &mut waiting, parent, base, bound)?;
+        }
+    }
+    Ok(false)
 }

@@ -73,7 +73,7 @@ pub fn value_kind(graph: &Graph, types: &TypeTable, number: TypeId) -> TypeKind
 }
 
 /// Whether a type is that of a function (8.3.5).
-pub(crate) fn is_function(types: &TypeTable, number: TypeId) -> bool
+pub fn is_function(types: &TypeTable, number: TypeId) -> bool
     requires { number.0 < length types.now }
     ensures { result ≡ is_function_type (type_at types.now number.0) }
 {

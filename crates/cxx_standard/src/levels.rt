@@ -40,14 +40,15 @@ fn same_bool(one: bool, two: bool) -> bool
     if one { two } else { !two }
 }
 
-pub(crate) fn same_cv(one: Cv, two: Cv) -> bool
+/// Whether two types of cv words are the same.
+pub fn same_cv(one: Cv, two: Cv) -> bool
     ensures { result ≡ same_cv_of one two }
 {
     same_bool(one.is_const, two.is_const) && same_bool(one.is_volatile, two.is_volatile)
 }
 
 /// The cv words of a type itself; those of an array are those of its innermost element.
-pub(crate) fn cv_of(types: &TypeTable, number: TypeId) -> Cv
+pub fn cv_of(types: &TypeTable, number: TypeId) -> Cv
     requires { number.0 < length types.now }
     ensures { result ≡ cv_of_type (type_at types.now number.0) }
 {
@@ -59,7 +60,7 @@ pub(crate) fn cv_of(types: &TypeTable, number: TypeId) -> Cv
 }
 
 /// The type behind the `*` of a type.
-pub(crate) fn pointee(types: &TypeTable, number: TypeId) -> Option<TypeId>
+pub fn pointee(types: &TypeTable, number: TypeId) -> Option<TypeId>
     requires { number.0 < length types.now }
     ensures is { signature_at types.now result ≡ signature (type_at types.now number.0) }
     ensures below { IfSome result (λ of. of.0 < number.0) }

@@ -99,7 +99,8 @@ fn is_boolean(step: Option<Second>) -> bool
     }
 }
 
-pub(crate) fn is_pointing(kind: TypeKind) -> bool
+/// Whether it is the kind of a pointer.
+pub fn is_pointing(kind: TypeKind) -> bool
     ensures { result ≡ order.is_pointing (kind_at [] kind) }
 {
     match kind {

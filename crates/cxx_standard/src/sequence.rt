@@ -14,8 +14,9 @@ use cxx_model::{Operand, StandardSequence, TypeId, TypeNode, Wait};
 use cxx_types::TypeTable;
 use std::alloc::Global;
 
+/// The steps of the standard conversion sequence from an expression to a type, where there is one.
 #[tactic(auto, unfolding(cxx_meaning::specs::Conversions::Standard::steps_between))]
-pub(crate) fn steps_between(
+pub fn steps_between(
     alloc: Global,
     graph: &Graph,
     types: &TypeTable,

@@ -10,7 +10,8 @@ use cxx_graph::Graph;
 use cxx_model::{Base, ClassId, EnumId};
 use cxx_types::TypeTable;
 
-pub(crate) fn promoted(graph: &Graph, types: &TypeTable, number: EnumId) -> Option<Base>
+/// The type to which an enumeration is promoted (4.5).
+pub fn promoted(graph: &Graph, types: &TypeTable, number: EnumId) -> Option<Base>
     requires { number.0 < enumerations graph.now.facts }
     ensures { result ≡ promoted_of (graph_at types.now graph.now) number.0 }
 {
@@ -19,7 +20,8 @@ pub(crate) fn promoted(graph: &Graph, types: &TypeTable, number: EnumId) -> Opti
     if number.0 == 0 { None } else { Some(Base::Int) }
 }
 
-pub(crate) fn is_pending(graph: &Graph, types: &TypeTable, class: ClassId) -> bool
+/// Whether a class must be complete before it is asked (14.7.1).
+pub fn is_pending(graph: &Graph, types: &TypeTable, class: ClassId) -> bool
     requires { class.0 < length graph.now.classes }
     ensures { result ≡ is_pending_of (graph_at types.now graph.now) class.0 }
 {
@@ -27,7 +29,8 @@ pub(crate) fn is_pending(graph: &Graph, types: &TypeTable, class: ClassId) -> bo
     graph.complete(class)
 }
 
-pub(crate) fn is_complete(graph: &Graph, types: &TypeTable, class: ClassId) -> bool
+/// Whether the end of a class was read (9.2).
+pub fn is_complete(graph: &Graph, types: &TypeTable, class: ClassId) -> bool
     requires { class.0 < length graph.now.classes }
     ensures { result ≡ is_complete_of (graph_at types.now graph.now) class.0 }
 {

@@ -123,13 +123,15 @@ fn steps_of_pointers(
 
 // ---- arithmetic types and enumerations (4.5 to 4.9, 4.12)
 
-pub(crate) fn same_base(one: Base, two: Base) -> bool
+/// Whether two fundamental types are the same.
+pub fn same_base(one: Base, two: Base) -> bool
     ensures { result ≡ arithmetic.same_base one two }
 {
     one == two
 }
 
-pub(crate) fn is_floating(of: Base) -> bool
+/// 3.9.1
+pub fn is_floating(of: Base) -> bool
     ensures { result ≡ standard.is_floating of }
 {
     match of {
@@ -138,7 +140,8 @@ pub(crate) fn is_floating(of: Base) -> bool
     }
 }
 
-pub(crate) fn promoted_base(of: Base) -> Base
+/// The type to which an arithmetic type is promoted (4.5, 4.6).
+pub fn promoted_base(of: Base) -> Base
     ensures { result ≡ standard.promoted_base of }
 {
     match of {
@@ -204,7 +207,8 @@ fn step_of_enumeration(promoted: Option<Base>, to: Base) -> Second
 
 // ---- kinds
 
-pub(crate) fn is_null(known: ConstantKind, of: Base) -> bool
+/// Whether an expression of an arithmetic type is a null pointer constant (4.10).
+pub fn is_null(known: ConstantKind, of: Base) -> bool
     ensures { result ≡ standard.is_null known of }
 {
     match known {

@@ -170,11 +170,14 @@ subscripted graph one two (pointing t) kind = beside_integer graph t kind (gives
 subscripted graph one two kind (pointing t) = beside_integer graph t kind (gives_object (values_of one two) t)
 subscripted graph one two _ _ = Ok None
 
+unfoldable pub added_to : CxxGraph → CxxOperand → CxxOperand → CxxKind → CxxKind → Asked (Option CxxBuiltIn)
+added_to graph one two kind (pointing t) = beside_integer graph t kind (gives_value (values_of one two) (adjusted two.of))
+added_to graph one two k l = Ok (by_usual (number_of graph k) (number_of graph l))
+
 -- 5.7
 unfoldable pub added : CxxGraph → CxxOperand → CxxOperand → CxxKind → CxxKind → Asked (Option CxxBuiltIn)
 added graph one two (pointing t) kind = beside_integer graph t kind (gives_value (values_of one two) (adjusted one.of))
-added graph one two kind (pointing t) = beside_integer graph t kind (gives_value (values_of one two) (adjusted two.of))
-added graph one two k l = Ok (by_usual (number_of graph k) (number_of graph l))
+added graph one two k l = added_to graph one two k l
 
 -- 5.7: two pointers to one complete type, cv words aside
 unfoldable pub distance : CxxGraph → CxxOperand → CxxOperand → CxxType → CxxType → Asked (Option CxxBuiltIn)

@@ -84,15 +84,16 @@ abbrev pub joined : List Cv → List Cv → CxxJoined
 joined (one ∷ ones) (two ∷ twos) = joined_level one two (joined ones twos)
 joined _ _ = record { levels = []; adds = false }
 
--- a type with other words behind each `*`
-abbrev pub with_levels : List Cv → CxxType → CxxType
-with_levels (cv ∷ cvs) (pointer_to t) = pointer_to (with_cv cv (unqualified (with_levels cvs t)))
-with_levels cvs (qualified own t) = qualified own (with_levels cvs t)
-with_levels _ t = t
+-- a type with other words: its own, and those behind each `*`
+abbrev pub leveled : List Cv → CxxType → CxxType
+leveled [] t = t
+leveled (cv ∷ cvs) (pointer_to t) = with_cv cv (pointer_to (leveled cvs t))
+leveled (cv ∷ cvs) (qualified own t) = leveled (cv ∷ cvs) t
+leveled (cv ∷ cvs) t = with_cv cv (unqualified t)
 
 -- 5.9: the pointer to which two similar pointers are converted
 abbrev pub common_similar : CxxType → CxxType → CxxType
-common_similar one two = with_levels ((joined (signature (pointer_to one)) (signature (pointer_to two))).levels) (pointer_to one)
+common_similar one two = pointer_to (leveled ((joined (cv_of one ∷ signature one) (cv_of two ∷ signature two)).levels) one)
 
 unfoldable pub common_other : CxxGraph → CxxType → CxxType → CxxKind → CxxKind → Asked (Option CxxType)
 common_other graph one two (of_class m) (of_class n) = common_class graph one two m n

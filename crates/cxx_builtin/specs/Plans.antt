@@ -3,14 +3,16 @@ use Rattle.std.specs.Prelude.{ℕ, ◌<◌, List, [], ◌∷◌, map, Option, So
 use Rattle.std.specs.Option.{option_map}
 use Rattle.cxx_model.specs.declared.sequence.Operand.{Operand}
 use Rattle.cxx_model.specs.declared.stop.Wait.{Wait}
+use Rattle.cxx_model.specs.declared.types.TypeId.{TypeId}
 use Rattle.cxx_model.specs.Types.Numbers.{type_at}
 use Rattle.cxx_model.specs.Types.Trees.{CxxType, fundamental, pointer_to, with_cv, adjusted, unqualified}
 use Rattle.cxx_meaning.specs.Conversions.BuiltIn.{CxxBuiltIn}
-use Rattle.cxx_meaning.specs.Conversions.Pointers.{common_similar}
+use Rattle.cxx_meaning.specs.Conversions.Pointers.{CxxJoined, common_similar}
 use Rattle.cxx_meaning.specs.Conversions.Standard.{CxxOperand}
-use Rattle.cxx_standard.specs.declared.built_in.plan.Plan.{Plan}
-use Rattle.cxx_standard.specs.declared.built_in.plan.Sketch.{Sketch}
-use Rattle.cxx_standard.specs.declared.built_in.plan.Sketch.TheVariants as sketch
+use Rattle.cxx_builtin.specs.declared.making.JoinedLevels.{JoinedLevels}
+use Rattle.cxx_builtin.specs.declared.plan.Plan.{Plan}
+use Rattle.cxx_builtin.specs.declared.plan.Sketch.{Sketch}
+use Rattle.cxx_builtin.specs.declared.plan.Sketch.TheVariants as sketch
 use Rattle.cxx_standard.specs.Views.{operand_at}
 
 abbrev pub sketch_at : List CxxType → Sketch → CxxType
@@ -73,3 +75,10 @@ operands_at types operands = map (operand_at types) operands
 abbrev pub AreOperandsBelow : ℕ → List Operand → Type 0
 AreOperandsBelow count [] = Unit {0}
 AreOperandsBelow count (one ∷ others) = (one.of.0 < count) × AreOperandsBelow count others
+
+abbrev pub joined_at : JoinedLevels → CxxJoined
+joined_at both = record { levels = both.levels; adds = both.adds }
+
+abbrev pub IsNumberBelow : ℕ → Option TypeId → Type 0
+IsNumberBelow count None = Unit {0}
+IsNumberBelow count (Some of) = of.0 < count

@@ -5,18 +5,17 @@ ghost use Rattle.cxx_model.specs.Facts.Fitted.{Fitted};
 ghost use Rattle.cxx_model.specs.Types.Numbers.{type_at};
 ghost use Rattle.cxx_meaning.specs.Conversions.Asking.{Gives};
 ghost use Rattle.cxx_meaning.specs.Conversions.BuiltIn as definition;
-ghost use Rattle.cxx_standard.specs.Plans.{plans_at, ArePlansBelow, IsAnswerBelow};
+ghost use Rattle.cxx_builtin.specs.Plans.{plans_at, ArePlansBelow, IsAnswerBelow};
 ghost use Rattle.cxx_standard.specs.Views.{kind_at, operand_at, IsKindBelow, IsKindInRange};
 
-use crate::built_in::arithmetic::{integer_of, integral_promoted, number_of};
-use crate::built_in::operand::{is_condition, is_modifiable, is_void, operand_kind};
-use crate::built_in::plan::{Plan, Sketch, if_fits, object_of_one, value_of_one, value_of_two};
-use crate::built_in::pointers::is_complete_object;
-use crate::kinds::{TypeKind, kind_of};
-use crate::values::same_base;
+use crate::arithmetic::{integer_of, integral_promoted, number_of};
+use crate::operand::{is_condition, is_modifiable, is_void, operand_kind};
+use crate::plan::{Plan, Sketch, if_fits, object_of_one, value_of_one, value_of_two};
+use crate::pointers::is_complete_object;
 use cxx_graph::Graph;
 use cxx_meaning::UnaryFamily;
 use cxx_model::{Base, Operand, TypeId, Wait, punct};
+use cxx_standard::{TypeKind, kind_of, same_base};
 use cxx_types::TypeTable;
 
 fn value_of_base(types: &TypeTable, of: Option<Base>) -> Option<Plan>

@@ -8,10 +8,9 @@ ghost use Rattle.cxx_meaning.specs.Conversions.Kinds.{is_array as is_array_type}
 ghost use Rattle.cxx_meaning.specs.Conversions.Pointers as pointers;
 ghost use Rattle.cxx_standard.specs.Views.{kind_at, operand_at, IsKindBelow, IsKindInRange};
 
-use crate::kinds::{TypeKind, is_function, value_kind};
-use crate::levels::cv_of;
 use cxx_graph::Graph;
 use cxx_model::{Operand, TypeId, TypeNode};
+use cxx_standard::{TypeKind, cv_of, is_function, value_kind};
 use cxx_types::TypeTable;
 
 pub(crate) fn operand_kind(graph: &Graph, types: &TypeTable, one: Operand) -> TypeKind

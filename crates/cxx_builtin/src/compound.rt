@@ -5,19 +5,17 @@ ghost use Rattle.cxx_model.specs.Facts.Fitted.{Fitted};
 ghost use Rattle.cxx_model.specs.Types.Numbers.{type_at};
 ghost use Rattle.cxx_meaning.specs.Conversions.Asking.{Gives};
 ghost use Rattle.cxx_meaning.specs.Conversions.BuiltIn as definition;
-ghost use Rattle.cxx_standard.specs.Plans.{plans_at, sketch_at, ArePlansBelow, IsAnswerBelow, IsPlanBelow, IsSketchBelow};
+ghost use Rattle.cxx_builtin.specs.Plans.{plans_at, sketch_at, ArePlansBelow, IsAnswerBelow, IsPlanBelow, IsSketchBelow};
 ghost use Rattle.cxx_standard.specs.Views.{operand_at, kind_at, IsKindBelow};
 
-use crate::built_in::arithmetic::{integral_promoted, number_of};
-use crate::built_in::binary::{beside_integer, binary_by};
-use crate::built_in::operand::{is_modifiable, operand_kind};
-use crate::built_in::plan::{Plan, Sketch, object_of_two};
-use crate::kinds::{TypeKind, kind_of};
-use crate::order::is_pointing;
-use crate::values::same_base;
+use crate::arithmetic::{integral_promoted, number_of};
+use crate::binary::{beside_integer, binary_by};
+use crate::operand::{is_modifiable, operand_kind};
+use crate::plan::{Plan, Sketch, object_of_two};
 use cxx_graph::Graph;
 use cxx_meaning::BinaryFamily;
 use cxx_model::{Base, Operand, TypeId, Wait};
+use cxx_standard::{TypeKind, is_pointing, kind_of, same_base};
 use cxx_types::TypeTable;
 use std::alloc::Global;
 

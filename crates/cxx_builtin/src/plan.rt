@@ -1,6 +1,6 @@
 //! Types that are decided and not made yet.
 ghost use Rattle.std.specs.Prelude.{◌≡◌, length, None, Some, true, false, if◌then◌else◌};
-ghost use Rattle.cxx_standard.specs.Plans.{plan_at, plans_at, ArePlansBelow, IsPlanBelow};
+ghost use Rattle.cxx_builtin.specs.Plans.{plan_at, plans_at, ArePlansBelow, IsPlanBelow};
 
 use cxx_model::{Base, Cv, TypeId};
 use cxx_types::TypeTable;

@@ -4,11 +4,9 @@ ghost use Rattle.cxx_model.specs.Facts.Declarations.{graph_at};
 ghost use Rattle.cxx_meaning.specs.Conversions.Arithmetic as definition;
 ghost use Rattle.cxx_standard.specs.Views.{kind_at, IsKindInRange};
 
-use crate::kinds::TypeKind;
-use crate::table::promoted;
-use crate::values::{is_floating, promoted_base, same_base};
 use cxx_graph::Graph;
 use cxx_model::Base;
+use cxx_standard::{TypeKind, is_floating, promoted, promoted_base, same_base};
 use cxx_types::TypeTable;
 
 pub(crate) fn number_of(graph: &Graph, types: &TypeTable, kind: TypeKind) -> Option<Base>

@@ -6,17 +6,14 @@ ghost use Rattle.cxx_model.specs.Types.Numbers.{type_at, bound_at};
 ghost use Rattle.cxx_meaning.specs.Conversions.Asking.{Gives};
 ghost use Rattle.cxx_meaning.specs.Conversions.Kinds.{kind_of as kind_of_type};
 ghost use Rattle.cxx_meaning.specs.Conversions.Pointers as definition;
-ghost use Rattle.cxx_standard.specs.Plans.{sketches_at, AreSketchesBelow, IsSecondBelow};
+ghost use Rattle.cxx_builtin.specs.Plans.{sketches_at, AreSketchesBelow, IsSecondBelow};
 ghost use Rattle.cxx_standard.specs.Views.{kind_at, IsKindInRange};
 
-use crate::built_in::operand::is_void;
-use crate::built_in::plan::Sketch;
-use crate::classes::is_derived;
-use crate::kinds::{TypeKind, is_function, kind_of};
-use crate::levels::cv_of;
-use crate::table::{is_complete, is_pending};
+use crate::operand::is_void;
+use crate::plan::Sketch;
 use cxx_graph::Graph;
 use cxx_model::{Bound, ClassId, TypeId, TypeNode, Wait};
+use cxx_standard::{TypeKind, cv_of, is_complete, is_derived, is_function, is_pending, kind_of};
 use cxx_types::TypeTable;
 use std::alloc::Global;
 

@@ -5,13 +5,13 @@ ghost use Rattle.cxx_model.specs.Facts.Fitted.{Fitted};
 ghost use Rattle.cxx_model.specs.Types.Numbers.{type_at};
 ghost use Rattle.cxx_meaning.specs.Conversions.Asking.{Gives};
 ghost use Rattle.cxx_meaning.specs.Conversions.BuiltIn as definition;
-ghost use Rattle.cxx_standard.specs.Plans.{plans_at, IsAnswerBelow, AreOperandsBelow, operands_at};
+ghost use Rattle.cxx_builtin.specs.Plans.{plans_at, IsAnswerBelow, AreOperandsBelow, operands_at};
 ghost use Rattle.cxx_standard.specs.Views.{operand_at};
 
-use crate::built_in::binary::binary_by;
-use crate::built_in::compound::compound;
-use crate::built_in::plan::Plan;
-use crate::built_in::unary::{after, unary_result};
+use crate::binary::binary_by;
+use crate::compound::compound;
+use crate::plan::Plan;
+use crate::unary::{after, unary_result};
 use cxx_graph::Graph;
 use cxx_meaning::BinaryFamily;
 use cxx_model::{Operand, Wait, punct};

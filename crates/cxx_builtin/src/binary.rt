@@ -5,19 +5,17 @@ ghost use Rattle.cxx_model.specs.Facts.Fitted.{Fitted};
 ghost use Rattle.cxx_model.specs.Types.Numbers.{type_at};
 ghost use Rattle.cxx_meaning.specs.Conversions.Asking.{Gives};
 ghost use Rattle.cxx_meaning.specs.Conversions.BuiltIn as definition;
-ghost use Rattle.cxx_standard.specs.Plans.{plan_at, plans_at, sketches_at, ArePlansBelow, IsAnswerBelow, IsPlanBelow, IsSecondBelow};
+ghost use Rattle.cxx_builtin.specs.Plans.{plan_at, plans_at, sketches_at, ArePlansBelow, IsAnswerBelow, IsPlanBelow, IsSecondBelow};
 ghost use Rattle.cxx_standard.specs.Views.{kind_at, operand_at, IsKindBelow, IsKindInRange};
 
-use crate::built_in::arithmetic::{integer_of, integral_promoted, number_of, usual};
-use crate::built_in::operand::{is_condition, is_modifiable, operand_kind};
-use crate::built_in::plan::{Plan, Sketch, if_fits, object_of_two, value_of_two};
-use crate::built_in::pointers::{common_pointer, is_complete_object};
-use crate::kinds::{TypeKind, kind_of};
-use crate::sequence::steps_between;
-use crate::values::is_null;
+use crate::arithmetic::{integer_of, integral_promoted, number_of, usual};
+use crate::operand::{is_condition, is_modifiable, operand_kind};
+use crate::plan::{Plan, Sketch, if_fits, object_of_two, value_of_two};
+use crate::pointers::{common_pointer, is_complete_object};
 use cxx_graph::Graph;
 use cxx_meaning::{BinaryFamily, SequenceSteps};
 use cxx_model::{Base, ConstantKind, Operand, TypeId, Wait};
+use cxx_standard::{TypeKind, is_null, kind_of, steps_between};
 use cxx_types::TypeTable;
 use std::alloc::Global;
 
@@ -146,6 +144,35 @@ fn subscripted(
     }
 }
 
+#[tactic(auto, unfolding(cxx_meaning::specs::Conversions::BuiltIn::added_to))]
+fn added_to(
+    graph: &Graph,
+    types: &TypeTable,
+    one: Operand,
+    two: Operand,
+    left: TypeKind,
+    right: TypeKind,
+) -> Result<Option<Plan>, Wait>
+    requires one_known { one.of.0 < length types.now }
+    requires two_known { two.of.0 < length types.now }
+    requires right_below { IsKindBelow (length types.now) right }
+    requires left_range { IsKindInRange graph.now (kind_at types.now left) }
+    requires right_range { IsKindInRange graph.now (kind_at types.now right) }
+    requires fitted { Fitted graph.now types.now }
+    ensures is { Gives (plans_at types.now) result (definition.added_to (graph_at types.now graph.now) (operand_at types.now one) (operand_at types.now two) (kind_at types.now left) (kind_at types.now right)) }
+    ensures below { IsAnswerBelow (length types.now) result }
+{
+    match right {
+        TypeKind::Pointer(to) => {
+            beside_integer(graph, types, to, left, pointer_plan(one, two, two.of))
+        }
+        _ => {
+            let number = number_of(graph, types, left);
+            Ok(by_usual(types, number, number_of(graph, types, right)))
+        }
+    }
+}
+
 #[tactic(auto, unfolding(cxx_meaning::specs::Conversions::BuiltIn::added))]
 fn added(
     graph: &Graph,
@@ -169,15 +196,7 @@ fn added(
         TypeKind::Pointer(to) => {
             beside_integer(graph, types, to, right, pointer_plan(one, two, one.of))
         }
-        _ => match right {
-            TypeKind::Pointer(to) => {
-                beside_integer(graph, types, to, left, pointer_plan(one, two, two.of))
-            }
-            _ => {
-                let number = number_of(graph, types, left);
-                Ok(by_usual(types, number, number_of(graph, types, right)))
-            }
-        },
+        _ => added_to(graph, types, one, two, left, right),
     }
 }
 
