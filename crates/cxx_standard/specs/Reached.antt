@@ -1,10 +1,11 @@
 -- The bases that the facts before a fact lead to.
-use Rattle.std.specs.Prelude.{ℕ, ◌<◌, Bool, true, false, ◌||◌, nat_eq, List, [], ◌∷◌, All, Option, Some, None}
-use Rattle.std.specs.List.{slice_get}
+use Rattle.std.specs.Prelude.{ℕ, ◌≡◌, ◌<◌, Bool, true, false, ◌&&◌, ◌||◌, nat_eq, nat_lt, List, [], ◌∷◌, All, Option, Some, None}
+use Rattle.std.specs.List.{slice_get, list_any}
 use Rattle.cxx_model.specs.declared.facts.Entity.{Entity}
 use Rattle.cxx_model.specs.declared.facts.Entity.TheVariants as entity
 use Rattle.cxx_model.specs.declared.facts.Fact.{Fact}
 use Rattle.cxx_model.specs.declared.types.ClassId.{ClassId}
+use Rattle.cxx_model.specs.declared.types.FactId.{FactId}
 use Rattle.cxx_model.specs.Facts.Declarations as facts
 use Rattle.cxx_model.specs.Facts.Declarations.{CxxFact, Declares}
 use Rattle.cxx_meaning.specs.Conversions.Derived.{is_derived_before}
@@ -34,5 +35,14 @@ parent_in (Some fact) = by fact.what
 abbrev pub parent_at : List Fact → ℕ → Option ClassId
 parent_at all k = parent_in (slice_get all k)
 
+-- whether a fact before some count passes a test
+abbrev pub passes_below : ℕ → (ℕ → Bool) → FactId → Bool
+passes_below n good k = nat_lt k.0 n && good k.0
+
 abbrev pub AreAllBelow : ℕ → List ℕ → Type 0
 AreAllBelow count numbers = All (λ n. n < count) numbers
+
+-- A number was taken: it passes the test, or what it leads to is noted in its place.
+abbrev pub IsStep : (ℕ → Bool) → List ℕ → List ℕ → ℕ → Bool → Type 0
+IsStep good old new number true = good number ≡ true
+IsStep good old new number false = list_any good new ≡ (list_any good old || good number)
