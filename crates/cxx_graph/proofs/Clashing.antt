@@ -135,10 +135,10 @@ templates_ways : (closed : Bool) (xs : List CxxParameter) (a : CxxType) (k : Mem
     → function_templates_agree closed xs a k ys b l ≡ function_templates_agree closed ys b l xs a k
 templates_ways closed xs a k ys b l =
     both_if (lists_ways xs ys)
-      (both_if (static_ways k l)
-        (both_if (both_and (results_ways (function_parts a) (function_parts b)) (parts_ways true (function_parts a) (function_parts b))) (both_and (type_ways a b) (both_and (member_ways k l) refl)) refl)
-        (both_if (type_ways a b) (repeat_ways closed k l) refl))
-      refl
+    (both_if (static_ways k l)
+    (both_if (both_and (results_ways (function_parts a) (function_parts b)) (parts_ways true (function_parts a) (function_parts b))) (both_and (type_ways a b) (both_and (member_ways k l) refl)) refl)
+    (both_if (type_ways a b) (repeat_ways closed k l) refl))
+    refl
 
 unions_ways : (a b : Option Bool) → unions_agree a b ≡ unions_agree b a
 unions_ways (Some a) (Some b) = bool_ways a b
@@ -205,11 +205,11 @@ together_ways graph m one n two =
     let closed = λ (x y : ℕ). is_closed graph.facts x || is_closed graph.facts y in
     let same = entity_ways (entity_by meant.number meant.what) (entity_by other.number other.what) in
     both_if (or_comm (is_using one.what) (is_using two.what))
-      (ap (λ b. brought_may_stand b (is_using one.what && is_using two.what) (same_entity (entity_by meant.number meant.what) (entity_by other.number other.what)) (standing graph meant.what) (standing graph other.what)) (or_comm (is_class_scope graph.facts one.scope) (is_class_scope graph.facts two.scope))
-        ∙ ap (λ b. brought_may_stand (in_class two.scope one.scope) b (same_entity (entity_by meant.number meant.what) (entity_by other.number other.what)) (standing graph meant.what) (standing graph other.what)) (and_comm (is_using one.what) (is_using two.what))
-        ∙ brought_ways (in_class two.scope one.scope) (is_using two.what && is_using one.what) same (standing graph meant.what) (standing graph other.what))
-      (ap (λ b. may_stand b (standing graph one.what) (standing graph two.what)) (or_comm (is_closed graph.facts one.scope) (is_closed graph.facts two.scope))
-        ∙ may_ways (closed two.scope one.scope) (standing graph one.what) (standing graph two.what))
+    (ap (λ b. brought_may_stand b (is_using one.what && is_using two.what) (same_entity (entity_by meant.number meant.what) (entity_by other.number other.what)) (standing graph meant.what) (standing graph other.what)) (or_comm (is_class_scope graph.facts one.scope) (is_class_scope graph.facts two.scope))
+    ∙ ap (λ b. brought_may_stand (in_class two.scope one.scope) b (same_entity (entity_by meant.number meant.what) (entity_by other.number other.what)) (standing graph meant.what) (standing graph other.what)) (and_comm (is_using one.what) (is_using two.what))
+    ∙ brought_ways (in_class two.scope one.scope) (is_using two.what && is_using one.what) same (standing graph meant.what) (standing graph other.what))
+    (ap (λ b. may_stand b (standing graph one.what) (standing graph two.what)) (or_comm (is_closed graph.facts one.scope) (is_closed graph.facts two.scope))
+    ∙ may_ways (closed two.scope one.scope) (standing graph one.what) (standing graph two.what))
 
 -- ---- a name and a scope
 
@@ -239,5 +239,5 @@ scope_ways all a b = both_or (nat_ways a b) (or_comm (is_of_parameters all a b) 
 pub clash_ways : (graph : CxxGraph) (m : ℕ) (one : CxxFact) (n : ℕ) (two : CxxFact) → clash graph m one n two ≡ clash graph n two m one
 clash_ways graph m one n two =
     both_and (scope_ways graph.facts one.scope two.scope)
-      (both_and (named_ways one two)
-        (both_or (or_comm (are_parameters (slice_get (scope_kinds graph.facts) one.scope)) (are_parameters (slice_get (scope_kinds graph.facts) two.scope))) (ap not (together_ways graph m one n two))))
+    (both_and (named_ways one two)
+    (both_or (or_comm (are_parameters (slice_get (scope_kinds graph.facts) one.scope)) (are_parameters (slice_get (scope_kinds graph.facts) two.scope))) (ap not (together_ways graph m one n two))))

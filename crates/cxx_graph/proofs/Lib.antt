@@ -1,7 +1,8 @@
 pub mod Classes
+pub mod Keeping
 pub mod Marks
+pub mod Rowed
 pub mod Same
-pub mod Sampled
 mod Clashing
 mod ConflictRows
 mod Conflicting

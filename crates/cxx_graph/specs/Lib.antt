@@ -1,4 +1,6 @@
 pub mod Ended
+pub mod Kept
+pub mod Numbered
 pub mod Reserved
-pub mod Sample
+pub mod Rows
 pub mod Stored

@@ -6,7 +6,10 @@ use Rattle.cxx_model.specs.declared.facts.Fact.{Fact}
 use Rattle.cxx_model.specs.declared.facts.Pattern.{Pattern}
 use Rattle.cxx_model.specs.declared.facts.Specialisation.{Specialisation}
 use Rattle.cxx_model.specs.declared.types.ClassId.{ClassId}
+use Rattle.cxx_model.specs.declared.types.FactId.{FactId}
 use Rattle.cxx_model.specs.Facts.Graph.{Graph, InRange, AreSameArguments, is_complete}
+use Rattle.cxx_graph.specs.declared.promotion.Holders.{Holders}
+use Rattle.cxx_graph.specs.Kept.{IsKept}
 
 -- for each reserved class, whether its end was read
 abbrev pub IsMarked : List Fact → List Bool → Type 0
@@ -46,3 +49,8 @@ pub record IsStored (facts : List Fact) (entries : List (Specialisation × Class
   pub placed : IsPlaced entries places
   pub apart : AreClassesApart (classes_of entries places)
   pub in_range : InRange (graph_of facts entries places patterns)
+
+-- what holds of all the fields of each graph, those that are kept beside the facts among them
+pub record IsWhole (facts : List Fact) (entries : List (Specialisation × ClassId)) (places : List (Option ℕ)) (completed : List Bool) (patterns : List Pattern) (members bases : List (List FactId)) (holders : List Holders) : Type 0 where
+  pub stored : IsStored facts entries places completed patterns
+  pub kept : IsKept facts members bases holders

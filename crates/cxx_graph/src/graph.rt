@@ -1,13 +1,17 @@
 ghost use Rattle.std.specs.Prelude.{◌≡◌, ◌<◌, ◌+◌, ◌++◌, ◌⊎◌, [], ◌∷◌, length, None, Some, Err, ℕ, false, IsTrue, ◌↔◌, IfErr, IfNone, IfOk, IfSome, OnErr, OnOk};
 ghost use Rattle.std.specs.List.{slice_get};
 ghost use Rattle.std.specs.Option.{option_copied};
-ghost use Rattle.cxx_model.specs.Facts.Graph.{InRange, IsClassInRange, IsOneClassMore, IsPatternInRange, IsReservedAlready, IsReservedFor, IsSpecialisationOf, IsTemplateInRange, appended, is_complete, with_class, with_pattern};
+ghost use Rattle.cxx_model.specs.Facts.Graph.{InRange, IsClassInRange, IsOneClassMore, IsPatternInRange, IsReservedAlready, IsReservedFor, IsSpecialisationOf, IsTemplateInRange, appended, is_complete, values_of, with_class, with_pattern};
+ghost use Rattle.cxx_model.specs.Types.Integral.{promoted_of_values};
 ghost use Rattle.cxx_graph.specs.Ended.{ended};
+ghost use Rattle.cxx_graph.specs.Numbered.{is_ancestor_of, is_in_scope, numbers_of};
 ghost use Rattle.cxx_graph.specs.Reserved.{IsNew, IsUnknown, KeepsClasses};
 
+use crate::kept::Kept;
+use cxx_hash::Key;
 use cxx_model::{
-    ClassId, Entity, Fact, FactId, OutOfMemory, Pattern, Specialisation, Steps,
-    ArgumentList, TemplateId, copy_arguments,
+    ArgumentList, Base, ClassId, Entity, EnumId, Fact, FactId, OutOfMemory, Pattern, ScopeId,
+    Specialisation, Steps, TemplateId, copy_arguments,
 };
 use indexmap::IndexMap;
 use std::alloc::{AllocError, AllocFailed, Global};
@@ -67,8 +71,9 @@ pub struct Graph {
     classes: Vec<Option<u32>>,
     // Whether the end of each class was read.
     completed: Vec<bool>,
-    specialisations: IndexMap<Specialisation, ClassId>,
+    specialisations: IndexMap<Specialisation, ClassId, Key>,
     patterns: Vec<Pattern>,
+    kept: Kept,
     alloc: Global,
 }
 
@@ -82,24 +87,25 @@ impl Model for Graph {
 
     ghost coded = { Prim.hlevel (codes, formula.the_row.coded, tree.the_row.coded) };
 
-    ghost use Rattle.cxx_graph.specs.Stored.{IsStored, graph_of};
+    ghost use Rattle.cxx_graph.specs.Stored.{IsWhole, graph_of};
 
     ghost view = { λ graph. graph_of graph.facts.items graph.specialisations.entries graph.classes.items graph.patterns.items };
 
-    ghost invariant = { λ graph. IsStored graph.facts.items graph.specialisations.entries graph.classes.items graph.completed.items graph.patterns.items };
+    ghost invariant = { λ graph. IsWhole graph.facts.items graph.specialisations.entries graph.classes.items graph.completed.items graph.patterns.items graph.kept.members graph.kept.bases graph.kept.holders.items };
 }
 
 impl Graph {
-    /// A graph of no facts, no classes and no templates.
-    pub fn new(alloc: Global) -> Graph
+    /// A graph of no facts, no classes and no templates. Specialisations are hashed by the key.
+    pub fn new(alloc: Global, key: Key) -> Graph
         ensures { result ≡ record { facts = []; classes = []; patterns = [] } }
     {
         Graph {
             facts: Vec::new(alloc),
             classes: Vec::new(alloc),
             completed: Vec::new(alloc),
-            specialisations: IndexMap::new(alloc),
+            specialisations: IndexMap::with_hasher(alloc, key),
             patterns: Vec::new(alloc),
+            kept: Kept::new(alloc),
             alloc,
         }
     }
@@ -110,6 +116,42 @@ impl Graph {
         ensures range { InRange self.now }
     {
         self.facts.len() as u32
+    }
+
+    /// Each number in the graph is in range, for the caller who adds to it.
+    pub fn in_range(&self)
+        ensures { InRange self.now }
+    {
+        let _ = &self.facts;
+    }
+
+    /// The facts in their order.
+    pub fn facts(&self) -> &[Fact]
+        ensures { result.now ≡ self.now.facts }
+    {
+        self.facts.as_slice()
+    }
+
+    /// The numbers of the facts of a scope, in order.
+    pub fn facts_of(&self, scope: ScopeId) -> &[FactId]
+        ensures { result.now ≡ numbers_of (is_in_scope scope.0) self.now.facts }
+    {
+        self.kept.members.row(scope.0)
+    }
+
+    /// The numbers of the facts of the direct bases of a class (10), in order.
+    pub fn ancestors(&self, class: ClassId) -> &[FactId]
+        ensures { result.now ≡ numbers_of (is_ancestor_of class.0) self.now.facts }
+    {
+        self.kept.bases.row(class.0)
+    }
+
+    /// The type to which an enumeration is promoted (4.5): the first of `int`, `unsigned`, `long` and `unsigned long` that
+    /// holds the values of its enumerators. With no enumerator it is promoted as one whose value is 0 (7.2).
+    pub fn promoted(&self, number: EnumId) -> Option<Base>
+        ensures { result ≡ promoted_of_values (values_of self.now.facts number.0) }
+    {
+        self.kept.holders_of(number).promoted()
     }
 
     /// The fact with a number. It takes one step.
@@ -141,14 +183,16 @@ impl Graph {
         if self.facts.len() + self.classes.len() == LIMIT {
             return Err(AddFault::Limit);
         }
-        let number = self.facts.len() as u32;
+        let number = FactId(self.facts.len() as u32);
         let ended = ended_by(&fact.what);
+        self.facts.reserve(1)?;
+        self.kept.note(number, &fact)?;
         self.facts.push(fact)?;
         if let Some(class) = ended {
             let class = class.0 as usize;
             self.completed[class] = true;
         }
-        Ok(FactId(number))
+        Ok(number)
     }
 
     /// The number of a class. Without a template it is a new one at each call; with one it is that of the

@@ -2,8 +2,9 @@
 #![tactic(auto)]
 
 mod graph;
+mod kept;
 pub mod laws;
-#[cfg(test)]
-mod tests;
+mod promotion;
+mod rows;
 
 pub use graph::{AddFault, Graph};

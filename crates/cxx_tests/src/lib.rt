@@ -1,2 +1,9 @@
 //! Tests of the crates below through their public calls, a module for each crate.
 #![tactic(auto)]
+
+#[cfg(test)]
+mod graph;
+#[cfg(test)]
+mod stopped;
+#[cfg(test)]
+mod types;

@@ -1,4 +1,3 @@
-pub mod Free
 pub mod Levels
 pub mod Makes
 pub mod Parameters

@@ -197,7 +197,7 @@ impl TypeTable {
         ensures { Makes self.old self.new result (adjusted (type_at self.old number.0)) }
     {
         match self.node(number) {
-            TypeNode::Qualified(_, inner) => Ok(*inner),
+            TypeNode::Qualified(_, bare) => Ok(*bare),
             _ => self.decay(number),
         }
     }

@@ -6,8 +6,6 @@ mod intern;
 pub mod laws;
 mod similar;
 mod table;
-#[cfg(test)]
-mod tests;
 mod tree;
 
 pub use table::TypeTable;

@@ -5,6 +5,7 @@ ghost use Rattle.cxx_model.specs.Types.Numbers.{type_at, types_at, type_over, Ar
 ghost use Rattle.cxx_types.specs.Levels.{level_count, level_counts};
 ghost use Rattle.cxx_types.specs.Makes.{Makes};
 
+use cxx_hash::Key;
 use cxx_model::{OutOfMemory, TypeId, TypeNode};
 use indexmap::IndexSet;
 use std::alloc::Global;
@@ -13,7 +14,7 @@ use std::marker::Model;
 /// The types that were met, each with a number. A contract sees the list of the types, in the order of their numbers.
 #[derive(Drop)]
 pub struct TypeTable {
-    pub(crate) nodes: IndexSet<TypeNode>,
+    pub(crate) nodes: IndexSet<TypeNode, Key>,
     // The levels of each type.
     level_counts: Vec<u64>,
     alloc: Global,
@@ -39,12 +40,12 @@ impl Model for TypeTable {
 impl TypeTable {
     ghost use Rattle.cxx_types.specs.Table.{AreNormal};
 
-    /// A table of no types.
-    pub fn new(alloc: Global) -> TypeTable
+    /// A table of no types. What it looks up is hashed by the key.
+    pub fn new(alloc: Global, key: Key) -> TypeTable
         ensures { result ≡ [] }
     {
         TypeTable {
-            nodes: IndexSet::new(alloc),
+            nodes: IndexSet::with_hasher(alloc, key),
             level_counts: Vec::new(alloc),
             alloc,
         }

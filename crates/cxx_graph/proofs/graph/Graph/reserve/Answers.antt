@@ -11,12 +11,18 @@ entries c = c.in_ok-insert-in-Some.ensures.entries ∙ ap (λ (es : List (Specia
 
 pub invariant_of-self : goal.invariant_of-self
 invariant_of-self c =
-    reserved-alone _ _ _ _ _ c.self.invariant c.args.self.now c.self.view_is c.push_class.new.classes.items c.push_class.new.completed.items c.in_ok-class.ensures.room c.in_ok-push_class-in-None.ensures.class c.in_ok-push_class-in-None.ensures.open
+    record {
+      stored = reserved-alone _ _ _ _ _ c.self.invariant.stored c.args.self.now c.self.view_is c.push_class.new.classes.items c.push_class.new.completed.items c.in_ok-class.ensures.room c.in_ok-push_class-in-None.ensures.class c.in_ok-push_class-in-None.ensures.open;
+      kept = c.self.invariant.kept;
+    }
 
 pub invariant_of-self-in_ok-insert-in-Some : goal.invariant_of-self-in_ok-insert-in-Some
 invariant_of-self-in_ok-insert-in-Some c =
-    reserved-special _ _ _ _ _ c.self.invariant c.args.self.now c.self.view_is c.args.of c.in-Some.of c.in-Some.is c.requires.new c.insert.new.self.entries c.push_class-in-Some.new.classes.items c.push_class-in-Some.new.completed.items c.in_ok-class.class c.len-place.result c.requires.range c.in_ok-class.ensures.number c.in_ok-class.ensures.room c.len-place.ensures.len (entries c) c.in_ok-push_class-in-Some.ensures.class c.in_ok-push_class-in-Some.ensures.open
+    record {
+      stored = reserved-special _ _ _ _ _ c.self.invariant.stored c.args.self.now c.self.view_is c.args.of c.in-Some.of c.in-Some.is c.requires.new c.insert.new.self.entries c.push_class-in-Some.new.classes.items c.push_class-in-Some.new.completed.items c.in_ok-class.class c.len-place.result c.requires.range c.in_ok-class.ensures.number c.in_ok-class.ensures.room c.len-place.ensures.len (entries c) c.in_ok-push_class-in-Some.ensures.class c.in_ok-push_class-in-Some.ensures.open;
+      kept = c.self.invariant.kept;
+    }
 
 pub returns-in_ok-insert-in-Some-clause-added : goal.returns-in_ok-insert-in-Some-clause-added
 returns-in_ok-insert-in-Some-clause-added c =
-    view-special _ _ _ _ _ c.self.invariant c.args.self.now c.self.view_is c.args.of c.in-Some.of c.in-Some.is c.requires.new c.insert.new.self.entries c.push_class-in-Some.new.classes.items c.in_ok-class.class c.len-place.result c.len-place.ensures.len (entries c) c.in_ok-push_class-in-Some.ensures.class
+    view-special _ _ _ _ _ c.self.invariant.stored c.args.self.now c.self.view_is c.args.of c.in-Some.of c.in-Some.is c.requires.new c.insert.new.self.entries c.push_class-in-Some.new.classes.items c.in_ok-class.class c.len-place.result c.len-place.ensures.len (entries c) c.in_ok-push_class-in-Some.ensures.class

@@ -1,0 +1,4 @@
+use Rattle.cxx_tests.proofs.graph.first_fact.Given as goal
+
+abbrev pub ghosts-entity : goal.ghosts-entity
+ghosts-entity g a = record { name = a.blank.name; parts = a.blank.parts }
