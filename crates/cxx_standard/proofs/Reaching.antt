@@ -1,5 +1,5 @@
 -- What the noted facts lead to is what the class is derived from.
-use Rattle.std.specs.Prelude.{ℕ, zero, suc, ◌≡◌, ◌<◌, ◌≤◌, ◌+◌, Bool, true, false, ◌&&◌, ◌||◌, nat_eq, nat_lt, if◌then◌else◌, List, [], ◌∷◌, ◌++◌, length, Option, Some, None, refl}
+use Rattle.std.specs.Prelude.{ℕ, zero, suc, ◌≡◌, ◌<◌, ◌≤◌, ◌+◌, Bool, true, false, ◌&&◌, ◌||◌, nat_eq, nat_lt, ℤ, if◌then◌else◌, List, [], ◌∷◌, ◌++◌, length, Option, Some, None, refl}
 use Rattle.std.specs.List.{slice_get, list_any}
 use Rattle.std.specs.BTreeSet.{insert_key}
 use Rattle.std.specs.declared.cmp.Ordering.{Ordering}
@@ -10,17 +10,21 @@ use Rattle.std.specs.Option.{option_map}
 use Rattle.std.proofs.lemmas.Map.Views.{All-insert_key}
 use Rattle.std.proofs.lemmas.List.Folds.{list_any-append, list_any_more}
 use Rattle.std.proofs.Math.Seq.{get_or-append_seam}
-use Rattle.std.proofs.Common.{ap, sym, subst, ◌∙◌, arith, get_or, take, length-append}
+use Rattle.std.proofs.Common.{take_all, ap, sym, subst, ◌∙◌, arith, get_or, take, length-append}
 use Rattle.cxx_model.specs.declared.facts.Entity.{Entity}
 use Rattle.cxx_model.specs.declared.facts.Entity.TheVariants as entity
 use Rattle.cxx_model.specs.declared.facts.Fact.{Fact}
 use Rattle.cxx_model.specs.declared.types.ClassId.{ClassId}
 use Rattle.cxx_model.specs.declared.types.FactId.{FactId}
-use Rattle.cxx_model.specs.Facts.Declarations.{CxxFact, declares_at, fact_at, facts_at}
+use Rattle.cxx_model.specs.Facts.Declarations.{CxxFact, declares_at, fact_at, facts_at, graph_at}
 use Rattle.cxx_model.specs.Types.Trees.{CxxType}
-use Rattle.cxx_meaning.specs.Conversions.Derived.{has_base, is_derived_before}
-use Rattle.cxx_standard.specs.Numbered.{is_ancestor_of, numbers_from, numbers_of}
-use Rattle.cxx_standard.specs.Reached.{AreAllBelow, passes_below, names_base, parent_at, parent_in, reaches}
+use Rattle.cxx_meaning.specs.Conversions.Derived.{has_base, is_derived, is_derived_before}
+use Rattle.cxx_meaning.specs.Conversions.Enumerations.{promoted, values_in}
+use Rattle.cxx_meaning.specs.Conversions.Pointers.{ends, is_complete}
+use Rattle.cxx_model.specs.Facts.Graph.{Graph, completes, is_complete as is_complete_in, values_of}
+use Rattle.cxx_model.specs.Types.Integral.{promoted_of_values}
+use Rattle.cxx_graph.specs.Numbered.{is_ancestor_of, numbers_from, numbers_of}
+use Rattle.cxx_standard.specs.Reached.{AreAllBelow, IsStep, passes_below, names_base, parent_at, parent_in, reaches}
 
 -- ---- booleans
 
@@ -176,9 +180,9 @@ noted_none good old number before h = or-false (list_any good old) ∙ ap (λ b.
     or-false true = refl
     or-false false = refl
 
-pub noted_more : (good : ℕ → Bool) (initial now new : List ℕ) (numbers : List FactId) (i before : ℕ) (number : FactId) → i < length numbers → number ≡ get_or numbers i number → list_any good now ≡ (list_any good initial || list_any (passes_below before good) (take i numbers)) → list_any good new ≡ (list_any good now || (nat_lt number.0 before && good number.0)) → list_any good new ≡ (list_any good initial || list_any (passes_below before good) (take (i + 1) numbers))
-noted_more good initial now new numbers i before number within is so_far step =
-    let more : list_any (passes_below before good) (take (i + 1) numbers) ≡ (list_any (passes_below before good) (take i numbers) || passes_below before good (get_or numbers i number)) = list_any_more (passes_below before good) numbers i number within in
+pub noted_more : (good : ℕ → Bool) (initial now new : List ℕ) (numbers : List FactId) (i before : ℕ) (number d : FactId) → i < length numbers → number ≡ get_or numbers i d → list_any good now ≡ (list_any good initial || list_any (passes_below before good) (take i numbers)) → list_any good new ≡ (list_any good now || (nat_lt number.0 before && good number.0)) → list_any good new ≡ (list_any good initial || list_any (passes_below before good) (take (i + 1) numbers))
+noted_more good initial now new numbers i before number d within is so_far step =
+    let more : list_any (passes_below before good) (take (i + 1) numbers) ≡ (list_any (passes_below before good) (take i numbers) || passes_below before good (get_or numbers i d)) = list_any_more (passes_below before good) numbers i d within in
     step ∙ ap (λ b. b || passes_below before good number) so_far ∙ sym (either_assoc (list_any good initial) (list_any (passes_below before good) (take i numbers)) (passes_below before good number)) ∙ ap (λ b. list_any good initial || (list_any (passes_below before good) (take i numbers) || b)) (ap (passes_below before good) is) ∙ ap (λ b. list_any good initial || b) (sym more)
 
 -- ---- one fact
@@ -259,5 +263,50 @@ was_not_reached good before target none so_far = sym (ap (list_any good) none) �
 pub noted_all : (types : List CxxType) (facts : List Fact) (class base before : ℕ) (initial now : List ℕ) (numbers : List FactId) (i : ℕ) → length numbers ≤ i → numbers ≡ numbers_of (is_ancestor_of class) facts → list_any (reaches (facts_at types facts) base) now ≡ (list_any (reaches (facts_at types facts) base) initial || list_any (passes_below before (reaches (facts_at types facts) base)) (take i numbers)) → list_any (reaches (facts_at types facts) base) now ≡ (list_any (reaches (facts_at types facts) base) initial || is_derived_before (facts_at types facts) before class base)
 noted_all types facts class base before initial now numbers i past is so_far =
     let good : ℕ → Bool = reaches (facts_at types facts) base in
-    let whole : take i numbers ≡ numbers_of (is_ancestor_of class) facts = take-all numbers i past ∙ is in
+    let whole : take i numbers ≡ numbers_of (is_ancestor_of class) facts = take_all i numbers past ∙ is in
     so_far ∙ ap (λ (ns : List FactId). list_any good initial || list_any (passes_below before good) ns) whole ∙ ap (λ b. list_any good initial || b) (sym (derived_any types facts class base before))
+
+pub step_taken : (good : ℕ → Bool) (old new : List ℕ) (n : ℕ) (reached : Bool) → IsStep good old new n reached → reached ≡ true → good n ≡ true
+step_taken good old new n true step is = step
+step_taken good old new n false step is = absurd (cc)
+
+pub step_left : (good : ℕ → Bool) (old new : List ℕ) (n : ℕ) (reached : Bool) → IsStep good old new n reached → reached ≡ false → list_any good new ≡ (list_any good old || good n)
+step_left good old new n true step is = absurd (cc)
+step_left good old new n false step is = step
+
+length-kept : (types : List CxxType) (facts : List Fact) → length (facts_at types facts) ≡ length facts
+length-kept types [] = refl
+length-kept types (fact ∷ facts) = ap suc (length-kept types facts)
+
+pub derived_whole : (types : List CxxType) (graph : Graph) (class base : ℕ) → is_derived_before (facts_at types graph.facts) (length graph.facts) class base ≡ is_derived (graph_at types graph) class base
+unfolding is_derived
+derived_whole types graph class base = ap (λ (n : ℕ). is_derived_before (facts_at types graph.facts) n class base) (sym (length-kept types graph.facts))
+
+-- ---- enumerations and the ends of classes
+
+pub values_kept : (types : List CxxType) (facts : List Fact) (n : ℕ) → values_in n (facts_at types facts) ≡ values_of facts n
+values_kept types [] n = refl
+values_kept types (fact ∷ facts) n = by fact.what (values_kept types facts n)
+  where
+    by : (what : Entity) → values_in n (facts_at types facts) ≡ values_of facts n → values_in n (record (fact_at types fact) { what = declares_at types what } ∷ facts_at types facts) ≡ values_of (record fact { what = what } ∷ facts) n
+    by (entity.Enumerator number value) same = split (nat_eq number.0 n) refl
+      where
+        split : (b : Bool) → nat_eq number.0 n ≡ b → values_in n (record (fact_at types fact) { what = declares_at types (entity.Enumerator number value) } ∷ facts_at types facts) ≡ values_of (record fact { what = entity.Enumerator number value } ∷ facts) n
+        split true e = rw e (ap (λ vs. value ∷ vs) same)
+        split false e = rw e same
+    by _ same = same
+
+pub promoted_kept : (types : List CxxType) (graph : Graph) (n : ℕ) → promoted_of_values (values_of graph.facts n) ≡ promoted (graph_at types graph) n
+unfolding promoted
+promoted_kept types graph n = ap promoted_of_values (sym (values_kept types graph.facts n))
+
+pub ends_kept : (types : List CxxType) (facts : List Fact) (n : ℕ) → list_any (λ fact. ends n fact.what) (facts_at types facts) ≡ is_complete_in facts n
+ends_kept types [] n = refl
+ends_kept types (fact ∷ facts) n = by fact.what (ends_kept types facts n)
+  where
+    by : (what : Entity) → list_any (λ fact. ends n fact.what) (facts_at types facts) ≡ is_complete_in facts n → (ends n (declares_at types what) || list_any (λ fact. ends n fact.what) (facts_at types facts)) ≡ (completes n (record fact { what = what }) || is_complete_in facts n)
+    by (entity.Complete class) same = ap (λ b. nat_eq class.0 n || b) same
+    by _ same = same
+
+pub complete_kept : (types : List CxxType) (graph : Graph) (n : ℕ) → is_complete_in graph.facts n ≡ is_complete (graph_at types graph) n
+complete_kept types graph n = sym (ends_kept types graph.facts n)

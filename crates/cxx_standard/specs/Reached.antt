@@ -23,13 +23,13 @@ names_base test (Some fact) = by fact.what
 abbrev pub reaches : List CxxFact → ℕ → ℕ → Bool
 reaches all base k = names_base (λ parent. nat_eq parent base || is_derived_before all k parent base) (slice_get all k)
 
+abbrev pub parent_named : Entity → Option ClassId
+parent_named (entity.Ancestor class parent index access) = Some parent
+parent_named _ = None
+
 abbrev pub parent_in : Option Fact → Option ClassId
 parent_in None = None
-parent_in (Some fact) = by fact.what
-  where
-    by : Entity → Option ClassId
-    by (entity.Ancestor class parent index access) = Some parent
-    by _ = None
+parent_in (Some fact) = parent_named fact.what
 
 -- the class that a fact names as a base
 abbrev pub parent_at : List Fact → ℕ → Option ClassId

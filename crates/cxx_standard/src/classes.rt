@@ -3,30 +3,30 @@ ghost use Rattle.std.specs.Prelude.{◌≡◌, ◌<◌, ◌≤◌, ◌&&◌, ◌
 ghost use Rattle.std.specs.List.{list_any};
 ghost use Rattle.cxx_model.specs.Facts.Declarations.{facts_at, graph_at};
 ghost use Rattle.cxx_meaning.specs.Conversions.Derived.{is_derived as is_derived_of, is_derived_before};
-ghost use Rattle.cxx_standard.specs.Numbered.{numbers_of, is_ancestor_of};
-ghost use Rattle.cxx_standard.specs.Reached.{reaches, parent_at, AreAllBelow, IsStep};
+ghost use Rattle.cxx_standard.specs.Reached.{reaches, parent_at, parent_named, AreAllBelow, IsStep};
 ghost use Rattle.cxx_standard.specs.Views.{Computes};
 
 use cxx_graph::Graph;
-use cxx_model::{ClassId, Entity, FactId, OutOfMemory};
+use cxx_model::{ClassId, Entity, OutOfMemory};
 use cxx_types::TypeTable;
 use std::alloc::Global;
 use std::collections::BTreeSet;
 
-fn ancestors(graph: &Graph, class: ClassId) -> &[FactId]
-    ensures { result.now ≡ numbers_of (is_ancestor_of class.0) graph.now.facts }
+fn parent_in(what: &Entity) -> Option<ClassId>
+    ensures { result ≡ parent_named what.now }
 {
-    let _ = graph.length();
-    let _ = class;
-    &[]
+    match what {
+        Entity::Ancestor { parent, .. } => Some(*parent),
+        _ => None,
+    }
 }
 
 // The class that a fact names as a base.
 fn parent_of(graph: &Graph, number: u32) -> Option<ClassId>
     ensures { result ≡ parent_at graph.now.facts number }
 {
-    let _ = graph.length();
-    if number == 0 { None } else { Some(ClassId(number)) }
+    let fact = graph.facts().get(number as usize)?;
+    parent_in(&fact.what)
 }
 
 // Notes a number, where it is before another.
@@ -58,7 +58,7 @@ fn note_bases(
 {
     let _ = types;
     let _ = base;
-    let numbers = ancestors(graph, class);
+    let numbers = graph.ancestors(class);
     for number in numbers {
         note(waiting, number.0, before)?;
     }

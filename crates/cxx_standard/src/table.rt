@@ -16,8 +16,7 @@ pub fn promoted(graph: &Graph, types: &TypeTable, number: EnumId) -> Option<Base
     ensures { result ≡ promoted_of (graph_at types.now graph.now) number.0 }
 {
     let _ = types;
-    let _ = graph.length();
-    if number.0 == 0 { None } else { Some(Base::Int) }
+    graph.promoted(number)
 }
 
 /// Whether a class must be complete before it is asked (14.7.1).

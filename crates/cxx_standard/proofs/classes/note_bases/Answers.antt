@@ -1,5 +1,4 @@
-use Rattle.std.proofs.Common.{◌∙◌, ap, take, length, get_or, sym, ◌||◌}
-use Rattle.std.specs.List.{list_any}
+use Rattle.std.proofs.Common.{refl}
 use Rattle.cxx_model.specs.Facts.Declarations.{facts_at}
 use Rattle.cxx_standard.specs.Reached.{reaches}
 use Rattle.cxx_standard.proofs.Reaching.{noted_all, noted_more}
@@ -8,7 +7,7 @@ use Rattle.cxx_standard.proofs.classes.note_bases.Goals as goal
 pub loop-number-preserved : goal.loop-number-preserved
 loop-number-preserved c = record {
   below = c.note.ensures.below;
-  noted = noted_more (reaches (facts_at c.args.types.now c.args.graph.now.facts) c.args.base.0) c.args.waiting.now.keys c.loop-number.waiting.keys c.note.new.waiting.keys c.ancestors-numbers.result.now c.loop-number.number-index c.args.before _ c.loop-number-test.true ? c.loop-number.invariant.noted (c.in_ok-note.ensures.noted (reaches (facts_at c.args.types.now c.args.graph.now.facts) c.args.base.0));
+  noted = noted_more (reaches (facts_at c.args.types.now c.args.graph.now.facts) c.args.base.0) c.args.waiting.now.keys c.loop-number.waiting.keys c.note.new.waiting.keys c.ancestors-numbers.result.now c.loop-number.number-index c.args.before _ (record { 0 = 0 }) c.loop-number-test.true refl c.loop-number.invariant.noted (c.in_ok-note.ensures.noted (reaches (facts_at c.args.types.now c.args.graph.now.facts) c.args.base.0));
 }
 
 pub returns-clause-noted : goal.returns-clause-noted
