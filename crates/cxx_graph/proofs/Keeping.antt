@@ -1,7 +1,7 @@
 -- What one more fact changes of what is kept.
-use Rattle.std.specs.Prelude.{ℕ, ℤ, zero, suc, ◌≡◌, ◌<◌, ◌+◌, ◌&&◌, Bool, true, false, if◌then◌else◌, List, [], ◌∷◌, ◌++◌, length, nat_eq, refl, Result, OnErr}
+use Rattle.std.specs.Prelude.{ℕ, ℤ, suc, ◌≡◌, ◌+◌, ◌&&◌, Bool, true, false, if◌then◌else◌, List, [], ◌∷◌, ◌++◌, length, nat_eq, refl}
 use Rattle.std.specs.List.{list_all}
-use Rattle.std.proofs.Common.{ap, sym, subst, ◌∙◌, arith, append_assoc, set, get_or, get_or-set_other, get_or-set_same}
+use Rattle.std.proofs.Common.{ap, sym, subst, ◌∙◌, arith, append_assoc}
 use Rattle.std.proofs.lemmas.Bool.{eqb-true, eq-eqb}
 use Rattle.cxx_model.specs.declared.base.Base.{Base}
 use Rattle.cxx_model.specs.declared.base.Base.TheVariants as base
@@ -13,7 +13,7 @@ use Rattle.cxx_model.specs.declared.types.FactId.{FactId}
 use Rattle.cxx_model.specs.Facts.Graph.{values_of}
 use Rattle.cxx_model.specs.Types.Integral.{holds}
 use Rattle.cxx_graph.specs.declared.promotion.Holders.{Holders}
-use Rattle.cxx_graph.specs.Kept.{AreSameHolders, HasBase, HasValue, IsKept, IsValueMore, all_hold, holders_at, holders_of, with_value}
+use Rattle.cxx_graph.specs.Kept.{AreSameHolders, HasBase, HasValue, IsKept, holders_at, holders_of, with_value}
 use Rattle.cxx_graph.specs.Numbered.{is_ancestor_of, is_in_scope, numbers_from, numbers_of}
 use Rattle.cxx_graph.specs.Rows.{row_at, AreSameRows, IsRowMore}
 

@@ -7,8 +7,8 @@ ghost use Rattle.cxx_tests.specs.Sample.{sample};
 use cxx_graph::{AddFault, Graph};
 use cxx_hash::Key;
 use cxx_model::{
-    Access, Argument, ArgumentList, ClassId, Entity, Fact, FactId, Formula, Listed, MemberKind,
-    Name, OutOfMemory, Pattern, Place, ScopeId, ScopeKind, Steps, TemplateId, TreeId, TypeId,
+    Access, Argument, ArgumentList, Base, ClassId, Entity, EnumId, Fact, FactId, Formula, Listed,
+    MemberKind, Name, Pattern, Place, ScopeId, ScopeKind, Steps, TemplateId, TreeId, TypeId,
 };
 use std::alloc::Global;
 use std::marker::Brand;

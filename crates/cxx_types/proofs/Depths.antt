@@ -1,6 +1,6 @@
 -- How deep the types of a table are.
-use Rattle.std.specs.Prelude.{ℕ, zero, suc, ◌≡◌, ◌<◌, ◌≤◌, ◌+◌, List, [], ◌∷◌, length, map, max, slice_index_or}
-use Rattle.std.proofs.Common.{arith, sym, ap, ◌∙◌, get_or}
+use Rattle.std.specs.Prelude.{ℕ, ◌≡◌, ◌<◌, ◌≤◌, List, [], ◌∷◌, length, map}
+use Rattle.std.proofs.Common.{arith, ap, ◌∙◌, get_or}
 use Rattle.std.proofs.lemmas.List.{get_or-map}
 use Rattle.cxx_model.specs.declared.base.Base.TheVariants.{Void}
 use Rattle.cxx_model.specs.declared.types.TypeId.{TypeId}

@@ -1,5 +1,5 @@
 -- What interning makes of a tree, step by step.
-use Rattle.std.specs.Prelude.{ℕ, zero, suc, ◌≡◌, ◌<◌, ◌≤◌, ◌+◌, Bool, List, [], ◌∷◌, ◌++◌, length, Box, Result, Ok, Err, IsErr, refl}
+use Rattle.std.specs.Prelude.{ℕ, zero, suc, ◌≡◌, ◌<◌, ◌+◌, List, [], ◌∷◌, ◌++◌, length, Box, Result, Ok, Err, IsErr, refl}
 use Rattle.std.proofs.Common.{ap, sym, subst, ◌∙◌, take, get_or, arith}
 use Rattle.std.proofs.lemmas.List.{take_more}
 use Rattle.std.specs.declared.alloc.Global.{Global}
@@ -15,9 +15,9 @@ use Rattle.cxx_model.specs.declared.types.TypeTree.{TypeTree}
 use Rattle.cxx_model.specs.Types.Copies.{CopiesArguments, CopiesBound}
 use Rattle.cxx_model.specs.Facts.Graph.{Graph, IsTypeInRange, AreTypesInRange}
 use Rattle.cxx_model.specs.Types.Trees.{CxxType, CxxTypes, no_types, type_then, array_of, function_of, specialisation, adjusted, normal, normal_arguments, normal_bound, normal_parameters, with_cv}
-use Rattle.cxx_model.specs.Types.Numbers.{type_at, types_at, tree_at, arguments_at, bound_at, IsTreeBelow, AreArgumentsBelow, IsBoundBelow, AreTypesBelow, Keeps}
+use Rattle.cxx_model.specs.Types.Numbers.{type_at, types_at, tree_at, arguments_at, bound_at, IsTreeBelow, AreArgumentsBelow, IsBoundBelow, Keeps}
 use Rattle.cxx_model.proofs.TypeForm.{normal_arguments_fixed, normal_bound_fixed}
-use Rattle.cxx_model.proofs.TypeTrees.{arguments_normal, bound_kept, bound_later, bound_normal, tree_kept, tree_later, types_kept, Keeps-trans}
+use Rattle.cxx_model.proofs.TypeTrees.{arguments_normal, bound_kept, bound_later, bound_normal, tree_kept, tree_later, Keeps-trans}
 use Rattle.cxx_types.specs.Makes.{AreInRange, Makes, MakesEach}
 use Rattle.cxx_types.specs.Parameters.{adjusted_types, normal_types}
 use Rattle.cxx_types.specs.Table.{AreNormal}

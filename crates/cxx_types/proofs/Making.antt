@@ -7,7 +7,7 @@ use Rattle.cxx_model.specs.Facts.Graph.{Graph, IsTypeInRange, AreTypesInRange}
 use Rattle.cxx_model.specs.Types.Trees.{CxxType, CxxTypes, no_types, type_then}
 use Rattle.cxx_model.specs.Types.Numbers.{type_at, types_at, AreTypesBelow, Keeps}
 use Rattle.cxx_model.proofs.TypeTrees.{types_kept, types_later, Keeps-refl, Keeps-trans}
-use Rattle.cxx_types.specs.Makes.{AreInRange, AreMade, Fits, FitsEach, IsMade, Makes, MakesEach}
+use Rattle.cxx_types.specs.Makes.{AreInRange, FitsEach, Makes, MakesEach}
 
 -- a number that is there
 pub makes_here : (types : List CxxType) (number : TypeId) → number.0 < length types → Makes types types (Ok number) (type_at types number.0)

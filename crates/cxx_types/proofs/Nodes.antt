@@ -15,10 +15,9 @@ use Rattle.cxx_model.proofs.TypeTrees.{node_kept, node_later, Keeps-refl, Keeps-
 use Rattle.std.proofs.lemmas.Bool.{ltb-true, ltb-false}
 use Rattle.indexmap.specs.IndexSet.{insert_key}
 use Rattle.cxx_model.proofs.Equal.{same_node, node_from, node_to}
-use Rattle.cxx_model.specs.declared.types.TypeId.{TypeId}
-use Rattle.cxx_model.specs.Facts.Graph.{Graph, IsTypeInRange}
+use Rattle.cxx_model.specs.Facts.Graph.{IsTypeInRange}
 use Rattle.cxx_types.specs.Levels.{level_count}
-use Rattle.cxx_types.specs.Makes.{AreInRange, Fits, Makes}
+use Rattle.cxx_types.specs.Makes.{Fits, Makes}
 use Rattle.cxx_types.specs.Table.{types_after, types_of, AreNormal, AreShallow, IsTable}
 use Rattle.cxx_types.proofs.Depths.{node-shallow}
 

@@ -1,5 +1,5 @@
 -- What a type in range tells of the types that it was made from.
-use Rattle.std.specs.Prelude.{ℕ, ◌≡◌, ◌<◌, Bool, true, false, if◌then◌else◌, List, [], ◌∷◌, length, refl}
+use Rattle.std.specs.Prelude.{Bool, true, false, if◌then◌else◌, List, [], ◌∷◌, length}
 use Rattle.std.proofs.Common.{subst, sym}
 use Rattle.cxx_model.specs.declared.types.Bound.{Bound}
 use Rattle.cxx_model.specs.declared.types.Bound.TheVariants as bound
@@ -8,8 +8,8 @@ use Rattle.cxx_model.specs.declared.types.Formula.{Formula, Value, Parameter, Me
 use Rattle.cxx_model.specs.declared.types.TypeTree as tree
 use Rattle.cxx_model.specs.declared.types.TypeTree.{TypeTree}
 use Rattle.cxx_model.specs.Facts.Graph.{Graph, IsTypeInRange, AreTypesInRange, IsBoundInRange, IsFormulaInRange}
-use Rattle.cxx_model.specs.Types.Trees.{CxxType, fundamental, class_type, enumeration, pointer_to, reference_to, array_of, function_of, qualified, type_parameter, specialisation, nested_in, CxxBound, CxxTypes, any_cv, merged, layered, with_cv, adjusted, normal, normal_parameters}
-use Rattle.cxx_model.specs.Types.Numbers.{type_at, tree_at, bound_at, formula_at, IsBoundBelow, IsFormulaBelow, IsTreeBelow}
+use Rattle.cxx_model.specs.Types.Trees.{CxxType, fundamental, class_type, enumeration, pointer_to, reference_to, array_of, function_of, qualified, type_parameter, specialisation, nested_in, CxxBound, any_cv, merged, layered, with_cv, adjusted, normal, normal_parameters}
+use Rattle.cxx_model.specs.Types.Numbers.{tree_at, bound_at, formula_at, IsBoundBelow, IsFormulaBelow, IsTreeBelow}
 use Rattle.cxx_model.proofs.TypeForm.{normal_bound_fixed}
 use Rattle.cxx_model.proofs.TypeTrees.{bound_normal}
 use Rattle.cxx_types.specs.Makes.{AreInRange}

@@ -1,9 +1,9 @@
-use Rattle.std.proofs.Common.{◌<◌, ◌≤◌, ◌≡◌, [], ap, sym, ◌∙◌, length, List, subst, arith}
+use Rattle.std.proofs.Common.{◌<◌, sym, length, List, subst, arith}
 use Rattle.std.proofs.Math.ListN.{length-map}
 use Rattle.cxx_model.specs.declared.types.FactId.{FactId}
 use Rattle.std.specs.Global.{Vec}
-use Rattle.cxx_graph.specs.Rows.{row_at, AreSameRows, IsRowMore}
-use Rattle.cxx_graph.proofs.Rowed.{none-there, past-rows, popped_by, rows_of}
+use Rattle.cxx_graph.specs.Rows.{IsRowMore}
+use Rattle.cxx_graph.proofs.Rowed.{popped_by, rows_of}
 use Rattle.cxx_graph.proofs.rows.Rows.pop.Goals as goal
 
 pub returns-then-number-len : goal.returns-then-number-len

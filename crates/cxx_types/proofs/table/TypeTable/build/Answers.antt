@@ -1,6 +1,3 @@
-use Rattle.std.proofs.Common.{ap, sym, ◌∙◌}
-use Rattle.cxx_model.specs.Types.Trees.{normal}
-use Rattle.cxx_model.specs.Types.Numbers.{type_over}
 use Rattle.cxx_types.proofs.Building.{node-normal, built-plain, built-qualified, built-function}
 use Rattle.cxx_types.proofs.table.TypeTable.build.Goals as goal
 

@@ -1,4 +1,4 @@
-use Rattle.std.proofs.Common.{◌≤◌, ◌≡◌, ◌<◌, length, map, arith, ap, sym, ◌∙◌}
+use Rattle.std.proofs.Common.{◌≤◌, ◌≡◌, ◌<◌, length, arith, ap, ◌∙◌}
 use Rattle.std.proofs.Math.ListN.{length-map}
 use Rattle.cxx_model.specs.Types.Numbers.{type_at}
 use Rattle.cxx_types.specs.Levels.{level_count}

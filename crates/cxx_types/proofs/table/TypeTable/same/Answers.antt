@@ -1,4 +1,4 @@
-use Rattle.std.proofs.Common.{ap, sym, ◌∙◌, nat_eq, subst}
+use Rattle.std.proofs.Common.{ap, nat_eq, subst}
 use Rattle.std.proofs.lemmas.Bool.{eqb-true, eq-eqb}
 use Rattle.cxx_model.specs.Types.Numbers.{type_at, AreApart}
 use Rattle.cxx_types.proofs.Told.{told}
