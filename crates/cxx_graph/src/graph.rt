@@ -273,6 +273,13 @@ impl Graph {
         Ok(TemplateId(number))
     }
 
+    /// The templates in their order.
+    pub fn patterns(&self) -> &[Pattern]
+        ensures { result.now ≡ self.now.patterns }
+    {
+        self.patterns.as_slice()
+    }
+
     /// The template with a number.
     pub fn pattern(&self, number: TemplateId) -> &Pattern
         requires { number.0 < length self.now.patterns }

@@ -4,7 +4,6 @@ ghost use Rattle.cxx_model.specs.Facts.Declarations.{graph_at};
 ghost use Rattle.cxx_model.specs.Facts.Graph.{enumerations};
 ghost use Rattle.cxx_meaning.specs.Conversions.Enumerations.{promoted as promoted_of};
 ghost use Rattle.cxx_meaning.specs.Conversions.Pointers.{is_complete as is_complete_of};
-ghost use Rattle.cxx_meaning.specs.Conversions.Pending.{is_pending as is_pending_of};
 
 use cxx_graph::Graph;
 use cxx_model::{Base, ClassId, EnumId};
@@ -17,15 +16,6 @@ pub fn promoted(graph: &Graph, types: &TypeTable, number: EnumId) -> Option<Base
 {
     let _ = types;
     graph.promoted(number)
-}
-
-/// Whether a class must be complete before it is asked (14.7.1).
-pub fn is_pending(graph: &Graph, types: &TypeTable, class: ClassId) -> bool
-    requires { class.0 < length graph.now.classes }
-    ensures { result ≡ is_pending_of (graph_at types.now graph.now) class.0 }
-{
-    let _ = types;
-    graph.complete(class)
 }
 
 /// Whether the end of a class was read (9.2).

@@ -1,5 +1,5 @@
 -- Classes that must be complete before they are asked (14.7.1).
-use Rattle.std.specs.Prelude.{ℕ, zero, suc, Bool, true, false, ◌&&◌, ◌||◌, not, nat_eq, List, [], ◌∷◌, ◌++◌, Option, Some, None, if◌then◌else◌}
+use Rattle.std.specs.Prelude.{ℕ, Bool, true, false, ◌&&◌, ◌||◌, not, nat_eq, List, [], ◌∷◌, Option, Some, None}
 use Rattle.std.specs.List.{slice_get, list_any}
 use Rattle.cxx_model.specs.declared.facts.ScopeKind.{ScopeKind}
 use Rattle.cxx_model.specs.declared.facts.ScopeKind.TheVariants as kind
@@ -14,39 +14,45 @@ begins_or_ends class (facts.scope parent (kind.Class number)) = nat_eq number.0 
 begins_or_ends class (facts.complete number) = nat_eq number.0 class
 begins_or_ends class _ = false
 
-abbrev class_of_pattern : Option ClassId → List ℕ
-class_of_pattern None = []
-class_of_pattern (Some class) = class.0 ∷ []
+abbrev pub has_begun : ℕ → CxxFact → Bool
+has_begun class fact = begins_or_ends class fact.what
 
-abbrev is_partial_of : ℕ → Option TemplateId → Bool
-is_partial_of template None = false
-is_partial_of template (Some primary) = nat_eq primary.0 template
+abbrev pub is_class : ℕ → Option ClassId → Bool
+is_class class None = false
+is_class class (Some number) = nat_eq number.0 class
 
--- 14.5.4: the classes that the partial specialisations of a template define
-abbrev partial_classes : ℕ → List CxxPattern → List ℕ
-partial_classes template [] = []
-partial_classes template (pattern ∷ others) = if is_partial_of template pattern.primary then class_of_pattern pattern.class ++ partial_classes template others else partial_classes template others
+abbrev pub is_template : ℕ → Option TemplateId → Bool
+is_template template None = false
+is_template template (Some number) = nat_eq number.0 template
 
-abbrev primary_class : Option CxxPattern → List ℕ
-primary_class None = []
-primary_class (Some pattern) = class_of_pattern pattern.class
+-- 14.5.4: whether a class is that of a partial specialisation of a template
+abbrev pub is_partial : ℕ → ℕ → CxxPattern → Bool
+is_partial template class pattern = is_template template pattern.primary && is_class class pattern.class
 
--- the classes by whose ends the template, or a partial specialisation of it, is defined
-abbrev pub defining_classes : CxxGraph → ℕ → List ℕ
-defining_classes graph template = primary_class (slice_get graph.patterns template) ++ partial_classes template graph.patterns
+abbrev pub is_primary : ℕ → Option CxxPattern → Bool
+is_primary class None = false
+is_primary class (Some pattern) = is_class class pattern.class
+
+-- whether the end of a class defines the template, or a partial specialisation of it
+abbrev pub is_defining : List CxxPattern → ℕ → ℕ → Bool
+is_defining patterns template class = is_primary class (slice_get patterns template) || list_any (is_partial template class) patterns
+
+-- whether a definition is there after a fact, which may be the end of one, or a completion of the class that found none
+abbrev pub is_defined_by : List CxxPattern → ℕ → ℕ → Bool → Declares → Bool
+is_defined_by patterns template class so_far (facts.complete number) = so_far || is_defining patterns template number.0
+is_defined_by patterns template class so_far (facts.passed number) = so_far && not (nat_eq number.0 class)
+is_defined_by patterns template class so_far _ = so_far
 
 -- whether a definition stands among facts, and behind the last one no completion of the class that found none
-abbrev pub is_defined_since : List ℕ → ℕ → Bool → List CxxFact → Bool
-is_defined_since defining class so_far [] = so_far
-is_defined_since defining class so_far (fact ∷ later) = is_defined_since defining class (after fact.what) later
-  where
-    after : Declares → Bool
-    after (facts.complete number) = so_far || list_any (nat_eq number.0) defining
-    after (facts.passed number) = so_far && not (nat_eq number.0 class)
-    after _ = so_far
+abbrev pub is_defined_since : List CxxPattern → ℕ → ℕ → Bool → List CxxFact → Bool
+is_defined_since patterns template class so_far [] = so_far
+is_defined_since patterns template class so_far (fact ∷ later) = is_defined_since patterns template class (is_defined_by patterns template class so_far fact.what) later
 
-abbrev pending_as : CxxGraph → ℕ → Option (Option CxxSpecialisation) → Bool
-pending_as graph class (Some (Some of)) = not (list_any (λ fact. begins_or_ends class fact.what) graph.facts) && is_defined_since (defining_classes graph of.template) class false graph.facts
+abbrev pub is_waiting : CxxGraph → ℕ → ℕ → Bool
+is_waiting graph class template = not (list_any (has_begun class) graph.facts) && is_defined_since graph.patterns template class false graph.facts
+
+abbrev pub pending_as : CxxGraph → ℕ → Option (Option CxxSpecialisation) → Bool
+pending_as graph class (Some (Some of)) = is_waiting graph class of.template
 pending_as graph class _ = false
 
 -- 14.7.1: a class is pending where it is a specialisation, neither open nor complete, of a template that is defined,
