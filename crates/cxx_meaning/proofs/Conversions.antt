@@ -1,1 +1,2 @@
+mod Compilers
 mod Rows
