@@ -1,2 +1,3 @@
 mod Compilers
+mod Operators
 mod Rows
