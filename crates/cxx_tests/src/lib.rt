@@ -2,7 +2,11 @@
 #![tactic(auto)]
 
 #[cfg(test)]
+mod builtin;
+#[cfg(test)]
 mod graph;
+#[cfg(test)]
+mod standard;
 #[cfg(test)]
 mod stopped;
 #[cfg(test)]
