@@ -21,7 +21,7 @@ OPERANDS = [("int", "lvalue int"), ("const int", "lvalue (const_of int)"), ("cha
 RESULTS = [("bool", "bool"), ("char", "char"), ("short", "short"), ("int", "int"), ("unsigned", "fundamental base.Unsigned"), ("long", "long"), ("unsigned long", "fundamental base.UnsignedLong"), ("wchar_t", "wide"),
     ("float", "float"), ("double", "double"), ("long double", "fundamental base.LongDouble"), ("E", "an_e"), ("L", "an_l"), ("int *", "to int"), ("const int *", "to (const_of int)"), ("volatile int *", "to (volatile_of int)"),
     ("int **", "to (to int)"), ("const int **", "to (to (const_of int))"), ("const int * const *", "to (const_of (to (const_of int)))"), ("void *", "to void"), ("const void *", "to (const_of void)"), ("A *", "to a"), ("const A *", "to (const_of a)"),
-    ("const C *", "to (const_of c)"), ("X *", "to x"), ("const volatile int *", "to (qualified (record { is_const = true; is_volatile = true }) int)"), ("volatile int * const *", "to (const_of (to (volatile_of int)))"), ("int (*@)[3]", "to (three int)"), ("int ***", "to (to (to int))"), ("const int ***", "to (to (to (const_of int)))"), ("void **", "to (to void)"), ("const void **", "to (to (const_of void))"), ("A **", "to (to a)"), ("const C **", "to (to (const_of c))"), ("X **", "to (to x)"), ("F *", "to function"), ("F **", "to (to function)"), ("E *", "to an_e"), ("L *", "to an_l")] + [(b + " *", "to (fundamental base." + n + ")") for b, n in (("char", "Char"), ("bool", "Bool"), ("unsigned", "Unsigned"), ("long", "Long"), ("unsigned long", "UnsignedLong"), ("wchar_t", "WideChar"), ("float", "Float"), ("double", "Double"), ("long double", "LongDouble"))]
+    ("const C *", "to (const_of c)"), ("X *", "to x"), ("const volatile int *", "to (qualified (record { is_const = true; is_volatile = true }) int)"), ("volatile int * const *", "to (const_of (to (volatile_of int)))"), ("int (*@)[3]", "to (three int)"), ("int ***", "to (to (to int))"), ("const int ***", "to (to (to (const_of int)))"), ("void **", "to (to void)"), ("const void **", "to (to (const_of void))"), ("A **", "to (to a)"), ("const C **", "to (to (const_of c))"), ("X **", "to (to x)"), ("F *", "to function"), ("F **", "to (to function)"), ("volatile void *", "to (volatile_of void)"), ("const volatile void *", "to (qualified (record { is_const = true; is_volatile = true }) void)"), ("E *", "to an_e"), ("L *", "to an_l")] + [(b + " *", "to (fundamental base." + n + ")") for b, n in (("char", "Char"), ("bool", "Bool"), ("unsigned", "Unsigned"), ("long", "Long"), ("unsigned long", "UnsignedLong"), ("wchar_t", "WideChar"), ("float", "Float"), ("double", "Double"), ("long double", "LongDouble"))]
 UNARY = [("*", "STAR"), ("&", "AMPERSAND"), ("+", "PLUS"), ("-", "MINUS"), ("~", "TILDE"), ("!", "EXCLAMATION"), ("++", "INCREMENT"), ("--", "DECREMENT")]
 BINARY = [("[]", "LEFT_BRACKET"), ("*", "STAR"), ("/", "SLASH"), ("%", "PERCENT"), ("+", "PLUS"), ("-", "MINUS"), ("<<", "SHIFT_LEFT"), ("<", "LESS"), ("==", "EQUAL_TO"), ("&", "AMPERSAND"), ("&&", "LOGICAL_AND"), ("=", "EQUALS"), ("*=", "STAR_EQUALS"), ("%=", "PERCENT_EQUALS"),
     ("+=", "PLUS_EQUALS"), ("-=", "MINUS_EQUALS"), (">>=", "SHIFT_RIGHT_EQUALS"), ("|=", "BAR_EQUALS"), (",", "COMMA")]
@@ -32,7 +32,7 @@ def declared(of, name):
 def variable(i):
     return OPERANDS[i][0] if OPERANDS[i][0] in "01" else f"v{i}"
 
-DECLARED = "".join(f"extern {declared(o, f'v{i}')};\n" for i, (o, _) in enumerate(OPERANDS) if o not in "01")
+DECLARED = "extern bool b0;\n" + "".join(f"extern {declared(o, f'v{i}')};\n" for i, (o, _) in enumerate(OPERANDS) if o not in "01")
 KINDS = "".join(f"char (&kind({declared(t, 'p')}))[{k + 1}];\n" for k, (t, _) in enumerate(RESULTS)) + f"char (&kind(...))[{len(RESULTS) + 1}];\n"
 
 def run(args, text, link):
@@ -86,9 +86,10 @@ def main():
     here = os.path.dirname(os.path.abspath(__file__))
     rows = open(os.path.join(here, "../../crates/cxx_meaning/proofs/Conversions/Rows.antt")).read()
     unfolding = [l for l in rows.split("\n") if l.startswith("unfolding ")][0]
-    more = "built_in_result unary_result unary_family_result unary_by follow is_stepped steps_to before after binary_result family_result compound_result compound compound_on binary_by subscripted added added_to subtracted distance beside_integer compared_by compared_pointers assigned usual common_pointer common_other common_class both_ready is_complete_object is_complete_class"
+    more = "built_in_result unary_result unary_family_result unary_by follow is_stepped steps_to before after binary_result family_result compound_result compound compound_on binary_by subscripted added added_to subtracted distance beside_integer compared_by compared_pointers assigned usual common_pointer common_other common_class both_ready is_complete_object is_complete_class conditional arms_of arms_of_arithmetic arms_of_enumeration arms_of_pointer arms_of_void shared_pointers"
     head = rows[:rows.index("abbrev Converts")].replace("-- Conversions and their order, worked, each as the standard has it.", "-- Built-in operators, as clang++ and g++ have them: made by bench/meanings/operators.py.")
     out = [head]
+    arms = "unfolding is_derived is_pending promoted usual common_pointer common_other common_class both_ready conditional arms_of arms_of_arithmetic arms_of_enumeration arms_of_pointer arms_of_void shared_pointers"
     n = len(OPERANDS)
     results = " ∷ ".join(f"({t})" for _, t in RESULTS) + " ∷ []"
     operands = " ∷ ".join(f"({t})" for _, t in OPERANDS) + " ∷ []"
@@ -120,6 +121,9 @@ abbrev binary_from : ℕ → List CxxOperand → List (List ℕ) → List (List 
 binary_from operator (one ∷ ones) (codes ∷ others) = differences (λ two. code_of (built_in_result graph operator (one ∷ two ∷ []))) 0 operands codes ∷ binary_from operator ones others
 binary_from operator _ _ = []
 
+abbrev arms_of_one : CxxOperand → List ℕ → List (ℕ × ℕ)
+arms_of_one one codes = differences (λ two. code_of (conditional graph one two)) 0 operands codes
+
 abbrev binary_of : ℕ → List (List ℕ) → List (ℕ × ℕ)
 binary_of operator codes = flat_map (λ found. found) (binary_from operator operands codes)
 """)
@@ -134,6 +138,9 @@ binary_of operator codes = flat_map (λ found. found) (binary_from operator oper
         for i in range(n):
             for j in range(n):
                 expressions.append(f"{variable(i)}[{variable(j)}]" if s == "[]" else f"{variable(i)} {s} {variable(j)}")
+    for i in range(n):
+        for j in range(n):
+            expressions.append(f"b0 ? {variable(i)} : {variable(j)}")
     got = [code(a) for a in answers(expressions)]
     first = (len(UNARY) + 2) * n
     for k, (s, _) in enumerate(BINARY):
@@ -156,11 +163,16 @@ binary_of operator codes = flat_map (λ found. found) (binary_from operator oper
             at += n
         table = " ∷\n    ".join(lists)
         out.append(f"-- {s}, a line for each left operand\nbinary_{name} : binary_of punct.{name} (\n    {table} ∷ []) ≡ []\n{unfolding} {more}\nbinary_{name} = refl\n")
+    for i in range(n):
+        codes = [998 if {i, j} == {0, 1} else got[at + j] for j in range(n)]      # here `int` and `const int` give a value
+        at += n
+        out.append(f"-- {OPERANDS[i][0].replace('@', '')} as the second operand of ? :\narms_{i} : arms_of_one ({OPERANDS[i][1]}) ({numbers(codes)}) ≡ []\n{arms}\narms_{i} = refl\n")
     text = "\n".join(out).rstrip() + "\n"
     uses = """use Rattle.cxx_model.specs.declared.punct.TheConstants as punct
 use Rattle.cxx_model.specs.Types.Same.{same_type}
 use Rattle.cxx_meaning.specs.Conversions.Arithmetic.{usual}
 use Rattle.cxx_meaning.specs.Conversions.BuiltIn.{CxxBuiltIn, built_in_result, unary_result, unary_family_result, unary_by, follow, is_stepped, steps_to, before, after, binary_result, family_result, compound_result, compound, compound_on, binary_by, subscripted, added, added_to, subtracted, distance, beside_integer, compared_by, compared_pointers, assigned}
+use Rattle.cxx_meaning.specs.Conversions.Conditional.{conditional, arms_of, arms_of_arithmetic, arms_of_enumeration, arms_of_pointer, arms_of_void, shared_pointers}
 use Rattle.cxx_meaning.specs.Conversions.Pointers.{common_pointer, common_other, common_class, both_ready, is_complete_object, is_complete_class}
 """
     text = text.replace("use Rattle.cxx_meaning.specs.declared.steps", uses + "use Rattle.cxx_meaning.specs.declared.steps", 1).replace("{ℕ, ◌≡◌, Bool,", "{ℕ, ◌≡◌, ◌+◌, ◌||◌, nat_eq, flat_map, if◌then◌else◌, Bool,").replace("number_bound, unknown_bound}", "number_bound, unknown_bound, adjusted}")

@@ -21,7 +21,7 @@ use std::alloc::Global;
 
 // ---- arithmetic values
 
-fn by_usual(types: &TypeTable, one: Option<Base>, two: Option<Base>) -> Option<Plan>
+pub(crate) fn by_usual(types: &TypeTable, one: Option<Base>, two: Option<Base>) -> Option<Plan>
     ensures is { plans_at types.now result ≡ definition.by_usual one two }
     ensures below { ArePlansBelow (length types.now) result }
 {

@@ -5,6 +5,8 @@ mod answer;
 mod arithmetic;
 mod binary;
 mod compound;
+mod conditional;
+pub mod laws;
 mod making;
 mod operand;
 mod plan;
@@ -14,3 +16,4 @@ mod unary;
 
 pub use answer::ResultFault;
 pub use answer::built_in_result;
+pub use answer::conditional_result;

@@ -3,6 +3,7 @@
 
 mod classes;
 mod kinds;
+pub mod laws;
 mod levels;
 mod order;
 mod pending;

@@ -19,6 +19,7 @@ use Rattle.cxx_model.specs.declared.punct.TheConstants as punct
 use Rattle.cxx_model.specs.Types.Same.{same_type}
 use Rattle.cxx_meaning.specs.Conversions.Arithmetic.{usual}
 use Rattle.cxx_meaning.specs.Conversions.BuiltIn.{CxxBuiltIn, built_in_result, unary_result, unary_family_result, unary_by, follow, is_stepped, steps_to, before, after, binary_result, family_result, compound_result, compound, compound_on, binary_by, subscripted, added, added_to, subtracted, distance, beside_integer, compared_by, compared_pointers, assigned}
+use Rattle.cxx_meaning.specs.Conversions.Conditional.{conditional, arms_of, arms_of_arithmetic, arms_of_enumeration, arms_of_pointer, arms_of_void, shared_pointers}
 use Rattle.cxx_meaning.specs.Conversions.Pointers.{common_pointer, common_other, common_class, both_ready, is_complete_object, is_complete_class}
 use Rattle.cxx_meaning.specs.declared.steps.SequenceSteps.{SequenceSteps}
 use Rattle.cxx_meaning.specs.Conversions.Derived.{is_derived}
@@ -118,7 +119,7 @@ text = record { of = array_of (const_of char) (number_bound 4); lvalue = true; c
 
 
 abbrev results : List CxxType
-results = (bool) ∷ (char) ∷ (short) ∷ (int) ∷ (fundamental base.Unsigned) ∷ (long) ∷ (fundamental base.UnsignedLong) ∷ (wide) ∷ (float) ∷ (double) ∷ (fundamental base.LongDouble) ∷ (an_e) ∷ (an_l) ∷ (to int) ∷ (to (const_of int)) ∷ (to (volatile_of int)) ∷ (to (to int)) ∷ (to (to (const_of int))) ∷ (to (const_of (to (const_of int)))) ∷ (to void) ∷ (to (const_of void)) ∷ (to a) ∷ (to (const_of a)) ∷ (to (const_of c)) ∷ (to x) ∷ (to (qualified (record { is_const = true; is_volatile = true }) int)) ∷ (to (const_of (to (volatile_of int)))) ∷ (to (three int)) ∷ (to (to (to int))) ∷ (to (to (to (const_of int)))) ∷ (to (to void)) ∷ (to (to (const_of void))) ∷ (to (to a)) ∷ (to (to (const_of c))) ∷ (to (to x)) ∷ (to function) ∷ (to (to function)) ∷ (to an_e) ∷ (to an_l) ∷ (to (fundamental base.Char)) ∷ (to (fundamental base.Bool)) ∷ (to (fundamental base.Unsigned)) ∷ (to (fundamental base.Long)) ∷ (to (fundamental base.UnsignedLong)) ∷ (to (fundamental base.WideChar)) ∷ (to (fundamental base.Float)) ∷ (to (fundamental base.Double)) ∷ (to (fundamental base.LongDouble)) ∷ []
+results = (bool) ∷ (char) ∷ (short) ∷ (int) ∷ (fundamental base.Unsigned) ∷ (long) ∷ (fundamental base.UnsignedLong) ∷ (wide) ∷ (float) ∷ (double) ∷ (fundamental base.LongDouble) ∷ (an_e) ∷ (an_l) ∷ (to int) ∷ (to (const_of int)) ∷ (to (volatile_of int)) ∷ (to (to int)) ∷ (to (to (const_of int))) ∷ (to (const_of (to (const_of int)))) ∷ (to void) ∷ (to (const_of void)) ∷ (to a) ∷ (to (const_of a)) ∷ (to (const_of c)) ∷ (to x) ∷ (to (qualified (record { is_const = true; is_volatile = true }) int)) ∷ (to (const_of (to (volatile_of int)))) ∷ (to (three int)) ∷ (to (to (to int))) ∷ (to (to (to (const_of int)))) ∷ (to (to void)) ∷ (to (to (const_of void))) ∷ (to (to a)) ∷ (to (to (const_of c))) ∷ (to (to x)) ∷ (to function) ∷ (to (to function)) ∷ (to (volatile_of void)) ∷ (to (qualified (record { is_const = true; is_volatile = true }) void)) ∷ (to an_e) ∷ (to an_l) ∷ (to (fundamental base.Char)) ∷ (to (fundamental base.Bool)) ∷ (to (fundamental base.Unsigned)) ∷ (to (fundamental base.Long)) ∷ (to (fundamental base.UnsignedLong)) ∷ (to (fundamental base.WideChar)) ∷ (to (fundamental base.Float)) ∷ (to (fundamental base.Double)) ∷ (to (fundamental base.LongDouble)) ∷ []
 
 abbrev operands : List CxxOperand
 operands = (lvalue int) ∷ (lvalue (const_of int)) ∷ (lvalue char) ∷ (lvalue bool) ∷ (lvalue (fundamental base.Unsigned)) ∷ (lvalue long) ∷ (lvalue (fundamental base.UnsignedLong)) ∷ (lvalue wide) ∷ (lvalue float) ∷ (lvalue double) ∷ (lvalue (fundamental base.LongDouble)) ∷ (lvalue an_e) ∷ (lvalue an_l) ∷ (lvalue (to int)) ∷ (lvalue (to (const_of int))) ∷ (lvalue (const_of (to (volatile_of int)))) ∷ (lvalue (three int)) ∷ (lvalue (to (to int))) ∷ (lvalue (to (to (const_of int)))) ∷ (lvalue (to void)) ∷ (lvalue (to (const_of void))) ∷ (lvalue (to function)) ∷ (lvalue (to a)) ∷ (lvalue (to (const_of c))) ∷ (lvalue (to x)) ∷ (zero) ∷ (rvalue int) ∷ []
@@ -145,57 +146,60 @@ abbrev binary_from : ℕ → List CxxOperand → List (List ℕ) → List (List 
 binary_from operator (one ∷ ones) (codes ∷ others) = differences (λ two. code_of (built_in_result graph operator (one ∷ two ∷ []))) 0 operands codes ∷ binary_from operator ones others
 binary_from operator _ _ = []
 
+abbrev arms_of_one : CxxOperand → List ℕ → List (ℕ × ℕ)
+arms_of_one one codes = differences (λ two. code_of (conditional graph one two)) 0 operands codes
+
 abbrev binary_of : ℕ → List (List ℕ) → List (ℕ × ℕ)
 binary_of operator codes = flat_map (λ found. found) (binary_from operator operands codes)
 
 -- *
 unary_STAR : unary_of punct.STAR (999 ∷ 999 ∷ 999 ∷ 999 ∷ 999 ∷ 999 ∷ 999 ∷ 999 ∷ 999 ∷ 999 ∷ 999 ∷ 999 ∷ 999 ∷ 103 ∷ 103 ∷ 103 ∷ 103 ∷ 113 ∷ 114 ∷ 998 ∷ 998 ∷ 135 ∷ 998 ∷ 998 ∷ 998 ∷ 999 ∷ 999 ∷ []) ≡ []
-unfolding standard_sequence steps_between steps_of_reference steps_by_relation steps_of_unrelated steps_of_related related related_kinds steps_of_value steps_by_kinds steps_to_class steps_to_scalar class_step value_step steps_of_kinds steps_of_pointer steps_of_enumeration steps_of_arithmetic is_text step_of_enumeration steps_of_pointers pointer_to_other pointer_to_class is_derived is_pending promoted built_in_result unary_result unary_family_result unary_by follow is_stepped steps_to before after binary_result family_result compound_result compound compound_on binary_by subscripted added added_to subtracted distance beside_integer compared_by compared_pointers assigned usual common_pointer common_other common_class both_ready is_complete_object is_complete_class
+unfolding standard_sequence steps_between steps_of_reference steps_by_relation steps_of_unrelated steps_of_related related related_kinds steps_of_value steps_by_kinds steps_to_class steps_to_scalar class_step value_step steps_of_kinds steps_of_pointer steps_of_enumeration steps_of_arithmetic is_text step_of_enumeration steps_of_pointers pointer_to_other pointer_to_class is_derived is_pending promoted built_in_result unary_result unary_family_result unary_by follow is_stepped steps_to before after binary_result family_result compound_result compound compound_on binary_by subscripted added added_to subtracted distance beside_integer compared_by compared_pointers assigned usual common_pointer common_other common_class both_ready is_complete_object is_complete_class conditional arms_of arms_of_arithmetic arms_of_enumeration arms_of_pointer arms_of_void shared_pointers
 unary_STAR = refl
 
 -- &
-unary_AMPERSAND : unary_of punct.AMPERSAND (13 ∷ 14 ∷ 39 ∷ 40 ∷ 41 ∷ 42 ∷ 43 ∷ 44 ∷ 45 ∷ 46 ∷ 47 ∷ 37 ∷ 38 ∷ 16 ∷ 17 ∷ 26 ∷ 27 ∷ 28 ∷ 29 ∷ 30 ∷ 31 ∷ 36 ∷ 32 ∷ 33 ∷ 34 ∷ 999 ∷ 999 ∷ []) ≡ []
-unfolding standard_sequence steps_between steps_of_reference steps_by_relation steps_of_unrelated steps_of_related related related_kinds steps_of_value steps_by_kinds steps_to_class steps_to_scalar class_step value_step steps_of_kinds steps_of_pointer steps_of_enumeration steps_of_arithmetic is_text step_of_enumeration steps_of_pointers pointer_to_other pointer_to_class is_derived is_pending promoted built_in_result unary_result unary_family_result unary_by follow is_stepped steps_to before after binary_result family_result compound_result compound compound_on binary_by subscripted added added_to subtracted distance beside_integer compared_by compared_pointers assigned usual common_pointer common_other common_class both_ready is_complete_object is_complete_class
+unary_AMPERSAND : unary_of punct.AMPERSAND (13 ∷ 14 ∷ 41 ∷ 42 ∷ 43 ∷ 44 ∷ 45 ∷ 46 ∷ 47 ∷ 48 ∷ 49 ∷ 39 ∷ 40 ∷ 16 ∷ 17 ∷ 26 ∷ 27 ∷ 28 ∷ 29 ∷ 30 ∷ 31 ∷ 36 ∷ 32 ∷ 33 ∷ 34 ∷ 999 ∷ 999 ∷ []) ≡ []
+unfolding standard_sequence steps_between steps_of_reference steps_by_relation steps_of_unrelated steps_of_related related related_kinds steps_of_value steps_by_kinds steps_to_class steps_to_scalar class_step value_step steps_of_kinds steps_of_pointer steps_of_enumeration steps_of_arithmetic is_text step_of_enumeration steps_of_pointers pointer_to_other pointer_to_class is_derived is_pending promoted built_in_result unary_result unary_family_result unary_by follow is_stepped steps_to before after binary_result family_result compound_result compound compound_on binary_by subscripted added added_to subtracted distance beside_integer compared_by compared_pointers assigned usual common_pointer common_other common_class both_ready is_complete_object is_complete_class conditional arms_of arms_of_arithmetic arms_of_enumeration arms_of_pointer arms_of_void shared_pointers
 unary_AMPERSAND = refl
 
 -- +
 unary_PLUS : unary_of punct.PLUS (3 ∷ 3 ∷ 3 ∷ 3 ∷ 4 ∷ 5 ∷ 6 ∷ 3 ∷ 8 ∷ 9 ∷ 10 ∷ 3 ∷ 5 ∷ 13 ∷ 14 ∷ 15 ∷ 13 ∷ 16 ∷ 17 ∷ 19 ∷ 20 ∷ 35 ∷ 21 ∷ 23 ∷ 24 ∷ 3 ∷ 3 ∷ []) ≡ []
-unfolding standard_sequence steps_between steps_of_reference steps_by_relation steps_of_unrelated steps_of_related related related_kinds steps_of_value steps_by_kinds steps_to_class steps_to_scalar class_step value_step steps_of_kinds steps_of_pointer steps_of_enumeration steps_of_arithmetic is_text step_of_enumeration steps_of_pointers pointer_to_other pointer_to_class is_derived is_pending promoted built_in_result unary_result unary_family_result unary_by follow is_stepped steps_to before after binary_result family_result compound_result compound compound_on binary_by subscripted added added_to subtracted distance beside_integer compared_by compared_pointers assigned usual common_pointer common_other common_class both_ready is_complete_object is_complete_class
+unfolding standard_sequence steps_between steps_of_reference steps_by_relation steps_of_unrelated steps_of_related related related_kinds steps_of_value steps_by_kinds steps_to_class steps_to_scalar class_step value_step steps_of_kinds steps_of_pointer steps_of_enumeration steps_of_arithmetic is_text step_of_enumeration steps_of_pointers pointer_to_other pointer_to_class is_derived is_pending promoted built_in_result unary_result unary_family_result unary_by follow is_stepped steps_to before after binary_result family_result compound_result compound compound_on binary_by subscripted added added_to subtracted distance beside_integer compared_by compared_pointers assigned usual common_pointer common_other common_class both_ready is_complete_object is_complete_class conditional arms_of arms_of_arithmetic arms_of_enumeration arms_of_pointer arms_of_void shared_pointers
 unary_PLUS = refl
 
 -- -
 unary_MINUS : unary_of punct.MINUS (3 ∷ 3 ∷ 3 ∷ 3 ∷ 4 ∷ 5 ∷ 6 ∷ 3 ∷ 8 ∷ 9 ∷ 10 ∷ 3 ∷ 5 ∷ 999 ∷ 999 ∷ 999 ∷ 999 ∷ 999 ∷ 999 ∷ 999 ∷ 999 ∷ 999 ∷ 999 ∷ 999 ∷ 999 ∷ 3 ∷ 3 ∷ []) ≡ []
-unfolding standard_sequence steps_between steps_of_reference steps_by_relation steps_of_unrelated steps_of_related related related_kinds steps_of_value steps_by_kinds steps_to_class steps_to_scalar class_step value_step steps_of_kinds steps_of_pointer steps_of_enumeration steps_of_arithmetic is_text step_of_enumeration steps_of_pointers pointer_to_other pointer_to_class is_derived is_pending promoted built_in_result unary_result unary_family_result unary_by follow is_stepped steps_to before after binary_result family_result compound_result compound compound_on binary_by subscripted added added_to subtracted distance beside_integer compared_by compared_pointers assigned usual common_pointer common_other common_class both_ready is_complete_object is_complete_class
+unfolding standard_sequence steps_between steps_of_reference steps_by_relation steps_of_unrelated steps_of_related related related_kinds steps_of_value steps_by_kinds steps_to_class steps_to_scalar class_step value_step steps_of_kinds steps_of_pointer steps_of_enumeration steps_of_arithmetic is_text step_of_enumeration steps_of_pointers pointer_to_other pointer_to_class is_derived is_pending promoted built_in_result unary_result unary_family_result unary_by follow is_stepped steps_to before after binary_result family_result compound_result compound compound_on binary_by subscripted added added_to subtracted distance beside_integer compared_by compared_pointers assigned usual common_pointer common_other common_class both_ready is_complete_object is_complete_class conditional arms_of arms_of_arithmetic arms_of_enumeration arms_of_pointer arms_of_void shared_pointers
 unary_MINUS = refl
 
 -- ~
 unary_TILDE : unary_of punct.TILDE (3 ∷ 3 ∷ 3 ∷ 3 ∷ 4 ∷ 5 ∷ 6 ∷ 3 ∷ 999 ∷ 999 ∷ 999 ∷ 3 ∷ 5 ∷ 999 ∷ 999 ∷ 999 ∷ 999 ∷ 999 ∷ 999 ∷ 999 ∷ 999 ∷ 999 ∷ 999 ∷ 999 ∷ 999 ∷ 3 ∷ 3 ∷ []) ≡ []
-unfolding standard_sequence steps_between steps_of_reference steps_by_relation steps_of_unrelated steps_of_related related related_kinds steps_of_value steps_by_kinds steps_to_class steps_to_scalar class_step value_step steps_of_kinds steps_of_pointer steps_of_enumeration steps_of_arithmetic is_text step_of_enumeration steps_of_pointers pointer_to_other pointer_to_class is_derived is_pending promoted built_in_result unary_result unary_family_result unary_by follow is_stepped steps_to before after binary_result family_result compound_result compound compound_on binary_by subscripted added added_to subtracted distance beside_integer compared_by compared_pointers assigned usual common_pointer common_other common_class both_ready is_complete_object is_complete_class
+unfolding standard_sequence steps_between steps_of_reference steps_by_relation steps_of_unrelated steps_of_related related related_kinds steps_of_value steps_by_kinds steps_to_class steps_to_scalar class_step value_step steps_of_kinds steps_of_pointer steps_of_enumeration steps_of_arithmetic is_text step_of_enumeration steps_of_pointers pointer_to_other pointer_to_class is_derived is_pending promoted built_in_result unary_result unary_family_result unary_by follow is_stepped steps_to before after binary_result family_result compound_result compound compound_on binary_by subscripted added added_to subtracted distance beside_integer compared_by compared_pointers assigned usual common_pointer common_other common_class both_ready is_complete_object is_complete_class conditional arms_of arms_of_arithmetic arms_of_enumeration arms_of_pointer arms_of_void shared_pointers
 unary_TILDE = refl
 
 -- !
 unary_EXCLAMATION : unary_of punct.EXCLAMATION (0 ∷ 0 ∷ 0 ∷ 0 ∷ 0 ∷ 0 ∷ 0 ∷ 0 ∷ 0 ∷ 0 ∷ 0 ∷ 0 ∷ 0 ∷ 0 ∷ 0 ∷ 0 ∷ 0 ∷ 0 ∷ 0 ∷ 0 ∷ 0 ∷ 0 ∷ 0 ∷ 0 ∷ 0 ∷ 0 ∷ 0 ∷ []) ≡ []
-unfolding standard_sequence steps_between steps_of_reference steps_by_relation steps_of_unrelated steps_of_related related related_kinds steps_of_value steps_by_kinds steps_to_class steps_to_scalar class_step value_step steps_of_kinds steps_of_pointer steps_of_enumeration steps_of_arithmetic is_text step_of_enumeration steps_of_pointers pointer_to_other pointer_to_class is_derived is_pending promoted built_in_result unary_result unary_family_result unary_by follow is_stepped steps_to before after binary_result family_result compound_result compound compound_on binary_by subscripted added added_to subtracted distance beside_integer compared_by compared_pointers assigned usual common_pointer common_other common_class both_ready is_complete_object is_complete_class
+unfolding standard_sequence steps_between steps_of_reference steps_by_relation steps_of_unrelated steps_of_related related related_kinds steps_of_value steps_by_kinds steps_to_class steps_to_scalar class_step value_step steps_of_kinds steps_of_pointer steps_of_enumeration steps_of_arithmetic is_text step_of_enumeration steps_of_pointers pointer_to_other pointer_to_class is_derived is_pending promoted built_in_result unary_result unary_family_result unary_by follow is_stepped steps_to before after binary_result family_result compound_result compound compound_on binary_by subscripted added added_to subtracted distance beside_integer compared_by compared_pointers assigned usual common_pointer common_other common_class both_ready is_complete_object is_complete_class conditional arms_of arms_of_arithmetic arms_of_enumeration arms_of_pointer arms_of_void shared_pointers
 unary_EXCLAMATION = refl
 
 -- ++
 unary_INCREMENT : unary_of punct.INCREMENT (103 ∷ 999 ∷ 101 ∷ 100 ∷ 104 ∷ 105 ∷ 106 ∷ 107 ∷ 108 ∷ 109 ∷ 110 ∷ 999 ∷ 999 ∷ 113 ∷ 114 ∷ 999 ∷ 999 ∷ 116 ∷ 117 ∷ 998 ∷ 998 ∷ 998 ∷ 121 ∷ 123 ∷ 999 ∷ 999 ∷ 999 ∷ []) ≡ []
-unfolding standard_sequence steps_between steps_of_reference steps_by_relation steps_of_unrelated steps_of_related related related_kinds steps_of_value steps_by_kinds steps_to_class steps_to_scalar class_step value_step steps_of_kinds steps_of_pointer steps_of_enumeration steps_of_arithmetic is_text step_of_enumeration steps_of_pointers pointer_to_other pointer_to_class is_derived is_pending promoted built_in_result unary_result unary_family_result unary_by follow is_stepped steps_to before after binary_result family_result compound_result compound compound_on binary_by subscripted added added_to subtracted distance beside_integer compared_by compared_pointers assigned usual common_pointer common_other common_class both_ready is_complete_object is_complete_class
+unfolding standard_sequence steps_between steps_of_reference steps_by_relation steps_of_unrelated steps_of_related related related_kinds steps_of_value steps_by_kinds steps_to_class steps_to_scalar class_step value_step steps_of_kinds steps_of_pointer steps_of_enumeration steps_of_arithmetic is_text step_of_enumeration steps_of_pointers pointer_to_other pointer_to_class is_derived is_pending promoted built_in_result unary_result unary_family_result unary_by follow is_stepped steps_to before after binary_result family_result compound_result compound compound_on binary_by subscripted added added_to subtracted distance beside_integer compared_by compared_pointers assigned usual common_pointer common_other common_class both_ready is_complete_object is_complete_class conditional arms_of arms_of_arithmetic arms_of_enumeration arms_of_pointer arms_of_void shared_pointers
 unary_INCREMENT = refl
 
 -- --
 unary_DECREMENT : unary_of punct.DECREMENT (103 ∷ 999 ∷ 101 ∷ 999 ∷ 104 ∷ 105 ∷ 106 ∷ 107 ∷ 108 ∷ 109 ∷ 110 ∷ 999 ∷ 999 ∷ 113 ∷ 114 ∷ 999 ∷ 999 ∷ 116 ∷ 117 ∷ 998 ∷ 998 ∷ 998 ∷ 121 ∷ 123 ∷ 999 ∷ 999 ∷ 999 ∷ []) ≡ []
-unfolding standard_sequence steps_between steps_of_reference steps_by_relation steps_of_unrelated steps_of_related related related_kinds steps_of_value steps_by_kinds steps_to_class steps_to_scalar class_step value_step steps_of_kinds steps_of_pointer steps_of_enumeration steps_of_arithmetic is_text step_of_enumeration steps_of_pointers pointer_to_other pointer_to_class is_derived is_pending promoted built_in_result unary_result unary_family_result unary_by follow is_stepped steps_to before after binary_result family_result compound_result compound compound_on binary_by subscripted added added_to subtracted distance beside_integer compared_by compared_pointers assigned usual common_pointer common_other common_class both_ready is_complete_object is_complete_class
+unfolding standard_sequence steps_between steps_of_reference steps_by_relation steps_of_unrelated steps_of_related related related_kinds steps_of_value steps_by_kinds steps_to_class steps_to_scalar class_step value_step steps_of_kinds steps_of_pointer steps_of_enumeration steps_of_arithmetic is_text step_of_enumeration steps_of_pointers pointer_to_other pointer_to_class is_derived is_pending promoted built_in_result unary_result unary_family_result unary_by follow is_stepped steps_to before after binary_result family_result compound_result compound compound_on binary_by subscripted added added_to subtracted distance beside_integer compared_by compared_pointers assigned usual common_pointer common_other common_class both_ready is_complete_object is_complete_class conditional arms_of arms_of_arithmetic arms_of_enumeration arms_of_pointer arms_of_void shared_pointers
 unary_DECREMENT = refl
 
 -- ++ behind its operand
 behind_INCREMENT : differences (λ one. code_of (built_in_result graph punct.INCREMENT (one ∷ rvalue int ∷ []))) 0 operands (3 ∷ 999 ∷ 1 ∷ 0 ∷ 4 ∷ 5 ∷ 6 ∷ 7 ∷ 8 ∷ 9 ∷ 10 ∷ 999 ∷ 999 ∷ 13 ∷ 14 ∷ 999 ∷ 999 ∷ 16 ∷ 17 ∷ 998 ∷ 998 ∷ 998 ∷ 21 ∷ 23 ∷ 999 ∷ 999 ∷ 999 ∷ []) ≡ []
-unfolding standard_sequence steps_between steps_of_reference steps_by_relation steps_of_unrelated steps_of_related related related_kinds steps_of_value steps_by_kinds steps_to_class steps_to_scalar class_step value_step steps_of_kinds steps_of_pointer steps_of_enumeration steps_of_arithmetic is_text step_of_enumeration steps_of_pointers pointer_to_other pointer_to_class is_derived is_pending promoted built_in_result unary_result unary_family_result unary_by follow is_stepped steps_to before after binary_result family_result compound_result compound compound_on binary_by subscripted added added_to subtracted distance beside_integer compared_by compared_pointers assigned usual common_pointer common_other common_class both_ready is_complete_object is_complete_class
+unfolding standard_sequence steps_between steps_of_reference steps_by_relation steps_of_unrelated steps_of_related related related_kinds steps_of_value steps_by_kinds steps_to_class steps_to_scalar class_step value_step steps_of_kinds steps_of_pointer steps_of_enumeration steps_of_arithmetic is_text step_of_enumeration steps_of_pointers pointer_to_other pointer_to_class is_derived is_pending promoted built_in_result unary_result unary_family_result unary_by follow is_stepped steps_to before after binary_result family_result compound_result compound compound_on binary_by subscripted added added_to subtracted distance beside_integer compared_by compared_pointers assigned usual common_pointer common_other common_class both_ready is_complete_object is_complete_class conditional arms_of arms_of_arithmetic arms_of_enumeration arms_of_pointer arms_of_void shared_pointers
 behind_INCREMENT = refl
 
 -- -- behind its operand
 behind_DECREMENT : differences (λ one. code_of (built_in_result graph punct.DECREMENT (one ∷ rvalue int ∷ []))) 0 operands (3 ∷ 999 ∷ 1 ∷ 999 ∷ 4 ∷ 5 ∷ 6 ∷ 7 ∷ 8 ∷ 9 ∷ 10 ∷ 999 ∷ 999 ∷ 13 ∷ 14 ∷ 999 ∷ 999 ∷ 16 ∷ 17 ∷ 998 ∷ 998 ∷ 998 ∷ 21 ∷ 23 ∷ 999 ∷ 999 ∷ 999 ∷ []) ≡ []
-unfolding standard_sequence steps_between steps_of_reference steps_by_relation steps_of_unrelated steps_of_related related related_kinds steps_of_value steps_by_kinds steps_to_class steps_to_scalar class_step value_step steps_of_kinds steps_of_pointer steps_of_enumeration steps_of_arithmetic is_text step_of_enumeration steps_of_pointers pointer_to_other pointer_to_class is_derived is_pending promoted built_in_result unary_result unary_family_result unary_by follow is_stepped steps_to before after binary_result family_result compound_result compound compound_on binary_by subscripted added added_to subtracted distance beside_integer compared_by compared_pointers assigned usual common_pointer common_other common_class both_ready is_complete_object is_complete_class
+unfolding standard_sequence steps_between steps_of_reference steps_by_relation steps_of_unrelated steps_of_related related related_kinds steps_of_value steps_by_kinds steps_to_class steps_to_scalar class_step value_step steps_of_kinds steps_of_pointer steps_of_enumeration steps_of_arithmetic is_text step_of_enumeration steps_of_pointers pointer_to_other pointer_to_class is_derived is_pending promoted built_in_result unary_result unary_family_result unary_by follow is_stepped steps_to before after binary_result family_result compound_result compound compound_on binary_by subscripted added added_to subtracted distance beside_integer compared_by compared_pointers assigned usual common_pointer common_other common_class both_ready is_complete_object is_complete_class conditional arms_of arms_of_arithmetic arms_of_enumeration arms_of_pointer arms_of_void shared_pointers
 behind_DECREMENT = refl
 
 -- [], a line for each left operand
@@ -227,7 +231,7 @@ binary_LEFT_BRACKET : binary_of punct.LEFT_BRACKET (
     (999 ∷ 999 ∷ 999 ∷ 999 ∷ 999 ∷ 999 ∷ 999 ∷ 999 ∷ 999 ∷ 999 ∷ 999 ∷ 999 ∷ 999 ∷ 999 ∷ 999 ∷ 999 ∷ 999 ∷ 999 ∷ 999 ∷ 999 ∷ 999 ∷ 999 ∷ 999 ∷ 999 ∷ 999 ∷ 999 ∷ 999 ∷ []) ∷
     (999 ∷ 999 ∷ 999 ∷ 999 ∷ 999 ∷ 999 ∷ 999 ∷ 999 ∷ 999 ∷ 999 ∷ 999 ∷ 999 ∷ 999 ∷ 103 ∷ 103 ∷ 103 ∷ 103 ∷ 113 ∷ 114 ∷ 999 ∷ 999 ∷ 998 ∷ 998 ∷ 998 ∷ 999 ∷ 999 ∷ 999 ∷ []) ∷
     (999 ∷ 999 ∷ 999 ∷ 999 ∷ 999 ∷ 999 ∷ 999 ∷ 999 ∷ 999 ∷ 999 ∷ 999 ∷ 999 ∷ 999 ∷ 103 ∷ 103 ∷ 103 ∷ 103 ∷ 113 ∷ 114 ∷ 999 ∷ 999 ∷ 998 ∷ 998 ∷ 998 ∷ 999 ∷ 999 ∷ 999 ∷ []) ∷ []) ≡ []
-unfolding standard_sequence steps_between steps_of_reference steps_by_relation steps_of_unrelated steps_of_related related related_kinds steps_of_value steps_by_kinds steps_to_class steps_to_scalar class_step value_step steps_of_kinds steps_of_pointer steps_of_enumeration steps_of_arithmetic is_text step_of_enumeration steps_of_pointers pointer_to_other pointer_to_class is_derived is_pending promoted built_in_result unary_result unary_family_result unary_by follow is_stepped steps_to before after binary_result family_result compound_result compound compound_on binary_by subscripted added added_to subtracted distance beside_integer compared_by compared_pointers assigned usual common_pointer common_other common_class both_ready is_complete_object is_complete_class
+unfolding standard_sequence steps_between steps_of_reference steps_by_relation steps_of_unrelated steps_of_related related related_kinds steps_of_value steps_by_kinds steps_to_class steps_to_scalar class_step value_step steps_of_kinds steps_of_pointer steps_of_enumeration steps_of_arithmetic is_text step_of_enumeration steps_of_pointers pointer_to_other pointer_to_class is_derived is_pending promoted built_in_result unary_result unary_family_result unary_by follow is_stepped steps_to before after binary_result family_result compound_result compound compound_on binary_by subscripted added added_to subtracted distance beside_integer compared_by compared_pointers assigned usual common_pointer common_other common_class both_ready is_complete_object is_complete_class conditional arms_of arms_of_arithmetic arms_of_enumeration arms_of_pointer arms_of_void shared_pointers
 binary_LEFT_BRACKET = refl
 
 -- *, a line for each left operand
@@ -259,7 +263,7 @@ binary_STAR : binary_of punct.STAR (
     (999 ∷ 999 ∷ 999 ∷ 999 ∷ 999 ∷ 999 ∷ 999 ∷ 999 ∷ 999 ∷ 999 ∷ 999 ∷ 999 ∷ 999 ∷ 999 ∷ 999 ∷ 999 ∷ 999 ∷ 999 ∷ 999 ∷ 999 ∷ 999 ∷ 999 ∷ 999 ∷ 999 ∷ 999 ∷ 999 ∷ 999 ∷ []) ∷
     (3 ∷ 3 ∷ 3 ∷ 3 ∷ 4 ∷ 5 ∷ 6 ∷ 3 ∷ 8 ∷ 9 ∷ 10 ∷ 3 ∷ 5 ∷ 999 ∷ 999 ∷ 999 ∷ 999 ∷ 999 ∷ 999 ∷ 999 ∷ 999 ∷ 999 ∷ 999 ∷ 999 ∷ 999 ∷ 3 ∷ 3 ∷ []) ∷
     (3 ∷ 3 ∷ 3 ∷ 3 ∷ 4 ∷ 5 ∷ 6 ∷ 3 ∷ 8 ∷ 9 ∷ 10 ∷ 3 ∷ 5 ∷ 999 ∷ 999 ∷ 999 ∷ 999 ∷ 999 ∷ 999 ∷ 999 ∷ 999 ∷ 999 ∷ 999 ∷ 999 ∷ 999 ∷ 3 ∷ 3 ∷ []) ∷ []) ≡ []
-unfolding standard_sequence steps_between steps_of_reference steps_by_relation steps_of_unrelated steps_of_related related related_kinds steps_of_value steps_by_kinds steps_to_class steps_to_scalar class_step value_step steps_of_kinds steps_of_pointer steps_of_enumeration steps_of_arithmetic is_text step_of_enumeration steps_of_pointers pointer_to_other pointer_to_class is_derived is_pending promoted built_in_result unary_result unary_family_result unary_by follow is_stepped steps_to before after binary_result family_result compound_result compound compound_on binary_by subscripted added added_to subtracted distance beside_integer compared_by compared_pointers assigned usual common_pointer common_other common_class both_ready is_complete_object is_complete_class
+unfolding standard_sequence steps_between steps_of_reference steps_by_relation steps_of_unrelated steps_of_related related related_kinds steps_of_value steps_by_kinds steps_to_class steps_to_scalar class_step value_step steps_of_kinds steps_of_pointer steps_of_enumeration steps_of_arithmetic is_text step_of_enumeration steps_of_pointers pointer_to_other pointer_to_class is_derived is_pending promoted built_in_result unary_result unary_family_result unary_by follow is_stepped steps_to before after binary_result family_result compound_result compound compound_on binary_by subscripted added added_to subtracted distance beside_integer compared_by compared_pointers assigned usual common_pointer common_other common_class both_ready is_complete_object is_complete_class conditional arms_of arms_of_arithmetic arms_of_enumeration arms_of_pointer arms_of_void shared_pointers
 binary_STAR = refl
 
 -- /, a line for each left operand
@@ -291,7 +295,7 @@ binary_SLASH : binary_of punct.SLASH (
     (999 ∷ 999 ∷ 999 ∷ 999 ∷ 999 ∷ 999 ∷ 999 ∷ 999 ∷ 999 ∷ 999 ∷ 999 ∷ 999 ∷ 999 ∷ 999 ∷ 999 ∷ 999 ∷ 999 ∷ 999 ∷ 999 ∷ 999 ∷ 999 ∷ 999 ∷ 999 ∷ 999 ∷ 999 ∷ 999 ∷ 999 ∷ []) ∷
     (3 ∷ 3 ∷ 3 ∷ 3 ∷ 4 ∷ 5 ∷ 6 ∷ 3 ∷ 8 ∷ 9 ∷ 10 ∷ 3 ∷ 5 ∷ 999 ∷ 999 ∷ 999 ∷ 999 ∷ 999 ∷ 999 ∷ 999 ∷ 999 ∷ 999 ∷ 999 ∷ 999 ∷ 999 ∷ 3 ∷ 3 ∷ []) ∷
     (3 ∷ 3 ∷ 3 ∷ 3 ∷ 4 ∷ 5 ∷ 6 ∷ 3 ∷ 8 ∷ 9 ∷ 10 ∷ 3 ∷ 5 ∷ 999 ∷ 999 ∷ 999 ∷ 999 ∷ 999 ∷ 999 ∷ 999 ∷ 999 ∷ 999 ∷ 999 ∷ 999 ∷ 999 ∷ 3 ∷ 3 ∷ []) ∷ []) ≡ []
-unfolding standard_sequence steps_between steps_of_reference steps_by_relation steps_of_unrelated steps_of_related related related_kinds steps_of_value steps_by_kinds steps_to_class steps_to_scalar class_step value_step steps_of_kinds steps_of_pointer steps_of_enumeration steps_of_arithmetic is_text step_of_enumeration steps_of_pointers pointer_to_other pointer_to_class is_derived is_pending promoted built_in_result unary_result unary_family_result unary_by follow is_stepped steps_to before after binary_result family_result compound_result compound compound_on binary_by subscripted added added_to subtracted distance beside_integer compared_by compared_pointers assigned usual common_pointer common_other common_class both_ready is_complete_object is_complete_class
+unfolding standard_sequence steps_between steps_of_reference steps_by_relation steps_of_unrelated steps_of_related related related_kinds steps_of_value steps_by_kinds steps_to_class steps_to_scalar class_step value_step steps_of_kinds steps_of_pointer steps_of_enumeration steps_of_arithmetic is_text step_of_enumeration steps_of_pointers pointer_to_other pointer_to_class is_derived is_pending promoted built_in_result unary_result unary_family_result unary_by follow is_stepped steps_to before after binary_result family_result compound_result compound compound_on binary_by subscripted added added_to subtracted distance beside_integer compared_by compared_pointers assigned usual common_pointer common_other common_class both_ready is_complete_object is_complete_class conditional arms_of arms_of_arithmetic arms_of_enumeration arms_of_pointer arms_of_void shared_pointers
 binary_SLASH = refl
 
 -- %, a line for each left operand
@@ -323,7 +327,7 @@ binary_PERCENT : binary_of punct.PERCENT (
     (999 ∷ 999 ∷ 999 ∷ 999 ∷ 999 ∷ 999 ∷ 999 ∷ 999 ∷ 999 ∷ 999 ∷ 999 ∷ 999 ∷ 999 ∷ 999 ∷ 999 ∷ 999 ∷ 999 ∷ 999 ∷ 999 ∷ 999 ∷ 999 ∷ 999 ∷ 999 ∷ 999 ∷ 999 ∷ 999 ∷ 999 ∷ []) ∷
     (3 ∷ 3 ∷ 3 ∷ 3 ∷ 4 ∷ 5 ∷ 6 ∷ 3 ∷ 999 ∷ 999 ∷ 999 ∷ 3 ∷ 5 ∷ 999 ∷ 999 ∷ 999 ∷ 999 ∷ 999 ∷ 999 ∷ 999 ∷ 999 ∷ 999 ∷ 999 ∷ 999 ∷ 999 ∷ 3 ∷ 3 ∷ []) ∷
     (3 ∷ 3 ∷ 3 ∷ 3 ∷ 4 ∷ 5 ∷ 6 ∷ 3 ∷ 999 ∷ 999 ∷ 999 ∷ 3 ∷ 5 ∷ 999 ∷ 999 ∷ 999 ∷ 999 ∷ 999 ∷ 999 ∷ 999 ∷ 999 ∷ 999 ∷ 999 ∷ 999 ∷ 999 ∷ 3 ∷ 3 ∷ []) ∷ []) ≡ []
-unfolding standard_sequence steps_between steps_of_reference steps_by_relation steps_of_unrelated steps_of_related related related_kinds steps_of_value steps_by_kinds steps_to_class steps_to_scalar class_step value_step steps_of_kinds steps_of_pointer steps_of_enumeration steps_of_arithmetic is_text step_of_enumeration steps_of_pointers pointer_to_other pointer_to_class is_derived is_pending promoted built_in_result unary_result unary_family_result unary_by follow is_stepped steps_to before after binary_result family_result compound_result compound compound_on binary_by subscripted added added_to subtracted distance beside_integer compared_by compared_pointers assigned usual common_pointer common_other common_class both_ready is_complete_object is_complete_class
+unfolding standard_sequence steps_between steps_of_reference steps_by_relation steps_of_unrelated steps_of_related related related_kinds steps_of_value steps_by_kinds steps_to_class steps_to_scalar class_step value_step steps_of_kinds steps_of_pointer steps_of_enumeration steps_of_arithmetic is_text step_of_enumeration steps_of_pointers pointer_to_other pointer_to_class is_derived is_pending promoted built_in_result unary_result unary_family_result unary_by follow is_stepped steps_to before after binary_result family_result compound_result compound compound_on binary_by subscripted added added_to subtracted distance beside_integer compared_by compared_pointers assigned usual common_pointer common_other common_class both_ready is_complete_object is_complete_class conditional arms_of arms_of_arithmetic arms_of_enumeration arms_of_pointer arms_of_void shared_pointers
 binary_PERCENT = refl
 
 -- +, a line for each left operand
@@ -355,7 +359,7 @@ binary_PLUS : binary_of punct.PLUS (
     (999 ∷ 999 ∷ 999 ∷ 999 ∷ 999 ∷ 999 ∷ 999 ∷ 999 ∷ 999 ∷ 999 ∷ 999 ∷ 999 ∷ 999 ∷ 999 ∷ 999 ∷ 999 ∷ 999 ∷ 999 ∷ 999 ∷ 999 ∷ 999 ∷ 999 ∷ 999 ∷ 999 ∷ 999 ∷ 999 ∷ 999 ∷ []) ∷
     (3 ∷ 3 ∷ 3 ∷ 3 ∷ 4 ∷ 5 ∷ 6 ∷ 3 ∷ 8 ∷ 9 ∷ 10 ∷ 3 ∷ 5 ∷ 13 ∷ 14 ∷ 15 ∷ 13 ∷ 16 ∷ 17 ∷ 998 ∷ 998 ∷ 998 ∷ 21 ∷ 23 ∷ 999 ∷ 3 ∷ 3 ∷ []) ∷
     (3 ∷ 3 ∷ 3 ∷ 3 ∷ 4 ∷ 5 ∷ 6 ∷ 3 ∷ 8 ∷ 9 ∷ 10 ∷ 3 ∷ 5 ∷ 13 ∷ 14 ∷ 15 ∷ 13 ∷ 16 ∷ 17 ∷ 998 ∷ 998 ∷ 998 ∷ 21 ∷ 23 ∷ 999 ∷ 3 ∷ 3 ∷ []) ∷ []) ≡ []
-unfolding standard_sequence steps_between steps_of_reference steps_by_relation steps_of_unrelated steps_of_related related related_kinds steps_of_value steps_by_kinds steps_to_class steps_to_scalar class_step value_step steps_of_kinds steps_of_pointer steps_of_enumeration steps_of_arithmetic is_text step_of_enumeration steps_of_pointers pointer_to_other pointer_to_class is_derived is_pending promoted built_in_result unary_result unary_family_result unary_by follow is_stepped steps_to before after binary_result family_result compound_result compound compound_on binary_by subscripted added added_to subtracted distance beside_integer compared_by compared_pointers assigned usual common_pointer common_other common_class both_ready is_complete_object is_complete_class
+unfolding standard_sequence steps_between steps_of_reference steps_by_relation steps_of_unrelated steps_of_related related related_kinds steps_of_value steps_by_kinds steps_to_class steps_to_scalar class_step value_step steps_of_kinds steps_of_pointer steps_of_enumeration steps_of_arithmetic is_text step_of_enumeration steps_of_pointers pointer_to_other pointer_to_class is_derived is_pending promoted built_in_result unary_result unary_family_result unary_by follow is_stepped steps_to before after binary_result family_result compound_result compound compound_on binary_by subscripted added added_to subtracted distance beside_integer compared_by compared_pointers assigned usual common_pointer common_other common_class both_ready is_complete_object is_complete_class conditional arms_of arms_of_arithmetic arms_of_enumeration arms_of_pointer arms_of_void shared_pointers
 binary_PLUS = refl
 
 -- -, a line for each left operand
@@ -387,7 +391,7 @@ binary_MINUS : binary_of punct.MINUS (
     (999 ∷ 999 ∷ 999 ∷ 999 ∷ 999 ∷ 999 ∷ 999 ∷ 999 ∷ 999 ∷ 999 ∷ 999 ∷ 999 ∷ 999 ∷ 999 ∷ 999 ∷ 999 ∷ 999 ∷ 999 ∷ 999 ∷ 999 ∷ 999 ∷ 999 ∷ 999 ∷ 999 ∷ 999 ∷ 999 ∷ 999 ∷ []) ∷
     (3 ∷ 3 ∷ 3 ∷ 3 ∷ 4 ∷ 5 ∷ 6 ∷ 3 ∷ 8 ∷ 9 ∷ 10 ∷ 3 ∷ 5 ∷ 999 ∷ 999 ∷ 999 ∷ 999 ∷ 999 ∷ 999 ∷ 999 ∷ 999 ∷ 999 ∷ 999 ∷ 999 ∷ 999 ∷ 3 ∷ 3 ∷ []) ∷
     (3 ∷ 3 ∷ 3 ∷ 3 ∷ 4 ∷ 5 ∷ 6 ∷ 3 ∷ 8 ∷ 9 ∷ 10 ∷ 3 ∷ 5 ∷ 999 ∷ 999 ∷ 999 ∷ 999 ∷ 999 ∷ 999 ∷ 999 ∷ 999 ∷ 999 ∷ 999 ∷ 999 ∷ 999 ∷ 3 ∷ 3 ∷ []) ∷ []) ≡ []
-unfolding standard_sequence steps_between steps_of_reference steps_by_relation steps_of_unrelated steps_of_related related related_kinds steps_of_value steps_by_kinds steps_to_class steps_to_scalar class_step value_step steps_of_kinds steps_of_pointer steps_of_enumeration steps_of_arithmetic is_text step_of_enumeration steps_of_pointers pointer_to_other pointer_to_class is_derived is_pending promoted built_in_result unary_result unary_family_result unary_by follow is_stepped steps_to before after binary_result family_result compound_result compound compound_on binary_by subscripted added added_to subtracted distance beside_integer compared_by compared_pointers assigned usual common_pointer common_other common_class both_ready is_complete_object is_complete_class
+unfolding standard_sequence steps_between steps_of_reference steps_by_relation steps_of_unrelated steps_of_related related related_kinds steps_of_value steps_by_kinds steps_to_class steps_to_scalar class_step value_step steps_of_kinds steps_of_pointer steps_of_enumeration steps_of_arithmetic is_text step_of_enumeration steps_of_pointers pointer_to_other pointer_to_class is_derived is_pending promoted built_in_result unary_result unary_family_result unary_by follow is_stepped steps_to before after binary_result family_result compound_result compound compound_on binary_by subscripted added added_to subtracted distance beside_integer compared_by compared_pointers assigned usual common_pointer common_other common_class both_ready is_complete_object is_complete_class conditional arms_of arms_of_arithmetic arms_of_enumeration arms_of_pointer arms_of_void shared_pointers
 binary_MINUS = refl
 
 -- <<, a line for each left operand
@@ -419,7 +423,7 @@ binary_SHIFT_LEFT : binary_of punct.SHIFT_LEFT (
     (999 ∷ 999 ∷ 999 ∷ 999 ∷ 999 ∷ 999 ∷ 999 ∷ 999 ∷ 999 ∷ 999 ∷ 999 ∷ 999 ∷ 999 ∷ 999 ∷ 999 ∷ 999 ∷ 999 ∷ 999 ∷ 999 ∷ 999 ∷ 999 ∷ 999 ∷ 999 ∷ 999 ∷ 999 ∷ 999 ∷ 999 ∷ []) ∷
     (3 ∷ 3 ∷ 3 ∷ 3 ∷ 3 ∷ 3 ∷ 3 ∷ 3 ∷ 999 ∷ 999 ∷ 999 ∷ 3 ∷ 3 ∷ 999 ∷ 999 ∷ 999 ∷ 999 ∷ 999 ∷ 999 ∷ 999 ∷ 999 ∷ 999 ∷ 999 ∷ 999 ∷ 999 ∷ 3 ∷ 3 ∷ []) ∷
     (3 ∷ 3 ∷ 3 ∷ 3 ∷ 3 ∷ 3 ∷ 3 ∷ 3 ∷ 999 ∷ 999 ∷ 999 ∷ 3 ∷ 3 ∷ 999 ∷ 999 ∷ 999 ∷ 999 ∷ 999 ∷ 999 ∷ 999 ∷ 999 ∷ 999 ∷ 999 ∷ 999 ∷ 999 ∷ 3 ∷ 3 ∷ []) ∷ []) ≡ []
-unfolding standard_sequence steps_between steps_of_reference steps_by_relation steps_of_unrelated steps_of_related related related_kinds steps_of_value steps_by_kinds steps_to_class steps_to_scalar class_step value_step steps_of_kinds steps_of_pointer steps_of_enumeration steps_of_arithmetic is_text step_of_enumeration steps_of_pointers pointer_to_other pointer_to_class is_derived is_pending promoted built_in_result unary_result unary_family_result unary_by follow is_stepped steps_to before after binary_result family_result compound_result compound compound_on binary_by subscripted added added_to subtracted distance beside_integer compared_by compared_pointers assigned usual common_pointer common_other common_class both_ready is_complete_object is_complete_class
+unfolding standard_sequence steps_between steps_of_reference steps_by_relation steps_of_unrelated steps_of_related related related_kinds steps_of_value steps_by_kinds steps_to_class steps_to_scalar class_step value_step steps_of_kinds steps_of_pointer steps_of_enumeration steps_of_arithmetic is_text step_of_enumeration steps_of_pointers pointer_to_other pointer_to_class is_derived is_pending promoted built_in_result unary_result unary_family_result unary_by follow is_stepped steps_to before after binary_result family_result compound_result compound compound_on binary_by subscripted added added_to subtracted distance beside_integer compared_by compared_pointers assigned usual common_pointer common_other common_class both_ready is_complete_object is_complete_class conditional arms_of arms_of_arithmetic arms_of_enumeration arms_of_pointer arms_of_void shared_pointers
 binary_SHIFT_LEFT = refl
 
 -- <, a line for each left operand
@@ -451,7 +455,7 @@ binary_LESS : binary_of punct.LESS (
     (999 ∷ 999 ∷ 999 ∷ 999 ∷ 999 ∷ 999 ∷ 999 ∷ 999 ∷ 999 ∷ 999 ∷ 999 ∷ 999 ∷ 999 ∷ 999 ∷ 999 ∷ 999 ∷ 999 ∷ 999 ∷ 999 ∷ 0 ∷ 0 ∷ 999 ∷ 999 ∷ 999 ∷ 0 ∷ 998 ∷ 999 ∷ []) ∷
     (0 ∷ 0 ∷ 0 ∷ 0 ∷ 0 ∷ 0 ∷ 0 ∷ 0 ∷ 0 ∷ 0 ∷ 0 ∷ 0 ∷ 0 ∷ 998 ∷ 998 ∷ 998 ∷ 998 ∷ 998 ∷ 998 ∷ 998 ∷ 998 ∷ 998 ∷ 998 ∷ 998 ∷ 998 ∷ 0 ∷ 0 ∷ []) ∷
     (0 ∷ 0 ∷ 0 ∷ 0 ∷ 0 ∷ 0 ∷ 0 ∷ 0 ∷ 0 ∷ 0 ∷ 0 ∷ 0 ∷ 0 ∷ 999 ∷ 999 ∷ 999 ∷ 999 ∷ 999 ∷ 999 ∷ 999 ∷ 999 ∷ 999 ∷ 999 ∷ 999 ∷ 999 ∷ 0 ∷ 0 ∷ []) ∷ []) ≡ []
-unfolding standard_sequence steps_between steps_of_reference steps_by_relation steps_of_unrelated steps_of_related related related_kinds steps_of_value steps_by_kinds steps_to_class steps_to_scalar class_step value_step steps_of_kinds steps_of_pointer steps_of_enumeration steps_of_arithmetic is_text step_of_enumeration steps_of_pointers pointer_to_other pointer_to_class is_derived is_pending promoted built_in_result unary_result unary_family_result unary_by follow is_stepped steps_to before after binary_result family_result compound_result compound compound_on binary_by subscripted added added_to subtracted distance beside_integer compared_by compared_pointers assigned usual common_pointer common_other common_class both_ready is_complete_object is_complete_class
+unfolding standard_sequence steps_between steps_of_reference steps_by_relation steps_of_unrelated steps_of_related related related_kinds steps_of_value steps_by_kinds steps_to_class steps_to_scalar class_step value_step steps_of_kinds steps_of_pointer steps_of_enumeration steps_of_arithmetic is_text step_of_enumeration steps_of_pointers pointer_to_other pointer_to_class is_derived is_pending promoted built_in_result unary_result unary_family_result unary_by follow is_stepped steps_to before after binary_result family_result compound_result compound compound_on binary_by subscripted added added_to subtracted distance beside_integer compared_by compared_pointers assigned usual common_pointer common_other common_class both_ready is_complete_object is_complete_class conditional arms_of arms_of_arithmetic arms_of_enumeration arms_of_pointer arms_of_void shared_pointers
 binary_LESS = refl
 
 -- ==, a line for each left operand
@@ -483,7 +487,7 @@ binary_EQUAL_TO : binary_of punct.EQUAL_TO (
     (999 ∷ 999 ∷ 999 ∷ 999 ∷ 999 ∷ 999 ∷ 999 ∷ 999 ∷ 999 ∷ 999 ∷ 999 ∷ 999 ∷ 999 ∷ 999 ∷ 999 ∷ 999 ∷ 999 ∷ 999 ∷ 999 ∷ 0 ∷ 0 ∷ 999 ∷ 999 ∷ 999 ∷ 0 ∷ 0 ∷ 999 ∷ []) ∷
     (0 ∷ 0 ∷ 0 ∷ 0 ∷ 0 ∷ 0 ∷ 0 ∷ 0 ∷ 0 ∷ 0 ∷ 0 ∷ 0 ∷ 0 ∷ 0 ∷ 0 ∷ 0 ∷ 0 ∷ 0 ∷ 0 ∷ 0 ∷ 0 ∷ 0 ∷ 0 ∷ 0 ∷ 0 ∷ 0 ∷ 0 ∷ []) ∷
     (0 ∷ 0 ∷ 0 ∷ 0 ∷ 0 ∷ 0 ∷ 0 ∷ 0 ∷ 0 ∷ 0 ∷ 0 ∷ 0 ∷ 0 ∷ 999 ∷ 999 ∷ 999 ∷ 999 ∷ 999 ∷ 999 ∷ 999 ∷ 999 ∷ 999 ∷ 999 ∷ 999 ∷ 999 ∷ 0 ∷ 0 ∷ []) ∷ []) ≡ []
-unfolding standard_sequence steps_between steps_of_reference steps_by_relation steps_of_unrelated steps_of_related related related_kinds steps_of_value steps_by_kinds steps_to_class steps_to_scalar class_step value_step steps_of_kinds steps_of_pointer steps_of_enumeration steps_of_arithmetic is_text step_of_enumeration steps_of_pointers pointer_to_other pointer_to_class is_derived is_pending promoted built_in_result unary_result unary_family_result unary_by follow is_stepped steps_to before after binary_result family_result compound_result compound compound_on binary_by subscripted added added_to subtracted distance beside_integer compared_by compared_pointers assigned usual common_pointer common_other common_class both_ready is_complete_object is_complete_class
+unfolding standard_sequence steps_between steps_of_reference steps_by_relation steps_of_unrelated steps_of_related related related_kinds steps_of_value steps_by_kinds steps_to_class steps_to_scalar class_step value_step steps_of_kinds steps_of_pointer steps_of_enumeration steps_of_arithmetic is_text step_of_enumeration steps_of_pointers pointer_to_other pointer_to_class is_derived is_pending promoted built_in_result unary_result unary_family_result unary_by follow is_stepped steps_to before after binary_result family_result compound_result compound compound_on binary_by subscripted added added_to subtracted distance beside_integer compared_by compared_pointers assigned usual common_pointer common_other common_class both_ready is_complete_object is_complete_class conditional arms_of arms_of_arithmetic arms_of_enumeration arms_of_pointer arms_of_void shared_pointers
 binary_EQUAL_TO = refl
 
 -- &, a line for each left operand
@@ -515,7 +519,7 @@ binary_AMPERSAND : binary_of punct.AMPERSAND (
     (999 ∷ 999 ∷ 999 ∷ 999 ∷ 999 ∷ 999 ∷ 999 ∷ 999 ∷ 999 ∷ 999 ∷ 999 ∷ 999 ∷ 999 ∷ 999 ∷ 999 ∷ 999 ∷ 999 ∷ 999 ∷ 999 ∷ 999 ∷ 999 ∷ 999 ∷ 999 ∷ 999 ∷ 999 ∷ 999 ∷ 999 ∷ []) ∷
     (3 ∷ 3 ∷ 3 ∷ 3 ∷ 4 ∷ 5 ∷ 6 ∷ 3 ∷ 999 ∷ 999 ∷ 999 ∷ 3 ∷ 5 ∷ 999 ∷ 999 ∷ 999 ∷ 999 ∷ 999 ∷ 999 ∷ 999 ∷ 999 ∷ 999 ∷ 999 ∷ 999 ∷ 999 ∷ 3 ∷ 3 ∷ []) ∷
     (3 ∷ 3 ∷ 3 ∷ 3 ∷ 4 ∷ 5 ∷ 6 ∷ 3 ∷ 999 ∷ 999 ∷ 999 ∷ 3 ∷ 5 ∷ 999 ∷ 999 ∷ 999 ∷ 999 ∷ 999 ∷ 999 ∷ 999 ∷ 999 ∷ 999 ∷ 999 ∷ 999 ∷ 999 ∷ 3 ∷ 3 ∷ []) ∷ []) ≡ []
-unfolding standard_sequence steps_between steps_of_reference steps_by_relation steps_of_unrelated steps_of_related related related_kinds steps_of_value steps_by_kinds steps_to_class steps_to_scalar class_step value_step steps_of_kinds steps_of_pointer steps_of_enumeration steps_of_arithmetic is_text step_of_enumeration steps_of_pointers pointer_to_other pointer_to_class is_derived is_pending promoted built_in_result unary_result unary_family_result unary_by follow is_stepped steps_to before after binary_result family_result compound_result compound compound_on binary_by subscripted added added_to subtracted distance beside_integer compared_by compared_pointers assigned usual common_pointer common_other common_class both_ready is_complete_object is_complete_class
+unfolding standard_sequence steps_between steps_of_reference steps_by_relation steps_of_unrelated steps_of_related related related_kinds steps_of_value steps_by_kinds steps_to_class steps_to_scalar class_step value_step steps_of_kinds steps_of_pointer steps_of_enumeration steps_of_arithmetic is_text step_of_enumeration steps_of_pointers pointer_to_other pointer_to_class is_derived is_pending promoted built_in_result unary_result unary_family_result unary_by follow is_stepped steps_to before after binary_result family_result compound_result compound compound_on binary_by subscripted added added_to subtracted distance beside_integer compared_by compared_pointers assigned usual common_pointer common_other common_class both_ready is_complete_object is_complete_class conditional arms_of arms_of_arithmetic arms_of_enumeration arms_of_pointer arms_of_void shared_pointers
 binary_AMPERSAND = refl
 
 -- &&, a line for each left operand
@@ -547,7 +551,7 @@ binary_LOGICAL_AND : binary_of punct.LOGICAL_AND (
     (0 ∷ 0 ∷ 0 ∷ 0 ∷ 0 ∷ 0 ∷ 0 ∷ 0 ∷ 0 ∷ 0 ∷ 0 ∷ 0 ∷ 0 ∷ 0 ∷ 0 ∷ 0 ∷ 0 ∷ 0 ∷ 0 ∷ 0 ∷ 0 ∷ 0 ∷ 0 ∷ 0 ∷ 0 ∷ 0 ∷ 0 ∷ []) ∷
     (0 ∷ 0 ∷ 0 ∷ 0 ∷ 0 ∷ 0 ∷ 0 ∷ 0 ∷ 0 ∷ 0 ∷ 0 ∷ 0 ∷ 0 ∷ 0 ∷ 0 ∷ 0 ∷ 0 ∷ 0 ∷ 0 ∷ 0 ∷ 0 ∷ 0 ∷ 0 ∷ 0 ∷ 0 ∷ 0 ∷ 0 ∷ []) ∷
     (0 ∷ 0 ∷ 0 ∷ 0 ∷ 0 ∷ 0 ∷ 0 ∷ 0 ∷ 0 ∷ 0 ∷ 0 ∷ 0 ∷ 0 ∷ 0 ∷ 0 ∷ 0 ∷ 0 ∷ 0 ∷ 0 ∷ 0 ∷ 0 ∷ 0 ∷ 0 ∷ 0 ∷ 0 ∷ 0 ∷ 0 ∷ []) ∷ []) ≡ []
-unfolding standard_sequence steps_between steps_of_reference steps_by_relation steps_of_unrelated steps_of_related related related_kinds steps_of_value steps_by_kinds steps_to_class steps_to_scalar class_step value_step steps_of_kinds steps_of_pointer steps_of_enumeration steps_of_arithmetic is_text step_of_enumeration steps_of_pointers pointer_to_other pointer_to_class is_derived is_pending promoted built_in_result unary_result unary_family_result unary_by follow is_stepped steps_to before after binary_result family_result compound_result compound compound_on binary_by subscripted added added_to subtracted distance beside_integer compared_by compared_pointers assigned usual common_pointer common_other common_class both_ready is_complete_object is_complete_class
+unfolding standard_sequence steps_between steps_of_reference steps_by_relation steps_of_unrelated steps_of_related related related_kinds steps_of_value steps_by_kinds steps_to_class steps_to_scalar class_step value_step steps_of_kinds steps_of_pointer steps_of_enumeration steps_of_arithmetic is_text step_of_enumeration steps_of_pointers pointer_to_other pointer_to_class is_derived is_pending promoted built_in_result unary_result unary_family_result unary_by follow is_stepped steps_to before after binary_result family_result compound_result compound compound_on binary_by subscripted added added_to subtracted distance beside_integer compared_by compared_pointers assigned usual common_pointer common_other common_class both_ready is_complete_object is_complete_class conditional arms_of arms_of_arithmetic arms_of_enumeration arms_of_pointer arms_of_void shared_pointers
 binary_LOGICAL_AND = refl
 
 -- =, a line for each left operand
@@ -579,7 +583,7 @@ binary_EQUALS : binary_of punct.EQUALS (
     (999 ∷ 999 ∷ 999 ∷ 999 ∷ 999 ∷ 999 ∷ 999 ∷ 999 ∷ 999 ∷ 999 ∷ 999 ∷ 999 ∷ 999 ∷ 999 ∷ 999 ∷ 999 ∷ 999 ∷ 999 ∷ 999 ∷ 999 ∷ 999 ∷ 999 ∷ 999 ∷ 999 ∷ 124 ∷ 124 ∷ 999 ∷ []) ∷
     (999 ∷ 999 ∷ 999 ∷ 999 ∷ 999 ∷ 999 ∷ 999 ∷ 999 ∷ 999 ∷ 999 ∷ 999 ∷ 999 ∷ 999 ∷ 999 ∷ 999 ∷ 999 ∷ 999 ∷ 999 ∷ 999 ∷ 999 ∷ 999 ∷ 999 ∷ 999 ∷ 999 ∷ 999 ∷ 999 ∷ 999 ∷ []) ∷
     (999 ∷ 999 ∷ 999 ∷ 999 ∷ 999 ∷ 999 ∷ 999 ∷ 999 ∷ 999 ∷ 999 ∷ 999 ∷ 999 ∷ 999 ∷ 999 ∷ 999 ∷ 999 ∷ 999 ∷ 999 ∷ 999 ∷ 999 ∷ 999 ∷ 999 ∷ 999 ∷ 999 ∷ 999 ∷ 999 ∷ 999 ∷ []) ∷ []) ≡ []
-unfolding standard_sequence steps_between steps_of_reference steps_by_relation steps_of_unrelated steps_of_related related related_kinds steps_of_value steps_by_kinds steps_to_class steps_to_scalar class_step value_step steps_of_kinds steps_of_pointer steps_of_enumeration steps_of_arithmetic is_text step_of_enumeration steps_of_pointers pointer_to_other pointer_to_class is_derived is_pending promoted built_in_result unary_result unary_family_result unary_by follow is_stepped steps_to before after binary_result family_result compound_result compound compound_on binary_by subscripted added added_to subtracted distance beside_integer compared_by compared_pointers assigned usual common_pointer common_other common_class both_ready is_complete_object is_complete_class
+unfolding standard_sequence steps_between steps_of_reference steps_by_relation steps_of_unrelated steps_of_related related related_kinds steps_of_value steps_by_kinds steps_to_class steps_to_scalar class_step value_step steps_of_kinds steps_of_pointer steps_of_enumeration steps_of_arithmetic is_text step_of_enumeration steps_of_pointers pointer_to_other pointer_to_class is_derived is_pending promoted built_in_result unary_result unary_family_result unary_by follow is_stepped steps_to before after binary_result family_result compound_result compound compound_on binary_by subscripted added added_to subtracted distance beside_integer compared_by compared_pointers assigned usual common_pointer common_other common_class both_ready is_complete_object is_complete_class conditional arms_of arms_of_arithmetic arms_of_enumeration arms_of_pointer arms_of_void shared_pointers
 binary_EQUALS = refl
 
 -- *=, a line for each left operand
@@ -611,7 +615,7 @@ binary_STAR_EQUALS : binary_of punct.STAR_EQUALS (
     (999 ∷ 999 ∷ 999 ∷ 999 ∷ 999 ∷ 999 ∷ 999 ∷ 999 ∷ 999 ∷ 999 ∷ 999 ∷ 999 ∷ 999 ∷ 999 ∷ 999 ∷ 999 ∷ 999 ∷ 999 ∷ 999 ∷ 999 ∷ 999 ∷ 999 ∷ 999 ∷ 999 ∷ 999 ∷ 999 ∷ 999 ∷ []) ∷
     (999 ∷ 999 ∷ 999 ∷ 999 ∷ 999 ∷ 999 ∷ 999 ∷ 999 ∷ 999 ∷ 999 ∷ 999 ∷ 999 ∷ 999 ∷ 999 ∷ 999 ∷ 999 ∷ 999 ∷ 999 ∷ 999 ∷ 999 ∷ 999 ∷ 999 ∷ 999 ∷ 999 ∷ 999 ∷ 999 ∷ 999 ∷ []) ∷
     (999 ∷ 999 ∷ 999 ∷ 999 ∷ 999 ∷ 999 ∷ 999 ∷ 999 ∷ 999 ∷ 999 ∷ 999 ∷ 999 ∷ 999 ∷ 999 ∷ 999 ∷ 999 ∷ 999 ∷ 999 ∷ 999 ∷ 999 ∷ 999 ∷ 999 ∷ 999 ∷ 999 ∷ 999 ∷ 999 ∷ 999 ∷ []) ∷ []) ≡ []
-unfolding standard_sequence steps_between steps_of_reference steps_by_relation steps_of_unrelated steps_of_related related related_kinds steps_of_value steps_by_kinds steps_to_class steps_to_scalar class_step value_step steps_of_kinds steps_of_pointer steps_of_enumeration steps_of_arithmetic is_text step_of_enumeration steps_of_pointers pointer_to_other pointer_to_class is_derived is_pending promoted built_in_result unary_result unary_family_result unary_by follow is_stepped steps_to before after binary_result family_result compound_result compound compound_on binary_by subscripted added added_to subtracted distance beside_integer compared_by compared_pointers assigned usual common_pointer common_other common_class both_ready is_complete_object is_complete_class
+unfolding standard_sequence steps_between steps_of_reference steps_by_relation steps_of_unrelated steps_of_related related related_kinds steps_of_value steps_by_kinds steps_to_class steps_to_scalar class_step value_step steps_of_kinds steps_of_pointer steps_of_enumeration steps_of_arithmetic is_text step_of_enumeration steps_of_pointers pointer_to_other pointer_to_class is_derived is_pending promoted built_in_result unary_result unary_family_result unary_by follow is_stepped steps_to before after binary_result family_result compound_result compound compound_on binary_by subscripted added added_to subtracted distance beside_integer compared_by compared_pointers assigned usual common_pointer common_other common_class both_ready is_complete_object is_complete_class conditional arms_of arms_of_arithmetic arms_of_enumeration arms_of_pointer arms_of_void shared_pointers
 binary_STAR_EQUALS = refl
 
 -- %=, a line for each left operand
@@ -643,7 +647,7 @@ binary_PERCENT_EQUALS : binary_of punct.PERCENT_EQUALS (
     (999 ∷ 999 ∷ 999 ∷ 999 ∷ 999 ∷ 999 ∷ 999 ∷ 999 ∷ 999 ∷ 999 ∷ 999 ∷ 999 ∷ 999 ∷ 999 ∷ 999 ∷ 999 ∷ 999 ∷ 999 ∷ 999 ∷ 999 ∷ 999 ∷ 999 ∷ 999 ∷ 999 ∷ 999 ∷ 999 ∷ 999 ∷ []) ∷
     (999 ∷ 999 ∷ 999 ∷ 999 ∷ 999 ∷ 999 ∷ 999 ∷ 999 ∷ 999 ∷ 999 ∷ 999 ∷ 999 ∷ 999 ∷ 999 ∷ 999 ∷ 999 ∷ 999 ∷ 999 ∷ 999 ∷ 999 ∷ 999 ∷ 999 ∷ 999 ∷ 999 ∷ 999 ∷ 999 ∷ 999 ∷ []) ∷
     (999 ∷ 999 ∷ 999 ∷ 999 ∷ 999 ∷ 999 ∷ 999 ∷ 999 ∷ 999 ∷ 999 ∷ 999 ∷ 999 ∷ 999 ∷ 999 ∷ 999 ∷ 999 ∷ 999 ∷ 999 ∷ 999 ∷ 999 ∷ 999 ∷ 999 ∷ 999 ∷ 999 ∷ 999 ∷ 999 ∷ 999 ∷ []) ∷ []) ≡ []
-unfolding standard_sequence steps_between steps_of_reference steps_by_relation steps_of_unrelated steps_of_related related related_kinds steps_of_value steps_by_kinds steps_to_class steps_to_scalar class_step value_step steps_of_kinds steps_of_pointer steps_of_enumeration steps_of_arithmetic is_text step_of_enumeration steps_of_pointers pointer_to_other pointer_to_class is_derived is_pending promoted built_in_result unary_result unary_family_result unary_by follow is_stepped steps_to before after binary_result family_result compound_result compound compound_on binary_by subscripted added added_to subtracted distance beside_integer compared_by compared_pointers assigned usual common_pointer common_other common_class both_ready is_complete_object is_complete_class
+unfolding standard_sequence steps_between steps_of_reference steps_by_relation steps_of_unrelated steps_of_related related related_kinds steps_of_value steps_by_kinds steps_to_class steps_to_scalar class_step value_step steps_of_kinds steps_of_pointer steps_of_enumeration steps_of_arithmetic is_text step_of_enumeration steps_of_pointers pointer_to_other pointer_to_class is_derived is_pending promoted built_in_result unary_result unary_family_result unary_by follow is_stepped steps_to before after binary_result family_result compound_result compound compound_on binary_by subscripted added added_to subtracted distance beside_integer compared_by compared_pointers assigned usual common_pointer common_other common_class both_ready is_complete_object is_complete_class conditional arms_of arms_of_arithmetic arms_of_enumeration arms_of_pointer arms_of_void shared_pointers
 binary_PERCENT_EQUALS = refl
 
 -- +=, a line for each left operand
@@ -675,7 +679,7 @@ binary_PLUS_EQUALS : binary_of punct.PLUS_EQUALS (
     (999 ∷ 999 ∷ 999 ∷ 999 ∷ 999 ∷ 999 ∷ 999 ∷ 999 ∷ 999 ∷ 999 ∷ 999 ∷ 999 ∷ 999 ∷ 999 ∷ 999 ∷ 999 ∷ 999 ∷ 999 ∷ 999 ∷ 999 ∷ 999 ∷ 999 ∷ 999 ∷ 999 ∷ 999 ∷ 999 ∷ 999 ∷ []) ∷
     (999 ∷ 999 ∷ 999 ∷ 999 ∷ 999 ∷ 999 ∷ 999 ∷ 999 ∷ 999 ∷ 999 ∷ 999 ∷ 999 ∷ 999 ∷ 999 ∷ 999 ∷ 999 ∷ 999 ∷ 999 ∷ 999 ∷ 999 ∷ 999 ∷ 999 ∷ 999 ∷ 999 ∷ 999 ∷ 999 ∷ 999 ∷ []) ∷
     (999 ∷ 999 ∷ 999 ∷ 999 ∷ 999 ∷ 999 ∷ 999 ∷ 999 ∷ 999 ∷ 999 ∷ 999 ∷ 999 ∷ 999 ∷ 999 ∷ 999 ∷ 999 ∷ 999 ∷ 999 ∷ 999 ∷ 999 ∷ 999 ∷ 999 ∷ 999 ∷ 999 ∷ 999 ∷ 999 ∷ 999 ∷ []) ∷ []) ≡ []
-unfolding standard_sequence steps_between steps_of_reference steps_by_relation steps_of_unrelated steps_of_related related related_kinds steps_of_value steps_by_kinds steps_to_class steps_to_scalar class_step value_step steps_of_kinds steps_of_pointer steps_of_enumeration steps_of_arithmetic is_text step_of_enumeration steps_of_pointers pointer_to_other pointer_to_class is_derived is_pending promoted built_in_result unary_result unary_family_result unary_by follow is_stepped steps_to before after binary_result family_result compound_result compound compound_on binary_by subscripted added added_to subtracted distance beside_integer compared_by compared_pointers assigned usual common_pointer common_other common_class both_ready is_complete_object is_complete_class
+unfolding standard_sequence steps_between steps_of_reference steps_by_relation steps_of_unrelated steps_of_related related related_kinds steps_of_value steps_by_kinds steps_to_class steps_to_scalar class_step value_step steps_of_kinds steps_of_pointer steps_of_enumeration steps_of_arithmetic is_text step_of_enumeration steps_of_pointers pointer_to_other pointer_to_class is_derived is_pending promoted built_in_result unary_result unary_family_result unary_by follow is_stepped steps_to before after binary_result family_result compound_result compound compound_on binary_by subscripted added added_to subtracted distance beside_integer compared_by compared_pointers assigned usual common_pointer common_other common_class both_ready is_complete_object is_complete_class conditional arms_of arms_of_arithmetic arms_of_enumeration arms_of_pointer arms_of_void shared_pointers
 binary_PLUS_EQUALS = refl
 
 -- -=, a line for each left operand
@@ -707,7 +711,7 @@ binary_MINUS_EQUALS : binary_of punct.MINUS_EQUALS (
     (999 ∷ 999 ∷ 999 ∷ 999 ∷ 999 ∷ 999 ∷ 999 ∷ 999 ∷ 999 ∷ 999 ∷ 999 ∷ 999 ∷ 999 ∷ 999 ∷ 999 ∷ 999 ∷ 999 ∷ 999 ∷ 999 ∷ 999 ∷ 999 ∷ 999 ∷ 999 ∷ 999 ∷ 999 ∷ 999 ∷ 999 ∷ []) ∷
     (999 ∷ 999 ∷ 999 ∷ 999 ∷ 999 ∷ 999 ∷ 999 ∷ 999 ∷ 999 ∷ 999 ∷ 999 ∷ 999 ∷ 999 ∷ 999 ∷ 999 ∷ 999 ∷ 999 ∷ 999 ∷ 999 ∷ 999 ∷ 999 ∷ 999 ∷ 999 ∷ 999 ∷ 999 ∷ 999 ∷ 999 ∷ []) ∷
     (999 ∷ 999 ∷ 999 ∷ 999 ∷ 999 ∷ 999 ∷ 999 ∷ 999 ∷ 999 ∷ 999 ∷ 999 ∷ 999 ∷ 999 ∷ 999 ∷ 999 ∷ 999 ∷ 999 ∷ 999 ∷ 999 ∷ 999 ∷ 999 ∷ 999 ∷ 999 ∷ 999 ∷ 999 ∷ 999 ∷ 999 ∷ []) ∷ []) ≡ []
-unfolding standard_sequence steps_between steps_of_reference steps_by_relation steps_of_unrelated steps_of_related related related_kinds steps_of_value steps_by_kinds steps_to_class steps_to_scalar class_step value_step steps_of_kinds steps_of_pointer steps_of_enumeration steps_of_arithmetic is_text step_of_enumeration steps_of_pointers pointer_to_other pointer_to_class is_derived is_pending promoted built_in_result unary_result unary_family_result unary_by follow is_stepped steps_to before after binary_result family_result compound_result compound compound_on binary_by subscripted added added_to subtracted distance beside_integer compared_by compared_pointers assigned usual common_pointer common_other common_class both_ready is_complete_object is_complete_class
+unfolding standard_sequence steps_between steps_of_reference steps_by_relation steps_of_unrelated steps_of_related related related_kinds steps_of_value steps_by_kinds steps_to_class steps_to_scalar class_step value_step steps_of_kinds steps_of_pointer steps_of_enumeration steps_of_arithmetic is_text step_of_enumeration steps_of_pointers pointer_to_other pointer_to_class is_derived is_pending promoted built_in_result unary_result unary_family_result unary_by follow is_stepped steps_to before after binary_result family_result compound_result compound compound_on binary_by subscripted added added_to subtracted distance beside_integer compared_by compared_pointers assigned usual common_pointer common_other common_class both_ready is_complete_object is_complete_class conditional arms_of arms_of_arithmetic arms_of_enumeration arms_of_pointer arms_of_void shared_pointers
 binary_MINUS_EQUALS = refl
 
 -- >>=, a line for each left operand
@@ -739,7 +743,7 @@ binary_SHIFT_RIGHT_EQUALS : binary_of punct.SHIFT_RIGHT_EQUALS (
     (999 ∷ 999 ∷ 999 ∷ 999 ∷ 999 ∷ 999 ∷ 999 ∷ 999 ∷ 999 ∷ 999 ∷ 999 ∷ 999 ∷ 999 ∷ 999 ∷ 999 ∷ 999 ∷ 999 ∷ 999 ∷ 999 ∷ 999 ∷ 999 ∷ 999 ∷ 999 ∷ 999 ∷ 999 ∷ 999 ∷ 999 ∷ []) ∷
     (999 ∷ 999 ∷ 999 ∷ 999 ∷ 999 ∷ 999 ∷ 999 ∷ 999 ∷ 999 ∷ 999 ∷ 999 ∷ 999 ∷ 999 ∷ 999 ∷ 999 ∷ 999 ∷ 999 ∷ 999 ∷ 999 ∷ 999 ∷ 999 ∷ 999 ∷ 999 ∷ 999 ∷ 999 ∷ 999 ∷ 999 ∷ []) ∷
     (999 ∷ 999 ∷ 999 ∷ 999 ∷ 999 ∷ 999 ∷ 999 ∷ 999 ∷ 999 ∷ 999 ∷ 999 ∷ 999 ∷ 999 ∷ 999 ∷ 999 ∷ 999 ∷ 999 ∷ 999 ∷ 999 ∷ 999 ∷ 999 ∷ 999 ∷ 999 ∷ 999 ∷ 999 ∷ 999 ∷ 999 ∷ []) ∷ []) ≡ []
-unfolding standard_sequence steps_between steps_of_reference steps_by_relation steps_of_unrelated steps_of_related related related_kinds steps_of_value steps_by_kinds steps_to_class steps_to_scalar class_step value_step steps_of_kinds steps_of_pointer steps_of_enumeration steps_of_arithmetic is_text step_of_enumeration steps_of_pointers pointer_to_other pointer_to_class is_derived is_pending promoted built_in_result unary_result unary_family_result unary_by follow is_stepped steps_to before after binary_result family_result compound_result compound compound_on binary_by subscripted added added_to subtracted distance beside_integer compared_by compared_pointers assigned usual common_pointer common_other common_class both_ready is_complete_object is_complete_class
+unfolding standard_sequence steps_between steps_of_reference steps_by_relation steps_of_unrelated steps_of_related related related_kinds steps_of_value steps_by_kinds steps_to_class steps_to_scalar class_step value_step steps_of_kinds steps_of_pointer steps_of_enumeration steps_of_arithmetic is_text step_of_enumeration steps_of_pointers pointer_to_other pointer_to_class is_derived is_pending promoted built_in_result unary_result unary_family_result unary_by follow is_stepped steps_to before after binary_result family_result compound_result compound compound_on binary_by subscripted added added_to subtracted distance beside_integer compared_by compared_pointers assigned usual common_pointer common_other common_class both_ready is_complete_object is_complete_class conditional arms_of arms_of_arithmetic arms_of_enumeration arms_of_pointer arms_of_void shared_pointers
 binary_SHIFT_RIGHT_EQUALS = refl
 
 -- |=, a line for each left operand
@@ -771,7 +775,7 @@ binary_BAR_EQUALS : binary_of punct.BAR_EQUALS (
     (999 ∷ 999 ∷ 999 ∷ 999 ∷ 999 ∷ 999 ∷ 999 ∷ 999 ∷ 999 ∷ 999 ∷ 999 ∷ 999 ∷ 999 ∷ 999 ∷ 999 ∷ 999 ∷ 999 ∷ 999 ∷ 999 ∷ 999 ∷ 999 ∷ 999 ∷ 999 ∷ 999 ∷ 999 ∷ 999 ∷ 999 ∷ []) ∷
     (999 ∷ 999 ∷ 999 ∷ 999 ∷ 999 ∷ 999 ∷ 999 ∷ 999 ∷ 999 ∷ 999 ∷ 999 ∷ 999 ∷ 999 ∷ 999 ∷ 999 ∷ 999 ∷ 999 ∷ 999 ∷ 999 ∷ 999 ∷ 999 ∷ 999 ∷ 999 ∷ 999 ∷ 999 ∷ 999 ∷ 999 ∷ []) ∷
     (999 ∷ 999 ∷ 999 ∷ 999 ∷ 999 ∷ 999 ∷ 999 ∷ 999 ∷ 999 ∷ 999 ∷ 999 ∷ 999 ∷ 999 ∷ 999 ∷ 999 ∷ 999 ∷ 999 ∷ 999 ∷ 999 ∷ 999 ∷ 999 ∷ 999 ∷ 999 ∷ 999 ∷ 999 ∷ 999 ∷ 999 ∷ []) ∷ []) ≡ []
-unfolding standard_sequence steps_between steps_of_reference steps_by_relation steps_of_unrelated steps_of_related related related_kinds steps_of_value steps_by_kinds steps_to_class steps_to_scalar class_step value_step steps_of_kinds steps_of_pointer steps_of_enumeration steps_of_arithmetic is_text step_of_enumeration steps_of_pointers pointer_to_other pointer_to_class is_derived is_pending promoted built_in_result unary_result unary_family_result unary_by follow is_stepped steps_to before after binary_result family_result compound_result compound compound_on binary_by subscripted added added_to subtracted distance beside_integer compared_by compared_pointers assigned usual common_pointer common_other common_class both_ready is_complete_object is_complete_class
+unfolding standard_sequence steps_between steps_of_reference steps_by_relation steps_of_unrelated steps_of_related related related_kinds steps_of_value steps_by_kinds steps_to_class steps_to_scalar class_step value_step steps_of_kinds steps_of_pointer steps_of_enumeration steps_of_arithmetic is_text step_of_enumeration steps_of_pointers pointer_to_other pointer_to_class is_derived is_pending promoted built_in_result unary_result unary_family_result unary_by follow is_stepped steps_to before after binary_result family_result compound_result compound compound_on binary_by subscripted added added_to subtracted distance beside_integer compared_by compared_pointers assigned usual common_pointer common_other common_class both_ready is_complete_object is_complete_class conditional arms_of arms_of_arithmetic arms_of_enumeration arms_of_pointer arms_of_void shared_pointers
 binary_BAR_EQUALS = refl
 
 -- ,, a line for each left operand
@@ -803,5 +807,140 @@ binary_COMMA : binary_of punct.COMMA (
     (998 ∷ 998 ∷ 998 ∷ 998 ∷ 998 ∷ 998 ∷ 998 ∷ 998 ∷ 998 ∷ 998 ∷ 998 ∷ 998 ∷ 998 ∷ 998 ∷ 998 ∷ 998 ∷ 998 ∷ 998 ∷ 998 ∷ 998 ∷ 998 ∷ 998 ∷ 998 ∷ 998 ∷ 998 ∷ 998 ∷ 998 ∷ []) ∷
     (998 ∷ 998 ∷ 998 ∷ 998 ∷ 998 ∷ 998 ∷ 998 ∷ 998 ∷ 998 ∷ 998 ∷ 998 ∷ 998 ∷ 998 ∷ 998 ∷ 998 ∷ 998 ∷ 998 ∷ 998 ∷ 998 ∷ 998 ∷ 998 ∷ 998 ∷ 998 ∷ 998 ∷ 998 ∷ 998 ∷ 998 ∷ []) ∷
     (998 ∷ 998 ∷ 998 ∷ 998 ∷ 998 ∷ 998 ∷ 998 ∷ 998 ∷ 998 ∷ 998 ∷ 998 ∷ 998 ∷ 998 ∷ 998 ∷ 998 ∷ 998 ∷ 998 ∷ 998 ∷ 998 ∷ 998 ∷ 998 ∷ 998 ∷ 998 ∷ 998 ∷ 998 ∷ 998 ∷ 998 ∷ []) ∷ []) ≡ []
-unfolding standard_sequence steps_between steps_of_reference steps_by_relation steps_of_unrelated steps_of_related related related_kinds steps_of_value steps_by_kinds steps_to_class steps_to_scalar class_step value_step steps_of_kinds steps_of_pointer steps_of_enumeration steps_of_arithmetic is_text step_of_enumeration steps_of_pointers pointer_to_other pointer_to_class is_derived is_pending promoted built_in_result unary_result unary_family_result unary_by follow is_stepped steps_to before after binary_result family_result compound_result compound compound_on binary_by subscripted added added_to subtracted distance beside_integer compared_by compared_pointers assigned usual common_pointer common_other common_class both_ready is_complete_object is_complete_class
+unfolding standard_sequence steps_between steps_of_reference steps_by_relation steps_of_unrelated steps_of_related related related_kinds steps_of_value steps_by_kinds steps_to_class steps_to_scalar class_step value_step steps_of_kinds steps_of_pointer steps_of_enumeration steps_of_arithmetic is_text step_of_enumeration steps_of_pointers pointer_to_other pointer_to_class is_derived is_pending promoted built_in_result unary_result unary_family_result unary_by follow is_stepped steps_to before after binary_result family_result compound_result compound compound_on binary_by subscripted added added_to subtracted distance beside_integer compared_by compared_pointers assigned usual common_pointer common_other common_class both_ready is_complete_object is_complete_class conditional arms_of arms_of_arithmetic arms_of_enumeration arms_of_pointer arms_of_void shared_pointers
 binary_COMMA = refl
+
+-- int as the second operand of ? :
+arms_0 : arms_of_one (lvalue int) (103 ∷ 998 ∷ 3 ∷ 3 ∷ 4 ∷ 5 ∷ 6 ∷ 3 ∷ 8 ∷ 9 ∷ 10 ∷ 3 ∷ 5 ∷ 999 ∷ 999 ∷ 999 ∷ 999 ∷ 999 ∷ 999 ∷ 999 ∷ 999 ∷ 999 ∷ 999 ∷ 999 ∷ 999 ∷ 3 ∷ 3 ∷ []) ≡ []
+unfolding is_derived is_pending promoted usual common_pointer common_other common_class both_ready conditional arms_of arms_of_arithmetic arms_of_enumeration arms_of_pointer arms_of_void shared_pointers
+arms_0 = refl
+
+-- const int as the second operand of ? :
+arms_1 : arms_of_one (lvalue (const_of int)) (998 ∷ 103 ∷ 3 ∷ 3 ∷ 4 ∷ 5 ∷ 6 ∷ 3 ∷ 8 ∷ 9 ∷ 10 ∷ 3 ∷ 5 ∷ 999 ∷ 999 ∷ 999 ∷ 999 ∷ 999 ∷ 999 ∷ 999 ∷ 999 ∷ 999 ∷ 999 ∷ 999 ∷ 999 ∷ 3 ∷ 3 ∷ []) ≡ []
+unfolding is_derived is_pending promoted usual common_pointer common_other common_class both_ready conditional arms_of arms_of_arithmetic arms_of_enumeration arms_of_pointer arms_of_void shared_pointers
+arms_1 = refl
+
+-- char as the second operand of ? :
+arms_2 : arms_of_one (lvalue char) (3 ∷ 3 ∷ 101 ∷ 3 ∷ 4 ∷ 5 ∷ 6 ∷ 3 ∷ 8 ∷ 9 ∷ 10 ∷ 3 ∷ 5 ∷ 999 ∷ 999 ∷ 999 ∷ 999 ∷ 999 ∷ 999 ∷ 999 ∷ 999 ∷ 999 ∷ 999 ∷ 999 ∷ 999 ∷ 3 ∷ 3 ∷ []) ≡ []
+unfolding is_derived is_pending promoted usual common_pointer common_other common_class both_ready conditional arms_of arms_of_arithmetic arms_of_enumeration arms_of_pointer arms_of_void shared_pointers
+arms_2 = refl
+
+-- bool as the second operand of ? :
+arms_3 : arms_of_one (lvalue bool) (3 ∷ 3 ∷ 3 ∷ 100 ∷ 4 ∷ 5 ∷ 6 ∷ 3 ∷ 8 ∷ 9 ∷ 10 ∷ 3 ∷ 5 ∷ 999 ∷ 999 ∷ 999 ∷ 999 ∷ 999 ∷ 999 ∷ 999 ∷ 999 ∷ 999 ∷ 999 ∷ 999 ∷ 999 ∷ 3 ∷ 3 ∷ []) ≡ []
+unfolding is_derived is_pending promoted usual common_pointer common_other common_class both_ready conditional arms_of arms_of_arithmetic arms_of_enumeration arms_of_pointer arms_of_void shared_pointers
+arms_3 = refl
+
+-- unsigned as the second operand of ? :
+arms_4 : arms_of_one (lvalue (fundamental base.Unsigned)) (4 ∷ 4 ∷ 4 ∷ 4 ∷ 104 ∷ 5 ∷ 6 ∷ 4 ∷ 8 ∷ 9 ∷ 10 ∷ 4 ∷ 5 ∷ 999 ∷ 999 ∷ 999 ∷ 999 ∷ 999 ∷ 999 ∷ 999 ∷ 999 ∷ 999 ∷ 999 ∷ 999 ∷ 999 ∷ 4 ∷ 4 ∷ []) ≡ []
+unfolding is_derived is_pending promoted usual common_pointer common_other common_class both_ready conditional arms_of arms_of_arithmetic arms_of_enumeration arms_of_pointer arms_of_void shared_pointers
+arms_4 = refl
+
+-- long as the second operand of ? :
+arms_5 : arms_of_one (lvalue long) (5 ∷ 5 ∷ 5 ∷ 5 ∷ 5 ∷ 105 ∷ 6 ∷ 5 ∷ 8 ∷ 9 ∷ 10 ∷ 5 ∷ 5 ∷ 999 ∷ 999 ∷ 999 ∷ 999 ∷ 999 ∷ 999 ∷ 999 ∷ 999 ∷ 999 ∷ 999 ∷ 999 ∷ 999 ∷ 5 ∷ 5 ∷ []) ≡ []
+unfolding is_derived is_pending promoted usual common_pointer common_other common_class both_ready conditional arms_of arms_of_arithmetic arms_of_enumeration arms_of_pointer arms_of_void shared_pointers
+arms_5 = refl
+
+-- unsigned long as the second operand of ? :
+arms_6 : arms_of_one (lvalue (fundamental base.UnsignedLong)) (6 ∷ 6 ∷ 6 ∷ 6 ∷ 6 ∷ 6 ∷ 106 ∷ 6 ∷ 8 ∷ 9 ∷ 10 ∷ 6 ∷ 6 ∷ 999 ∷ 999 ∷ 999 ∷ 999 ∷ 999 ∷ 999 ∷ 999 ∷ 999 ∷ 999 ∷ 999 ∷ 999 ∷ 999 ∷ 6 ∷ 6 ∷ []) ≡ []
+unfolding is_derived is_pending promoted usual common_pointer common_other common_class both_ready conditional arms_of arms_of_arithmetic arms_of_enumeration arms_of_pointer arms_of_void shared_pointers
+arms_6 = refl
+
+-- wchar_t as the second operand of ? :
+arms_7 : arms_of_one (lvalue wide) (3 ∷ 3 ∷ 3 ∷ 3 ∷ 4 ∷ 5 ∷ 6 ∷ 107 ∷ 8 ∷ 9 ∷ 10 ∷ 3 ∷ 5 ∷ 999 ∷ 999 ∷ 999 ∷ 999 ∷ 999 ∷ 999 ∷ 999 ∷ 999 ∷ 999 ∷ 999 ∷ 999 ∷ 999 ∷ 3 ∷ 3 ∷ []) ≡ []
+unfolding is_derived is_pending promoted usual common_pointer common_other common_class both_ready conditional arms_of arms_of_arithmetic arms_of_enumeration arms_of_pointer arms_of_void shared_pointers
+arms_7 = refl
+
+-- float as the second operand of ? :
+arms_8 : arms_of_one (lvalue float) (8 ∷ 8 ∷ 8 ∷ 8 ∷ 8 ∷ 8 ∷ 8 ∷ 8 ∷ 108 ∷ 9 ∷ 10 ∷ 8 ∷ 8 ∷ 999 ∷ 999 ∷ 999 ∷ 999 ∷ 999 ∷ 999 ∷ 999 ∷ 999 ∷ 999 ∷ 999 ∷ 999 ∷ 999 ∷ 8 ∷ 8 ∷ []) ≡ []
+unfolding is_derived is_pending promoted usual common_pointer common_other common_class both_ready conditional arms_of arms_of_arithmetic arms_of_enumeration arms_of_pointer arms_of_void shared_pointers
+arms_8 = refl
+
+-- double as the second operand of ? :
+arms_9 : arms_of_one (lvalue double) (9 ∷ 9 ∷ 9 ∷ 9 ∷ 9 ∷ 9 ∷ 9 ∷ 9 ∷ 9 ∷ 109 ∷ 10 ∷ 9 ∷ 9 ∷ 999 ∷ 999 ∷ 999 ∷ 999 ∷ 999 ∷ 999 ∷ 999 ∷ 999 ∷ 999 ∷ 999 ∷ 999 ∷ 999 ∷ 9 ∷ 9 ∷ []) ≡ []
+unfolding is_derived is_pending promoted usual common_pointer common_other common_class both_ready conditional arms_of arms_of_arithmetic arms_of_enumeration arms_of_pointer arms_of_void shared_pointers
+arms_9 = refl
+
+-- long double as the second operand of ? :
+arms_10 : arms_of_one (lvalue (fundamental base.LongDouble)) (10 ∷ 10 ∷ 10 ∷ 10 ∷ 10 ∷ 10 ∷ 10 ∷ 10 ∷ 10 ∷ 10 ∷ 110 ∷ 10 ∷ 10 ∷ 999 ∷ 999 ∷ 999 ∷ 999 ∷ 999 ∷ 999 ∷ 999 ∷ 999 ∷ 999 ∷ 999 ∷ 999 ∷ 999 ∷ 10 ∷ 10 ∷ []) ≡ []
+unfolding is_derived is_pending promoted usual common_pointer common_other common_class both_ready conditional arms_of arms_of_arithmetic arms_of_enumeration arms_of_pointer arms_of_void shared_pointers
+arms_10 = refl
+
+-- E as the second operand of ? :
+arms_11 : arms_of_one (lvalue an_e) (3 ∷ 3 ∷ 3 ∷ 3 ∷ 4 ∷ 5 ∷ 6 ∷ 3 ∷ 8 ∷ 9 ∷ 10 ∷ 111 ∷ 5 ∷ 999 ∷ 999 ∷ 999 ∷ 999 ∷ 999 ∷ 999 ∷ 999 ∷ 999 ∷ 999 ∷ 999 ∷ 999 ∷ 999 ∷ 3 ∷ 3 ∷ []) ≡ []
+unfolding is_derived is_pending promoted usual common_pointer common_other common_class both_ready conditional arms_of arms_of_arithmetic arms_of_enumeration arms_of_pointer arms_of_void shared_pointers
+arms_11 = refl
+
+-- L as the second operand of ? :
+arms_12 : arms_of_one (lvalue an_l) (5 ∷ 5 ∷ 5 ∷ 5 ∷ 5 ∷ 5 ∷ 6 ∷ 5 ∷ 8 ∷ 9 ∷ 10 ∷ 5 ∷ 112 ∷ 999 ∷ 999 ∷ 999 ∷ 999 ∷ 999 ∷ 999 ∷ 999 ∷ 999 ∷ 999 ∷ 999 ∷ 999 ∷ 999 ∷ 5 ∷ 5 ∷ []) ≡ []
+unfolding is_derived is_pending promoted usual common_pointer common_other common_class both_ready conditional arms_of arms_of_arithmetic arms_of_enumeration arms_of_pointer arms_of_void shared_pointers
+arms_12 = refl
+
+-- int * as the second operand of ? :
+arms_13 : arms_of_one (lvalue (to int)) (999 ∷ 999 ∷ 999 ∷ 999 ∷ 999 ∷ 999 ∷ 999 ∷ 999 ∷ 999 ∷ 999 ∷ 999 ∷ 999 ∷ 999 ∷ 113 ∷ 14 ∷ 998 ∷ 13 ∷ 999 ∷ 999 ∷ 19 ∷ 20 ∷ 999 ∷ 999 ∷ 999 ∷ 999 ∷ 13 ∷ 999 ∷ []) ≡ []
+unfolding is_derived is_pending promoted usual common_pointer common_other common_class both_ready conditional arms_of arms_of_arithmetic arms_of_enumeration arms_of_pointer arms_of_void shared_pointers
+arms_13 = refl
+
+-- const int * as the second operand of ? :
+arms_14 : arms_of_one (lvalue (to (const_of int))) (999 ∷ 999 ∷ 999 ∷ 999 ∷ 999 ∷ 999 ∷ 999 ∷ 999 ∷ 999 ∷ 999 ∷ 999 ∷ 999 ∷ 999 ∷ 14 ∷ 114 ∷ 25 ∷ 14 ∷ 999 ∷ 999 ∷ 20 ∷ 20 ∷ 999 ∷ 999 ∷ 999 ∷ 999 ∷ 14 ∷ 999 ∷ []) ≡ []
+unfolding is_derived is_pending promoted usual common_pointer common_other common_class both_ready conditional arms_of arms_of_arithmetic arms_of_enumeration arms_of_pointer arms_of_void shared_pointers
+arms_14 = refl
+
+-- volatile int * const as the second operand of ? :
+arms_15 : arms_of_one (lvalue (const_of (to (volatile_of int)))) (999 ∷ 999 ∷ 999 ∷ 999 ∷ 999 ∷ 999 ∷ 999 ∷ 999 ∷ 999 ∷ 999 ∷ 999 ∷ 999 ∷ 999 ∷ 998 ∷ 25 ∷ 115 ∷ 15 ∷ 999 ∷ 999 ∷ 37 ∷ 38 ∷ 999 ∷ 999 ∷ 999 ∷ 999 ∷ 15 ∷ 999 ∷ []) ≡ []
+unfolding is_derived is_pending promoted usual common_pointer common_other common_class both_ready conditional arms_of arms_of_arithmetic arms_of_enumeration arms_of_pointer arms_of_void shared_pointers
+arms_15 = refl
+
+-- int ()[3] as the second operand of ? :
+arms_16 : arms_of_one (lvalue (three int)) (999 ∷ 999 ∷ 999 ∷ 999 ∷ 999 ∷ 999 ∷ 999 ∷ 999 ∷ 999 ∷ 999 ∷ 999 ∷ 999 ∷ 999 ∷ 13 ∷ 14 ∷ 15 ∷ 113 ∷ 999 ∷ 999 ∷ 19 ∷ 20 ∷ 999 ∷ 999 ∷ 999 ∷ 999 ∷ 13 ∷ 999 ∷ []) ≡ []
+unfolding is_derived is_pending promoted usual common_pointer common_other common_class both_ready conditional arms_of arms_of_arithmetic arms_of_enumeration arms_of_pointer arms_of_void shared_pointers
+arms_16 = refl
+
+-- int ** as the second operand of ? :
+arms_17 : arms_of_one (lvalue (to (to int))) (999 ∷ 999 ∷ 999 ∷ 999 ∷ 999 ∷ 999 ∷ 999 ∷ 999 ∷ 999 ∷ 999 ∷ 999 ∷ 999 ∷ 999 ∷ 999 ∷ 999 ∷ 999 ∷ 999 ∷ 116 ∷ 18 ∷ 19 ∷ 20 ∷ 999 ∷ 999 ∷ 999 ∷ 999 ∷ 16 ∷ 999 ∷ []) ≡ []
+unfolding is_derived is_pending promoted usual common_pointer common_other common_class both_ready conditional arms_of arms_of_arithmetic arms_of_enumeration arms_of_pointer arms_of_void shared_pointers
+arms_17 = refl
+
+-- const int ** as the second operand of ? :
+arms_18 : arms_of_one (lvalue (to (to (const_of int)))) (999 ∷ 999 ∷ 999 ∷ 999 ∷ 999 ∷ 999 ∷ 999 ∷ 999 ∷ 999 ∷ 999 ∷ 999 ∷ 999 ∷ 999 ∷ 999 ∷ 999 ∷ 999 ∷ 999 ∷ 18 ∷ 117 ∷ 19 ∷ 20 ∷ 999 ∷ 999 ∷ 999 ∷ 999 ∷ 17 ∷ 999 ∷ []) ≡ []
+unfolding is_derived is_pending promoted usual common_pointer common_other common_class both_ready conditional arms_of arms_of_arithmetic arms_of_enumeration arms_of_pointer arms_of_void shared_pointers
+arms_18 = refl
+
+-- void * as the second operand of ? :
+arms_19 : arms_of_one (lvalue (to void)) (999 ∷ 999 ∷ 999 ∷ 999 ∷ 999 ∷ 999 ∷ 999 ∷ 999 ∷ 999 ∷ 999 ∷ 999 ∷ 999 ∷ 999 ∷ 19 ∷ 20 ∷ 37 ∷ 19 ∷ 19 ∷ 19 ∷ 119 ∷ 20 ∷ 999 ∷ 19 ∷ 20 ∷ 19 ∷ 19 ∷ 999 ∷ []) ≡ []
+unfolding is_derived is_pending promoted usual common_pointer common_other common_class both_ready conditional arms_of arms_of_arithmetic arms_of_enumeration arms_of_pointer arms_of_void shared_pointers
+arms_19 = refl
+
+-- const void * as the second operand of ? :
+arms_20 : arms_of_one (lvalue (to (const_of void))) (999 ∷ 999 ∷ 999 ∷ 999 ∷ 999 ∷ 999 ∷ 999 ∷ 999 ∷ 999 ∷ 999 ∷ 999 ∷ 999 ∷ 999 ∷ 20 ∷ 20 ∷ 38 ∷ 20 ∷ 20 ∷ 20 ∷ 20 ∷ 120 ∷ 999 ∷ 20 ∷ 20 ∷ 20 ∷ 20 ∷ 999 ∷ []) ≡ []
+unfolding is_derived is_pending promoted usual common_pointer common_other common_class both_ready conditional arms_of arms_of_arithmetic arms_of_enumeration arms_of_pointer arms_of_void shared_pointers
+arms_20 = refl
+
+-- F * as the second operand of ? :
+arms_21 : arms_of_one (lvalue (to function)) (999 ∷ 999 ∷ 999 ∷ 999 ∷ 999 ∷ 999 ∷ 999 ∷ 999 ∷ 999 ∷ 999 ∷ 999 ∷ 999 ∷ 999 ∷ 999 ∷ 999 ∷ 999 ∷ 999 ∷ 999 ∷ 999 ∷ 999 ∷ 999 ∷ 135 ∷ 999 ∷ 999 ∷ 999 ∷ 35 ∷ 999 ∷ []) ≡ []
+unfolding is_derived is_pending promoted usual common_pointer common_other common_class both_ready conditional arms_of arms_of_arithmetic arms_of_enumeration arms_of_pointer arms_of_void shared_pointers
+arms_21 = refl
+
+-- A * as the second operand of ? :
+arms_22 : arms_of_one (lvalue (to a)) (999 ∷ 999 ∷ 999 ∷ 999 ∷ 999 ∷ 999 ∷ 999 ∷ 999 ∷ 999 ∷ 999 ∷ 999 ∷ 999 ∷ 999 ∷ 999 ∷ 999 ∷ 999 ∷ 999 ∷ 999 ∷ 999 ∷ 19 ∷ 20 ∷ 999 ∷ 121 ∷ 22 ∷ 999 ∷ 21 ∷ 999 ∷ []) ≡ []
+unfolding is_derived is_pending promoted usual common_pointer common_other common_class both_ready conditional arms_of arms_of_arithmetic arms_of_enumeration arms_of_pointer arms_of_void shared_pointers
+arms_22 = refl
+
+-- const C * as the second operand of ? :
+arms_23 : arms_of_one (lvalue (to (const_of c))) (999 ∷ 999 ∷ 999 ∷ 999 ∷ 999 ∷ 999 ∷ 999 ∷ 999 ∷ 999 ∷ 999 ∷ 999 ∷ 999 ∷ 999 ∷ 999 ∷ 999 ∷ 999 ∷ 999 ∷ 999 ∷ 999 ∷ 20 ∷ 20 ∷ 999 ∷ 22 ∷ 123 ∷ 999 ∷ 23 ∷ 999 ∷ []) ≡ []
+unfolding is_derived is_pending promoted usual common_pointer common_other common_class both_ready conditional arms_of arms_of_arithmetic arms_of_enumeration arms_of_pointer arms_of_void shared_pointers
+arms_23 = refl
+
+-- X * as the second operand of ? :
+arms_24 : arms_of_one (lvalue (to x)) (999 ∷ 999 ∷ 999 ∷ 999 ∷ 999 ∷ 999 ∷ 999 ∷ 999 ∷ 999 ∷ 999 ∷ 999 ∷ 999 ∷ 999 ∷ 999 ∷ 999 ∷ 999 ∷ 999 ∷ 999 ∷ 999 ∷ 19 ∷ 20 ∷ 999 ∷ 999 ∷ 999 ∷ 124 ∷ 24 ∷ 999 ∷ []) ≡ []
+unfolding is_derived is_pending promoted usual common_pointer common_other common_class both_ready conditional arms_of arms_of_arithmetic arms_of_enumeration arms_of_pointer arms_of_void shared_pointers
+arms_24 = refl
+
+-- 0 as the second operand of ? :
+arms_25 : arms_of_one (zero) (3 ∷ 3 ∷ 3 ∷ 3 ∷ 4 ∷ 5 ∷ 6 ∷ 3 ∷ 8 ∷ 9 ∷ 10 ∷ 3 ∷ 5 ∷ 13 ∷ 14 ∷ 15 ∷ 13 ∷ 16 ∷ 17 ∷ 19 ∷ 20 ∷ 35 ∷ 21 ∷ 23 ∷ 24 ∷ 3 ∷ 3 ∷ []) ≡ []
+unfolding is_derived is_pending promoted usual common_pointer common_other common_class both_ready conditional arms_of arms_of_arithmetic arms_of_enumeration arms_of_pointer arms_of_void shared_pointers
+arms_25 = refl
+
+-- 1 as the second operand of ? :
+arms_26 : arms_of_one (rvalue int) (3 ∷ 3 ∷ 3 ∷ 3 ∷ 4 ∷ 5 ∷ 6 ∷ 3 ∷ 8 ∷ 9 ∷ 10 ∷ 3 ∷ 5 ∷ 999 ∷ 999 ∷ 999 ∷ 999 ∷ 999 ∷ 999 ∷ 999 ∷ 999 ∷ 999 ∷ 999 ∷ 999 ∷ 999 ∷ 3 ∷ 3 ∷ []) ≡ []
+unfolding is_derived is_pending promoted usual common_pointer common_other common_class both_ready conditional arms_of arms_of_arithmetic arms_of_enumeration arms_of_pointer arms_of_void shared_pointers
+arms_26 = refl

@@ -157,6 +157,12 @@ told true false = Better
 told false true = Worse
 told _ _ = Same
 
+-- how the second stands to the first
+abbrev pub turned : Order → Order
+turned Better = Worse
+turned Worse = Better
+turned Same = Same
+
 abbrev pub told_by : (CxxStandard → CxxStandard → Bool) → CxxStandard → CxxStandard → Order
 told_by better one two = told (better one two) (better two one)
 
