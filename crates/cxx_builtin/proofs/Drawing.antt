@@ -1,5 +1,5 @@
 -- Makers in turn, and what is in range of a graph where the table is.
-use Rattle.std.specs.Prelude.{ℕ, ◌≡◌, ◌<◌, ◌≤◌, ◌++◌, Bool, true, false, List, [], ◌∷◌, length, map, Option, Some, None, Result, Ok, Err, IsErr, if◌then◌else◌, refl}
+use Rattle.std.specs.Prelude.{ℕ, ◌≡◌, ◌<◌, ◌≤◌, ◌++◌, Bool, true, false, List, [], ◌∷◌, length, Result, Ok, Err, IsErr, if◌then◌else◌, refl}
 use Rattle.std.proofs.Common.{ap, sym, subst, ◌∙◌, arith}
 use Rattle.cxx_model.specs.declared.memory.OutOfMemory.{OutOfMemory}
 use Rattle.cxx_model.specs.declared.overload.BuiltIn.{BuiltIn}
@@ -10,7 +10,7 @@ use Rattle.cxx_model.specs.Facts.Graph.{Graph, IsTypeInRange}
 use Rattle.cxx_model.specs.Types.Numbers.{type_at, AreTypesBelow, Keeps}
 use Rattle.cxx_model.specs.Types.Trees.{CxxType, fundamental, class_type, enumeration, pointer_to, reference_to, array_of, function_of, qualified, type_parameter, specialisation, nested_in, any_cv, merged, layered, with_cv, adjusted, unqualified}
 use Rattle.cxx_graph.proofs.Fitting.{fitted-table}
-use Rattle.cxx_types.specs.Makes.{AreInRange, Makes}
+use Rattle.cxx_types.specs.Makes.{Makes}
 use Rattle.cxx_types.proofs.Making.{makes_then, makes_same, makes_stopped}
 use Rattle.cxx_types.proofs.Ranges.{with-cv-range}
 use Rattle.cxx_meaning.specs.Conversions.BuiltIn.{CxxBuiltIn}
@@ -198,7 +198,7 @@ pub list_then : (graph : Graph) (old mid new : List CxxType) (one : Sketch) (don
 list_then graph old mid new one done numbers number some list known makes is =
     let P : List TypeId → Type 0 = λ (ns : List TypeId). MakesList graph old new (Ok ns) (some ++ sketch_at old one ∷ []) in
     let here : list_at new (done ++ number ∷ []) ≡ some ++ sketch_at old one ∷ [] = (
-      list_more new done number ∙ ap (λ ts. ts ++ type_at new number.0 ∷ []) (list_later mid new done list.made.0 makes.keeps ∙ list.made.1) ∙ ap (λ t. some ++ t ∷ []) (makes.made.1 ∙ sketch_later old mid one known list.keeps)
+    list_more new done number ∙ ap (λ ts. ts ++ type_at new number.0 ∷ []) (list_later mid new done list.made.0 makes.keeps ∙ list.made.1) ∙ ap (λ t. some ++ t ∷ []) (makes.made.1 ∙ sketch_later old mid one known list.keeps)
     ) in
     subst P (sym is) (record {
       keeps = Keeps-then old mid new list.keeps makes.keeps;
@@ -225,8 +225,8 @@ built_whole graph old mid new plan done number list known makes =
     let listed : list_at new done ≡ sketch_at old plan.first ∷ second_at old plan.second = list_later mid new done list.made.0 makes.keeps ∙ list.made.1 in
     let whole : type_at new number.0 ≡ sketch_at old plan.result = makes.made.1 ∙ sketch_later old mid plan.result known list.keeps in
     let is : built_at new (record { operands = done; result = number; lvalue = plan.lvalue }) ≡ plan_at old plan = (
-      ap (λ (ts : List CxxType). let b : CxxBuiltIn = record { operands = ts; result = type_at new number.0; lvalue = plan.lvalue } in b) listed ∙
-      ap (λ (t : CxxType). let b : CxxBuiltIn = record { operands = sketch_at old plan.first ∷ second_at old plan.second; result = t; lvalue = plan.lvalue } in b) whole
+    ap (λ (ts : List CxxType). let b : CxxBuiltIn = record { operands = ts; result = type_at new number.0; lvalue = plan.lvalue } in b) listed ∙
+    ap (λ (t : CxxType). let b : CxxBuiltIn = record { operands = sketch_at old plan.first ∷ second_at old plan.second; result = t; lvalue = plan.lvalue } in b) whole
     ) in
     record {
       keeps = Keeps-then old mid new list.keeps makes.keeps;

@@ -1,5 +1,5 @@
 -- What is made of a decided meaning of an operator.
-use Rattle.std.specs.Prelude.{ℕ, ◌≡◌, ◌<◌, List, [], ◌∷◌, length, map, Option, Some, None, Result, Ok, Err}
+use Rattle.std.specs.Prelude.{ℕ, ◌≡◌, ◌<◌, List, length, map, Option, Some, None, Result, Ok, Err}
 use Rattle.cxx_model.specs.declared.memory.OutOfMemory.{OutOfMemory}
 use Rattle.cxx_model.specs.declared.overload.BuiltIn.{BuiltIn}
 use Rattle.cxx_model.specs.declared.types.TypeId.{TypeId}

@@ -25,13 +25,7 @@ fn if_integral(of: Option<Base>) -> Option<Base>
 {
     match of {
         None => None,
-        Some(of) => {
-            if is_floating(of) {
-                None
-            } else {
-                Some(of)
-            }
-        }
+        Some(of) => { if is_floating(of) { None } else { Some(of) } }
     }
 }
 
@@ -45,7 +39,11 @@ pub(crate) fn integer_of(graph: &Graph, types: &TypeTable, kind: TypeKind) -> Op
 pub(crate) fn integral_promoted(of: Base) -> Base
     ensures { result ≡ definition.integral_promoted of }
 {
-    if is_floating(of) { of } else { promoted_base(of) }
+    if is_floating(of) {
+        of
+    } else {
+        promoted_base(of)
+    }
 }
 
 fn is_either(wanted: Base, one: Base, two: Base) -> bool

@@ -103,13 +103,21 @@ pub(crate) fn beside_integer(
 fn subscript_plan(one: Operand, two: Operand, to: TypeId) -> Plan
     ensures { result ≡ record { first = Sketch.Value one.of; second = Some (Sketch.Value two.of); result = Sketch.Known to; lvalue = true } }
 {
-    object_of_two(Sketch::Value(one.of), Sketch::Value(two.of), Sketch::Known(to))
+    object_of_two(
+        Sketch::Value(one.of),
+        Sketch::Value(two.of),
+        Sketch::Known(to),
+    )
 }
 
 fn pointer_plan(one: Operand, two: Operand, of: TypeId) -> Plan
     ensures { result ≡ record { first = Sketch.Value one.of; second = Some (Sketch.Value two.of); result = Sketch.Value of; lvalue = false } }
 {
-    value_of_two(Sketch::Value(one.of), Sketch::Value(two.of), Sketch::Value(of))
+    value_of_two(
+        Sketch::Value(one.of),
+        Sketch::Value(two.of),
+        Sketch::Value(of),
+    )
 }
 
 #[tactic(auto, unfolding(cxx_meaning::specs::Conversions::BuiltIn::subscripted))]

@@ -81,7 +81,11 @@ fn is_additive(family: BinaryFamily) -> bool
 fn moved_plan(one: Operand, two: Operand) -> Plan
     ensures { result ≡ record { first = Sketch.Known one.of; second = Some (Sketch.Value two.of); result = Sketch.Known one.of; lvalue = true } }
 {
-    object_of_two(Sketch::Known(one.of), Sketch::Value(two.of), Sketch::Known(one.of))
+    object_of_two(
+        Sketch::Known(one.of),
+        Sketch::Value(two.of),
+        Sketch::Known(one.of),
+    )
 }
 
 #[tactic(auto, unfolding(cxx_meaning::specs::Conversions::BuiltIn::compound_on))]

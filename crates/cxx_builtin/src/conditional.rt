@@ -40,12 +40,7 @@ fn shared_common(types: &TypeTable, common: Option<Sketch>) -> Option<Plan>
     }
 }
 
-fn shared_null(
-    types: &TypeTable,
-    pointer: TypeId,
-    known: ConstantKind,
-    of: Base,
-) -> Option<Plan>
+fn shared_null(types: &TypeTable, pointer: TypeId, known: ConstantKind, of: Base) -> Option<Plan>
     requires { pointer.0 < length types.now }
     ensures is { plans_at types.now result ≡ definition.shared_null (type_at types.now pointer.0) known of }
     ensures below { ArePlansBelow (length types.now) result }

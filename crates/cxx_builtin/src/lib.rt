@@ -14,6 +14,4 @@ mod pointers;
 mod result;
 mod unary;
 
-pub use answer::ResultFault;
-pub use answer::built_in_result;
-pub use answer::conditional_result;
+pub use answer::{ResultFault, built_in_result, conditional_result};

@@ -62,9 +62,15 @@ fn joined(
     ensures { IfOk result (λ both. joined_at both ≡ pointers.joined (signature_at types.now one) (signature_at types.now two)) }
 {
     match one {
-        None => Ok(JoinedLevels { levels: Listed::new(alloc), adds: false }),
+        None => Ok(JoinedLevels {
+            levels: Listed::new(alloc),
+            adds: false,
+        }),
         Some(one) => match two {
-            None => Ok(JoinedLevels { levels: Listed::new(alloc), adds: false }),
+            None => Ok(JoinedLevels {
+                levels: Listed::new(alloc),
+                adds: false,
+            }),
             Some(two) => {
                 let inner = joined(alloc, types, pointee(types, one), pointee(types, two))?;
                 joined_level(inner, cv_of(types, one), cv_of(types, two))
@@ -78,7 +84,10 @@ fn joined_level(inner: JoinedLevels, one: Cv, two: Cv) -> Result<JoinedLevels, O
 {
     let JoinedLevels { mut levels, adds } = inner;
     levels.push_front(const_if(adds, merged(one, two)))?;
-    Ok(JoinedLevels { levels, adds: adds || !same_cv(one, two) })
+    Ok(JoinedLevels {
+        levels,
+        adds: adds || !same_cv(one, two),
+    })
 }
 
 /// A type with other cv words: its own, and those behind each `*`.

@@ -141,7 +141,11 @@ pub(crate) fn after(
     ensures below { IsAnswerBelow (length types.now) result }
 {
     let fits = steps_to(graph, types, down, one)?;
-    let plan = value_of_two(Sketch::Known(one.of), Sketch::Plain(Base::Int), Sketch::Bare(one.of));
+    let plan = value_of_two(
+        Sketch::Known(one.of),
+        Sketch::Plain(Base::Int),
+        Sketch::Bare(one.of),
+    );
     Ok(if_fits(types, fits, plan))
 }
 

@@ -1,3 +1,4 @@
 mod Compilers
+mod Layouts
 mod Operators
 mod Rows

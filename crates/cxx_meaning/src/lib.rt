@@ -9,7 +9,6 @@ mod operator;
 mod size;
 mod steps;
 
-pub use operator::BinaryFamily;
-pub use operator::UnaryFamily;
+pub use operator::{BinaryFamily, UnaryFamily};
 pub use size::SizeReason;
 pub use steps::SequenceSteps;

@@ -1,5 +1,5 @@
 -- What the noted facts lead to is what the class is derived from.
-use Rattle.std.specs.Prelude.{ℕ, zero, suc, ◌≡◌, ◌<◌, ◌≤◌, ◌+◌, Bool, true, false, ◌&&◌, ◌||◌, nat_eq, nat_lt, ℤ, if◌then◌else◌, List, [], ◌∷◌, ◌++◌, length, Option, Some, None, refl}
+use Rattle.std.specs.Prelude.{ℕ, zero, suc, ◌≡◌, ◌<◌, ◌≤◌, ◌+◌, Bool, true, false, ◌&&◌, ◌||◌, nat_eq, nat_lt, if◌then◌else◌, List, [], ◌∷◌, ◌++◌, length, Option, Some, None, refl}
 use Rattle.std.specs.List.{slice_get, list_any}
 use Rattle.std.specs.BTreeSet.{insert_key}
 use Rattle.std.specs.declared.cmp.Ordering.{Ordering}
@@ -96,7 +96,7 @@ found-from test good i (fact ∷ facts) (suc m) =
     let next : suc i + m ≡ i + suc m = omega arith in
     let yes : passes_below (i + suc m) good (record { 0 = i }) ≡ good i = ap (λ b. b && good i) (lt-true i (i + suc m) (omega arith)) in
     let rest : found test good (suc i) facts m ≡ list_any (passes_below (i + suc m) good) (numbers_from (suc i) test facts) = (
-      found-from test good (suc i) facts m ∙ ap (λ (n : ℕ). list_any (passes_below n good) (numbers_from (suc i) test facts)) next
+    found-from test good (suc i) facts m ∙ ap (λ (n : ℕ). list_any (passes_below n good) (numbers_from (suc i) test facts)) next
     ) in
     found-first test good i fact facts m ∙ ap (λ b. (test fact && good i) || b) rest ∙ sym (first-any test (passes_below (i + suc m) good) i fact facts ∙ ap (λ b. (test fact && b) || list_any (passes_below (i + suc m) good) (numbers_from (suc i) test facts)) yes)
 
@@ -123,7 +123,7 @@ derived-found types facts class base (suc n) =
     let all : List CxxFact = facts_at types facts in
     let test : ℕ → Bool = λ parent. nat_eq parent base || is_derived_before all n parent base in
     let here : has_base test class (slice_get all n) ≡ hit (is_ancestor_of class) (reaches all base n) (slice_get facts n) = (
-      ap (has_base test class) (get-at types facts n) ∙ base-hit types test class (slice_get facts n) ∙ ap (λ (f : Option CxxFact). hit (is_ancestor_of class) (names_base test f) (slice_get facts n)) (sym (get-at types facts n))
+    ap (has_base test class) (get-at types facts n) ∙ base-hit types test class (slice_get facts n) ∙ ap (λ (f : Option CxxFact). hit (is_ancestor_of class) (names_base test f) (slice_get facts n)) (sym (get-at types facts n))
     ) in
     let zeroth : n ≡ 0 + n = omega arith in
     ap (λ b. b || is_derived_before all n class base) here ∙ ap (λ (k : ℕ). hit (is_ancestor_of class) (reaches all base k) (slice_get facts n) || is_derived_before all n class base) zeroth ∙ ap (λ b. hit (is_ancestor_of class) (reaches all base (0 + n)) (slice_get facts n) || b) (derived-found types facts class base n)
@@ -225,7 +225,7 @@ step_true types facts base k parent some is =
 pub step_false : (types : List CxxType) (facts : List Fact) (base k : ℕ) (parent : ClassId) (old new : List ℕ) → parent_at facts k ≡ Some parent → (parent.0 ≡ base → ⊥) → list_any (reaches (facts_at types facts) base) new ≡ (list_any (reaches (facts_at types facts) base) old || is_derived_before (facts_at types facts) k parent.0 base) → list_any (reaches (facts_at types facts) base) new ≡ (list_any (reaches (facts_at types facts) base) old || reaches (facts_at types facts) base k)
 step_false types facts base k parent old new some denied noted =
     let here : reaches (facts_at types facts) base k ≡ is_derived_before (facts_at types facts) k parent.0 base = (
-      reached_parent types facts base k parent some ∙ ap (λ b. b || is_derived_before (facts_at types facts) k parent.0 base) (same-false parent.0 base denied)
+    reached_parent types facts base k parent some ∙ ap (λ b. b || is_derived_before (facts_at types facts) k parent.0 base) (same-false parent.0 base denied)
     ) in
     noted ∙ ap (λ b. list_any (reaches (facts_at types facts) base) old || b) (sym here)
   where

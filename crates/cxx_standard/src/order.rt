@@ -209,11 +209,21 @@ fn way_of(graph: &Graph, types: &TypeTable, one: &StandardSequence) -> Way
     match one.second {
         Some(Second::Pointer) => {
             let from = value_kind(graph, types, one.from.of);
-            way_of_pointers(graph, types, from, kind_of(graph, types, target(types, one.to)))
+            way_of_pointers(
+                graph,
+                types,
+                from,
+                kind_of(graph, types, target(types, one.to)),
+            )
         }
         Some(Second::DerivedToBase) => {
             let from = kind_of(graph, types, one.from.of);
-            way_of_classes(graph, types, from, kind_of(graph, types, target(types, one.to)))
+            way_of_classes(
+                graph,
+                types,
+                from,
+                kind_of(graph, types, target(types, one.to)),
+            )
         }
         _ => Way::Neither,
     }
@@ -384,7 +394,10 @@ fn told_by_part(types: &TypeTable, one: &StandardSequence, two: &StandardSequenc
     requires two_below { IsSequenceBelow (length types.now) two.now }
     ensures { result ≡ order.told_by order.is_proper_part (sequence_at types.now one.now) (sequence_at types.now two.now) }
 {
-    told(is_proper_part(types, one, two), is_proper_part(types, two, one))
+    told(
+        is_proper_part(types, one, two),
+        is_proper_part(types, two, one),
+    )
 }
 
 fn told_by_rank(one: &StandardSequence, two: &StandardSequence) -> Order
@@ -432,7 +445,10 @@ fn told_by_words(types: &TypeTable, one: &StandardSequence, two: &StandardSequen
     requires two_below { IsSequenceBelow (length types.now) two.now }
     ensures { result ≡ order.told_by order.is_less_qualified (sequence_at types.now one.now) (sequence_at types.now two.now) }
 {
-    told(is_less_qualified(types, one, two), is_less_qualified(types, two, one))
+    told(
+        is_less_qualified(types, one, two),
+        is_less_qualified(types, two, one),
+    )
 }
 
 #[tactic(auto, unfolding(cxx_meaning::specs::Conversions::Order::is_bound_to_less))]
@@ -441,7 +457,10 @@ fn told_by_reference(types: &TypeTable, one: &StandardSequence, two: &StandardSe
     requires two_below { IsSequenceBelow (length types.now) two.now }
     ensures { result ≡ order.told_by order.is_bound_to_less (sequence_at types.now one.now) (sequence_at types.now two.now) }
 {
-    told(refers_to_less(types, one.to, two.to), refers_to_less(types, two.to, one.to))
+    told(
+        refers_to_less(types, one.to, two.to),
+        refers_to_less(types, two.to, one.to),
+    )
 }
 
 fn else_by(one: Order, two: Order) -> Order
@@ -474,5 +493,8 @@ pub fn compare(
     let by_words = told_by_words(types, one, two);
     let by_reference = told_by_reference(types, one, two);
     let by_end = else_by(by_words, else_by(by_reference, Order::Same));
-    Ok(else_by(by_part, else_by(by_rank, else_by(by_bool, else_by(by_class, by_end)))))
+    Ok(else_by(
+        by_part,
+        else_by(by_rank, else_by(by_bool, else_by(by_class, by_end))),
+    ))
 }

@@ -51,12 +51,7 @@ fn is_template(template: TemplateId, number: Option<TemplateId>) -> bool
     }
 }
 
-fn is_partial(
-    types: &TypeTable,
-    template: TemplateId,
-    class: ClassId,
-    patterns: &[Pattern],
-) -> bool
+fn is_partial(types: &TypeTable, template: TemplateId, class: ClassId, patterns: &[Pattern]) -> bool
     ensures { result ≡ list_any (pending.is_partial template.0 class.0) (patterns_at types.now patterns.now) }
 {
     let _ = types;

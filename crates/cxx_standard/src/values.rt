@@ -19,7 +19,9 @@ use crate::pending::is_pending;
 use crate::table::promoted;
 use cxx_graph::Graph;
 use cxx_meaning::SequenceSteps;
-use cxx_model::{Base, ClassId, ConstantKind, EnumId, First, Operand, Second, TypeId, TypeNode, Wait};
+use cxx_model::{
+    Base, ClassId, ConstantKind, EnumId, First, Operand, Second, TypeId, TypeNode, Wait,
+};
 use cxx_types::TypeTable;
 use std::alloc::Global;
 
@@ -172,7 +174,11 @@ fn second_step(from: Base, to: Base) -> Option<Second>
     if same_base(from, to) {
         None
     } else if same_base(promoted_base(from), to) {
-        Some(if is_floating(from) { Second::FloatingPromotion } else { Second::IntegralPromotion })
+        Some(if is_floating(from) {
+            Second::FloatingPromotion
+        } else {
+            Second::IntegralPromotion
+        })
     } else {
         Some(conversion(from, to))
     }

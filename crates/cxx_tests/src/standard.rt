@@ -1,8 +1,12 @@
 //! Sequences between arithmetic types, as clang++ and g++ prefer them (`bench/meanings/conversions.py` asks them).
+ghost use Rattle.std.specs.Prelude.{◌≡◌, ◌<◌, length, IfOk};
+ghost use Rattle.cxx_model.specs.Facts.Fitted.{Fitted};
+ghost use Rattle.cxx_standard.specs.Views.{IsSequenceBelow};
+
 use crate::stopped::Stopped;
 use cxx_graph::Graph;
 use cxx_hash::Key;
-use cxx_model::{Base, ConstantKind, Operand, Order, TypeId};
+use cxx_model::{Base, ConstantKind, Operand, Order, StandardSequence, TypeId};
 use cxx_standard::{compare, standard_sequence};
 use cxx_types::TypeTable;
 use std::alloc::Global;
@@ -43,7 +47,33 @@ static CALLED: [&[u8]; 14] = [
     b"0000000000002000000000002000000000020000000002000000002000000020000002000002000020002002022",
 ];
 
-fn operand(of: TypeId) -> Operand {
+// Three types, beside a graph of no declarations.
+#[derive(Drop)]
+struct Three {
+    graph: Graph,
+    types: TypeTable,
+    from: TypeId,
+    one: TypeId,
+    two: TypeId,
+}
+
+fn three(alloc: Global, from: Base, one: Base, two: Base) -> Result<Three, Stopped>
+    ensures fitted { IfOk result (λ all. Fitted all.graph all.types) }
+    ensures from { IfOk result (λ all. all.from.0 < length all.types) }
+    ensures one { IfOk result (λ all. all.one.0 < length all.types) }
+    ensures two { IfOk result (λ all. all.two.0 < length all.types) }
+{
+    let graph = Graph::new(alloc, Key::of(&[]));
+    let mut types = TypeTable::new(alloc, Key::of(&[]));
+    let from = types.plain(from)?;
+    let one = types.plain(one)?;
+    let two = types.plain(two)?;
+    Ok(Three { graph, types, from, one, two })
+}
+
+fn operand(of: TypeId) -> Operand
+    ensures { result.of ≡ of }
+{
     Operand {
         of,
         lvalue: true,
@@ -51,25 +81,28 @@ fn operand(of: TypeId) -> Operand {
     }
 }
 
+// The sequence from the first type to another.
+fn sequence(alloc: Global, all: &Three, to: TypeId) -> Result<StandardSequence, Stopped>
+    requires fitted { Fitted all.now.graph all.now.types }
+    requires from { all.now.from.0 < length all.now.types }
+    requires to { to.0 < length all.now.types }
+    ensures { IfOk result (IsSequenceBelow (length all.now.types)) }
+{
+    match standard_sequence(alloc, &all.graph, &all.types, operand(all.from), to) {
+        Ok(Some(found)) => Ok(found),
+        _ => Err(Stopped::OutOfMemory),
+    }
+}
+
 // The first or the second of two functions of one parameter, or neither.
 fn called(alloc: Global, from: Base, one: Base, two: Base) -> Result<u8, Stopped> {
-    let graph = Graph::new(alloc, Key::of(&[]));
-    let mut types = TypeTable::new(alloc, Key::of(&[]));
-    let from = types.plain(from)?;
-    let one = types.plain(one)?;
-    let two = types.plain(two)?;
-    let first = standard_sequence(alloc, &graph, &types, operand(from), one);
-    let second = standard_sequence(alloc, &graph, &types, operand(from), two);
-    match first {
-        Ok(Some(first)) => match second {
-            Ok(Some(second)) => match compare(alloc, &graph, &types, &first, &second)? {
-                Order::Better => Ok(b'1'),
-                Order::Worse => Ok(b'2'),
-                Order::Same => Ok(b'0'),
-            },
-            _ => Err(Stopped::OutOfMemory),
-        },
-        _ => Err(Stopped::OutOfMemory),
+    let all = three(alloc, from, one, two)?;
+    let first = sequence(alloc, &all, all.one)?;
+    let second = sequence(alloc, &all, all.two)?;
+    match compare(alloc, &all.graph, &all.types, &first, &second)? {
+        Order::Better => Ok(b'1'),
+        Order::Worse => Ok(b'2'),
+        Order::Same => Ok(b'0'),
     }
 }
 

@@ -1,32 +1,23 @@
 -- Built-in operators, as clang++ and g++ have them: made by bench/meanings/operators.py.
-use Rattle.std.specs.Prelude.{ℕ, ◌≡◌, ◌+◌, ◌||◌, nat_eq, flat_map, if◌then◌else◌, Bool, true, false, List, [], ◌∷◌, map, Option, Some, None, Result, Ok, Err, pos, refl}
+use Rattle.std.specs.Prelude.{ℕ, ◌≡◌, ◌+◌, ◌||◌, nat_eq, flat_map, if◌then◌else◌, true, false, List, [], ◌∷◌, map, Option, Some, None, Result, Ok, Err, pos, refl}
 use Rattle.cxx_model.specs.declared.base.Base.TheVariants as base
 use Rattle.cxx_model.specs.declared.facts.Access.TheVariants.{Public}
 use Rattle.cxx_model.specs.declared.facts.ScopeKind.TheVariants as kind
 use Rattle.cxx_model.specs.declared.sequence.ConstantKind.TheVariants as constant
-use Rattle.cxx_model.specs.declared.sequence.First.{First}
-use Rattle.cxx_model.specs.declared.sequence.First.TheVariants.{LvalueToRvalue, ArrayToPointer, FunctionToPointer}
-use Rattle.cxx_model.specs.declared.sequence.Order.{Order}
-use Rattle.cxx_model.specs.declared.sequence.Order.TheVariants.{Better, Worse, Same}
-use Rattle.cxx_model.specs.declared.sequence.Second.{Second}
-use Rattle.cxx_model.specs.declared.sequence.Second.TheVariants.{IntegralPromotion, FloatingPromotion, Integral, Floating, FloatingIntegral, Pointer, Boolean, DerivedToBase}
 use Rattle.cxx_model.specs.declared.types.ClassId.{ClassId}
-use Rattle.cxx_model.specs.declared.types.Cv.{Cv}
 use Rattle.cxx_model.specs.Facts.Declarations as facts
 use Rattle.cxx_model.specs.Facts.Declarations.{CxxFact, CxxGraph, Declares, unnamed}
-use Rattle.cxx_model.specs.Types.Trees.{CxxType, fundamental, class_type, enumeration, pointer_to, reference_to, array_of, function_of, qualified, no_types, number_bound, unknown_bound, adjusted}
+use Rattle.cxx_model.specs.Types.Trees.{CxxType, fundamental, class_type, enumeration, pointer_to, reference_to, array_of, function_of, qualified, no_types, number_bound, adjusted}
 use Rattle.cxx_model.specs.declared.punct.TheConstants as punct
 use Rattle.cxx_model.specs.Types.Same.{same_type}
 use Rattle.cxx_meaning.specs.Conversions.Arithmetic.{usual}
 use Rattle.cxx_meaning.specs.Conversions.BuiltIn.{CxxBuiltIn, built_in_result, unary_result, unary_family_result, unary_by, follow, is_stepped, steps_to, before, after, binary_result, family_result, compound_result, compound, compound_on, binary_by, subscripted, added, added_to, subtracted, distance, beside_integer, compared_by, compared_pointers, assigned}
 use Rattle.cxx_meaning.specs.Conversions.Conditional.{conditional, arms_of, arms_of_arithmetic, arms_of_enumeration, arms_of_pointer, arms_of_void, shared_pointers}
 use Rattle.cxx_meaning.specs.Conversions.Pointers.{common_pointer, common_other, common_class, both_ready, is_complete_object, is_complete_class}
-use Rattle.cxx_meaning.specs.declared.steps.SequenceSteps.{SequenceSteps}
 use Rattle.cxx_meaning.specs.Conversions.Derived.{is_derived}
 use Rattle.cxx_meaning.specs.Conversions.Enumerations.{promoted}
 use Rattle.cxx_meaning.specs.Conversions.Pending.{is_pending}
-use Rattle.cxx_meaning.specs.Conversions.Standard.{CxxOperand, CxxStandard, no_steps, steps_by, bound_by, with_first, sequence_by, pointer_to_class, pointer_to_other, steps_of_pointers, step_of_enumeration, is_text, steps_of_arithmetic, steps_of_enumeration, steps_of_pointer, steps_of_kinds, value_step, class_step, steps_to_scalar, steps_to_class, steps_by_kinds, steps_of_value, related_kinds, related, steps_of_related, steps_of_unrelated, steps_by_relation, steps_of_reference, steps_between, standard_sequence}
-use Rattle.cxx_meaning.specs.Conversions.Order.{order_of, is_proper_part, is_no_pointer_to_bool, way_of, way_of_pointers, way_of_classes, is_shorter, is_nearer, has_nearer_class, is_less_qualified, refers_to_less, is_bound_to_less}
+use Rattle.cxx_meaning.specs.Conversions.Standard.{CxxOperand, pointer_to_class, pointer_to_other, steps_of_pointers, step_of_enumeration, is_text, steps_of_arithmetic, steps_of_enumeration, steps_of_pointer, steps_of_kinds, value_step, class_step, steps_to_scalar, steps_to_class, steps_by_kinds, steps_of_value, related_kinds, related, steps_of_related, steps_of_unrelated, steps_by_relation, steps_of_reference, steps_between, standard_sequence}
 
 -- ---- how rows are written
 
@@ -81,11 +72,15 @@ put what = record { place = record { line = 1; column = 1 }; scope = 0; name = u
 -- enum E { e }; enum L { l = 4294967296 }; struct A { }; struct B : A { }; struct C : B { }; struct X;
 -- and X is declared alone
 abbrev graph : CxxGraph
-graph = record { classes = None ∷ None ∷ None ∷ None ∷ []; patterns = []; facts = map put (
-    facts.scope None kind.Space ∷ facts.enumeration 0 ∷ facts.enumerator 0 (pos 0) ∷ facts.enumeration 1 ∷ facts.enumerator 1 (pos 4294967296) ∷
-    facts.complete (record { 0 = 0 }) ∷
-    facts.ancestor (record { 0 = 1 }) (record { 0 = 0 }) 1 Public ∷ facts.complete (record { 0 = 1 }) ∷
-    facts.ancestor (record { 0 = 2 }) (record { 0 = 1 }) 1 Public ∷ facts.complete (record { 0 = 2 }) ∷ []) }
+graph = record {
+  classes = None ∷ None ∷ None ∷ None ∷ [];
+  patterns = [];
+  facts = map put (
+      facts.scope None kind.Space ∷ facts.enumeration 0 ∷ facts.enumerator 0 (pos 0) ∷ facts.enumeration 1 ∷ facts.enumerator 1 (pos 4294967296) ∷
+      facts.complete (record { 0 = 0 }) ∷
+      facts.ancestor (record { 0 = 1 }) (record { 0 = 0 }) 1 Public ∷ facts.complete (record { 0 = 1 }) ∷
+      facts.ancestor (record { 0 = 2 }) (record { 0 = 1 }) 1 Public ∷ facts.complete (record { 0 = 2 }) ∷ []);
+}
 
 abbrev an_e : CxxType
 an_e = enumeration 0
@@ -116,7 +111,6 @@ zero = record { of = int; lvalue = false; constant = constant.Zero }
 
 abbrev text : CxxOperand
 text = record { of = array_of (const_of char) (number_bound 4); lvalue = true; constant = constant.NarrowText }
-
 
 abbrev results : List CxxType
 results = (bool) ∷ (char) ∷ (short) ∷ (int) ∷ (fundamental base.Unsigned) ∷ (long) ∷ (fundamental base.UnsignedLong) ∷ (wide) ∷ (float) ∷ (double) ∷ (fundamental base.LongDouble) ∷ (an_e) ∷ (an_l) ∷ (to int) ∷ (to (const_of int)) ∷ (to (volatile_of int)) ∷ (to (to int)) ∷ (to (to (const_of int))) ∷ (to (const_of (to (const_of int)))) ∷ (to void) ∷ (to (const_of void)) ∷ (to a) ∷ (to (const_of a)) ∷ (to (const_of c)) ∷ (to x) ∷ (to (qualified (record { is_const = true; is_volatile = true }) int)) ∷ (to (const_of (to (volatile_of int)))) ∷ (to (three int)) ∷ (to (to (to int))) ∷ (to (to (to (const_of int)))) ∷ (to (to void)) ∷ (to (to (const_of void))) ∷ (to (to a)) ∷ (to (to (const_of c))) ∷ (to (to x)) ∷ (to function) ∷ (to (to function)) ∷ (to (volatile_of void)) ∷ (to (qualified (record { is_const = true; is_volatile = true }) void)) ∷ (to an_e) ∷ (to an_l) ∷ (to (fundamental base.Char)) ∷ (to (fundamental base.Bool)) ∷ (to (fundamental base.Unsigned)) ∷ (to (fundamental base.Long)) ∷ (to (fundamental base.UnsignedLong)) ∷ (to (fundamental base.WideChar)) ∷ (to (fundamental base.Float)) ∷ (to (fundamental base.Double)) ∷ (to (fundamental base.LongDouble)) ∷ []

@@ -1,5 +1,5 @@
 -- Questions that may need a class to be complete first (14.7.1).
-use Rattle.std.specs.Prelude.{ℕ, ◌≡◌, Bool, true, false, Option, Some, None, Result, Ok, Err, if◌then◌else◌}
+use Rattle.std.specs.Prelude.{◌≡◌, Result, Ok, Err}
 use Rattle.cxx_model.specs.declared.stop.Wait.{Wait}
 use Rattle.cxx_model.specs.declared.stop.Wait.TheVariants as wait
 use Rattle.cxx_model.specs.declared.types.ClassId.{ClassId}

@@ -1,10 +1,9 @@
 -- What the operators do with operands that are of no class (clause 5).
-use Rattle.std.specs.Prelude.{ℕ, Bool, true, false, ◌&&◌, ◌||◌, not, nat_eq, if◌then◌else◌, List, [], ◌∷◌, Option, Some, None, Ok, Err}
+use Rattle.std.specs.Prelude.{ℕ, Bool, true, false, ◌&&◌, ◌||◌, not, nat_eq, if◌then◌else◌, List, [], ◌∷◌, Option, Some, None, Ok}
 use Rattle.cxx_model.specs.declared.base.Base.{Base}
 use Rattle.cxx_model.specs.declared.base.Base.TheVariants as base
 use Rattle.cxx_model.specs.declared.punct.TheConstants as punct
 use Rattle.cxx_model.specs.declared.sequence.ConstantKind.{ConstantKind}
-use Rattle.cxx_model.specs.declared.sequence.ConstantKind.TheVariants as constant
 use Rattle.cxx_model.specs.Choice.Standard.{same_base}
 use Rattle.cxx_model.specs.Facts.Declarations.{CxxGraph}
 use Rattle.cxx_model.specs.Types.Trees.{CxxType, fundamental, pointer_to, adjusted, unqualified}
@@ -15,7 +14,7 @@ use Rattle.cxx_meaning.specs.declared.operator.UnaryFamily.TheVariants as unary
 use Rattle.cxx_meaning.specs.declared.steps.SequenceSteps.{SequenceSteps}
 use Rattle.cxx_meaning.specs.Conversions.Arithmetic.{number_of, integer_of, integral_promoted, usual}
 use Rattle.cxx_meaning.specs.Conversions.Asking.{Asked, ◌>>=◌}
-use Rattle.cxx_meaning.specs.Conversions.Kinds.{CxxKind, no_value, arithmetic, enumerated, pointing, of_class, other, kind_of, value_kind, cv_of, is_same_unqualified, is_function, is_array}
+use Rattle.cxx_meaning.specs.Conversions.Kinds.{CxxKind, arithmetic, enumerated, pointing, other, kind_of, value_kind, cv_of, is_same_unqualified, is_function, is_array}
 use Rattle.cxx_meaning.specs.Conversions.Order.{is_pointing}
 use Rattle.cxx_meaning.specs.Conversions.Pointers.{is_void, is_complete_object, common_pointer}
 use Rattle.cxx_meaning.specs.Conversions.Standard.{CxxOperand, is_null, steps_between}

@@ -1,5 +1,5 @@
 -- The conditional operator, where no arm has to be converted to a class (5.16).
-use Rattle.std.specs.Prelude.{ℕ, Bool, true, false, ◌&&◌, nat_eq, if◌then◌else◌, List, [], ◌∷◌, Option, Some, None, Ok, Err}
+use Rattle.std.specs.Prelude.{ℕ, ◌&&◌, nat_eq, if◌then◌else◌, [], ◌∷◌, Option, Some, None, Ok}
 use Rattle.cxx_model.specs.declared.base.Base.{Base}
 use Rattle.cxx_model.specs.declared.base.Base.TheVariants as base
 use Rattle.cxx_model.specs.declared.sequence.ConstantKind.{ConstantKind}

@@ -1,5 +1,5 @@
 -- Base classes (10), and classes that are not complete yet (14.7.1).
-use Rattle.std.specs.Prelude.{ℕ, zero, suc, ◌≡◌, Bool, true, false, ◌&&◌, ◌||◌, not, nat_eq, List, [], ◌∷◌, length, Option, Some, None}
+use Rattle.std.specs.Prelude.{ℕ, zero, suc, Bool, false, ◌&&◌, ◌||◌, nat_eq, List, length, Option, Some, None}
 use Rattle.std.specs.List.{slice_get}
 use Rattle.cxx_model.specs.Facts.Declarations.{CxxFact, CxxGraph, Declares}
 use Rattle.cxx_model.specs.Facts.Declarations as facts

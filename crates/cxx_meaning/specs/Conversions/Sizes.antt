@@ -1,26 +1,24 @@
 -- Sizes of types (5.3.3) and layouts of classes (9.2, 10), in the layout of this profile: bases, then members in order,
 -- each at a multiple of its alignment.
-use Rattle.std.specs.Prelude.{ℕ, zero, suc, ◌+◌, ◌-◌, ◌*◌, ◌/◌, ◌^◌, Bool, true, false, ◌&&◌, ◌||◌, not, nat_eq, nat_le, min, max, take, if◌then◌else◌, List, [], ◌∷◌, length, Option, Some, None, Result, Ok, Err}
+use Rattle.std.specs.Prelude.{ℕ, zero, suc, ◌+◌, ◌-◌, ◌*◌, ◌/◌, ◌^◌, Bool, true, false, ◌&&◌, ◌||◌, not, nat_eq, nat_le, min, max, take, if◌then◌else◌, List, length, Option, Some, None, Result, Ok, Err}
 use Rattle.std.specs.List.{slice_get}
 use Rattle.cxx_meaning.specs.Conversions.Pending.{is_pending}
 use Rattle.cxx_meaning.specs.declared.size.SizeReason.{SizeReason}
 use Rattle.cxx_meaning.specs.declared.size.SizeReason.TheVariants as reason
 use Rattle.cxx_model.specs.declared.base.Base.{Base}
-use Rattle.cxx_model.specs.declared.base.Base.TheVariants as base
 use Rattle.cxx_model.specs.declared.facts.MemberKind.{MemberKind}
 use Rattle.cxx_model.specs.declared.facts.MemberKind.TheVariants as member
 use Rattle.cxx_model.specs.declared.facts.ScopeKind.{ScopeKind}
 use Rattle.cxx_model.specs.declared.facts.ScopeKind.TheVariants as kind
-use Rattle.cxx_model.specs.declared.types.ClassId.{ClassId}
 use Rattle.cxx_model.specs.Facts.Declarations as facts
 use Rattle.cxx_model.specs.Facts.Declarations.{CxxFact, CxxGraph, Declares}
 use Rattle.cxx_model.specs.Facts.Entities.{scope_kinds}
 use Rattle.cxx_model.specs.Types.Bases.{base_row}
-use Rattle.cxx_model.specs.Types.Trees.{CxxType, fundamental, class_type, enumeration, pointer_to, reference_to, array_of, function_of, qualified, type_parameter, specialisation, nested_in, CxxBound, unknown_bound, number_bound, formula_bound}
+use Rattle.cxx_model.specs.Types.Trees.{CxxType, class_type, reference_to, array_of, qualified, CxxBound, number_bound}
 use Rattle.cxx_model.specs.Types.Integral.{promoted_of_values}
 use Rattle.cxx_meaning.specs.Conversions.Asking.{Asked, ◌>>=◌}
 use Rattle.cxx_meaning.specs.Conversions.Enumerations.{promoted, values_in}
-use Rattle.cxx_meaning.specs.Conversions.Kinds.{CxxKind, no_value, arithmetic, enumerated, pointing, of_class, other, kind_of}
+use Rattle.cxx_meaning.specs.Conversions.Kinds.{CxxKind, arithmetic, enumerated, pointing, of_class, kind_of}
 
 -- how many bytes objects of a type take, and at multiples of what they stand
 pub record CxxExtent : Type 0 where

@@ -17,11 +17,11 @@ use Rattle.cxx_model.specs.Types.Same.{same_type, same_cv}
 use Rattle.cxx_model.specs.declared.sequence.Rank.{Rank}
 use Rattle.cxx_model.specs.declared.sequence.Rank.TheVariants.{Exact}
 use Rattle.cxx_model.specs.Choice.Standard.{same_base, second_step, rank_of_step}
-use Rattle.cxx_model.specs.Types.Trees.{CxxType, fundamental, reference_to, array_of, function_of}
+use Rattle.cxx_model.specs.Types.Trees.{CxxType, reference_to, array_of, function_of}
 use Rattle.cxx_meaning.specs.Conversions.Asking.{Asked, ◌>>=◌}
 use Rattle.cxx_meaning.specs.Conversions.Derived.{is_derived}
 use Rattle.cxx_meaning.specs.Conversions.Enumerations.{promoted}
-use Rattle.cxx_meaning.specs.Conversions.Kinds.{CxxKind, no_value, arithmetic, enumerated, pointing, of_class, other, kind_of, value_kind, no_cv, cv_of, signature, is_cv_within, is_similar, is_same_unqualified, is_function, is_array}
+use Rattle.cxx_meaning.specs.Conversions.Kinds.{CxxKind, no_value, arithmetic, enumerated, pointing, of_class, kind_of, value_kind, no_cv, cv_of, signature, is_cv_within, is_similar, is_same_unqualified, is_function}
 use Rattle.cxx_meaning.specs.Conversions.Pending.{is_pending}
 
 -- 3.10: what an expression is to a conversion. Its type is no reference.

@@ -1,4 +1,3 @@
-
 use Rattle.cxx_standard.proofs.Reaching.{below_inserted, noted_one}
 use Rattle.cxx_standard.proofs.classes.note.Goals as goal
 
