@@ -1,2 +1,3 @@
 mod LookupRows
 mod AssociatedRows
+mod Conversions

@@ -2,6 +2,8 @@
 #![tactic(auto)]
 
 #[cfg(test)]
+mod builtin;
+#[cfg(test)]
 mod champion;
 #[cfg(test)]
 mod choice;
@@ -17,6 +19,8 @@ mod graph;
 mod places;
 #[cfg(test)]
 mod plain;
+#[cfg(test)]
+mod standard;
 #[cfg(test)]
 mod stopped;
 #[cfg(test)]

@@ -1,0 +1,5 @@
+use Rattle.cxx_builtin.proofs.Usual.{usual_turned}
+use Rattle.cxx_builtin.proofs.laws.usual_turns.Goals as goal
+
+pub returns : goal.returns
+returns c = usual_turned

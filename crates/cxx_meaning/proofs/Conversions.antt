@@ -1,0 +1,4 @@
+mod Compilers
+mod Layouts
+mod Operators
+mod Rows
