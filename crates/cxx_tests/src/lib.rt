@@ -11,6 +11,7 @@ mod command;
 mod decl;
 #[cfg(test)]
 mod edge;
+pub mod games;
 #[cfg(test)]
 mod graph;
 #[cfg(test)]
