@@ -1,8 +1,8 @@
 -- Contests whose outcome is plain.
 use Rattle.std.proofs.Common.{◌≡◌, ℕ, ◌+◌, ◌%◌, ◌==◌, nat_lt, Bool, true, false, arith}
 use Rattle.cxx_champion.specs.Contests.{IsAsymmetric}
-use Rattle.cxx_tests.specs.declared.champion.Rule.{Rule}
-use Rattle.cxx_tests.specs.declared.champion.Rule.TheVariants.{LaterWins, Circle}
+use Rattle.cxx_tests.specs.declared.games.Rule.{Rule}
+use Rattle.cxx_tests.specs.declared.games.Rule.TheVariants.{LaterWins, Circle}
 
 abbrev pub wins_by : Rule → ℕ → ℕ → Bool
 wins_by LaterWins first second = nat_lt second first

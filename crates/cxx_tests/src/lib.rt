@@ -13,6 +13,7 @@ mod command;
 mod decl;
 #[cfg(test)]
 mod edge;
+pub mod games;
 #[cfg(test)]
 mod graph;
 #[cfg(test)]
