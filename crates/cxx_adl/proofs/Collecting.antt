@@ -1,12 +1,12 @@
 -- The associated classes and namespaces are those of what the steps of 3.4.2 reach.
-use Rattle.std.proofs.Common.{◌≡◌, ℕ, Bool, true, false, cond, eqb, ltb, ◌⊎◌, inl, inr, ◌↔◌, List, [], ◌∷◌, Option, Some, None, Result, Ok, Err, refl, ap, sym, ◌∙◌, subst, eq-eqb, find}
-use Rattle.std.proofs.lemmas.Bool.{eqb-true}
+use Rattle.std.proofs.Common.{◌≡◌, ◌<◌, arith, ℕ, Bool, true, false, cond, eqb, ltb, ◌⊎◌, inl, inr, ◌↔◌, List, [], ◌∷◌, Option, Some, None, Result, Ok, Err, refl, ap, sym, ◌∙◌, subst, eq-eqb, find}
+use Rattle.std.proofs.lemmas.Bool.{eqb-true, false≢true, lt-ltb, ltb-true}
 use Rattle.cxx_model.specs.declared.lookup.Associated.{Associated}
 use Rattle.cxx_model.specs.declared.types.ClassId.{ClassId}
 use Rattle.cxx_model.specs.Types.Trees.{CxxType}
 use Rattle.cxx_model.specs.Facts.Declarations.{CxxGraph}
 use Rattle.cxx_model.specs.Facts.Pending.{is_pending}
-use Rattle.cxx_meaning.specs.Lookups.Associated.{Holds, IsAssociatedClass, IsAssociatedSpace, IsReached, Part, associated, class_at_scope, class_of, collected, member_scope_of, own_classes, parts, scope_of, sets_of, space_at_scope, spaces_of, template_scope_of, unless_pending, with_member_classes, with_number, with_option, with_spaces, with_template_spaces}
+use Rattle.cxx_meaning.specs.Lookups.Associated.{Ascends, ComesBefore, Holds, IsAskedClass, IsAssociatedClass, IsAssociatedSpace, IsReached, Part, associated, class_at_scope, class_of, collected, member_scope_of, own_classes, parts, scope_of, sets_of, space_at_scope, spaces_of, template_scope_of, unless_pending, with_member_classes, with_number, with_option, with_spaces, with_template_spaces}
 use Rattle.cxx_adl.proofs.Reaching.{part_reached, reached_part}
 
 number_new : (n : ℕ) (xs : List ℕ) → Holds (with_number n xs) n
@@ -135,3 +135,81 @@ pub spaces_are : (graph : CxxGraph) (types : List CxxType) (sets : Associated) �
 spaces_are graph types sets e n =
     let same = ap (λ s. s.spaces) (sets_are graph types sets e) in
     (λ i. space_found graph types n (subst (λ xs. Holds xs n) same i), λ h. subst (λ xs. Holds xs n) (sym same) (space_there graph types n h))
+
+-- ---- the lists ascend
+
+rises : (n x : ℕ) (xs : List ℕ) → x < n → ComesBefore x xs → ComesBefore x (with_number n xs)
+rises n x [] lt before = lt
+rises n x (y ∷ ys) lt before = by (ltb y n) (eqb y n)
+  where
+    by : (t u : Bool) → ComesBefore x (cond t (y ∷ with_number n ys) (cond u (y ∷ ys) (n ∷ y ∷ ys)))
+    by true u = before
+    by false true = before
+    by false false = lt
+
+not_before : (x n : ℕ) → ltb x n ≡ false → eqb x n ≡ false → n < x
+not_before x n less same = by (λ lt. false≢true (sym less ∙ lt-ltb x n lt)) (λ e. false≢true (sym same ∙ eq-eqb x n e))
+  where
+    by : (x < n → ⊥) → (x ≡ n → ⊥) → n < x
+    by ge ne = omega arith
+
+number_ascends : (n : ℕ) (xs : List ℕ) → Ascends xs → Ascends (with_number n xs)
+number_ascends n [] up = (tt, tt)
+number_ascends n (x ∷ xs) up = by (ltb x n) (eqb x n) refl refl (number_ascends n xs up.1)
+  where
+    by : (t u : Bool) → ltb x n ≡ t → eqb x n ≡ u → Ascends (with_number n xs) → Ascends (cond t (x ∷ with_number n xs) (cond u (x ∷ xs) (n ∷ x ∷ xs)))
+    by true u less same rest = (rises n x xs (ltb-true x n less) up.0, rest)
+    by false true less same rest = up
+    by false false less same rest = (not_before x n less same, up)
+
+option_ascends : (o : Option ℕ) (xs : List ℕ) → Ascends xs → Ascends (with_option o xs)
+option_ascends None xs up = up
+option_ascends (Some n) xs up = number_ascends n xs up
+
+collected_ascends : (give : Part → Option ℕ) (ps : List Part) (found : List ℕ) → Ascends found → Ascends (collected give found ps)
+unfolding collected
+collected_ascends give [] found up = up
+collected_ascends give (p ∷ ps) found up = collected_ascends give ps (with_option (give p) found) (option_ascends (give p) found up)
+
+pub classes_ascend : (graph : CxxGraph) (types : List CxxType) (sets : Associated) → associated graph types ≡ Ok sets → Ascends sets.classes
+classes_ascend graph types sets e =
+    let all = parts graph types in
+    subst (λ s. Ascends s.classes) (sym (sets_are graph types sets e)) (collected_ascends (λ part. class_at_scope graph (member_scope_of graph part)) all (own_classes all) (collected_ascends class_of all [] tt))
+
+pub spaces_ascend : (graph : CxxGraph) (types : List CxxType) (sets : Associated) → associated graph types ≡ Ok sets → Ascends sets.spaces
+spaces_ascend graph types sets e =
+    let all = parts graph types in
+    subst (λ s. Ascends s.spaces) (sym (sets_are graph types sets e)) (collected_ascends (λ part. space_at_scope graph (template_scope_of graph part)) all (with_spaces graph all []) (collected_ascends (λ part. space_at_scope graph (scope_of graph part)) all [] tt))
+
+-- ---- what has to be complete first
+
+found_first : (test : ℕ → Bool) (xs : List ℕ) (n : ℕ) → find test xs ≡ Some n → Holds xs n × (test n ≡ true)
+found_first test [] n e = absurd cc
+found_first test (x ∷ xs) n e = by (test x) refl (found_first test xs n) e
+  where
+    by : (t : Bool) → test x ≡ t → (find test xs ≡ Some n → Holds xs n × (test n ≡ true)) → cond t (Some x) (find test xs) ≡ Some n → ((n ≡ x) ⊎ Holds xs n) × (test n ≡ true)
+    by true h rest f = let same : n ≡ x = cc in (inl same, ap test same ∙ h)
+    by false h rest f = (inr (rest f).0, (rest f).1)
+
+needed : (graph : CxxGraph) (types : List CxxType) (class : ClassId) → associated graph types ≡ Err class → find (is_pending graph) (own_classes (parts graph types)) ≡ Some class.0
+unfolding associated
+needed graph types class e = by (find (is_pending graph) (own_classes (parts graph types))) e
+  where
+    by : (o : Option ℕ) → unless_pending o (sets_of graph (parts graph types)) ≡ Err class → o ≡ Some class.0
+    by None e = absurd cc
+    by (Some n) e = let same : record { 0 = n } ≡ class = cc in ap (λ c. Some c.0) same
+
+need_is : (graph : CxxGraph) (types : List CxxType) (class : ClassId) → associated graph types ≡ Err class → IsAskedClass graph types class.0 × (is_pending graph class.0 ≡ true)
+need_is graph types class e =
+    let found = found_first (is_pending graph) (own_classes (parts graph types)) class.0 (needed graph types class e) in
+    (by (collected_in class_of (parts graph types) [] class.0 found.0), found.1)
+  where
+    by : Holds [] class.0 ⊎ ((part : Part) × Holds (parts graph types) part × (class_of part ≡ Some class.0)) → IsAskedClass graph types class.0
+    by (inl j) = absurd j
+    by (inr h) = (h.0, part_reached graph types h.0 h.1, h.2)
+
+pub need_reached : (graph : CxxGraph) (types : List CxxType) (class : ClassId) → associated graph types ≡ Err class → IsAskedClass graph types class.0
+need_reached graph types class e = (need_is graph types class e).0
+
+pub need_pending : (graph : CxxGraph) (types : List CxxType) (class : ClassId) → associated graph types ≡ Err class → is_pending graph class.0 ≡ true
+need_pending graph types class e = (need_is graph types class e).1

@@ -1,5 +1,5 @@
 -- Argument-dependent lookup (3.4.2).
-use Rattle.std.specs.Prelude.{◌≡◌, ◌⊎◌, ℕ, zero, suc, ◌+◌, Bool, false, nat_eq, nat_lt, if◌then◌else◌, List, [], ◌∷◌, ◌++◌, length, map, filter, find, Option, Some, None, Result, Ok, Err}
+use Rattle.std.specs.Prelude.{◌≡◌, ◌<◌, ◌⊎◌, ℕ, zero, suc, ◌+◌, Bool, false, nat_eq, nat_lt, if◌then◌else◌, List, [], ◌∷◌, ◌++◌, length, map, filter, find, Option, Some, None, Result, Ok, Err}
 use Rattle.std.specs.List.{slice_get, list_any}
 use Rattle.cxx_model.specs.declared.lookup.Associated.{Associated}
 use Rattle.cxx_model.specs.declared.types.ClassId.{ClassId}
@@ -224,6 +224,15 @@ unfoldable pub collected : (Part → Option ℕ) → List ℕ → List Part → 
 collected give found [] = found
 collected give found (part ∷ others) = collected give (with_option (give part) found) others
 
+-- each number is less than those behind it
+abbrev pub ComesBefore : ℕ → List ℕ → Type 0
+ComesBefore n [] = Unit {0}
+ComesBefore n (x ∷ xs) = n < x
+
+abbrev pub Ascends : List ℕ → Type 0
+Ascends [] = Unit {0}
+Ascends (x ∷ xs) = ComesBefore x xs × Ascends xs
+
 -- ---- associated classes and namespaces
 
 -- a class, or a base of one
@@ -353,6 +362,10 @@ pub data IsReached (graph : CxxGraph) (types : List CxxType) : Part → Type 0 w
   base_of_base : (class parent : ℕ) → IsReached graph types (of_base class) → IsBase graph.facts class parent → IsReached graph types (of_base parent)
   argument : (t : CxxType) (class : ℕ) (of : CxxSpecialisation) → IsReached graph types (of_type (class_type class)) → slice_get graph.classes class ≡ Some (Some of) → IsTypeArgument t of.arguments → IsReached graph types (of_type t)
   argument_of : (t : CxxType) (n : ℕ) (arguments : CxxArguments) → IsReached graph types (of_type (specialisation n arguments)) → IsTypeArgument t arguments → IsReached graph types (of_type t)
+
+-- a class that is reached, of which the bases are asked
+abbrev pub IsAskedClass : CxxGraph → List CxxType → ℕ → Type 0
+IsAskedClass graph types n = (part : Part) × IsReached graph types part × (class_of part ≡ Some n)
 
 -- An associated class is one that is reached, or one of which an enumeration or the template of a specialisation that is
 -- reached is a member.
