@@ -1,12 +1,12 @@
 -- The associated classes and namespaces are those of what the steps of 3.4.2 reach.
-use Rattle.std.proofs.Common.{◌≡◌, ◌<◌, arith, ℕ, Bool, true, false, cond, eqb, ltb, ◌⊎◌, inl, inr, ◌↔◌, List, [], ◌∷◌, Option, Some, None, Result, Ok, Err, refl, ap, sym, ◌∙◌, subst, eq-eqb, find}
+use Rattle.std.proofs.Common.{◌≡◌, ◌<◌, arith, ℕ, Bool, true, false, cond, eqb, ltb, ◌⊎◌, inl, inr, ◌↔◌, List, [], ◌∷◌, Option, Some, None, Ok, Err, refl, ap, sym, ◌∙◌, subst, eq-eqb, find}
 use Rattle.std.proofs.lemmas.Bool.{eqb-true, false≢true, lt-ltb, ltb-true}
 use Rattle.cxx_model.specs.declared.lookup.Associated.{Associated}
 use Rattle.cxx_model.specs.declared.types.ClassId.{ClassId}
 use Rattle.cxx_model.specs.Types.Trees.{CxxType}
 use Rattle.cxx_model.specs.Facts.Declarations.{CxxGraph}
 use Rattle.cxx_model.specs.Facts.Pending.{is_pending}
-use Rattle.cxx_meaning.specs.Lookups.Associated.{Ascends, ComesBefore, Holds, IsAskedClass, IsAssociatedClass, IsAssociatedSpace, IsReached, Part, associated, class_at_scope, class_of, collected, member_scope_of, own_classes, parts, scope_of, sets_of, space_at_scope, spaces_of, template_scope_of, unless_pending, with_member_classes, with_number, with_option, with_spaces, with_template_spaces}
+use Rattle.cxx_meaning.specs.Lookups.Associated.{Ascends, ComesBefore, Holds, IsAskedClass, IsAssociatedClass, IsAssociatedSpace, Part, associated, class_at_scope, class_of, collected, member_scope_of, own_classes, parts, scope_of, sets_of, space_at_scope, spaces_of, template_scope_of, unless_pending, with_member_classes, with_number, with_option, with_spaces}
 use Rattle.cxx_adl.proofs.Reaching.{part_reached, reached_part}
 
 number_new : (n : ℕ) (xs : List ℕ) → Holds (with_number n xs) n
@@ -36,6 +36,7 @@ number_in n (x ∷ xs) m i = by (ltb x n) (eqb x n) i (number_in n xs m)
     over : (m ≡ n) ⊎ Holds xs m → (m ≡ n) ⊎ Holds (x ∷ xs) m
     over (inl e) = inl e
     over (inr j) = inr (inr j)
+
     by : (t u : Bool) → Holds (cond t (x ∷ with_number n xs) (cond u (x ∷ xs) (n ∷ x ∷ xs))) m → (Holds (with_number n xs) m → (m ≡ n) ⊎ Holds xs m) → (m ≡ n) ⊎ Holds (x ∷ xs) m
     by true u (inl e) rest = inr (inl e)
     by true u (inr j) rest = over (rest j)
@@ -78,6 +79,7 @@ collected_in give (p ∷ ps) found n i = by (collected_in give ps (with_option (
     here : (give p ≡ Some n) ⊎ Holds found n → Holds found n ⊎ ((part : Part) × Holds (p ∷ ps) part × (give part ≡ Some n))
     here (inl e) = inr (p, inl refl, e)
     here (inr j) = inl j
+
     by : Holds (with_option (give p) found) n ⊎ ((part : Part) × Holds ps part × (give part ≡ Some n)) → Holds found n ⊎ ((part : Part) × Holds (p ∷ ps) part × (give part ≡ Some n))
     by (inl j) = here (option_in (give p) found n j)
     by (inr h) = inr (h.0, inr h.1, h.2)
@@ -98,6 +100,7 @@ class_found graph types n i = by (collected_in (λ part. class_at_scope graph (m
     own : Holds [] n ⊎ ((part : Part) × Holds (parts graph types) part × (class_of part ≡ Some n)) → IsAssociatedClass graph types n
     own (inl j) = absurd j
     own (inr h) = (h.0, part_reached graph types h.0 h.1, inl h.2)
+
     by : Holds (own_classes (parts graph types)) n ⊎ ((part : Part) × Holds (parts graph types) part × (class_at_scope graph (member_scope_of graph part) ≡ Some n)) → IsAssociatedClass graph types n
     by (inl j) = own (collected_in class_of (parts graph types) [] n j)
     by (inr h) = (h.0, part_reached graph types h.0 h.1, inr h.2)
@@ -115,6 +118,7 @@ space_found graph types n i = by (collected_in (λ part. space_at_scope graph (t
     own : Holds [] n ⊎ ((part : Part) × Holds (parts graph types) part × (space_at_scope graph (scope_of graph part) ≡ Some n)) → IsAssociatedSpace graph types n
     own (inl j) = absurd j
     own (inr h) = (h.0, part_reached graph types h.0 h.1, inl h.2)
+
     by : Holds (with_spaces graph (parts graph types) []) n ⊎ ((part : Part) × Holds (parts graph types) part × (space_at_scope graph (template_scope_of graph part) ≡ Some n)) → IsAssociatedSpace graph types n
     by (inl j) = own (collected_in (λ part. space_at_scope graph (scope_of graph part)) (parts graph types) [] n j)
     by (inr h) = (h.0, part_reached graph types h.0 h.1, inr h.2)

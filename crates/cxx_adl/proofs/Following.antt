@@ -1,6 +1,6 @@
 -- What follows from the types of some arguments stands in one list, so there is an end to it.
-use Rattle.std.proofs.Common.{◌≡◌, ℕ, zero, suc, ◌+◌, ◌-◌, ◌<◌, ◌≤◌, Bool, true, false, cond, eqb, ◌||◌, ◌⊎◌, inl, inr, List, [], ◌∷◌, ◌++◌, Option, Some, None, length, map, refl, ap, sym, ◌∙◌, subst, eq-eqb, arith}
-use Rattle.std.specs.List.{IsDistinct, list_any, slice_get}
+use Rattle.std.proofs.Common.{◌≡◌, ℕ, zero, suc, ◌≤◌, Bool, true, false, cond, eqb, ◌||◌, ◌⊎◌, inl, inr, List, [], ◌∷◌, ◌++◌, Option, Some, None, length, map, refl, ap, sym, ◌∙◌, subst, eq-eqb}
+use Rattle.std.specs.List.{IsDistinct, slice_get}
 use Rattle.std.specs.Cmp.{IsEquivalence}
 use Rattle.std.proofs.lemmas.Bool.{eqb-true, false≢true}
 use Rattle.std.proofs.lemmas.Map.Keys.{IsDistinct-push}
@@ -9,7 +9,7 @@ use Rattle.cxx_model.specs.Types.Trees.{CxxType, fundamental, class_type, enumer
 use Rattle.cxx_model.specs.Facts.Declarations as facts
 use Rattle.cxx_model.specs.Facts.Declarations.{CxxFact, CxxGraph, CxxSpecialisation, Declares}
 use Rattle.cxx_model.proofs.SameTypes.{type_itself, type_told}
-use Rattle.cxx_meaning.specs.Lookups.Associated.{Holds, Part, of_type, of_base, all_bases, arguments_for, base_before, bases_of, each_of, everything, followed, holds_part, leads_to, parent_before, parts, same_part, types_among, types_in, types_in_all, types_in_argument, types_in_arguments, types_in_each, types_of_class, types_of_classes, with_part, with_parts}
+use Rattle.cxx_meaning.specs.Lookups.Associated.{Holds, Part, of_type, of_base, all_bases, arguments_for, base_before, bases_of, each_of, everything, holds_part, leads_to, parent_before, same_part, types_among, types_in, types_in_all, types_in_argument, types_in_arguments, types_in_each, types_of_class, types_of_classes, with_part, with_parts}
 
 -- ---- parts are told apart
 

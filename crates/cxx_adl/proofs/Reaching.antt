@@ -1,9 +1,8 @@
 -- What the types of some arguments lead to is what the steps of 3.4.2 reach.
-use Rattle.std.proofs.Common.{◌≡◌, ℕ, zero, suc, ◌+◌, ◌<◌, ◌≤◌, Bool, true, false, cond, eqb, ◌⊎◌, inl, inr, ◌↔◌, List, [], ◌∷◌, ◌++◌, Option, Some, None, length, map, refl, ap, sym, ◌∙◌, subst, eq-eqb, arith}
+use Rattle.std.proofs.Common.{◌≡◌, ℕ, zero, suc, ◌+◌, ◌<◌, ◌≤◌, Bool, true, false, cond, eqb, ◌⊎◌, inl, inr, List, [], ◌∷◌, ◌++◌, Option, Some, None, length, map, refl, ap, sym, ◌∙◌, subst, eq-eqb, arith}
 use Rattle.std.specs.List.{slice_get}
 use Rattle.std.proofs.lemmas.Bool.{eqb-true, false≢true}
-use Rattle.cxx_model.specs.declared.types.Cv.{Cv}
-use Rattle.cxx_model.specs.Types.Trees.{CxxType, fundamental, class_type, enumeration, pointer_to, reference_to, array_of, function_of, qualified, type_parameter, specialisation, nested_in, CxxTypes, no_types, type_then, CxxArgument, type_argument, value_argument, formula_argument, CxxArguments, no_arguments, argument_then}
+use Rattle.cxx_model.specs.Types.Trees.{CxxType, fundamental, class_type, enumeration, pointer_to, reference_to, array_of, function_of, qualified, type_parameter, specialisation, nested_in, CxxTypes, no_types, type_then, type_argument, value_argument, formula_argument, CxxArguments, no_arguments, argument_then}
 use Rattle.cxx_model.specs.Facts.Declarations as facts
 use Rattle.cxx_model.specs.Facts.Declarations.{CxxFact, CxxGraph, CxxSpecialisation, Declares}
 use Rattle.cxx_meaning.specs.Lookups.Associated as steps
@@ -37,6 +36,7 @@ followed_all next P on (suc room) place found all q i = by (slice_get found plac
     more : (p : Part) → Holds found p → (r : Part) → Holds found r ⊎ Holds (next p) r → P r
     more p h r (inl j) = all r j
     more p h r (inr j) = on p r (all p h) j
+
     by : (o : Option Part) → slice_get found place ≡ o → ((found' : List Part) → ((r : Part) → Holds found' r → P r) → Holds (followed next room (place + 1) found') q → P q) → P q
     by None e rest = all q (subst (λ xs. Holds xs q) (ended next (suc room) place found e) i)
     by (Some p) e rest = rest (with_parts found (next p)) (λ r j. more p (holds_at found place p e) r (all_added_in (next p) found r j)) (subst (λ xs. Holds xs q) (turned next room place found p e) i)
@@ -134,6 +134,7 @@ done_more next place found part at done n p q lt at' j =
   where
     some_same : (x y : Part) → Some x ≡ Some y → x ≡ y
     some_same x y e = cc
+
     by : (t : Bool) → eqb n place ≡ t → (x : Part) → slice_get found n ≡ Some x → x ≡ p → Holds (with_parts found (next part)) q
     by true e x get same =
         let is : x ≡ part = some_same x part (sym get ∙ (ap (slice_get found) (eqb-true n place e) ∙ at)) in
