@@ -1,5 +1,5 @@
 -- A fact put in its place among ascending ones.
-use Rattle.std.proofs.Common.{◌≡◌, ◌≢◌, ℕ, zero, suc, ◌+◌, ◌<◌, ◌≤◌, Bool, true, false, cond, eqb, ltb, List, [], ◌∷◌, ◌++◌, length, get_or, refl, ap, sym, ◌∙◌, arith, eq-eqb}
+use Rattle.std.proofs.Common.{◌≡◌, ◌≢◌, ℕ, suc, ◌<◌, ◌≤◌, Bool, true, false, cond, eqb, ltb, List, [], ◌∷◌, ◌++◌, length, get_or, refl, ap, sym, ◌∙◌, arith, eq-eqb}
 use Rattle.std.specs.List.{insert}
 use Rattle.std.proofs.lemmas.Bool.{eqb-true, false≢true}
 use Rattle.cxx_model.specs.declared.types.FactId.{FactId}
@@ -34,6 +34,7 @@ is_there fact (x ∷ xs) d lt e = by (ltb x.0 fact.0) (is_there fact xs d) lt e
     same : (t : Bool) → eqb x.0 fact.0 ≡ t → x.0 ≡ fact.0 → cond t (x ∷ xs) (fact ∷ x ∷ xs) ≡ x ∷ xs
     same true h e = refl
     same false h e = absurd (false≢true (sym h ∙ eqb-of x.0 fact.0 e))
+
     by : (t : Bool) → (fact_place_in fact xs < length xs → (get_or xs (fact_place_in fact xs) d).0 ≡ fact.0 → with_fact fact xs ≡ xs) → cond t (suc (fact_place_in fact xs)) 0 < suc (length xs) → (get_or (x ∷ xs) (cond t (suc (fact_place_in fact xs)) 0) d).0 ≡ fact.0 → cond t (x ∷ with_fact fact xs) (cond (eqb x.0 fact.0) (x ∷ xs) (fact ∷ x ∷ xs)) ≡ x ∷ xs
     by true rest lt e = let r : fact_place_in fact xs < length xs = omega arith in ap (λ ys. x ∷ ys) (rest r e)
     by false rest lt e = same (eqb x.0 fact.0) refl e
@@ -46,6 +47,7 @@ goes_in fact (x ∷ xs) d lt ne = by (ltb x.0 fact.0) (goes_in fact xs d) lt ne
     other : (t : Bool) → eqb x.0 fact.0 ≡ t → x.0 ≢ fact.0 → cond t (x ∷ xs) (fact ∷ x ∷ xs) ≡ fact ∷ x ∷ xs
     other true h ne = absurd (ne (eqb-true x.0 fact.0 h))
     other false h ne = refl
+
     by : (t : Bool) → (fact_place_in fact xs < length xs → (get_or xs (fact_place_in fact xs) d).0 ≢ fact.0 → with_fact fact xs ≡ insert xs (fact_place_in fact xs) fact) → cond t (suc (fact_place_in fact xs)) 0 < suc (length xs) → (get_or (x ∷ xs) (cond t (suc (fact_place_in fact xs)) 0) d).0 ≢ fact.0 → cond t (x ∷ with_fact fact xs) (cond (eqb x.0 fact.0) (x ∷ xs) (fact ∷ x ∷ xs)) ≡ insert (x ∷ xs) (cond t (suc (fact_place_in fact xs)) 0) fact
     by true rest lt ne = let r : fact_place_in fact xs < length xs = omega arith in ap (λ ys. x ∷ ys) (rest r ne)
     by false rest lt ne = other (eqb x.0 fact.0) refl ne

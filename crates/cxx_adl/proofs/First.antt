@@ -1,22 +1,12 @@
 -- The first facts of functions and function templates.
-use Rattle.std.proofs.Common.{◌≡◌, ℕ, Bool, true, false, cond, List, [], ◌∷◌, ◌++◌, map, filter, Option, Some, None, refl, ap, sym, ◌∙◌}
-use Rattle.std.specs.List.{slice_get}
-use Rattle.cxx_model.specs.declared.facts.Entity.{Entity}
-use Rattle.cxx_model.specs.declared.facts.Entity.TheVariants as entity
-use Rattle.cxx_model.specs.declared.facts.FunctionFlags.{FunctionFlags}
-use Rattle.cxx_model.specs.declared.facts.MemberKind.{MemberKind}
-use Rattle.cxx_model.specs.declared.types.FactId.{FactId}
-use Rattle.cxx_model.specs.declared.types.ScopeId.{ScopeId}
-use Rattle.cxx_model.specs.declared.types.TemplateId.{TemplateId}
-use Rattle.cxx_model.specs.Types.Trees.{CxxType}
+use Rattle.std.proofs.Common.{◌≡◌, Bool, true, false, cond, List, [], ◌∷◌, map, refl, ap, ◌∙◌}
 use Rattle.cxx_model.specs.Facts.Declarations as facts
 use Rattle.cxx_model.specs.Facts.Declarations.{CxxGraph, Declares, declares_at}
-use Rattle.cxx_model.specs.Facts.Entities.{first_or}
 use Rattle.cxx_meaning.specs.Lookups.Associated.{functions_among}
-use Rattle.cxx_meaning.specs.Lookups.Sightings.{Sighting, entities, named_by, number_id}
-use Rattle.cxx_meaning.specs.Lookups.Wanted.{is_function, is_of_functions}
+use Rattle.cxx_meaning.specs.Lookups.Sightings.{Sighting, entities, named_by}
+use Rattle.cxx_meaning.specs.Lookups.Wanted.{is_function}
 use Rattle.cxx_meaning.specs.Lookups.Gathered.{with_facts}
-use Rattle.cxx_adl.specs.Functions.{fact_list, first_by, firsts}
+use Rattle.cxx_adl.specs.Functions.{first_by, firsts}
 
 -- the entity of a function is named by its first fact, whatever else was found
 named_first : (graph : CxxGraph) (all : List Sighting) (one : Sighting) (what : Declares) → is_function graph what ≡ true → named_by all (record one { what = what }) ≡ first_by one.meant what

@@ -1,6 +1,6 @@
 -- What follows from the types of some arguments stands in one list, so there is an end to it.
-use Rattle.std.proofs.Common.{◌≡◌, ℕ, zero, suc, ◌+◌, ◌-◌, ◌<◌, ◌≤◌, Bool, true, false, cond, eqb, ◌||◌, ◌⊎◌, inl, inr, List, [], ◌∷◌, ◌++◌, Option, Some, None, length, map, refl, ap, sym, ◌∙◌, subst, eq-eqb, arith}
-use Rattle.std.specs.List.{IsDistinct, list_any, slice_get}
+use Rattle.std.proofs.Common.{◌≡◌, ℕ, zero, suc, ◌≤◌, Bool, true, false, cond, eqb, ◌||◌, ◌⊎◌, inl, inr, List, [], ◌∷◌, ◌++◌, Option, Some, None, length, map, refl, ap, sym, ◌∙◌, subst, eq-eqb}
+use Rattle.std.specs.List.{IsDistinct, slice_get}
 use Rattle.std.specs.Cmp.{IsEquivalence}
 use Rattle.std.proofs.lemmas.Bool.{eqb-true, false≢true}
 use Rattle.std.proofs.lemmas.Map.Keys.{IsDistinct-push}
@@ -9,7 +9,7 @@ use Rattle.cxx_model.specs.Types.Trees.{CxxType, fundamental, class_type, enumer
 use Rattle.cxx_model.specs.Facts.Declarations as facts
 use Rattle.cxx_model.specs.Facts.Declarations.{CxxFact, CxxGraph, CxxSpecialisation, Declares}
 use Rattle.cxx_model.proofs.SameTypes.{type_itself, type_told}
-use Rattle.cxx_meaning.specs.Lookups.Associated.{Part, of_type, of_base, all_bases, arguments_for, base_before, bases_of, each_of, everything, followed, holds_part, leads_to, parent_before, parts, same_part, types_among, types_in, types_in_all, types_in_argument, types_in_arguments, types_in_each, types_of_class, types_of_classes, with_part, with_parts}
+use Rattle.cxx_meaning.specs.Lookups.Associated.{Holds, Part, of_type, of_base, all_bases, arguments_for, base_before, bases_of, each_of, everything, holds_part, leads_to, parent_before, same_part, types_among, types_in, types_in_all, types_in_argument, types_in_arguments, types_in_each, types_of_class, types_of_classes, with_part, with_parts}
 
 -- ---- parts are told apart
 
@@ -41,8 +41,7 @@ part_equivalence = record { refl = part_itself; symm = part_turned; congr = λ p
 -- ---- what stands in a list
 
 abbrev pub In : Part → List Part → Type 0
-In q [] = ⊥
-In q (x ∷ xs) = (q ≡ x) ⊎ In q xs
+In q xs = Holds xs q
 
 pub in_told : (xs : List Part) (q : Part) → holds_part xs q ≡ true → In q xs
 in_told [] q e = absurd (false≢true e)
@@ -88,6 +87,7 @@ added_in xs p q i = by (holds_part xs p) i
     last (inl j) = inl j
     last (inr (inl e)) = inr e
     last (inr (inr j)) = absurd j
+
     by : (t : Bool) → In q (cond t xs (xs ++ p ∷ [])) → In q xs ⊎ (q ≡ p)
     by true i = inl i
     by false i = last (in_split xs (p ∷ []) q i)
@@ -100,6 +100,7 @@ all_added_in (y ∷ ys) xs q i = by (all_added_in ys (with_part xs y) q i)
     one : In q xs ⊎ (q ≡ y) → In q xs ⊎ In q (y ∷ ys)
     one (inl j) = inl j
     one (inr e) = inr (inl e)
+
     by : In q (with_part xs y) ⊎ In q ys → In q xs ⊎ In q (y ∷ ys)
     by (inl j) = one (added_in xs y q j)
     by (inr j) = inr (inr j)
@@ -232,6 +233,7 @@ base_first class (facts.ancestor derived parent index access) q ones alls rest i
     front : In q (of_base parent.0 ∷ ones) → In q (of_base parent.0 ∷ alls)
     front (inl e) = inl e
     front (inr j) = inr (rest j)
+
     by : (t : Bool) → In q (cond t (of_base parent.0 ∷ ones) ones) → In q (of_base parent.0 ∷ alls)
     by true i = front i
     by false i = inr (rest i)
@@ -277,6 +279,7 @@ down_everything graph types t q i j = by (in_split (types_in_all types) (types_o
     later : In (of_type t) (types_of_classes graph.classes) ⊎ In (of_type t) (all_bases graph.facts) → In q (everything graph types)
     later (inl k) = from_classes graph types q (down_classes graph.classes t q k j)
     later (inr k) = absurd (bases_no_type graph.facts t k)
+
     by : In (of_type t) (types_in_all types) ⊎ In (of_type t) (types_of_classes graph.classes ++ all_bases graph.facts) → In q (everything graph types)
     by (inl k) = from_types graph types q (down_all types t q k j)
     by (inr k) = later (in_split (types_of_classes graph.classes) (all_bases graph.facts) (of_type t) k)
@@ -314,7 +317,8 @@ pub going_first : (graph : CxxGraph) (types : List CxxType) → Going graph type
 unfolding IsDistinct
 going_first graph types = record {
   distinct = all_distinct (map of_type types) [] tt;
-  within = λ q i. by q (all_added_in (map of_type types) [] q i) }
+  within = λ q i. by q (all_added_in (map of_type types) [] q i);
+}
   where
     by : (q : Part) → In q [] ⊎ In q (map of_type types) → In q (everything graph types)
     by q (inl j) = absurd j
@@ -323,7 +327,8 @@ going_first graph types = record {
 pub going_on : (graph : CxxGraph) (types : List CxxType) (found : List Part) (p : Part) → Going graph types found → In p found → Going graph types (with_parts found (leads_to graph p))
 going_on graph types found p going i = record {
   distinct = all_distinct (leads_to graph p) found going.distinct;
-  within = λ q j. by q (all_added_in (leads_to graph p) found q j) }
+  within = λ q j. by q (all_added_in (leads_to graph p) found q j);
+}
   where
     by : (q : Part) → In q found ⊎ In q (leads_to graph p) → In q (everything graph types)
     by q (inl j) = going.within q j

@@ -1,5 +1,5 @@
 -- Lists of parts that grow.
-use Rattle.std.proofs.Common.{◌≡◌, ℕ, ◌<◌, Bool, true, false, cond, List, [], ◌∷◌, ◌++◌, length, map, refl, ap, sym, ◌∙◌, subst}
+use Rattle.std.proofs.Common.{◌≡◌, ℕ, true, false, List, [], ◌∷◌, ◌++◌, length, map, refl, ap, sym, ◌∙◌, subst}
 use Rattle.std.proofs.lemmas.List.{map-append}
 use Rattle.cxx_model.specs.Types.Trees.{CxxType}
 use Rattle.cxx_model.specs.Types.Numbers.{arguments_at}
@@ -21,7 +21,8 @@ becomes_same types parts part e = record { is = rw e refl; below = λ all. all }
 pub becomes_more : (types : List CxxType) (old new : List Part) (part : Part) → holds_part (map (part_at types) old) (part_at types part) ≡ false → new ≡ old ++ part ∷ [] → IsPartBelow (length types) part → Becomes types old new (with_part (map (part_at types) old) (part_at types part))
 becomes_more types old new part e grown below = record {
   is = rw e (ap (map (part_at types)) grown ∙ map-append (part_at types) old (part ∷ []));
-  below = λ all. subst (ArePartsBelow (length types)) (sym grown) (below_push (length types) old part all below) }
+  below = λ all. subst (ArePartsBelow (length types)) (sym grown) (below_push (length types) old part all below);
+}
 
 -- nothing is added
 pub becomes_none : (types : List CxxType) (parts : List Part) → Becomes types parts parts (with_parts (map (part_at types) parts) [])
@@ -43,4 +44,5 @@ with_both parts (one ∷ ones) twos = with_both (with_part parts one) ones twos
 pub becomes_both : (types : List CxxType) (old middle new : List Part) (ones twos : List PartMeant) → Becomes types old middle (with_parts (map (part_at types) old) ones) → Becomes types middle new (with_parts (map (part_at types) middle) twos) → Becomes types old new (with_parts (map (part_at types) old) (ones ++ twos))
 becomes_both types old middle new ones twos one two = record {
   is = two.is ∙ (ap (λ xs. with_parts xs twos) one.is ∙ with_both (map (part_at types) old) ones twos);
-  below = λ all. two.below (one.below all) }
+  below = λ all. two.below (one.below all);
+}

@@ -10,3 +10,5 @@ pub mod Defining
 pub mod FactsPlaced
 pub mod First
 pub mod Standing
+pub mod Reaching
+pub mod Collecting

@@ -1,8 +1,7 @@
 -- A number put in its place among ascending ones.
-use Rattle.std.proofs.Common.{◌≡◌, ◌≢◌, ℕ, zero, suc, ◌+◌, ◌<◌, ◌≤◌, Bool, true, false, cond, eqb, ltb, List, [], ◌∷◌, ◌++◌, length, get_or, refl, ap, sym, ◌∙◌, arith, eq-eqb}
+use Rattle.std.proofs.Common.{◌≡◌, ◌≢◌, ℕ, suc, ◌<◌, ◌≤◌, Bool, true, false, cond, eqb, ltb, List, [], ◌∷◌, ◌++◌, length, get_or, refl, ap, sym, ◌∙◌, arith, eq-eqb}
 use Rattle.std.specs.List.{insert}
 use Rattle.std.proofs.lemmas.Bool.{eqb-true, false≢true}
-
 use Rattle.cxx_meaning.specs.Lookups.Associated.{with_number}
 use Rattle.cxx_adl.specs.Places.{place_in}
 
@@ -34,6 +33,7 @@ is_there number (x ∷ xs) d lt e = by (ltb x number) (is_there number xs d) lt 
     same : (t : Bool) → eqb x number ≡ t → x ≡ number → cond t (x ∷ xs) (number ∷ x ∷ xs) ≡ x ∷ xs
     same true h e = refl
     same false h e = absurd (false≢true (sym h ∙ eqb-of x number e))
+
     by : (t : Bool) → (place_in number xs < length xs → (get_or xs (place_in number xs) d) ≡ number → with_number number xs ≡ xs) → cond t (suc (place_in number xs)) 0 < suc (length xs) → (get_or (x ∷ xs) (cond t (suc (place_in number xs)) 0) d) ≡ number → cond t (x ∷ with_number number xs) (cond (eqb x number) (x ∷ xs) (number ∷ x ∷ xs)) ≡ x ∷ xs
     by true rest lt e = let r : place_in number xs < length xs = omega arith in ap (λ ys. x ∷ ys) (rest r e)
     by false rest lt e = same (eqb x number) refl e
@@ -46,6 +46,7 @@ goes_in number (x ∷ xs) d lt ne = by (ltb x number) (goes_in number xs d) lt n
     other : (t : Bool) → eqb x number ≡ t → x ≢ number → cond t (x ∷ xs) (number ∷ x ∷ xs) ≡ number ∷ x ∷ xs
     other true h ne = absurd (ne (eqb-true x number h))
     other false h ne = refl
+
     by : (t : Bool) → (place_in number xs < length xs → (get_or xs (place_in number xs) d) ≢ number → with_number number xs ≡ insert xs (place_in number xs) number) → cond t (suc (place_in number xs)) 0 < suc (length xs) → (get_or (x ∷ xs) (cond t (suc (place_in number xs)) 0) d) ≢ number → cond t (x ∷ with_number number xs) (cond (eqb x number) (x ∷ xs) (number ∷ x ∷ xs)) ≡ insert (x ∷ xs) (cond t (suc (place_in number xs)) 0) number
     by true rest lt ne = let r : place_in number xs < length xs = omega arith in ap (λ ys. x ∷ ys) (rest r ne)
     by false rest lt ne = other (eqb x number) refl ne

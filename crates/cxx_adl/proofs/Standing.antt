@@ -1,8 +1,7 @@
 -- The functions that are found, one fact after another.
-use Rattle.std.proofs.Common.{◌≡◌, ℕ, zero, suc, ◌+◌, ◌<◌, ◌≤◌, Bool, true, false, cond, eqb, List, [], ◌∷◌, ◌++◌, length, map, drop, Option, Some, None, option_map, refl, ap, sym, ◌∙◌, arith, add-one}
-use Rattle.std.specs.List.{filter, slice_get}
+use Rattle.std.proofs.Common.{◌≡◌, ℕ, zero, suc, ◌+◌, ◌≤◌, Bool, true, false, cond, eqb, List, [], ◌∷◌, ◌++◌, length, map, drop, Option, Some, None, option_map, refl, ap, sym, ◌∙◌, arith, add-one}
+use Rattle.std.specs.List.{slice_get}
 use Rattle.std.proofs.lemmas.List.{at_drop_all, map-append}
-use Rattle.cxx_model.specs.declared.facts.Entity.{Entity}
 use Rattle.cxx_model.specs.declared.facts.Fact.{Fact}
 use Rattle.cxx_model.specs.declared.types.FactId.{FactId}
 use Rattle.cxx_model.specs.declared.types.ScopeId.{ScopeId}
@@ -81,6 +80,7 @@ each_from give types scope none all n (fact ∷ facts) at =
     front : (o : Option Sighting) (xs : List Sighting) → sighting_list o ++ xs ≡ before o xs
     front None xs = refl
     front (Some x) xs = refl
+
     by : (t : Bool) → eqb fact.scope.0 scope ≡ t → slice_get all n ≡ Some (fact_at types fact) → given_each give all (numbers_from (suc n) (is_in_scope scope) facts) ≡ gathered give (n + 1) (facts_at types facts) → given_each give all (cond t (record { 0 = n } ∷ numbers_from (suc n) (is_in_scope scope) facts) (numbers_from (suc n) (is_in_scope scope) facts)) ≡ before (give n (fact_at types fact)) (gathered give (n + 1) (facts_at types facts))
     by true e here rest = ap (λ o. given_at give n o ++ given_each give all (numbers_from (suc n) (is_in_scope scope) facts)) here ∙ (ap (λ xs. sighting_list (give n (fact_at types fact)) ++ xs) rest ∙ front (give n (fact_at types fact)) (gathered give (n + 1) (facts_at types facts)))
     by false e here rest = rest ∙ ap (λ o. before o (gathered give (n + 1) (facts_at types facts))) (sym (none n fact e))

@@ -1,5 +1,5 @@
 -- Parts that are followed, one after another.
-use Rattle.std.proofs.Common.{◌≡◌, ℕ, zero, suc, ◌+◌, ◌-◌, ◌<◌, ◌≤◌, List, [], ◌∷◌, Option, Some, None, length, map, get_or, refl, ap, sym, ◌∙◌, subst, inl, inr, arith}
+use Rattle.std.proofs.Common.{◌≡◌, ℕ, zero, suc, ◌+◌, ◌-◌, ◌<◌, ◌≤◌, List, [], ◌∷◌, Some, None, length, map, get_or, refl, ap, sym, ◌∙◌, subst, inl, inr, arith}
 use Rattle.std.specs.List.{slice_get}
 use Rattle.cxx_model.specs.declared.types.TypeId.{TypeId}
 use Rattle.cxx_model.specs.Types.Trees.{CxxType}
@@ -69,7 +69,8 @@ way_begins graph types numbers found becomes =
     record {
       rest = ap (λ room. followed (leads_to graph) room 0 (map (part_at types) found)) none ∙ ap (followed (leads_to graph) all 0) is;
       below = becomes.below tt;
-      going = subst (Going graph (given types numbers)) (sym is) (going_first graph (given types numbers)) }
+      going = subst (Going graph (given types numbers)) (sym is) (going_first graph (given types numbers));
+    }
 
 way_within : (graph : CxxGraph) (types : List CxxType) (numbers : List TypeId) (place : ℕ) (found : List Part) → IsUnderWay graph types numbers place found → place < length found → place < length (everything graph (given types numbers))
 way_within graph types numbers place found way lt =
@@ -90,7 +91,8 @@ way_goes_on graph types numbers place old new part way lt e becomes =
     record {
       rest = ap (followed (leads_to graph) (all - (place + 1)) (place + 1)) becomes.is ∙ (sym (turn_more (leads_to graph) all place (map (part_at types) old) (part_at types part) within at) ∙ way.rest);
       below = becomes.below way.below;
-      going = subst (Going graph (given types numbers)) (sym becomes.is) (going_on graph (given types numbers) (map (part_at types) old) (part_at types part) way.going (in_at (map (part_at types) old) place (part_at types part) at)) }
+      going = subst (Going graph (given types numbers)) (sym becomes.is) (going_on graph (given types numbers) (map (part_at types) old) (part_at types part) way.going (in_at (map (part_at types) old) place (part_at types part) at));
+    }
 
 pub way_ends : (graph : CxxGraph) (types : List CxxType) (numbers : List TypeId) (place : ℕ) (found : List Part) → IsUnderWay graph types numbers place found → length found ≤ place → map (part_at types) found ≡ parts graph (given types numbers)
 way_ends graph types numbers place found way le =

@@ -41,7 +41,13 @@ impl Asking<'_> {
     }
 
     // Adds the function for which a fact stands.
-    fn add_meant<L: Ledger>(&self, number: FactId, fact: &Fact, found: &mut Vec<FactId>, steps: &mut Steps<L>) -> Result<(), AllocError>
+    fn add_meant<L: Ledger>(
+        &self,
+        number: FactId,
+        fact: &Fact,
+        found: &mut Vec<FactId>,
+        steps: &mut Steps<L>,
+    ) -> Result<(), AllocError>
         requires { IsGraphBelow (length self.now.types.now) self.now.graph.now }
         ensures { OnOk result (found.new.items ≡ with_facts found.old.items (firsts (graph_of self.now) (sighting_of (facts_of self.now) number.0 (fact_at self.now.types.now fact.now) ∷ []))) }
     {
@@ -61,7 +67,13 @@ impl Asking<'_> {
 
     // Whether only a friend declaration, which stands directly behind it, makes a declaration of a namespace.
     #[tactic(auto, using(crate::proofs::Bases::fact_is), unfolding(cxx_meaning::specs::Lookups::Sightings::is_by_friend))]
-    fn is_by_friend<L: Ledger>(&self, holders: &[Holder], number: FactId, fact: &Fact, steps: &mut Steps<L>) -> bool
+    fn is_by_friend<L: Ledger>(
+        &self,
+        holders: &[Holder],
+        number: FactId,
+        fact: &Fact,
+        steps: &mut Steps<L>,
+    ) -> bool
         requires graph { IsGraphBelow (length self.now.types.now) self.now.graph.now }
         requires holders { holders.now ≡ holders_of self.now.graph.now.facts }
         ensures { result ≡ is_made_by_friend (facts_of self.now) number.0 (fact_at self.now.types.now fact.now) }
@@ -76,7 +88,16 @@ impl Asking<'_> {
     }
 
     // Whether a fact is a declaration of a name in a scope that is seen at a cut.
-    fn is_standing<L: Ledger>(&self, holders: &[Holder], cut: FactId, name: &Name, scope: ScopeId, number: FactId, fact: &Fact, steps: &mut Steps<L>) -> bool
+    fn is_standing<L: Ledger>(
+        &self,
+        holders: &[Holder],
+        cut: FactId,
+        name: &Name,
+        scope: ScopeId,
+        number: FactId,
+        fact: &Fact,
+        steps: &mut Steps<L>,
+    ) -> bool
         requires graph { IsGraphBelow (length self.now.types.now) self.now.graph.now }
         requires holders { holders.now ≡ holders_of self.now.graph.now.facts }
         requires name { IsNameBelow (length self.now.types.now) name.now }
@@ -91,7 +112,16 @@ impl Asking<'_> {
 
     // Adds a function that a fact declares, where it stands in the scope.
     #[tactic(auto, using(crate::proofs::Standing::stands_true, crate::proofs::Standing::stands_false, crate::proofs::Bases::fact_is), unfolding(cxx_meaning::specs::Lookups::Gathered::with_facts))]
-    fn add_if_standing<L: Ledger>(&self, holders: &[Holder], cut: FactId, name: &Name, scope: ScopeId, number: FactId, found: &mut Vec<FactId>, steps: &mut Steps<L>) -> Result<(), AllocError>
+    fn add_if_standing<L: Ledger>(
+        &self,
+        holders: &[Holder],
+        cut: FactId,
+        name: &Name,
+        scope: ScopeId,
+        number: FactId,
+        found: &mut Vec<FactId>,
+        steps: &mut Steps<L>,
+    ) -> Result<(), AllocError>
         requires graph { IsGraphBelow (length self.now.types.now) self.now.graph.now }
         requires holders { holders.now ≡ holders_of self.now.graph.now.facts }
         requires name { IsNameBelow (length self.now.types.now) name.now }
@@ -111,7 +141,15 @@ impl Asking<'_> {
 
     // Adds the functions of a name in a scope that are seen at a cut.
     #[tactic(auto, using(crate::proofs::Standing::facts_more, crate::proofs::Standing::standing_are), unfolding(cxx_meaning::specs::Lookups::Gathered::with_facts))]
-    fn add_standing<L: Ledger>(&self, holders: &[Holder], cut: FactId, name: &Name, scope: ScopeId, found: &mut Vec<FactId>, steps: &mut Steps<L>) -> Result<(), AllocError>
+    fn add_standing<L: Ledger>(
+        &self,
+        holders: &[Holder],
+        cut: FactId,
+        name: &Name,
+        scope: ScopeId,
+        found: &mut Vec<FactId>,
+        steps: &mut Steps<L>,
+    ) -> Result<(), AllocError>
         requires graph { IsGraphBelow (length self.now.types.now) self.now.graph.now }
         requires holders { holders.now ≡ holders_of self.now.graph.now.facts }
         requires name { IsNameBelow (length self.now.types.now) name.now }
@@ -125,7 +163,15 @@ impl Asking<'_> {
 
     // Adds the functions of a name in some namespaces that are seen at a cut.
     #[tactic(auto, using(crate::proofs::Standing::spaces_more), unfolding(cxx_meaning::specs::Lookups::Gathered::with_facts, cxx_meaning::specs::Lookups::Associated::standing_in_each))]
-    fn add_in_spaces<L: Ledger>(&self, holders: &[Holder], cut: FactId, name: &Name, spaces: &[u32], found: &mut Vec<FactId>, steps: &mut Steps<L>) -> Result<(), AllocError>
+    fn add_in_spaces<L: Ledger>(
+        &self,
+        holders: &[Holder],
+        cut: FactId,
+        name: &Name,
+        spaces: &[u32],
+        found: &mut Vec<FactId>,
+        steps: &mut Steps<L>,
+    ) -> Result<(), AllocError>
         requires graph { IsGraphBelow (length self.now.types.now) self.now.graph.now }
         requires holders { holders.now ≡ holders_of self.now.graph.now.facts }
         requires name { IsNameBelow (length self.now.types.now) name.now }
@@ -141,7 +187,13 @@ impl Asking<'_> {
 
     // Adds the function that a friend declaration declares, where it is of the name.
     #[tactic(auto, using(crate::proofs::Standing::target_none, crate::proofs::Standing::target_other, crate::proofs::Standing::target_is, crate::proofs::Bases::fact_is), unfolding(cxx_meaning::specs::Lookups::Gathered::with_facts))]
-    fn add_target<L: Ledger>(&self, name: &Name, target: FactId, found: &mut Vec<FactId>, steps: &mut Steps<L>) -> Result<(), AllocError>
+    fn add_target<L: Ledger>(
+        &self,
+        name: &Name,
+        target: FactId,
+        found: &mut Vec<FactId>,
+        steps: &mut Steps<L>,
+    ) -> Result<(), AllocError>
         requires graph { IsGraphBelow (length self.now.types.now) self.now.graph.now }
         requires name { IsNameBelow (length self.now.types.now) name.now }
         ensures { OnOk result (found.new.items ≡ with_facts found.old.items (firsts (graph_of self.now) (sighting_list (target_by (graph_of self.now) (name_at self.now.types.now name.now) (Some target))))) }
@@ -160,7 +212,14 @@ impl Asking<'_> {
 
     // Adds the function of the name that a fact declares as a friend of one of some classes.
     #[tactic(auto, using(crate::proofs::Bases::fact_is), unfolding(cxx_meaning::specs::Lookups::Gathered::with_facts, cxx_meaning::specs::Lookups::Associated::befriended))]
-    fn add_if_friend<L: Ledger>(&self, name: &Name, classes: &[u32], number: u32, found: &mut Vec<FactId>, steps: &mut Steps<L>) -> Result<(), AllocError>
+    fn add_if_friend<L: Ledger>(
+        &self,
+        name: &Name,
+        classes: &[u32],
+        number: u32,
+        found: &mut Vec<FactId>,
+        steps: &mut Steps<L>,
+    ) -> Result<(), AllocError>
         requires graph { IsGraphBelow (length self.now.types.now) self.now.graph.now }
         requires name { IsNameBelow (length self.now.types.now) name.now }
         ensures { OnOk result (found.new.items ≡ with_facts found.old.items (firsts (graph_of self.now) (given_at (befriended (graph_of self.now) (name_at self.now.types.now name.now) classes.now) number (slice_get (facts_of self.now) number)))) }
@@ -176,7 +235,13 @@ impl Asking<'_> {
 
     // Adds the functions of a name that some classes declare as friends.
     #[tactic(auto, using(crate::proofs::Standing::friends_more, crate::proofs::Standing::friends_all))]
-    fn add_friends<L: Ledger>(&self, name: &Name, classes: &[u32], found: &mut Vec<FactId>, steps: &mut Steps<L>) -> Result<(), AllocError>
+    fn add_friends<L: Ledger>(
+        &self,
+        name: &Name,
+        classes: &[u32],
+        found: &mut Vec<FactId>,
+        steps: &mut Steps<L>,
+    ) -> Result<(), AllocError>
         requires graph { IsGraphBelow (length self.now.types.now) self.now.graph.now }
         requires name { IsNameBelow (length self.now.types.now) name.now }
         ensures { OnOk result (found.new.items ≡ with_facts found.old.items (firsts (graph_of self.now) (gathered (befriended (graph_of self.now) (name_at self.now.types.now name.now) classes.now) 0 (facts_of self.now)))) }
@@ -218,7 +283,15 @@ fn target_of(classes: &[u32], what: Entity) -> Option<FactId>
 /// directives, and those that the associated classes declare as friends (3.4.2). Each is named by its first fact; they
 /// ascend. No class is needed for it.
 #[tactic(auto, using(crate::proofs::Standing::adl_is))]
-pub fn adl_set<L: Ledger>(alloc: Global, graph: &Graph, types: &TypeTable, sets: &Associated, name: &Name, cut: FactId, steps: &mut Steps<L>) -> Result<FactList, Wait>
+pub fn adl_set<L: Ledger>(
+    alloc: Global,
+    graph: &Graph,
+    types: &TypeTable,
+    sets: &Associated,
+    name: &Name,
+    cut: FactId,
+    steps: &mut Steps<L>,
+) -> Result<FactList, Wait>
     requires graph_below { IsGraphBelow (length types.now) graph.now }
     requires name_below { IsNameBelow (length types.now) name.now }
     ensures { Answers result (Ok (adl_of (graph_at types.now graph.now) sets.now (name_at types.now name.now) cut.0)) }
@@ -230,7 +303,14 @@ pub fn adl_set<L: Ledger>(alloc: Global, graph: &Graph, types: &TypeTable, sets:
     };
     let holders = asking.read_holders(steps)?;
     let mut found = Vec::new(alloc);
-    asking.add_in_spaces(&holders, cut, name, sets.spaces.as_slice(), &mut found, steps)?;
+    asking.add_in_spaces(
+        &holders,
+        cut,
+        name,
+        sets.spaces.as_slice(),
+        &mut found,
+        steps,
+    )?;
     asking.add_friends(name, sets.classes.as_slice(), &mut found, steps)?;
     Ok(FactList::from_vec(found))
 }

@@ -62,7 +62,9 @@ impl Asking<'_> {
         match meant.what {
             Entity::Function { first, .. } => Some(first_or(meant.number, first)),
             Entity::Template {
-                template, first, ..
+                template,
+                first,
+                ..
             } => {
                 if self.is_of_functions(template) {
                     Some(first_or(meant.number, first))

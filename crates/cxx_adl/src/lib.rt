@@ -6,6 +6,7 @@ mod asking;
 mod declared;
 mod facts;
 mod functions;
+pub mod laws;
 mod names;
 mod numbers;
 mod parts;

@@ -117,7 +117,12 @@ impl Asking<'_> {
 
     // Adds the base that a fact names.
     #[tactic(auto, using(crate::proofs::Growing::becomes_none), unfolding(cxx_meaning::specs::Lookups::Associated::with_parts))]
-    fn add_base(&self, parts: &mut Vec<Part>, class: ClassId, number: FactId) -> Result<(), AllocError>
+    fn add_base(
+        &self,
+        parts: &mut Vec<Part>,
+        class: ClassId,
+        number: FactId,
+    ) -> Result<(), AllocError>
         requires parts { ArePartsBelow (length self.now.types.now) parts.old.items }
         ensures { OnOk result (Becomes self.now.types.now parts.old.items parts.new.items (with_parts (map (part_at self.now.types.now) parts.old.items) (base_by class.0 (slice_get (facts_of self.now) number.0)))) }
     {
@@ -165,7 +170,12 @@ impl Asking<'_> {
 
     // Adds the result and the parameters of a function.
     #[tactic(auto, unfolding(cxx_meaning::specs::Lookups::Associated::with_parts))]
-    fn add_signature(&self, parts: &mut Vec<Part>, returned: TypeId, parameters: &[TypeId]) -> Result<(), AllocError>
+    fn add_signature(
+        &self,
+        parts: &mut Vec<Part>,
+        returned: TypeId,
+        parameters: &[TypeId],
+    ) -> Result<(), AllocError>
         requires parts { ArePartsBelow (length self.now.types.now) parts.old.items }
         requires returned { returned.0 < length self.now.types.now }
         requires parameters { AreTypesBelow (length self.now.types.now) parameters.now }
@@ -190,7 +200,9 @@ impl Asking<'_> {
             TypeNode::Array(of, _) => self.add(parts, Part::Type(*of)),
             TypeNode::Qualified(_, of) => self.add(parts, Part::Type(*of)),
             TypeNode::Function {
-                result, parameters, ..
+                result,
+                parameters,
+                ..
             } => self.add_signature(parts, *result, parameters.as_slice()),
             TypeNode::Special(_, arguments) => self.add_arguments(parts, arguments.as_slice()),
             _ => Ok(()),

@@ -98,7 +98,11 @@ fn add_class(classes: &mut Vec<u32>, class: Option<ClassId>) -> Result<(), Alloc
 }
 
 // Adds the class of a partial specialisation, where it is of the template.
-fn add_partial(classes: &mut Vec<u32>, template: TemplateId, pattern: &Pattern) -> Result<(), AllocError>
+fn add_partial(
+    classes: &mut Vec<u32>,
+    template: TemplateId,
+    pattern: &Pattern,
+) -> Result<(), AllocError>
     ensures { OnOk result (classes.new.items ≡ classes.old.items ++ classes_of_partials template.0 (pattern.now ∷ [])) }
 {
     if is_partial(template, pattern.primary) {

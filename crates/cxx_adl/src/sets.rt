@@ -77,7 +77,12 @@ impl Asking<'_> {
 
     // Adds the classes of which parts are members.
     #[tactic(auto, unfolding(cxx_meaning::specs::Lookups::Associated::collected))]
-    fn add_member_classes(&self, holders: &[Holder], parts: &[Part], classes: &mut Vec<u32>) -> Result<(), AllocError>
+    fn add_member_classes(
+        &self,
+        holders: &[Holder],
+        parts: &[Part],
+        classes: &mut Vec<u32>,
+    ) -> Result<(), AllocError>
         requires holders { holders.now ≡ holders_of self.now.graph.now.facts }
         requires parts { ArePartsBelow (length self.now.types.now) parts.now }
         ensures { OnOk result (classes.new.items ≡ with_member_classes (graph_of self.now) (map (part_at self.now.types.now) parts.now) classes.old.items) }
@@ -91,7 +96,12 @@ impl Asking<'_> {
 
     // Adds the namespaces of what parts name.
     #[tactic(auto, unfolding(cxx_meaning::specs::Lookups::Associated::collected))]
-    fn add_spaces(&self, holders: &[Holder], parts: &[Part], spaces: &mut Vec<u32>) -> Result<(), AllocError>
+    fn add_spaces(
+        &self,
+        holders: &[Holder],
+        parts: &[Part],
+        spaces: &mut Vec<u32>,
+    ) -> Result<(), AllocError>
         requires holders { holders.now ≡ holders_of self.now.graph.now.facts }
         requires parts { ArePartsBelow (length self.now.types.now) parts.now }
         ensures { OnOk result (spaces.new.items ≡ with_spaces (graph_of self.now) (map (part_at self.now.types.now) parts.now) spaces.old.items) }
@@ -105,7 +115,12 @@ impl Asking<'_> {
 
     // Adds the namespaces of the templates of specialisations.
     #[tactic(auto, unfolding(cxx_meaning::specs::Lookups::Associated::collected))]
-    fn add_template_spaces(&self, holders: &[Holder], parts: &[Part], spaces: &mut Vec<u32>) -> Result<(), AllocError>
+    fn add_template_spaces(
+        &self,
+        holders: &[Holder],
+        parts: &[Part],
+        spaces: &mut Vec<u32>,
+    ) -> Result<(), AllocError>
         requires holders { holders.now ≡ holders_of self.now.graph.now.facts }
         requires parts { ArePartsBelow (length self.now.types.now) parts.now }
         ensures { OnOk result (spaces.new.items ≡ with_template_spaces (graph_of self.now) (map (part_at self.now.types.now) parts.now) spaces.old.items) }
@@ -171,7 +186,12 @@ fn number_of(class: Option<ClassId>) -> Option<u32>
 ///
 /// The least of the classes that is pending has to be complete first (14.7.1).
 #[tactic(auto, unfolding(cxx_meaning::specs::Lookups::Associated::associated))]
-pub fn associated(alloc: Global, graph: &Graph, types: &TypeTable, of: &TypeIdList) -> Result<Associated, Wait>
+pub fn associated(
+    alloc: Global,
+    graph: &Graph,
+    types: &TypeTable,
+    of: &TypeIdList,
+) -> Result<Associated, Wait>
     requires graph_below { IsGraphBelow (length types.now) graph.now }
     requires of_below { AreTypesBelow (length types.now) of.now }
     ensures { Answers result (associated_with (graph_at types.now graph.now) (given types.now of.now)) }

@@ -1,15 +1,16 @@
 -- Argument-dependent lookup (3.4.2).
-use Rattle.std.specs.Prelude.{ℕ, zero, suc, ◌+◌, Bool, false, nat_eq, nat_lt, if◌then◌else◌, List, [], ◌∷◌, ◌++◌, length, map, filter, find, Option, Some, None, Result, Ok, Err}
+use Rattle.std.specs.Prelude.{◌≡◌, ◌<◌, ◌⊎◌, ℕ, zero, suc, ◌+◌, Bool, false, nat_eq, nat_lt, if◌then◌else◌, List, [], ◌∷◌, ◌++◌, length, map, filter, find, Option, Some, None, Result, Ok, Err}
 use Rattle.std.specs.List.{slice_get, list_any}
 use Rattle.cxx_model.specs.declared.lookup.Associated.{Associated}
 use Rattle.cxx_model.specs.declared.types.ClassId.{ClassId}
 use Rattle.cxx_model.specs.declared.types.FactId.{FactId}
+use Rattle.cxx_model.specs.declared.types.Cv.{Cv}
 use Rattle.cxx_model.specs.declared.types.ScopeId.{ScopeId}
 use Rattle.cxx_model.specs.Facts.Declarations as facts
 use Rattle.cxx_model.specs.Facts.Declarations.{CxxFact, CxxGraph, CxxName, CxxSpecialisation, Declares}
 use Rattle.cxx_model.specs.Facts.Pending.{is_pending}
 use Rattle.cxx_model.specs.Types.Same.{same_type}
-use Rattle.cxx_model.specs.Types.Trees.{CxxType, fundamental, class_type, enumeration, pointer_to, reference_to, array_of, function_of, qualified, type_parameter, specialisation, nested_in, CxxTypes, no_types, type_then, CxxArgument, type_argument, value_argument, formula_argument, CxxArguments, no_arguments, argument_then}
+use Rattle.cxx_model.specs.Types.Trees.{CxxType, fundamental, class_type, enumeration, pointer_to, reference_to, array_of, function_of, qualified, type_parameter, specialisation, nested_in, CxxTypes, no_types, type_then, CxxBound, CxxArgument, type_argument, value_argument, formula_argument, CxxArguments, no_arguments, argument_then}
 use Rattle.cxx_meaning.specs.Lookups.Gathered.{gathered}
 use Rattle.cxx_meaning.specs.Lookups.Member.{class_of_scope}
 use Rattle.cxx_meaning.specs.Lookups.Scopes.{home}
@@ -223,6 +224,15 @@ unfoldable pub collected : (Part → Option ℕ) → List ℕ → List Part → 
 collected give found [] = found
 collected give found (part ∷ others) = collected give (with_option (give part) found) others
 
+-- each number is less than those behind it
+abbrev pub ComesBefore : ℕ → List ℕ → Type 0
+ComesBefore n [] = Unit {0}
+ComesBefore n (x ∷ xs) = n < x
+
+abbrev pub Ascends : List ℕ → Type 0
+Ascends [] = Unit {0}
+Ascends (x ∷ xs) = ComesBefore x xs × Ascends xs
+
 -- ---- associated classes and namespaces
 
 -- a class, or a base of one
@@ -312,3 +322,57 @@ befriended graph name classes number fact = target_by graph name (target_of clas
 -- and those that the associated classes declare as friends, also where nothing else declares them; ascending
 unfoldable pub adl : CxxGraph → Associated → CxxName → ℕ → List FactId
 adl graph sets name cut = entities (functions_among graph (standing_in_each graph cut name sets.spaces ++ gathered (befriended graph name sets.classes) 0 graph.facts))
+
+-- ---- 3.4.2 in words
+
+abbrev pub Holds : {A : Type 0} → List A → A → Type 0
+Holds [] x = ⊥
+Holds (y ∷ ys) x = (x ≡ y) ⊎ Holds ys x
+
+abbrev pub IsOneOf : CxxType → CxxTypes → Type 0
+IsOneOf t no_types = ⊥
+IsOneOf t (type_then u us) = (t ≡ u) ⊎ IsOneOf t us
+
+-- a type is among the arguments of a template
+abbrev pub IsTypeArgument : CxxType → CxxArguments → Type 0
+IsTypeArgument t no_arguments = ⊥
+IsTypeArgument t (argument_then (type_argument u) others) = (t ≡ u) ⊎ IsTypeArgument t others
+IsTypeArgument t (argument_then (value_argument value u) others) = IsTypeArgument t others
+IsTypeArgument t (argument_then (formula_argument f) others) = IsTypeArgument t others
+
+-- 10: a class is a direct base of another
+abbrev pub SaysBase : ℕ → ℕ → Declares → Type 0
+SaysBase class base (facts.ancestor derived parent index access) = (derived.0 ≡ class) × (parent.0 ≡ base)
+SaysBase class base _ = ⊥
+
+abbrev pub IsBase : List CxxFact → ℕ → ℕ → Type 0
+IsBase [] class base = ⊥
+IsBase (fact ∷ others) class base = SaysBase class base fact.what ⊎ IsBase others class base
+
+-- A type stands in those of some arguments, or a class is a base of one that does.
+pub data IsReached (graph : CxxGraph) (types : List CxxType) : Part → Type 0 where
+  given : (t : CxxType) → Holds types t → IsReached graph types (of_type t)
+  pointed : (t : CxxType) → IsReached graph types (of_type (pointer_to t)) → IsReached graph types (of_type t)
+  referred : (t : CxxType) → IsReached graph types (of_type (reference_to t)) → IsReached graph types (of_type t)
+  element : (t : CxxType) (bound : CxxBound) → IsReached graph types (of_type (array_of t bound)) → IsReached graph types (of_type t)
+  without_cv : (t : CxxType) (cv : Cv) → IsReached graph types (of_type (qualified cv t)) → IsReached graph types (of_type t)
+  result : (r : CxxType) (ts : CxxTypes) (ellipsis : Bool) (cv : Cv) → IsReached graph types (of_type (function_of r ts ellipsis cv)) → IsReached graph types (of_type r)
+  parameter : (t r : CxxType) (ts : CxxTypes) (ellipsis : Bool) (cv : Cv) → IsReached graph types (of_type (function_of r ts ellipsis cv)) → IsOneOf t ts → IsReached graph types (of_type t)
+  base : (class parent : ℕ) → IsReached graph types (of_type (class_type class)) → IsBase graph.facts class parent → IsReached graph types (of_base parent)
+  base_of_base : (class parent : ℕ) → IsReached graph types (of_base class) → IsBase graph.facts class parent → IsReached graph types (of_base parent)
+  argument : (t : CxxType) (class : ℕ) (of : CxxSpecialisation) → IsReached graph types (of_type (class_type class)) → slice_get graph.classes class ≡ Some (Some of) → IsTypeArgument t of.arguments → IsReached graph types (of_type t)
+  argument_of : (t : CxxType) (n : ℕ) (arguments : CxxArguments) → IsReached graph types (of_type (specialisation n arguments)) → IsTypeArgument t arguments → IsReached graph types (of_type t)
+
+-- a class that is reached, of which the bases are asked
+abbrev pub IsAskedClass : CxxGraph → List CxxType → ℕ → Type 0
+IsAskedClass graph types n = (part : Part) × IsReached graph types part × (class_of part ≡ Some n)
+
+-- An associated class is one that is reached, or one of which an enumeration or the template of a specialisation that is
+-- reached is a member.
+abbrev pub IsAssociatedClass : CxxGraph → List CxxType → ℕ → Type 0
+IsAssociatedClass graph types n = (part : Part) × IsReached graph types part × ((class_of part ≡ Some n) ⊎ (class_at_scope graph (member_scope_of graph part) ≡ Some n))
+
+-- An associated namespace is the innermost one of a class, of an enumeration or of the template of a specialisation that
+-- is reached.
+abbrev pub IsAssociatedSpace : CxxGraph → List CxxType → ℕ → Type 0
+IsAssociatedSpace graph types n = (part : Part) × IsReached graph types part × ((space_at_scope graph (scope_of graph part) ≡ Some n) ⊎ (space_at_scope graph (template_scope_of graph part) ≡ Some n))

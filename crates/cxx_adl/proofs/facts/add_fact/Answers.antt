@@ -1,4 +1,4 @@
-use Rattle.std.proofs.Common.{◌≡◌, ◌∙◌, ◌<◌, ◌≤◌, length, get_or, ap, sym, refl, subst, arith, vec_len}
+use Rattle.std.proofs.Common.{◌≡◌, ◌∙◌, ◌<◌, length, ap, sym, arith, vec_len}
 use Rattle.cxx_adl.specs.Places.{fact_place_in}
 use Rattle.cxx_adl.proofs.FactsPlaced.{place_within, comes_last, is_there_at, goes_in_at}
 use Rattle.cxx_adl.proofs.facts.add_fact.Goals as goal

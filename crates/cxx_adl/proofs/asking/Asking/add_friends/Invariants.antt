@@ -1,11 +1,8 @@
 use Rattle.std.proofs.Common.{◌≡◌, drop}
 use Rattle.cxx_model.specs.Facts.Declarations.{facts_at, name_at}
-use Rattle.cxx_meaning.specs.Lookups.Associated.{befriended, standing_in_each}
+use Rattle.cxx_meaning.specs.Lookups.Associated.{befriended}
 use Rattle.cxx_meaning.specs.Lookups.Gathered.{gathered, with_facts}
-use Rattle.cxx_meaning.specs.Lookups.Sightings.{sighting_in, standing}
-use Rattle.cxx_meaning.specs.Lookups.Wanted.{any_name}
 use Rattle.cxx_adl.specs.Functions.{firsts}
-use Rattle.cxx_adl.specs.Standing.{given_each}
 use Rattle.cxx_adl.specs.Views.{facts_of, graph_of}
 use Rattle.cxx_adl.proofs.asking.Asking.add_friends.Given as goal
 

@@ -1,7 +1,6 @@
 use Rattle.std.proofs.Common.{◌≡◌, drop}
-use Rattle.cxx_model.specs.Facts.Declarations.{facts_at, name_at}
-use Rattle.cxx_meaning.specs.Lookups.Associated.{befriended, standing_in_each}
-use Rattle.cxx_meaning.specs.Lookups.Gathered.{gathered, with_facts}
+use Rattle.cxx_model.specs.Facts.Declarations.{name_at}
+use Rattle.cxx_meaning.specs.Lookups.Gathered.{with_facts}
 use Rattle.cxx_meaning.specs.Lookups.Sightings.{sighting_in, standing}
 use Rattle.cxx_meaning.specs.Lookups.Wanted.{any_name}
 use Rattle.cxx_adl.specs.Functions.{firsts}

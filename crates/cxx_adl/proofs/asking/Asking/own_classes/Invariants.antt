@@ -1,5 +1,5 @@
-use Rattle.std.proofs.Common.{◌≡◌, [], drop, length, map}
-use Rattle.cxx_adl.specs.Views.{ArePartsBelow, graph_of, part_at}
+use Rattle.std.proofs.Common.{◌≡◌, drop, length, map}
+use Rattle.cxx_adl.specs.Views.{ArePartsBelow, part_at}
 use Rattle.cxx_meaning.specs.Lookups.Associated.{class_of, collected, own_classes}
 use Rattle.cxx_adl.proofs.asking.Asking.own_classes.Given as goal
 

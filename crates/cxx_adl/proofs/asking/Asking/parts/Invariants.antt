@@ -7,6 +7,5 @@ use Rattle.cxx_adl.proofs.asking.Asking.parts.Given as goal
 abbrev pub invariant-loop-place : goal.invariant-loop-place
 invariant-loop-place l = IsUnderWay (graph_of l.self) l.self.types.now l.of l.place l.found.items
 
-
 abbrev pub decreases-loop-place : goal.decreases-loop-place
 decreases-loop-place l = length (everything (graph_of l.self) (given l.self.types.now l.of)) - l.place
