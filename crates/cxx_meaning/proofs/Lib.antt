@@ -1,1 +1,2 @@
 mod LookupRows
+pub mod Reached
