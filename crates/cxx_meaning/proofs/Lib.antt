@@ -1,2 +1,3 @@
 mod LookupRows
 pub mod Reached
+pub mod Ways

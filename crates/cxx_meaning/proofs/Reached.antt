@@ -13,9 +13,9 @@ AllAre p xs = (n : ScopeId) → Contains xs n → p n
 
 all_of_one : (p : ScopeId → Type 0) (one n : ScopeId) → p one → Contains (one ∷ []) n → p n
 all_of_one p one n h m = elim (first_or_later one [] n m) [
-    | inl here ↦ subst p here h
-    | inr there ↦ absurd (omega (arith, there.1))
-  ]
+  | inl here ↦ subst p here h
+  | inr there ↦ absurd (omega (arith, there.1))
+]
 
 all_with_scope : (p : ScopeId → Type 0) (xs : List ScopeId) (one : ScopeId) → AllAre p xs → p one → AllAre p (with_scope xs one)
 all_with_scope p xs one all h = by (holds_scope xs one)
@@ -23,9 +23,9 @@ all_with_scope p xs one all h = by (holds_scope xs one)
     by : (t : Bool) → AllAre p (cond t xs (xs ++ one ∷ []))
     by true = all
     by false = λ n m. elim (Contains-append_cases xs (one ∷ []) n m) [
-        | inl before ↦ all n before
-        | inr last ↦ all_of_one p one n h last
-      ]
+      | inl before ↦ all n before
+      | inr last ↦ all_of_one p one n h last
+    ]
 
 all_with_scopes : (p : ScopeId → Type 0) (xs ys : List ScopeId) → AllAre p xs → AllAre p ys → AllAre p (with_scopes xs ys)
 unfolding with_scopes
