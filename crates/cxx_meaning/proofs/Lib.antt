@@ -1,3 +1,5 @@
 mod LookupRows
 mod AssociatedRows
 mod Conversions
+pub mod Reached
+pub mod Ways

@@ -4,6 +4,7 @@
 mod directives;
 mod entities;
 mod index;
+pub mod laws;
 mod lists;
 mod looking;
 mod lookups;

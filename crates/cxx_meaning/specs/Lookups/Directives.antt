@@ -1,5 +1,6 @@
 -- Using-directives (7.3.4).
 use Rattle.std.specs.Prelude.{ℕ, ◌&&◌, nat_eq, if◌then◌else◌, List, [], length, map, Option, Some, None}
+use Rattle.std.specs.List.{Contains}
 use Rattle.cxx_model.specs.declared.types.ScopeId.{ScopeId}
 use Rattle.cxx_model.specs.Facts.Entities.{is_seen}
 use Rattle.cxx_model.specs.Facts.Declarations as facts
@@ -37,3 +38,14 @@ shown_from all scopes space = record { there = first_common all scopes (chain al
 -- whatever stands between the two.
 unfoldable pub shows : List CxxFact → ℕ → ScopeId → List Shown
 shows all cut scope = map (shown_from all (chain all scope)) (reached all cut scope)
+
+-- ---- in words
+
+-- 7.3.4: a directive of the scope nominates the namespace, or one of a namespace that is reached does
+pub data IsReached (all : List CxxFact) (cut : ℕ) (from : ScopeId) : ScopeId → Type 0 where
+  Directly : (n : ScopeId) → Contains (nominated all cut from) n → IsReached all cut from n
+  Further : (m n : ScopeId) → IsReached all cut from m → Contains (nominated all cut m) n → IsReached all cut from n
+
+-- Whatever is counted as reached is reached by directives.
+abbrev pub EachIsReached : Type 0
+EachIsReached = (all : List CxxFact) (cut : ℕ) (from n : ScopeId) → Contains (reached all cut from) n → IsReached all cut from n

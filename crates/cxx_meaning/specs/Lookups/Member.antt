@@ -1,6 +1,7 @@
 -- Members of a class and of its bases (10.2).
-use Rattle.std.specs.Prelude.{ℕ, Bool, true, false, not, ◌&&◌, ◌||◌, nat_eq, if◌then◌else◌, List, [], ◌∷◌, ◌++◌, map, filter, find, Option, Some, None}
-use Rattle.std.specs.List.{list_any}
+use Rattle.std.specs.Prelude.{◌≡◌, ℕ, Bool, true, false, not, ◌&&◌, ◌||◌, nat_eq, if◌then◌else◌, List, [], ◌∷◌, ◌++◌, map, filter, find, Option, Some, None}
+use Rattle.std.specs.List.{Contains, list_any}
+use Rattle.cxx_model.specs.declared.facts.Access.{Access}
 use Rattle.cxx_model.specs.declared.facts.ScopeKind.{ScopeKind}
 use Rattle.cxx_model.specs.declared.facts.ScopeKind.TheVariants as kind
 use Rattle.cxx_model.specs.declared.lookup.Hit.{Hit}
@@ -160,3 +161,15 @@ member_of graph wanted name (one ∷ others) = member_by graph wanted name one (
 -- A member of a class. Only the class itself can be pending, since its bases are complete before it is (10).
 unfoldable pub member : CxxGraph → Wanted → ClassId → CxxName → Asked MemberFound
 member graph wanted class name = asked graph class (member_of graph wanted name (ways graph wanted name class))
+
+-- ---- in words
+
+-- 10.2: A way leads from a class to itself, where it declares the name; or, where it does not, through a direct base and
+-- on from there. So no class before the last one of a way declares the name, and nothing hides what the last one declares.
+pub data IsWay (graph : CxxGraph) (wanted : Wanted) (name : CxxName) : ClassId → Way → Type 0 where
+  Itself : (class : ClassId) → declares_member graph wanted name class ≡ true → IsWay graph wanted name class (record { path = []; holder = class })
+  Through : (fact : CxxFact) (derived parent : ClassId) (index : ℕ) (access : Access) (way : Way) → Contains graph.facts fact → fact.what ≡ facts.ancestor derived parent index access → declares_member graph wanted name derived ≡ false → IsWay graph wanted name parent way → IsWay graph wanted name derived (through index way)
+
+-- Whatever is counted as a way of a class is one.
+abbrev pub EachIsWay : Type 0
+EachIsWay = (graph : CxxGraph) (wanted : Wanted) (name : CxxName) (class : ClassId) (way : Way) → Contains (ways graph wanted name class) way → IsWay graph wanted name class way
