@@ -49,7 +49,7 @@ static CALLED: [&[u8]; 14] = [
 
 // Three types, beside a graph of no declarations.
 #[derive(Drop)]
-struct Three {
+struct Sample {
     graph: Graph,
     types: TypeTable,
     from: TypeId,
@@ -57,7 +57,7 @@ struct Three {
     two: TypeId,
 }
 
-fn three(alloc: Global, from: Base, one: Base, two: Base) -> Result<Three, Stopped>
+fn three(alloc: Global, from: Base, one: Base, two: Base) -> Result<Sample, Stopped>
     ensures fitted { IfOk result (λ all. Fitted all.graph all.types) }
     ensures from { IfOk result (λ all. all.from.0 < length all.types) }
     ensures one { IfOk result (λ all. all.one.0 < length all.types) }
@@ -68,7 +68,7 @@ fn three(alloc: Global, from: Base, one: Base, two: Base) -> Result<Three, Stopp
     let from = types.plain(from)?;
     let one = types.plain(one)?;
     let two = types.plain(two)?;
-    Ok(Three { graph, types, from, one, two })
+    Ok(Sample { graph, types, from, one, two })
 }
 
 fn operand(of: TypeId) -> Operand
@@ -82,7 +82,7 @@ fn operand(of: TypeId) -> Operand
 }
 
 // The sequence from the first type to another.
-fn sequence(alloc: Global, all: &Three, to: TypeId) -> Result<StandardSequence, Stopped>
+fn sequence(alloc: Global, all: &Sample, to: TypeId) -> Result<StandardSequence, Stopped>
     requires fitted { Fitted all.now.graph all.now.types }
     requires from { all.now.from.0 < length all.now.types }
     requires to { to.0 < length all.now.types }
