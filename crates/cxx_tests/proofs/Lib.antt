@@ -1,2 +1,1 @@
 pub mod Sampled
-mod Plain

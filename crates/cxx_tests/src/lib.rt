@@ -2,8 +2,6 @@
 #![tactic(auto)]
 
 #[cfg(test)]
-mod builtin;
-#[cfg(test)]
 mod champion;
 #[cfg(test)]
 mod choice;
@@ -20,8 +18,6 @@ mod graph;
 mod places;
 #[cfg(test)]
 mod plain;
-#[cfg(test)]
-mod standard;
 #[cfg(test)]
 mod stopped;
 #[cfg(test)]
