@@ -15,4 +15,5 @@ mod scopes;
 mod sets;
 
 pub use adl::adl_set;
+pub use cxx_model::Associated;
 pub use sets::associated;

@@ -15,3 +15,4 @@ mod result;
 mod unary;
 
 pub use answer::{ResultFault, built_in_result, conditional_result};
+pub use cxx_model::BuiltIn;

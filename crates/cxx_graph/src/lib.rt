@@ -7,4 +7,5 @@ pub mod laws;
 mod promotion;
 mod rows;
 
+pub use cxx_model::Specialisation;
 pub use graph::{AddFault, Graph};

@@ -11,6 +11,5 @@ pub mod Shapes
 pub mod SpelledKinds
 pub mod Spellings
 mod TokenRows
-pub mod TypeForm
 pub mod TypeTrees
 pub mod SameTypes

@@ -18,5 +18,6 @@ mod table;
 mod wanted;
 mod ways;
 
+pub use cxx_model::{Found, Hit, MemberFound};
 pub use index::ScopeIndex;
 pub use wanted::Wanted;

@@ -13,6 +13,7 @@ mod table;
 mod values;
 
 pub use classes::is_derived;
+pub use cxx_model::Order;
 pub use kinds::{TypeKind, is_function, kind_of, value_kind};
 pub use levels::{cv_of, pointee, same_cv};
 pub use order::{compare, is_pointing};

@@ -21,6 +21,7 @@ mod tables;
 mod width;
 mod words;
 
+pub use cxx_model::TokenReason;
 pub use fault::TokenFault;
 pub use literal::{each_literal_has_a_value, literal_type, literal_value};
 pub use read::{one_token_list, tokens};

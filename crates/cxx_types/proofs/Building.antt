@@ -10,7 +10,7 @@ use Rattle.cxx_model.specs.declared.types.TypeNode.TheVariants as node
 use Rattle.cxx_model.specs.Facts.Graph.{Graph, IsTypeInRange, AreTypesInRange}
 use Rattle.cxx_model.specs.Types.Trees.{CxxType, type_then, function_of, with_cv, adjusted, normal, normal_parameters, IsNormal, AreParameters}
 use Rattle.cxx_model.specs.Types.Numbers.{type_at, types_at, type_over, AreTypesBelow, IsNodeBelow, Keeps}
-use Rattle.cxx_model.proofs.TypeForm.{adjusted_normal, normal_fixed}
+use Rattle.cxx_types.proofs.TypeForm.{adjusted_normal, normal_fixed}
 use Rattle.cxx_model.proofs.TypeTrees.{arguments_normal, bound_normal, Keeps-trans}
 use Rattle.cxx_types.specs.Makes.{AreInRange, Makes, MakesEach}
 use Rattle.cxx_types.specs.Parameters.{adjusted_types}

@@ -16,7 +16,7 @@ use Rattle.cxx_model.specs.Types.Copies.{CopiesArguments, CopiesBound}
 use Rattle.cxx_model.specs.Facts.Graph.{Graph, IsTypeInRange, AreTypesInRange}
 use Rattle.cxx_model.specs.Types.Trees.{CxxArguments, CxxType, CxxTypes, no_types, type_then, array_of, function_of, specialisation, adjusted, normal, normal_arguments, normal_bound, normal_parameters, with_cv}
 use Rattle.cxx_model.specs.Types.Numbers.{type_at, types_at, tree_at, arguments_at, bound_at, IsTreeBelow, AreArgumentsBelow, IsBoundBelow, Keeps}
-use Rattle.cxx_model.proofs.TypeForm.{normal_arguments_fixed, normal_bound_fixed}
+use Rattle.cxx_types.proofs.TypeForm.{normal_arguments_fixed, normal_bound_fixed}
 use Rattle.cxx_model.proofs.TypeTrees.{arguments_normal, bound_kept, bound_later, bound_normal, tree_kept, tree_later, Keeps-trans}
 use Rattle.cxx_types.specs.Makes.{AreInRange, Makes, MakesEach}
 use Rattle.cxx_types.specs.Parameters.{adjusted_types, normal_types}

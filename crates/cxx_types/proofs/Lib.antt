@@ -9,3 +9,4 @@ pub mod Reading
 pub mod Rows
 pub mod Steps
 pub mod Told
+mod TypeForm

@@ -10,7 +10,7 @@ use Rattle.cxx_model.specs.declared.types.TypeTree.{TypeTree}
 use Rattle.cxx_model.specs.Facts.Graph.{Graph, IsTypeInRange, AreTypesInRange, IsBoundInRange, IsFormulaInRange}
 use Rattle.cxx_model.specs.Types.Trees.{CxxType, fundamental, class_type, enumeration, pointer_to, reference_to, array_of, function_of, qualified, type_parameter, specialisation, nested_in, CxxBound, any_cv, merged, layered, with_cv, adjusted, normal, normal_parameters}
 use Rattle.cxx_model.specs.Types.Numbers.{tree_at, bound_at, formula_at, IsBoundBelow, IsFormulaBelow, IsTreeBelow}
-use Rattle.cxx_model.proofs.TypeForm.{normal_bound_fixed}
+use Rattle.cxx_types.proofs.TypeForm.{normal_bound_fixed}
 use Rattle.cxx_model.proofs.TypeTrees.{bound_normal}
 use Rattle.cxx_types.specs.Makes.{AreInRange}
 use Rattle.cxx_types.specs.Parameters.{normal_types}

@@ -8,4 +8,5 @@ mod similar;
 mod table;
 mod tree;
 
+pub use cxx_model::TypeNode;
 pub use table::TypeTable;

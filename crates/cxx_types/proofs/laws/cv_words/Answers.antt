@@ -1,4 +1,4 @@
-use Rattle.cxx_model.proofs.TypeForm.{with_cv_merges, with_cv_normal, unqualified_normal}
+use Rattle.cxx_types.proofs.TypeForm.{with_cv_merges, with_cv_normal, unqualified_normal}
 use Rattle.cxx_types.proofs.laws.cv_words.Goals as goal
 
 pub returns-clause-merges : goal.returns-clause-merges

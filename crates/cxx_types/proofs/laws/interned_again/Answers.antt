@@ -1,7 +1,7 @@
 use Rattle.std.proofs.Common.{ap, sym, ◌∙◌, ◌≡◌}
 use Rattle.cxx_model.specs.Types.Trees.{normal}
 use Rattle.cxx_model.specs.Types.Numbers.{type_at}
-use Rattle.cxx_model.proofs.TypeForm.{normal_fixed}
+use Rattle.cxx_types.proofs.TypeForm.{normal_fixed}
 use Rattle.cxx_types.proofs.laws.interned_again.Goals as goal
 
 pub returns : goal.returns

@@ -1,4 +1,4 @@
-use Rattle.cxx_model.proofs.TypeForm.{normal_is_normal, normal_fixed, normal_idempotent}
+use Rattle.cxx_types.proofs.TypeForm.{normal_is_normal, normal_fixed, normal_idempotent}
 use Rattle.cxx_types.proofs.laws.one_form.Goals as goal
 
 pub returns-clause-formed : goal.returns-clause-formed
