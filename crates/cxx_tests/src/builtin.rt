@@ -65,7 +65,12 @@ fn two_types(alloc: Global, one: Base, two: Base) -> Result<Two, Stopped>
     let mut types = TypeTable::new(alloc, Key::of(&[]));
     let one = types.plain(one)?;
     let two = types.plain(two)?;
-    Ok(Two { graph, types, one, two })
+    Ok(Two {
+        graph,
+        types,
+        one,
+        two,
+    })
 }
 
 fn operand(of: TypeId) -> Operand

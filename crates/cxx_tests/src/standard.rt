@@ -68,7 +68,13 @@ fn three(alloc: Global, from: Base, one: Base, two: Base) -> Result<Sample, Stop
     let from = types.plain(from)?;
     let one = types.plain(one)?;
     let two = types.plain(two)?;
-    Ok(Sample { graph, types, from, one, two })
+    Ok(Sample {
+        graph,
+        types,
+        from,
+        one,
+        two,
+    })
 }
 
 fn operand(of: TypeId) -> Operand
