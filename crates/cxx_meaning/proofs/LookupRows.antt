@@ -15,9 +15,7 @@ use Rattle.cxx_model.specs.declared.types.FactId.{FactId}
 use Rattle.cxx_model.specs.declared.types.ScopeId.{ScopeId}
 use Rattle.cxx_model.specs.Facts.Declarations as facts
 use Rattle.cxx_model.specs.Facts.Declarations.{CxxFact, CxxGraph, CxxName, Declares, unnamed, spelled}
-use Rattle.cxx_model.specs.Types.Trees.{CxxType, fundamental, class_type, enumeration, function_of, pointer_to, reference_to, no_types, type_then}
-use Rattle.cxx_model.specs.declared.lookup.Associated.{Associated}
-use Rattle.cxx_meaning.specs.Lookups.Associated.{add_classes, adl, associated, declared_where, friends_in, functions_in, least_pending, named_by_types, reached_from, sets_by, sets_of_classes, sets_of_parts, with_bases, with_number, with_parts}
+use Rattle.cxx_model.specs.Types.Trees.{CxxType, fundamental, class_type, function_of, no_types, type_then}
 use Rattle.cxx_meaning.specs.Lookups.Directives.{nominates, reached, shows}
 use Rattle.cxx_meaning.specs.Lookups.Gathered.{spread, with_facts, with_scopes}
 use Rattle.cxx_meaning.specs.Lookups.Member.{clash, declared_in, declares_member, member as member_named, member_in, member_by, member_of, members_in, not_redeclared, own_ways, ways, ways_after, with_base}
@@ -352,86 +350,6 @@ derived-hides = refl
 found-in-class-scope : named x (unit ∷ class_in 0 0 ∷ data_member 1 x ∷ end_of 1 0 ∷ block_in 1 ∷ []) 2 ≡ Ok (found.Member (c 0) (among.Set (f 2 ∷ []) []))
 unfolding nominates reached shows spread with_facts with_scopes clash declared_in declares_member member_named member_in member_by member_of members_in not_redeclared own_ways ways ways_after with_base found_in_scope ordinary_in sightings_at standing_shown is_due is_pending leads_to searched standing_in first_common first_space up entities found_of odd_pair is_by_friend is_function_at least_of named_by sighting_in standing unhidden
 found-in-class-scope = refl
-
--- ---- 3.4.2: associated sets
-
-abbrev sets_of : List CxxType → List CxxFact → Asked Associated
-sets_of of all = associated (record { facts = all; classes = None ∷ None ∷ None ∷ []; patterns = [] }) of
-
-abbrev sets : List ℕ → List ℕ → Asked Associated
-sets classes spaces = Ok (record { classes = classes; spaces = spaces })
-
-abbrev found_by : CxxName → List ℕ → List ℕ → List CxxFact → Asked (List FactId)
-found_by name classes spaces all = adl (record { facts = all; classes = None ∷ None ∷ None ∷ []; patterns = [] }) (record { classes = classes; spaces = spaces }) name 1000
-
--- namespace NS { class T { }; void x(T); } NS::T parm; int main() { x(parm); }: the example of 3.4.2
-abbrev ns : List CxxFact
-ns = unit ∷ space_in 0 ∷ class_name 1 n 0 ∷ class_in 1 0 ∷ end_of 2 0 ∷ function 1 x (class_type 0) ∷ []
-
-class-and-its-namespace : sets_of (class_type 0 ∷ []) ns ≡ sets (0 ∷ []) (1 ∷ [])
-unfolding nominates reached shows spread with_facts with_scopes clash declared_in declares_member member_named member_in member_by member_of members_in not_redeclared own_ways ways ways_after with_base found_in_scope ordinary_in sightings_at standing_shown is_due is_pending leads_to searched standing_in first_common first_space up entities found_of odd_pair is_by_friend is_function_at least_of named_by sighting_in standing unhidden add_classes adl associated declared_where friends_in functions_in least_pending named_by_types reached_from sets_by sets_of_classes sets_of_parts with_bases with_number with_parts
-class-and-its-namespace = refl
-
-fundamental-has-none : sets_of (int ∷ []) ns ≡ sets [] []
-unfolding nominates reached shows spread with_facts with_scopes clash declared_in declares_member member_named member_in member_by member_of members_in not_redeclared own_ways ways ways_after with_base found_in_scope ordinary_in sightings_at standing_shown is_due is_pending leads_to searched standing_in first_common first_space up entities found_of odd_pair is_by_friend is_function_at least_of named_by sighting_in standing unhidden add_classes adl associated declared_where friends_in functions_in least_pending named_by_types reached_from sets_by sets_of_classes sets_of_parts with_bases with_number with_parts
-fundamental-has-none = refl
-
-through-pointers-and-functions : sets_of (pointer_to (from (reference_to (class_type 0))) ∷ []) ns ≡ sets (0 ∷ []) (1 ∷ [])
-unfolding nominates reached shows spread with_facts with_scopes clash declared_in declares_member member_named member_in member_by member_of members_in not_redeclared own_ways ways ways_after with_base found_in_scope ordinary_in sightings_at standing_shown is_due is_pending leads_to searched standing_in first_common first_space up entities found_of odd_pair is_by_friend is_function_at least_of named_by sighting_in standing unhidden add_classes adl associated declared_where friends_in functions_in least_pending named_by_types reached_from sets_by sets_of_classes sets_of_parts with_bases with_number with_parts
-through-pointers-and-functions = refl
-
-found-in-the-namespace : found_by x (0 ∷ []) (1 ∷ []) ns ≡ Ok (f 5 ∷ [])
-unfolding nominates reached shows spread with_facts with_scopes clash declared_in declares_member member_named member_in member_by member_of members_in not_redeclared own_ways ways ways_after with_base found_in_scope ordinary_in sightings_at standing_shown is_due is_pending leads_to searched standing_in first_common first_space up entities found_of odd_pair is_by_friend is_function_at least_of named_by sighting_in standing unhidden add_classes adl associated declared_where friends_in functions_in least_pending named_by_types reached_from sets_by sets_of_classes sets_of_parts with_bases with_number with_parts
-found-in-the-namespace = refl
-
--- namespace A { struct B { }; } namespace C { struct D : A::B { }; }
-abbrev derived : List CxxFact
-derived = unit ∷ space_in 0 ∷ class_name 1 n 0 ∷ class_in 1 0 ∷ end_of 2 0 ∷ space_in 0 ∷ class_name 3 n 1 ∷ class_in 3 1 ∷ base_of 4 1 0 1 ∷ end_of 4 1 ∷ []
-
-bases-are-associated : sets_of (class_type 1 ∷ []) derived ≡ sets (0 ∷ 1 ∷ []) (1 ∷ 3 ∷ [])
-unfolding nominates reached shows spread with_facts with_scopes clash declared_in declares_member member_named member_in member_by member_of members_in not_redeclared own_ways ways ways_after with_base found_in_scope ordinary_in sightings_at standing_shown is_due is_pending leads_to searched standing_in first_common first_space up entities found_of odd_pair is_by_friend is_function_at least_of named_by sighting_in standing unhidden add_classes adl associated declared_where friends_in functions_in least_pending named_by_types reached_from sets_by sets_of_classes sets_of_parts with_bases with_number with_parts
-bases-are-associated = refl
-
-derived-classes-are-not : sets_of (class_type 0 ∷ []) derived ≡ sets (0 ∷ []) (1 ∷ [])
-unfolding nominates reached shows spread with_facts with_scopes clash declared_in declares_member member_named member_in member_by member_of members_in not_redeclared own_ways ways ways_after with_base found_in_scope ordinary_in sightings_at standing_shown is_due is_pending leads_to searched standing_in first_common first_space up entities found_of odd_pair is_by_friend is_function_at least_of named_by sighting_in standing unhidden add_classes adl associated declared_where friends_in functions_in least_pending named_by_types reached_from sets_by sets_of_classes sets_of_parts with_bases with_number with_parts
-derived-classes-are-not = refl
-
--- namespace A { enum E { }; struct S { enum F { }; }; }
-abbrev enumerations : List CxxFact
-enumerations = unit ∷ space_in 0 ∷ put 1 n (facts.enumeration 0) ∷ class_name 1 x 0 ∷ class_in 1 0 ∷ put 2 n (facts.enumeration 1) ∷ end_of 2 0 ∷ []
-
-enumeration-of-a-namespace : sets_of (enumeration 0 ∷ []) enumerations ≡ sets [] (1 ∷ [])
-unfolding nominates reached shows spread with_facts with_scopes clash declared_in declares_member member_named member_in member_by member_of members_in not_redeclared own_ways ways ways_after with_base found_in_scope ordinary_in sightings_at standing_shown is_due is_pending leads_to searched standing_in first_common first_space up entities found_of odd_pair is_by_friend is_function_at least_of named_by sighting_in standing unhidden add_classes adl associated declared_where friends_in functions_in least_pending named_by_types reached_from sets_by sets_of_classes sets_of_parts with_bases with_number with_parts
-enumeration-of-a-namespace = refl
-
-enumeration-of-a-class : sets_of (enumeration 1 ∷ []) enumerations ≡ sets (0 ∷ []) (1 ∷ [])
-unfolding nominates reached shows spread with_facts with_scopes clash declared_in declares_member member_named member_in member_by member_of members_in not_redeclared own_ways ways ways_after with_base found_in_scope ordinary_in sightings_at standing_shown is_due is_pending leads_to searched standing_in first_common first_space up entities found_of odd_pair is_by_friend is_function_at least_of named_by sighting_in standing unhidden add_classes adl associated declared_where friends_in functions_in least_pending named_by_types reached_from sets_by sets_of_classes sets_of_parts with_bases with_number with_parts
-enumeration-of-a-class = refl
-
--- no other lookup sees it
-friend-is-found : found_by x (0 ∷ []) [] friend ≡ Ok (f 3 ∷ [])
-unfolding nominates reached shows spread with_facts with_scopes clash declared_in declares_member member_named member_in member_by member_of members_in not_redeclared own_ways ways ways_after with_base found_in_scope ordinary_in sightings_at standing_shown is_due is_pending leads_to searched standing_in first_common first_space up entities found_of odd_pair is_by_friend is_function_at least_of named_by sighting_in standing unhidden add_classes adl associated declared_where friends_in functions_in least_pending named_by_types reached_from sets_by sets_of_classes sets_of_parts with_bases with_number with_parts
-friend-is-found = refl
-
-friend-of-another-class : found_by x (1 ∷ []) (0 ∷ []) friend ≡ Ok []
-unfolding nominates reached shows spread with_facts with_scopes clash declared_in declares_member member_named member_in member_by member_of members_in not_redeclared own_ways ways ways_after with_base found_in_scope ordinary_in sightings_at standing_shown is_due is_pending leads_to searched standing_in first_common first_space up entities found_of odd_pair is_by_friend is_function_at least_of named_by sighting_in standing unhidden add_classes adl associated declared_where friends_in functions_in least_pending named_by_types reached_from sets_by sets_of_classes sets_of_parts with_bases with_number with_parts
-friend-of-another-class = refl
-
--- namespace A { using namespace B; struct S { }; } namespace B { void x(int); }
-abbrev beside-directive : List CxxFact
-beside-directive = unit ∷ space_in 0 ∷ space_in 0 ∷ directive 1 2 ∷ class_name 1 n 0 ∷ class_in 1 0 ∷ end_of 3 0 ∷ function 2 x int ∷ []
-
-directives-are-not-followed : found_by x (0 ∷ []) (1 ∷ []) beside-directive ≡ Ok []
-unfolding nominates reached shows spread with_facts with_scopes clash declared_in declares_member member_named member_in member_by member_of members_in not_redeclared own_ways ways ways_after with_base found_in_scope ordinary_in sightings_at standing_shown is_due is_pending leads_to searched standing_in first_common first_space up entities found_of odd_pair is_by_friend is_function_at least_of named_by sighting_in standing unhidden add_classes adl associated declared_where friends_in functions_in least_pending named_by_types reached_from sets_by sets_of_classes sets_of_parts with_bases with_number with_parts
-directives-are-not-followed = refl
-
--- an object beside functions of the name
-abbrev passed-over : List CxxFact
-passed-over = unit ∷ space_in 0 ∷ object 1 x ∷ space_in 0 ∷ function 2 x int ∷ []
-
-objects-are-passed-over : found_by x [] (1 ∷ 2 ∷ []) passed-over ≡ Ok (f 4 ∷ [])
-unfolding nominates reached shows spread with_facts with_scopes clash declared_in declares_member member_named member_in member_by member_of members_in not_redeclared own_ways ways ways_after with_base found_in_scope ordinary_in sightings_at standing_shown is_due is_pending leads_to searched standing_in first_common first_space up entities found_of odd_pair is_by_friend is_function_at least_of named_by sighting_in standing unhidden add_classes adl associated declared_where friends_in functions_in least_pending named_by_types reached_from sets_by sets_of_classes sets_of_parts with_bases with_number with_parts
-objects-are-passed-over = refl
 
 -- ---- 3.4.1: the scopes in turn
 

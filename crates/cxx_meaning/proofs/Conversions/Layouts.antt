@@ -1,5 +1,5 @@
 -- Sizes and alignments of classes, as clang++ and g++ have them: made by bench/meanings/layouts.py.
-use Rattle.std.specs.Prelude.{ℕ, ◌≡◌, Bool, true, false, List, [], ◌∷◌, Option, Some, None, Ok, Err, refl}
+use Rattle.std.specs.Prelude.{ℕ, ◌≡◌, true, false, List, [], ◌∷◌, Option, Some, None, Ok, refl}
 use Rattle.cxx_model.specs.declared.base.Base.TheVariants as base
 use Rattle.cxx_model.specs.declared.facts.Access.TheVariants.{Public}
 use Rattle.cxx_model.specs.declared.facts.FunctionFlags.{FunctionFlags}
@@ -8,7 +8,7 @@ use Rattle.cxx_model.specs.declared.facts.ScopeKind.TheVariants as kind
 use Rattle.cxx_model.specs.declared.types.Cv.{Cv}
 use Rattle.cxx_model.specs.Facts.Declarations as facts
 use Rattle.cxx_model.specs.Facts.Declarations.{CxxFact, CxxGraph, CxxSpecialisation, Declares, unnamed}
-use Rattle.cxx_model.specs.Types.Trees.{CxxType, fundamental, class_type, pointer_to, reference_to, array_of, function_of, no_types, number_bound}
+use Rattle.cxx_model.specs.Types.Trees.{fundamental, class_type, pointer_to, reference_to, array_of, function_of, no_types, number_bound}
 use Rattle.cxx_meaning.specs.Conversions.Enumerations.{promoted}
 use Rattle.cxx_meaning.specs.Conversions.Pending.{is_pending}
 use Rattle.cxx_meaning.specs.Conversions.Sizes.{class_extent, extent, extent_of, layout_of, member_extent, noted}
