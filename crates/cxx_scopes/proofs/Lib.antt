@@ -12,5 +12,5 @@ pub mod Functions
 pub mod Joining
 pub mod Tables
 pub mod Holders
-pub mod Found
+pub mod Finding
 pub mod Outward

@@ -172,7 +172,7 @@ impl Looking<'_> {
     }
 
     // The first declaration that is nonstatic, or at least the one at hand.
-    #[tactic(auto, using(crate::proofs::Found::first_itself, crate::proofs::Found::first_later, crate::proofs::Found::first_none))]
+    #[tactic(auto, using(crate::proofs::Finding::first_itself, crate::proofs::Finding::first_later, crate::proofs::Finding::first_none))]
     fn first_nonstatic(&self, one: Sighting, others: &[Sighting]) -> Sighting
         ensures { sighting_at self.now.types.now result ≡ first_nonstatic_of (sighting_at self.now.types.now one) (map (sighting_at self.now.types.now) others.now) }
     {
@@ -320,7 +320,7 @@ impl Looking<'_> {
     }
 
     // What is found in a class, given three of its ways.
-    #[tactic(auto, using(crate::proofs::Found::first_known, crate::proofs::Found::rival_known))]
+    #[tactic(auto, using(crate::proofs::Finding::first_known, crate::proofs::Finding::rival_known))]
     fn member_of_three<L: Ledger>(
         &self,
         table: &Table,
@@ -344,7 +344,7 @@ impl Looking<'_> {
     }
 
     // What is found in a class.
-    #[tactic(auto, using(crate::proofs::Found::member_is))]
+    #[tactic(auto, using(crate::proofs::Finding::member_is))]
     fn member_of<L: Ledger>(
         &self,
         sought: &Sought,
