@@ -13,8 +13,6 @@ mod decl;
 mod edge;
 pub mod games;
 #[cfg(test)]
-mod graph;
-#[cfg(test)]
 mod places;
 #[cfg(test)]
 mod plain;
