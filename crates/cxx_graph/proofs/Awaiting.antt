@@ -1,4 +1,5 @@
--- Classes that have to be complete before they are asked: no type decides it (14.7.1).
+-- Classes that have to be complete before they are asked: no type decides it (14.7.1). What stands at a place of a graph,
+-- with its types as trees.
 use Rattle.std.proofs.Common.{if◌then◌else◌, cond, nat_eq, not, ◌&&◌, ◌||◌, ◌≡◌, ◌≤◌, ℕ, zero, suc, Bool, true, false, length, List, [], ◌∷◌, ◌++◌, Option, Some, None, option_map, refl, ap, sym, ◌∙◌}
 use Rattle.std.specs.List.{slice_get, list_any}
 use Rattle.std.proofs.Math.Bool.{or_assoc, or-false}
@@ -58,10 +59,11 @@ any-partial types template n [] = refl
 any-partial types template n (pattern ∷ others) =
     one-partial n (class_list pattern.class) (partials template (patterns_at types others)) (is_partial template pattern.primary) (is_class n pattern.class) (is_any_partial template n others) (any-class n pattern.class) (any-partial types template n others) ∙ ap (λ b. (b && is_class n pattern.class) || is_any_partial template n others) (partial-same template pattern.primary)
 
-pattern-at : (types : List CxxType) (patterns : List Pattern) (n : ℕ) → slice_get (patterns_at types patterns) n ≡ option_map (pattern_at types) (slice_get patterns n)
-pattern-at types [] n = refl
-pattern-at types (pattern ∷ patterns) zero = refl
-pattern-at types (pattern ∷ patterns) (suc n) = pattern-at types patterns n
+-- the template with a number
+pub pattern_is : (types : List CxxType) (patterns : List Pattern) (n : ℕ) → slice_get (patterns_at types patterns) n ≡ option_map (pattern_at types) (slice_get patterns n)
+pattern_is types [] n = refl
+pattern_is types (pattern ∷ patterns) zero = refl
+pattern_is types (pattern ∷ patterns) (suc n) = pattern_is types patterns n
 
 any-primary : (types : List CxxType) (n : ℕ) (o : Option Pattern) → list_any (nat_eq n) (primary_of (option_map (pattern_at types) o)) ≡ is_primary_class n o
 any-primary types n None = refl
@@ -70,7 +72,7 @@ any-primary types n (Some pattern) = any-class n pattern.class
 -- a class is among them where it is that of the template, or of a partial specialisation
 any-defining : (types : List CxxType) (graph : Graph) (template n : ℕ) → list_any (nat_eq n) (defining_classes (graph_at types graph) template) ≡ (is_primary_class n (slice_get graph.patterns template) || is_any_partial template n graph.patterns)
 any-defining types graph template n =
-    ap (list_any (nat_eq n)) (defining_by (graph_at types graph) template) ∙ (any-append (nat_eq n) (primary_of (slice_get (patterns_at types graph.patterns) template)) (partials template (patterns_at types graph.patterns)) ∙ (ap (λ b. b || list_any (nat_eq n) (partials template (patterns_at types graph.patterns))) (ap (λ o. list_any (nat_eq n) (primary_of o)) (pattern-at types graph.patterns template) ∙ any-primary types n (slice_get graph.patterns template)) ∙ ap (λ b. is_primary_class n (slice_get graph.patterns template) || b) (any-partial types template n graph.patterns)))
+    ap (list_any (nat_eq n)) (defining_by (graph_at types graph) template) ∙ (any-append (nat_eq n) (primary_of (slice_get (patterns_at types graph.patterns) template)) (partials template (patterns_at types graph.patterns)) ∙ (ap (λ b. b || list_any (nat_eq n) (partials template (patterns_at types graph.patterns))) (ap (λ o. list_any (nat_eq n) (primary_of o)) (pattern_is types graph.patterns template) ∙ any-primary types n (slice_get graph.patterns template)) ∙ ap (λ b. is_primary_class n (slice_get graph.patterns template) || b) (any-partial types template n graph.patterns)))
 
 pub defining_is : (graph : Graph) (template n : ℕ) → list_any (nat_eq n) (defining_classes (graph_at [] graph) template) ≡ (is_primary_class n (slice_get graph.patterns template) || is_any_partial template n graph.patterns)
 defining_is graph template n = any-defining [] graph template n
@@ -85,7 +87,7 @@ same-primary types (Some pattern) = refl
 
 defining-same : (types : List CxxType) (graph : Graph) (template : ℕ) → defining_classes (graph_at types graph) template ≡ defining_classes (graph_at [] graph) template
 defining-same types graph template =
-    defining_by (graph_at types graph) template ∙ (ap (λ xs. xs ++ partials template (patterns_at types graph.patterns)) (ap primary_of (pattern-at types graph.patterns template) ∙ (same-primary types (slice_get graph.patterns template) ∙ sym (ap primary_of (pattern-at [] graph.patterns template)))) ∙ (ap (λ xs. primary_of (slice_get (patterns_at [] graph.patterns) template) ++ xs) (same-classes types template graph.patterns) ∙ sym (defining_by (graph_at [] graph) template)))
+    defining_by (graph_at types graph) template ∙ (ap (λ xs. xs ++ partials template (patterns_at types graph.patterns)) (ap primary_of (pattern_is types graph.patterns template) ∙ (same-primary types (slice_get graph.patterns template) ∙ sym (ap primary_of (pattern_is [] graph.patterns template)))) ∙ (ap (λ xs. primary_of (slice_get (patterns_at [] graph.patterns) template) ++ xs) (same-classes types template graph.patterns) ∙ sym (defining_by (graph_at [] graph) template)))
 
 -- ---- the facts
 
@@ -159,13 +161,14 @@ pending-as : (graph : CxxGraph) (class : ℕ) → is_pending graph class ≡ pen
 unfolding is_pending
 pending-as graph class = refl
 
-class-at : (types : List CxxType) (classes : List (Option Specialisation)) (n : ℕ) → slice_get (classes_at types classes) n ≡ option_map (class_at types) (slice_get classes n)
-class-at types [] n = refl
-class-at types (class ∷ classes) zero = refl
-class-at types (class ∷ classes) (suc n) = class-at types classes n
+-- for what the class with a number was reserved
+pub class_is : (types : List CxxType) (classes : List (Option Specialisation)) (n : ℕ) → slice_get (classes_at types classes) n ≡ option_map (class_at types) (slice_get classes n)
+class_is types [] n = refl
+class_is types (class ∷ classes) zero = refl
+class_is types (class ∷ classes) (suc n) = class_is types classes n
 
 pending-at : (types : List CxxType) (graph : Graph) (n : ℕ) (o : Option (Option Specialisation)) → slice_get graph.classes n ≡ o → is_pending (graph_at types graph) n ≡ pending_by (graph_at types graph) n (option_map (class_at types) o)
-pending-at types graph n o e = pending-as (graph_at types graph) n ∙ ap (pending_by (graph_at types graph) n) (class-at types graph.classes n ∙ ap (option_map (class_at types)) e)
+pending-at types graph n o e = pending-as (graph_at types graph) n ∙ ap (pending_by (graph_at types graph) n) (class_is types graph.classes n ∙ ap (option_map (class_at types)) e)
 
 pub pending_past : (types : List CxxType) (graph : Graph) (n : ℕ) → length graph.classes ≤ n → is_pending (graph_at types graph) n ≡ false
 pending_past types graph n past = pending-at types graph n None (slice_get_past graph.classes n past)
