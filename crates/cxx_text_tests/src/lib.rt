@@ -1,0 +1,5 @@
+//! Tests of tokens and literals, through their public calls.
+#![tactic(auto)]
+
+#[cfg(test)]
+mod tokens;
