@@ -1,0 +1,12 @@
+-- What a reading is: trees, the state, and how each production is read.
+pub mod Reads
+pub mod Trees
+pub mod Productions
+pub mod Declarators
+pub mod Kinds
+pub mod Tokens
+pub mod Labels
+pub mod Specifiers
+pub mod Shapes
+pub mod Constants
+pub mod Syntax
