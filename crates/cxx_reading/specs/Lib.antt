@@ -10,3 +10,4 @@ pub mod Specifiers
 pub mod Shapes
 pub mod Constants
 pub mod Syntax
+pub mod State
