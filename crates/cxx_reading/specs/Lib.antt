@@ -11,3 +11,5 @@ pub mod Shapes
 pub mod Constants
 pub mod Syntax
 pub mod State
+pub mod Seen
+pub mod Declaring
