@@ -13,3 +13,6 @@ pub mod Syntax
 pub mod State
 pub mod Seen
 pub mod Declaring
+pub mod Choosing
+pub mod Initializers
+pub mod Units
