@@ -1,5 +1,5 @@
 -- Worked units of declarations: what is declared in them, or the report of their first fault.
-use Rattle.std.specs.Prelude.{ℕ, zero, suc, ℤ, pos, negsuc, Bool, true, false, ◌≡◌, refl, List, [], ◌∷◌, ◌++◌, map, Option, Some, None, Result, Ok, Err, codes}
+use Rattle.std.specs.Prelude.{ℕ, pos, true, false, ◌≡◌, refl, List, [], ◌∷◌, map, Some, None, Result, Ok, Err, codes}
 use Rattle.cxx_model.specs.declared.base.Base.TheVariants as base
 use Rattle.cxx_model.specs.declared.facts.FunctionFlags.{FunctionFlags}
 use Rattle.cxx_model.specs.declared.facts.MemberKind.TheVariants as member
@@ -17,15 +17,13 @@ use Rattle.cxx_model.specs.declared.fault.FaultText.{FaultText}
 use Rattle.cxx_model.specs.declared.fault.FaultText.TheVariants as says
 use Rattle.cxx_model.specs.declared.fault.LeftOut.TheVariants as form
 use Rattle.cxx_model.specs.declared.stop.LimitKind.{LimitKind}
-use Rattle.cxx_model.specs.declared.stop.LimitKind.TheVariants as limit
-use Rattle.cxx_model.specs.Stops.{Answer, Stopped, Faulty, Limited}
+use Rattle.cxx_model.specs.Stops.{Answer, Faulty, Limited}
 use Rattle.cxx_model.specs.Text.Lexemes.{lexemes}
 use Rattle.cxx_model.specs.Text.Spelling.{spelling_of, keywords, alternatives, operators, digraphs, word_kind, number_kind, operator, literal, hash, slash, percent, literal_type, literal_value}
 use Rattle.cxx_model.specs.Text.Tokens.{Unread, tokens_of, tokens_from, front, longest_within}
-use Rattle.cxx_model.specs.Types.Trees.{CxxType, CxxTypes, fundamental, enumeration, pointer_to, reference_to, array_of, function_of, qualified, no_types, type_then, number_bound, unknown_bound}
+use Rattle.cxx_model.specs.Types.Trees.{CxxType, fundamental, enumeration, pointer_to, reference_to, array_of, function_of, qualified, no_types, type_then, number_bound, unknown_bound}
 use Rattle.cxx_meaning.specs.Conversions.Order.{is_proper_part, is_no_pointer_to_bool, way_of_pointers, way_of_classes, way_of, is_shorter, is_nearer, has_nearer_class, is_less_qualified, refers_to_less, is_bound_to_less, order_of}
 use Rattle.cxx_meaning.specs.Conversions.Standard.{steps_of_arithmetic, value_step, steps_of_pointer, steps_of_kinds, steps_to_scalar, steps_by_kinds, steps_of_value, steps_between, standard_sequence, is_text}
-use Rattle.cxx_reading.specs.State.{CxxState}
 use Rattle.cxx_reading.specs.Units.{CxxReading}
 use Rattle.cxx_reading.specs.Reads.{repeat}
 use Rattle.cxx_reading.specs.Tokens.{is_punct, is_keyword, is_name, is_end, is_number, punct_taken, no_declaration, no_declarator}

@@ -1,5 +1,5 @@
 -- Which function a call means, among functions of one scope (13.3).
-use Rattle.std.specs.Prelude.{ℕ, zero, suc, Bool, true, false, not, ◌&&◌, ◌||◌, if◌then◌else◌, nat_lt, List, [], ◌∷◌, length, map, filter, filter_map, Option, Some, None, option_map, Result, Ok, Err}
+use Rattle.std.specs.Prelude.{ℕ, zero, suc, Bool, true, false, not, ◌&&◌, if◌then◌else◌, nat_lt, List, [], ◌∷◌, length, filter, filter_map, Option, Some, None, option_map, Ok}
 use Rattle.cxx_model.specs.declared.base.Base.{Base}
 use Rattle.cxx_model.specs.declared.base.Base.TheVariants as base
 use Rattle.cxx_model.specs.declared.evidence.Evidence.{Evidence}
@@ -11,7 +11,7 @@ use Rattle.cxx_model.specs.declared.overload.Outcome.{Outcome}
 use Rattle.cxx_model.specs.declared.overload.Outcome.TheVariants.{Viable, NotViable}
 use Rattle.cxx_model.specs.declared.place.Place.{Place}
 use Rattle.cxx_model.specs.declared.sequence.Order.{Order}
-use Rattle.cxx_model.specs.declared.sequence.Order.TheVariants.{Better, Worse, Same}
+use Rattle.cxx_model.specs.declared.sequence.Order.TheVariants.{Same}
 use Rattle.cxx_model.specs.Choice.Better.{is_better, best, counter}
 use Rattle.cxx_model.specs.Facts.Declarations as facts
 use Rattle.cxx_model.specs.Facts.Declarations.{CxxFact, CxxGraph, Declares}

@@ -1,5 +1,5 @@
 -- Constant expressions where they are wanted (5.19): for now a literal alone.
-use Rattle.std.specs.Prelude.{ℕ, zero, suc, ℤ, pos, negsuc, Bool, true, false, not, ◌&&◌, ◌||◌, if◌then◌else◌, ◌==◌, List, [], ◌∷◌, ◌++◌, Option, Some, None, Ok, Err}
+use Rattle.std.specs.Prelude.{ℕ, zero, ℤ, pos, Bool, true, false, ◌||◌, if◌then◌else◌, ◌==◌, List, [], Option, Some, None}
 use Rattle.cxx_model.specs.declared.base.Base.{Base}
 use Rattle.cxx_model.specs.declared.fault.FaultText.TheVariants as says
 use Rattle.cxx_model.specs.declared.fault.LeftOut.TheVariants as form
@@ -8,15 +8,15 @@ use Rattle.cxx_model.specs.declared.punct.TheConstants as punct
 use Rattle.cxx_model.specs.declared.sequence.ConstantKind.{ConstantKind}
 use Rattle.cxx_model.specs.declared.sequence.ConstantKind.TheVariants as constant
 use Rattle.cxx_model.specs.declared.token.TokenKind.{TokenKind}
-use Rattle.cxx_model.specs.declared.token.TokenKind.TheVariants.{Name, Keyword, Punct, Integer, Character, Text, End}
+use Rattle.cxx_model.specs.declared.token.TokenKind.TheVariants.{Name, Keyword, Punct, Text}
 use Rattle.cxx_model.specs.Text.Spelling.{literal_type, literal_value}
-use Rattle.cxx_model.specs.Types.Trees.{CxxType, fundamental}
+use Rattle.cxx_model.specs.Types.Trees.{fundamental}
 use Rattle.cxx_meaning.specs.Conversions.Standard.{CxxOperand}
 use Rattle.cxx_reading.specs.Declarators.{type_word, TypeWord}
 use Rattle.cxx_reading.specs.Labels.{label_from}
 use Rattle.cxx_reading.specs.Productions as production
 use Rattle.cxx_reading.specs.Reads.{Reads, Ahead, ◌>>=◌, got, give, fault_at, kind_ahead, place_ahead, word_ahead, behind}
-use Rattle.cxx_reading.specs.Tokens.{is_punct, is_number, refused, not_built}
+use Rattle.cxx_reading.specs.Tokens.{is_number, refused, not_built}
 use Rattle.cxx_reading.specs.Trees.{CxxTree, tree_of}
 
 -- ---- literals (2.13)

@@ -1,5 +1,5 @@
 -- What specifiers and declarators say (7.1, 8.3): a type, a name, and what a declarator makes of the type.
-use Rattle.std.specs.Prelude.{ℕ, Bool, true, false, ◌&&◌, ◌||◌, if◌then◌else◌, ◌==◌, List, [], ◌∷◌, ◌++◌, Option, Some, None}
+use Rattle.std.specs.Prelude.{ℕ, Bool, true, false, ◌||◌, if◌then◌else◌, ◌==◌, List, [], ◌∷◌, ◌++◌, Option, Some, None}
 use Rattle.cxx_model.specs.declared.base.Base.{Base}
 use Rattle.cxx_model.specs.declared.base.Base.TheVariants as base
 use Rattle.cxx_model.specs.declared.evidence.SubstitutionText.{SubstitutionText}
@@ -7,7 +7,7 @@ use Rattle.cxx_model.specs.declared.evidence.SubstitutionText.TheVariants as tex
 use Rattle.cxx_model.specs.declared.keyword.TheConstants as keyword
 use Rattle.cxx_model.specs.declared.types.Cv.{Cv}
 use Rattle.cxx_model.specs.Text.Lexemes.{Lexeme}
-use Rattle.cxx_model.specs.Types.Trees.{CxxType, fundamental, class_type, enumeration, pointer_to, reference_to, array_of, function_of, qualified, type_parameter, specialisation, nested_in, CxxTypes, no_types, type_then, CxxBound, unknown_bound, number_bound, formula_bound, with_cv, decayed, adjusted}
+use Rattle.cxx_model.specs.Types.Trees.{CxxType, fundamental, pointer_to, reference_to, array_of, function_of, qualified, CxxTypes, no_types, type_then, CxxBound, number_bound, with_cv, decayed, adjusted}
 use Rattle.cxx_reading.specs.declared.specifier.CoreWord.{CoreWord}
 use Rattle.cxx_reading.specs.declared.specifier.CoreWord.TheVariants as core
 use Rattle.cxx_reading.specs.declared.specifier.SignWord.{SignWord}
@@ -15,7 +15,6 @@ use Rattle.cxx_reading.specs.declared.specifier.SignWord.TheVariants as sign
 use Rattle.cxx_reading.specs.declared.specifier.SizeWord.{SizeWord}
 use Rattle.cxx_reading.specs.declared.specifier.SizeWord.TheVariants as size
 use Rattle.cxx_reading.specs.declared.specifier.StorageWord.{StorageWord}
-use Rattle.cxx_reading.specs.declared.specifier.StorageWord.TheVariants as storage
 use Rattle.cxx_reading.specs.declared.specifier.TypeWords.{TypeWords}
 use Rattle.cxx_reading.specs.Trees.{CxxTree}
 

@@ -1,5 +1,5 @@
 -- How names are declared (3.3, 3.5, 7.2, 8.3): the conflict, the limit, the fact.
-use Rattle.std.specs.Prelude.{ℕ, zero, suc, ℤ, pos, negsuc, ◌+◌, Bool, true, false, not, ◌&&◌, ◌||◌, nat_eq, if◌then◌else◌, List, [], ◌∷◌, ◌++◌, length, Option, Some, None, Ok, Err}
+use Rattle.std.specs.Prelude.{ℕ, zero, suc, ℤ, pos, negsuc, ◌+◌, Bool, true, false, nat_eq, if◌then◌else◌, List, [], ◌∷◌, ◌++◌, length, Option, Some, None, Ok, Err}
 use Rattle.std.specs.List.{slice_get}
 use Rattle.cxx_model.specs.declared.evidence.Evidence.TheVariants.{Found}
 use Rattle.cxx_model.specs.declared.facts.Access.TheVariants.{Public}
@@ -15,11 +15,10 @@ use Rattle.cxx_model.specs.Facts.Conflicts.{first_conflict, same_parameters, sco
 use Rattle.cxx_model.specs.Facts.Declarations as facts
 use Rattle.cxx_model.specs.Facts.Declarations.{CxxFact, CxxGraph, CxxName, Declares, unnamed, spelled}
 use Rattle.cxx_model.specs.Facts.Entities.{entity_by, scope_kinds}
-use Rattle.cxx_model.specs.Facts.Here.{CxxHere}
 use Rattle.cxx_model.specs.Stops.{Answer, Stopped, Faulty, Limited, ◌>>=◌, fault, undeclared_at}
 use Rattle.cxx_model.specs.Text.Lexemes.{Lexeme, nowhere}
 use Rattle.cxx_model.specs.Types.Integral.{one_holds}
-use Rattle.cxx_model.specs.Types.Trees.{CxxType, enumeration, function_of}
+use Rattle.cxx_model.specs.Types.Trees.{CxxType, enumeration}
 use Rattle.cxx_meaning.specs.Conversions.Enumerations.{values_in}
 use Rattle.cxx_reading.specs.Constants.{value_of_literal}
 use Rattle.cxx_reading.specs.Kinds.{Kinds}

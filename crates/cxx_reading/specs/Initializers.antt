@@ -1,6 +1,5 @@
 -- How objects are initialized for now (5.2.2, 5.2.9, 8.5): by a call of literals, with casts round it and round them.
 use Rattle.std.specs.Prelude.{ℕ, zero, suc, Bool, true, false, not, ◌&&◌, ◌||◌, ◌==◌, if◌then◌else◌, nat_lt, List, [], ◌∷◌, ◌++◌, length, map, Option, Some, None, Result, Ok, Err, codes}
-use Rattle.std.specs.List.{list_any}
 use Rattle.cxx_model.specs.declared.base.Base.TheVariants.{Void}
 use Rattle.cxx_model.specs.declared.evidence.Evidence.{Evidence}
 use Rattle.cxx_model.specs.declared.fault.FaultText.{FaultText}
@@ -18,7 +17,7 @@ use Rattle.cxx_model.specs.declared.tree.Kind.TheVariants as kind
 use Rattle.cxx_model.specs.declared.types.ClassId.{ClassId}
 use Rattle.cxx_model.specs.Facts.Declarations as facts
 use Rattle.cxx_model.specs.Facts.Declarations.{Declares, spelled}
-use Rattle.cxx_model.specs.Stops.{Answer, Stopped, Faulty, Limited, fault, undeclared_at, not_built_at}
+use Rattle.cxx_model.specs.Stops.{Answer, Stopped, Faulty, Limited, undeclared_at, not_built_at}
 use Rattle.cxx_model.specs.Text.Lexemes.{Lexeme}
 use Rattle.cxx_model.specs.Types.Same.{same_type}
 use Rattle.cxx_model.specs.Types.Trees.{CxxType, fundamental, unqualified}
@@ -27,12 +26,11 @@ use Rattle.cxx_reading.specs.declared.specifier.Naming.TheVariants as naming
 use Rattle.cxx_reading.specs.declared.specifier.SpecifierPlace.TheVariants as where_
 use Rattle.cxx_reading.specs.Choosing.{CxxCandidate, candidates, Rated, rated, CxxChoice, chosen_one, none_viable, ambiguous, choice, is_arithmetic, are_built}
 use Rattle.cxx_reading.specs.Constants.{literal_at, no_expression, continues, is_member_pointer, begins_operand, begins_unary}
-use Rattle.cxx_reading.specs.Declarators.{Specifiers, Declarator, declared_type, refused_in, is_refused}
+use Rattle.cxx_reading.specs.Declarators.{Declarator, declared_type, refused_in, is_refused}
 use Rattle.cxx_reading.specs.Declaring.{declaring}
-use Rattle.cxx_reading.specs.Kinds.{Kinds, Readers}
 use Rattle.cxx_reading.specs.Labels.{label_from}
 use Rattle.cxx_reading.specs.Productions as production
-use Rattle.cxx_reading.specs.Reads.{Reads, Asks, Ahead, Turn, More, Done, ◌>>=◌, got, give, ask, limited, fault_at, looked, taken, kind_ahead, place_ahead, word_ahead, count_ahead, behind, repeat}
+use Rattle.cxx_reading.specs.Reads.{Reads, Asks, Ahead, Turn, More, Done, ◌>>=◌, got, give, ask, limited, fault_at, looked, taken, kind_ahead, place_ahead, word_ahead, behind, repeat}
 use Rattle.cxx_reading.specs.Seen.{Numbered, found, kind_of_found}
 use Rattle.cxx_reading.specs.Specifiers.{specifiers_at, path_of}
 use Rattle.cxx_reading.specs.State.{CxxState, CxxCall}

@@ -1,5 +1,5 @@
 -- What a reader of tokens asks of its user, and the readers behind brackets.
-use Rattle.std.specs.Prelude.{ℕ, zero, suc, ℤ, Bool, true, Ok, List, [], ◌∷◌, Option, Some, None, Err}
+use Rattle.std.specs.Prelude.{ℕ, ℤ, Bool, true, Ok, List, Option}
 use Rattle.cxx_model.specs.declared.place.Place.{Place}
 use Rattle.cxx_model.specs.declared.stop.LimitKind.TheVariants.{Nesting}
 use Rattle.cxx_model.specs.declared.tree.Kind.{Kind}
@@ -7,7 +7,7 @@ use Rattle.cxx_model.specs.Text.Lexemes.{Lexeme}
 use Rattle.cxx_model.specs.Types.Trees.{CxxType}
 use Rattle.cxx_reading.specs.declared.specifier.Naming.{Naming}
 use Rattle.cxx_reading.specs.Declarators.{Declarator, ParameterTypes}
-use Rattle.cxx_reading.specs.Reads.{Reads, Asks, Ahead, limited}
+use Rattle.cxx_reading.specs.Reads.{Reads, Asks, limited}
 use Rattle.cxx_reading.specs.Trees.{CxxTree, CxxPath}
 
 -- Questions to the user of the readers, over any state.

@@ -1,5 +1,5 @@
 -- What stands at the top of a tree that covers some tokens.
-use Rattle.std.specs.Prelude.{ℕ, List, Option, None}
+use Rattle.std.specs.Prelude.{ℕ, List, None}
 use Rattle.cxx_reading.specs.Reads.{Ahead, place_ahead, count_ahead}
 use Rattle.cxx_reading.specs.Trees.{Label}
 

@@ -1,6 +1,6 @@
 -- Reading in order: a reader is a function from a state and the tokens ahead to a value, the new state and the tokens
 -- behind, or to what stops the unit.
-use Rattle.std.specs.Prelude.{ℕ, zero, suc, List, [], ◌∷◌, length, Result, Ok, Err}
+use Rattle.std.specs.Prelude.{ℕ, zero, suc, List, [], ◌∷◌, length, Ok, Err}
 use Rattle.cxx_model.specs.declared.fault.FaultText.{FaultText}
 use Rattle.cxx_model.specs.declared.place.Place.{Place}
 use Rattle.cxx_model.specs.declared.stop.LimitKind.{LimitKind}

@@ -1,6 +1,6 @@
 -- What a name means among the declarations of the unit and of the parameters round it (3.3, 3.4.1), as long as there are
 -- no other scopes.
-use Rattle.std.specs.Prelude.{ℕ, zero, suc, Bool, true, false, not, ◌&&◌, ◌||◌, nat_eq, if◌then◌else◌, List, [], ◌∷◌, Option, Some, None}
+use Rattle.std.specs.Prelude.{ℕ, zero, suc, Bool, true, ◌&&◌, nat_eq, if◌then◌else◌, List, [], ◌∷◌, Option, Some, None}
 use Rattle.std.specs.List.{slice_get, list_any}
 use Rattle.cxx_model.specs.declared.base.Base.TheVariants.{Void}
 use Rattle.cxx_model.specs.declared.tree.Kind.{Kind}

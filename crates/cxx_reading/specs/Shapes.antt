@@ -1,5 +1,5 @@
 -- Whether parameters stand behind a bracket (8.2): told by the shape of what stands there and by the kinds of names.
-use Rattle.std.specs.Prelude.{ℕ, zero, suc, Bool, true, false, not, ◌&&◌, ◌||◌, if◌then◌else◌, ◌==◌, ◌-◌, ◌+◌, List, [], ◌∷◌, ◌++◌, Option, Some, None, Ok, Err}
+use Rattle.std.specs.Prelude.{ℕ, suc, Bool, true, false, not, ◌&&◌, ◌||◌, if◌then◌else◌, ◌==◌, ◌-◌, Option, Some, None, Ok, Err}
 use Rattle.cxx_model.specs.declared.keyword.TheConstants as keyword
 use Rattle.cxx_model.specs.declared.punct.TheConstants as punct
 use Rattle.cxx_model.specs.declared.token.TokenKind.{TokenKind}
@@ -9,7 +9,7 @@ use Rattle.cxx_model.specs.declared.tree.Kind.TheVariants as kind
 use Rattle.cxx_model.specs.Stops.{Answer}
 use Rattle.cxx_reading.specs.Declarators.{type_word, TypeWord}
 use Rattle.cxx_reading.specs.Kinds.{Kinds, Readers}
-use Rattle.cxx_reading.specs.Reads.{Reads, Got, Ahead, Turn, More, Done, ◌>>=◌, got, give, ask, looked, taken, kind_ahead, count_ahead, behind, repeat}
+use Rattle.cxx_reading.specs.Reads.{Reads, Got, Ahead, Turn, More, Done, ◌>>=◌, got, give, ask, kind_ahead, count_ahead, behind, repeat}
 use Rattle.cxx_reading.specs.Specifiers.{storage_word, is_some_storage, is_of_members, begins_class}
 use Rattle.cxx_reading.specs.Tokens.{is_punct, is_keyword, is_name, is_end, is_qualified, path_ahead}
 

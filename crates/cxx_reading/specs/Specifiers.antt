@@ -1,10 +1,10 @@
 -- How specifiers are read (7.1).
-use Rattle.std.specs.Prelude.{ℕ, zero, suc, ℤ, Bool, true, false, not, ◌&&◌, ◌||◌, if◌then◌else◌, ◌==◌, List, [], ◌∷◌, ◌++◌, Option, Some, None, Ok, Err, codes}
+use Rattle.std.specs.Prelude.{ℕ, Bool, true, false, not, ◌&&◌, ◌||◌, if◌then◌else◌, ◌==◌, List, [], ◌∷◌, ◌++◌, Option, Some, None, codes}
 use Rattle.cxx_model.specs.declared.keyword.TheConstants as keyword
 use Rattle.cxx_model.specs.declared.place.Place.{Place}
 use Rattle.cxx_model.specs.declared.punct.TheConstants as punct
 use Rattle.cxx_model.specs.declared.token.TokenKind.{TokenKind}
-use Rattle.cxx_model.specs.declared.token.TokenKind.TheVariants.{Name, Keyword, Punct, Integer, Character, Text, End}
+use Rattle.cxx_model.specs.declared.token.TokenKind.TheVariants.{Name, Keyword, Punct}
 use Rattle.cxx_model.specs.declared.tree.Kind.{Kind}
 use Rattle.cxx_model.specs.declared.tree.Kind.TheVariants as kind
 use Rattle.cxx_model.specs.declared.types.Cv.{Cv}
@@ -15,12 +15,12 @@ use Rattle.cxx_reading.specs.declared.specifier.SpecifierPlace.TheVariants as wh
 use Rattle.cxx_reading.specs.declared.specifier.StorageWord.{StorageWord}
 use Rattle.cxx_reading.specs.declared.specifier.StorageWord.TheVariants as storage
 use Rattle.cxx_reading.specs.declared.specifier.TypeWords.{TypeWords}
-use Rattle.cxx_reading.specs.Declarators.{Specifiers, no_specifiers, has_type, type_word, TypeWord, with_word, no_cv}
+use Rattle.cxx_reading.specs.Declarators.{Specifiers, no_specifiers, has_type, type_word, TypeWord, with_word}
 use Rattle.cxx_reading.specs.Kinds.{Kinds, Readers}
 use Rattle.cxx_reading.specs.Productions as production
-use Rattle.cxx_reading.specs.Reads.{Reads, Ahead, Turn, More, Done, ◌>>=◌, got, give, ask, looked, taken, kind_ahead, place_ahead, word_ahead, count_ahead, behind, repeat}
-use Rattle.cxx_reading.specs.Tokens.{is_punct, is_keyword, is_name, is_qualified, is_plain_name, path_ahead, token_taken, refused, not_built, no_declaration, punct_taken}
-use Rattle.cxx_reading.specs.Trees.{CxxTree, CxxPath, Label, tree_of}
+use Rattle.cxx_reading.specs.Reads.{Reads, Ahead, Turn, More, Done, ◌>>=◌, got, give, ask, looked, taken, kind_ahead, place_ahead, count_ahead, behind, repeat}
+use Rattle.cxx_reading.specs.Tokens.{is_punct, is_keyword, is_name, is_qualified, path_ahead, token_taken, refused, not_built}
+use Rattle.cxx_reading.specs.Trees.{CxxTree, CxxPath, tree_of}
 use Rattle.cxx_reading.specs.Labels.{label_from}
 
 -- ---- single words

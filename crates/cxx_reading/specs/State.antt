@@ -1,5 +1,5 @@
 -- The state of a reading: what is declared so far, where the reader stands, and what the reading keeps.
-use Rattle.std.specs.Prelude.{ℕ, zero, Bool, false, List, [], ◌∷◌, Option, None}
+use Rattle.std.specs.Prelude.{ℕ, zero, false, List, [], ◌∷◌, None}
 use Rattle.cxx_model.specs.declared.facts.Access.TheVariants.{Public}
 use Rattle.cxx_model.specs.declared.facts.ScopeKind.TheVariants as kind
 use Rattle.cxx_model.specs.declared.overload.Outcome.{Outcome}
@@ -8,7 +8,6 @@ use Rattle.cxx_model.specs.Facts.Conflicts.{Given}
 use Rattle.cxx_model.specs.Facts.Declarations.{CxxGraph, CxxFact, unnamed, scope}
 use Rattle.cxx_model.specs.Facts.Here.{CxxHere}
 use Rattle.cxx_model.specs.Text.Lexemes.{first_place}
-use Rattle.cxx_model.specs.Types.Trees.{CxxType}
 use Rattle.cxx_reading.specs.Trees.{CxxTree}
 
 -- 13.3: a call that was decided: its candidates, by their declarations, which of them are viable, and the chosen one,

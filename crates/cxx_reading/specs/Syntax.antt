@@ -1,5 +1,5 @@
 -- How declarators, parameters and lists of enumerators are read (8.2, 8.3, 7.2), and how readers nest.
-use Rattle.std.specs.Prelude.{ℕ, zero, suc, ℤ, pos, negsuc, Bool, true, false, not, ◌&&◌, ◌||◌, if◌then◌else◌, ◌==◌, List, [], ◌∷◌, ◌++◌, Option, Some, None, Ok, Err}
+use Rattle.std.specs.Prelude.{ℕ, zero, suc, ℤ, pos, negsuc, Bool, true, false, not, ◌&&◌, ◌||◌, if◌then◌else◌, List, [], ◌∷◌, ◌++◌, Option, Some, None}
 use Rattle.cxx_model.specs.declared.fault.FaultText.TheVariants as says
 use Rattle.cxx_model.specs.declared.fault.LeftOut.TheVariants as form
 use Rattle.cxx_model.specs.declared.keyword.TheConstants as keyword
@@ -7,7 +7,6 @@ use Rattle.cxx_model.specs.declared.limits.TheConstants as limits
 use Rattle.cxx_model.specs.declared.place.Place.{Place}
 use Rattle.cxx_model.specs.declared.punct.TheConstants as punct
 use Rattle.cxx_model.specs.declared.stop.LimitKind.TheVariants.{Arguments}
-use Rattle.cxx_model.specs.declared.token.TokenKind.{TokenKind}
 use Rattle.cxx_model.specs.declared.types.Cv.{Cv}
 use Rattle.cxx_model.specs.Text.Lexemes.{Lexeme}
 use Rattle.cxx_model.specs.Types.Trees.{CxxType, CxxBound, unknown_bound, number_bound}
@@ -15,7 +14,7 @@ use Rattle.cxx_reading.specs.declared.specifier.Naming.{Naming}
 use Rattle.cxx_reading.specs.declared.specifier.Naming.TheVariants as naming
 use Rattle.cxx_reading.specs.declared.specifier.SpecifierPlace.TheVariants as where_
 use Rattle.cxx_reading.specs.Constants.{constant_at}
-use Rattle.cxx_reading.specs.Declarators.{Specifiers, bare_type, type_of_specifiers, Layer, pointer_layer, reference_layer, array_layer, function_layer, Declarator, no_declarator_yet, outward, is_named, ParameterTypes, adjusted_types, parameter_type, declared_type, refused_in, is_refused, is_void, no_cv}
+use Rattle.cxx_reading.specs.Declarators.{Specifiers, type_of_specifiers, Layer, pointer_layer, reference_layer, array_layer, function_layer, Declarator, no_declarator_yet, outward, is_named, ParameterTypes, adjusted_types, parameter_type, declared_type, refused_in, is_refused, is_void, no_cv}
 use Rattle.cxx_reading.specs.Kinds.{Kinds, Readers, too_deep}
 use Rattle.cxx_reading.specs.Labels.{label_from}
 use Rattle.cxx_reading.specs.Productions as production

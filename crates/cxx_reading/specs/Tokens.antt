@@ -1,15 +1,14 @@
 -- Single tokens ahead of a reader, and what stands where no production goes on.
-use Rattle.std.specs.Prelude.{ℕ, Bool, true, false, not, ◌&&◌, ◌||◌, if◌then◌else◌, ◌==◌, List, [], ◌∷◌, Option, Some, None, Err}
+use Rattle.std.specs.Prelude.{ℕ, Bool, true, false, not, ◌&&◌, ◌||◌, if◌then◌else◌, ◌==◌, List, [], ◌∷◌, None}
 use Rattle.cxx_model.specs.declared.fault.FaultText.{FaultText}
 use Rattle.cxx_model.specs.declared.fault.FaultText.TheVariants as says
 use Rattle.cxx_model.specs.declared.fault.LeftOut.TheVariants as form
 use Rattle.cxx_model.specs.declared.keyword.TheConstants as keyword
-use Rattle.cxx_model.specs.declared.place.Place.{Place}
 use Rattle.cxx_model.specs.declared.punct.TheConstants as punct
 use Rattle.cxx_model.specs.declared.token.TokenKind.{TokenKind}
-use Rattle.cxx_model.specs.declared.token.TokenKind.TheVariants.{Name, Keyword, Punct, Integer, Character, Text, End}
-use Rattle.cxx_model.specs.Text.Lexemes.{Lexeme, kind_of}
-use Rattle.cxx_reading.specs.Reads.{Reads, Ahead, got, stop, give, fault_at, kind_ahead, place_ahead, word_ahead, behind}
+use Rattle.cxx_model.specs.declared.token.TokenKind.TheVariants.{Name, Keyword, Punct, Integer, Character, End}
+use Rattle.cxx_model.specs.Text.Lexemes.{Lexeme}
+use Rattle.cxx_reading.specs.Reads.{Reads, Ahead, got, fault_at, kind_ahead, place_ahead, word_ahead, behind}
 use Rattle.cxx_reading.specs.Trees.{CxxPath}
 
 unfoldable pub is_punct : ℕ → TokenKind → Bool

@@ -1,5 +1,5 @@
 -- The trees of a reading: what was read, and what each part of it means. There is one kind of tree for all productions.
-use Rattle.std.specs.Prelude.{ℕ, Bool, List, [], ◌∷◌, ◌++◌, Option}
+use Rattle.std.specs.Prelude.{ℕ, Bool, List, [], ◌∷◌, Option}
 use Rattle.cxx_model.specs.declared.place.Place.{Place}
 use Rattle.cxx_model.specs.Types.Trees.{CxxType}
 use Rattle.cxx_meaning.specs.Conversions.Standard.{CxxOperand}
@@ -60,4 +60,3 @@ children_of tree = each_tree tree.children
 
 abbrev pub tree_of : Label → List CxxTree → CxxTree
 tree_of label children = record { label = label; children = in_turn children }
-

@@ -1,37 +1,34 @@
 -- The reading of a unit: its declarations in order (3.5, clause 7).
-use Rattle.std.specs.Prelude.{ℕ, zero, suc, Bool, true, false, not, ◌&&◌, ◌||◌, ◌==◌, if◌then◌else◌, List, [], ◌∷◌, ◌++◌, Option, Some, None, Result, Ok, Err, codes}
+use Rattle.std.specs.Prelude.{ℕ, zero, suc, Bool, true, false, not, ◌&&◌, ◌||◌, ◌==◌, if◌then◌else◌, List, [], ◌∷◌, ◌++◌, Option, Some, None, Ok, Err, codes}
 use Rattle.std.specs.Str.{bytes_eq}
 use Rattle.cxx_model.specs.declared.fault.FaultText.TheVariants as says
 use Rattle.cxx_model.specs.declared.fault.LeftOut.TheVariants as form
 use Rattle.cxx_model.specs.declared.keyword.TheConstants as keyword
 use Rattle.cxx_model.specs.declared.limits.TheConstants as limits
 use Rattle.cxx_model.specs.declared.options.Options.{Options}
-use Rattle.cxx_model.specs.declared.place.Place.{Place}
 use Rattle.cxx_model.specs.declared.punct.TheConstants as punct
 use Rattle.cxx_model.specs.declared.stop.LimitKind.TheVariants.{Nesting}
 use Rattle.cxx_model.specs.declared.token.TokenKind.{TokenKind}
-use Rattle.cxx_model.specs.declared.token.TokenKind.TheVariants.{Name, Keyword, Punct, Integer, Character, Text, End}
-use Rattle.cxx_model.specs.declared.types.Cv.{Cv}
+use Rattle.cxx_model.specs.declared.token.TokenKind.TheVariants.{Keyword, Text, End}
 use Rattle.cxx_model.specs.Facts.Entities.{has_no_bound}
 use Rattle.cxx_model.specs.Stops.{Answer}
 use Rattle.cxx_model.specs.Text.Lexemes.{Lexeme, first_place, nowhere}
-use Rattle.cxx_model.specs.Types.Trees.{CxxType, reference_to, array_of, qualified}
+use Rattle.cxx_model.specs.Types.Trees.{CxxType, array_of, qualified}
 use Rattle.cxx_reading.specs.declared.specifier.Naming.TheVariants as naming
 use Rattle.cxx_reading.specs.declared.specifier.SpecifierPlace.TheVariants as where_
 use Rattle.cxx_reading.specs.declared.specifier.StorageWord.{StorageWord}
 use Rattle.cxx_reading.specs.declared.specifier.StorageWord.TheVariants as storage
 use Rattle.cxx_reading.specs.Choosing.{is_arithmetic}
-use Rattle.cxx_reading.specs.Declarators.{Specifiers, type_of_specifiers, Layer, Declarator, declared_type, refused_in, is_refused, is_void, is_function_type, is_reference, own_parameters}
+use Rattle.cxx_reading.specs.Declarators.{Specifiers, type_of_specifiers, Declarator, declared_type, refused_in, is_refused, is_void, is_function_type, is_reference, own_parameters}
 use Rattle.cxx_reading.specs.Declaring.{declaring, declare_synonym, declare_function, declare_object, define_object, define_declared}
 use Rattle.cxx_reading.specs.Initializers.{initializer_at}
-use Rattle.cxx_reading.specs.Kinds.{Kinds, Readers}
 use Rattle.cxx_reading.specs.Labels.{label_from}
 use Rattle.cxx_reading.specs.Productions as production
 use Rattle.cxx_reading.specs.Reads.{Reads, Got, Asks, Ahead, Turn, More, Done, ◌>>=◌, got, give, ask, limited, fault_at, looked, taken, kind_ahead, place_ahead, word_ahead, count_ahead, behind, repeat}
 use Rattle.cxx_reading.specs.Specifiers.{specifiers_at, path_of}
-use Rattle.cxx_reading.specs.State.{CxxState, CxxPart, CxxCall, first_state}
+use Rattle.cxx_reading.specs.State.{CxxState, first_state}
 use Rattle.cxx_reading.specs.Syntax.{readers, declarator_at, specified_type}
-use Rattle.cxx_reading.specs.Tokens.{is_punct, is_keyword, is_end, refused, not_built, no_declaration, punct_taken}
+use Rattle.cxx_reading.specs.Tokens.{is_punct, is_keyword, is_end, refused, not_built, no_declaration}
 use Rattle.cxx_reading.specs.Trees.{CxxTree, tree_of}
 
 -- ---- trees
@@ -150,9 +147,9 @@ unfoldable pub function_ended : Bool → Declarator → Reads CxxState (Unit {0}
 function_ended is_first declarator state ahead =
     if ends_declarator (kind_ahead ahead) then got tt state ahead else (
     if is_first && is_some_scope (own_parameters declarator.layers) then (
-      if is_punct punct.LEFT_BRACE (kind_ahead ahead) || is_punct punct.COLON (kind_ahead ahead) then not_built state ahead else (
-      if is_keyword keyword.TRY (kind_ahead ahead) then fault_at (place_ahead ahead) (says.LeftOut form.Exception) state ahead else
-      refused state ahead)) else
+    if is_punct punct.LEFT_BRACE (kind_ahead ahead) || is_punct punct.COLON (kind_ahead ahead) then not_built state ahead else (
+    if is_keyword keyword.TRY (kind_ahead ahead) then fault_at (place_ahead ahead) (says.LeftOut form.Exception) state ahead else
+    refused state ahead)) else
     refused state ahead)
 
 unfoldable pub declared_function : Said → Bool → Declarator → Ahead → Reads CxxState CxxTree
