@@ -1,5 +1,5 @@
 -- What specifiers and declarators say (7.1, 8.3): a type, a name, and what a declarator makes of the type.
-use Rattle.std.specs.Prelude.{ℕ, Bool, true, false, ◌||◌, if◌then◌else◌, ◌==◌, List, [], ◌∷◌, ◌++◌, Option, Some, None}
+use Rattle.std.specs.Prelude.{◌≡◌, ℕ, Bool, true, false, ◌||◌, if◌then◌else◌, ◌==◌, List, [], ◌∷◌, ◌++◌, Option, Some, None}
 use Rattle.cxx_model.specs.declared.base.Base.{Base}
 use Rattle.cxx_model.specs.declared.base.Base.TheVariants as base
 use Rattle.cxx_model.specs.declared.evidence.SubstitutionText.{SubstitutionText}
@@ -7,7 +7,7 @@ use Rattle.cxx_model.specs.declared.evidence.SubstitutionText.TheVariants as tex
 use Rattle.cxx_model.specs.declared.keyword.TheConstants as keyword
 use Rattle.cxx_model.specs.declared.types.Cv.{Cv}
 use Rattle.cxx_model.specs.Text.Lexemes.{Lexeme}
-use Rattle.cxx_model.specs.Types.Trees.{CxxType, fundamental, pointer_to, reference_to, array_of, function_of, qualified, CxxTypes, no_types, type_then, CxxBound, number_bound, with_cv, decayed, adjusted}
+use Rattle.cxx_model.specs.Types.Trees.{CxxType, fundamental, class_type, enumeration, pointer_to, reference_to, array_of, function_of, qualified, type_parameter, specialisation, nested_in, CxxTypes, no_types, type_then, CxxBound, number_bound, with_cv, decayed, adjusted}
 use Rattle.cxx_reading.specs.declared.specifier.CoreWord.{CoreWord}
 use Rattle.cxx_reading.specs.declared.specifier.CoreWord.TheVariants as core
 use Rattle.cxx_reading.specs.declared.specifier.SignWord.{SignWord}
@@ -229,7 +229,7 @@ refused_on (array_layer bound) of =
     None)
 refused_on (function_layer parameters ellipsis scope) of = None
 
-abbrev or_later : Option SubstitutionText → Option SubstitutionText → Option SubstitutionText
+abbrev pub or_later : Option SubstitutionText → Option SubstitutionText → Option SubstitutionText
 or_later (Some why) later = Some why
 or_later None later = later
 
@@ -237,6 +237,35 @@ or_later None later = later
 unfoldable pub refused_in : List Layer → CxxType → Option SubstitutionText
 refused_in [] of = None
 refused_in (layer ∷ layers) of = or_later (refused_in layers of) (refused_on layer (declared_type layers of))
+
+-- Why a whole type is made of what it may not be made of: the first such part, from the type of the specifiers inward.
+abbrev mutual
+  pub forbidden : CxxType → Option SubstitutionText
+  forbidden (fundamental base) = None
+  forbidden (class_type n) = None
+  forbidden (enumeration n) = None
+  forbidden (pointer_to of) = or_later (forbidden of) (if is_reference of then Some text.PointerToReference else None)
+  forbidden (reference_to of) = or_later (forbidden of) (if is_reference of then Some text.ReferenceToReference else (if is_void of then Some text.ReferenceToVoid else None))
+  forbidden (array_of of bound) = or_later (forbidden of) (refused_on (array_layer bound) of)
+  forbidden (function_of result parameters ellipsis cv) = or_later (forbidden result) (forbidden_parameters parameters)
+  forbidden (qualified cv of) = forbidden of
+  forbidden (type_parameter depth index) = None
+  forbidden (specialisation n _) = None
+  forbidden (nested_in of word) = None
+
+  -- 8.3.5: no parameter is void
+  pub forbidden_parameters : CxxTypes → Option SubstitutionText
+  forbidden_parameters no_types = None
+  forbidden_parameters (type_then of others) = or_later (forbidden of) (or_later (if is_void of then Some text.VoidParameter else None) (forbidden_parameters others))
+
+-- the parameters that a layer brings are not forbidden
+abbrev pub HasParts : Layer → Type 0
+HasParts (function_layer parameters ellipsis scope) = forbidden_parameters parameters ≡ None
+HasParts _ = Unit {0}
+
+abbrev pub HaveParts : List Layer → Type 0
+HaveParts [] = Unit {0}
+HaveParts (layer ∷ layers) = HasParts layer × HaveParts layers
 
 abbrev pub is_refused : Option SubstitutionText → Bool
 is_refused None = false

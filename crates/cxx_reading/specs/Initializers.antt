@@ -21,10 +21,10 @@ use Rattle.cxx_model.specs.Stops.{Answer, Stopped, Faulty, Limited, undeclared_a
 use Rattle.cxx_model.specs.Text.Lexemes.{Lexeme}
 use Rattle.cxx_model.specs.Types.Same.{same_type}
 use Rattle.cxx_model.specs.Types.Trees.{CxxType, fundamental, unqualified}
-use Rattle.cxx_meaning.specs.Conversions.Standard.{CxxOperand}
+use Rattle.cxx_meaning.specs.Conversions.Standard.{CxxOperand, CxxStandard}
 use Rattle.cxx_reading.specs.declared.specifier.Naming.TheVariants as naming
 use Rattle.cxx_reading.specs.declared.specifier.SpecifierPlace.TheVariants as where_
-use Rattle.cxx_reading.specs.Choosing.{CxxCandidate, candidates, Rated, rated, CxxChoice, chosen_one, none_viable, ambiguous, choice, is_arithmetic, are_built}
+use Rattle.cxx_reading.specs.Choosing.{viable, CxxCandidate, candidates, Rated, rated, CxxChoice, chosen_one, none_viable, ambiguous, choice, is_arithmetic, are_built}
 use Rattle.cxx_reading.specs.Constants.{literal_at, no_expression, continues, is_member_pointer, begins_operand, begins_unary}
 use Rattle.cxx_reading.specs.Declarators.{Declarator, declared_type, refused_in, is_refused}
 use Rattle.cxx_reading.specs.Declaring.{declaring}
@@ -33,7 +33,7 @@ use Rattle.cxx_reading.specs.Productions as production
 use Rattle.cxx_reading.specs.Reads.{Reads, Asks, Ahead, Turn, More, Done, ◌>>=◌, got, give, ask, limited, fault_at, looked, taken, kind_ahead, place_ahead, word_ahead, behind, repeat}
 use Rattle.cxx_reading.specs.Seen.{Numbered, found, kind_of_found}
 use Rattle.cxx_reading.specs.Specifiers.{specifiers_at, path_of}
-use Rattle.cxx_reading.specs.State.{CxxState, CxxCall}
+use Rattle.cxx_reading.specs.State.{CxxState, CxxCall, CxxRow}
 use Rattle.cxx_reading.specs.Syntax.{readers, declarator_at, specified_type}
 use Rattle.cxx_reading.specs.Tokens.{is_punct, is_keyword, is_name, is_number, is_qualified, token_taken, punct_taken, refused, not_built}
 use Rattle.cxx_reading.specs.Trees.{CxxTree, tree_of}
@@ -83,8 +83,23 @@ call_tree name candidate number arguments from to = tree_of (record (label_from 
   call = Some number;
 }) (converted_each candidate.parameters arguments)
 
-abbrev pub call_record : Lexeme → Rated → List Rated → CxxCall
-call_record name one all = record { place = name.place; candidates = map (λ r. r.candidate.number) all; outcomes = map (λ r. r.outcome) all; chosen = one.candidate.position }
+abbrev present : List (Option CxxStandard) → List CxxStandard
+present [] = []
+present (None ∷ others) = present others
+present (Some one ∷ others) = one ∷ present others
+
+abbrev pub row_of : Rated → CxxRow
+row_of one = record { position = one.candidate.position; parameters = one.candidate.parameters; sequences = present one.sequences }
+
+abbrev pub call_record : Lexeme → List CxxOperand → Rated → List Rated → CxxCall
+call_record name operands one all = record {
+  place = name.place;
+  operands = operands;
+  candidates = map (λ r. r.candidate.number) all;
+  outcomes = map (λ r. r.outcome) all;
+  rows = map row_of (viable all);
+  chosen = one.candidate.position;
+}
 
 abbrev pub with_call : CxxCall → CxxState → CxxState
 with_call call state = record state { calls = state.calls ++ call ∷ [] }
@@ -96,7 +111,7 @@ call_fault place text evidence = Faulty (record { place = place; text = text; ev
 abbrev called : Lexeme → List CxxTree → Ahead → Ahead → Rated → List Rated → CxxState → Answer (CxxTree × CxxState)
 called name arguments from to one all state =
     if is_arithmetic one.candidate.result
-    then Ok (call_tree name one.candidate (length state.calls) arguments from to, with_call (call_record name one all) state)
+    then Ok (call_tree name one.candidate (length state.calls) arguments from to, with_call (call_record name (map operand_of arguments) one all) state)
     else Err (not_built_at name.place)
 
 abbrev called_by : Lexeme → List CxxTree → Ahead → Ahead → List Rated → CxxState → CxxChoice → Answer (CxxTree × CxxState)

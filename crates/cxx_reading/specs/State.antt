@@ -8,14 +8,24 @@ use Rattle.cxx_model.specs.Facts.Conflicts.{Given}
 use Rattle.cxx_model.specs.Facts.Declarations.{CxxGraph, CxxFact, unnamed, scope}
 use Rattle.cxx_model.specs.Facts.Here.{CxxHere}
 use Rattle.cxx_model.specs.Text.Lexemes.{first_place}
+use Rattle.cxx_meaning.specs.Conversions.Standard.{CxxOperand, CxxStandard}
 use Rattle.cxx_reading.specs.Trees.{CxxTree}
 
--- 13.3: a call that was decided: its candidates, by their declarations, which of them are viable, and the chosen one,
--- counted from 1
+-- 13.3.3: what a call keeps of a viable candidate: its position among the candidates, from 1, the types of its
+-- parameters, and the sequences that lead to them
+pub record CxxRow : Type 0 where
+  pub position : ℕ
+  pub parameters : List CxxType
+  pub sequences : List CxxStandard
+
+-- 13.3: A call that was decided: what its arguments are, its candidates by their declarations, whether each is viable, a
+-- row for each that is, and the position of the chosen one.
 pub record CxxCall : Type 0 where
   pub place : Place
+  pub operands : List CxxOperand
   pub candidates : List ℕ
   pub outcomes : List Outcome
+  pub rows : List CxxRow
   pub chosen : ℕ
 
 -- a name that was bound: where it was looked up, and what it means

@@ -5,6 +5,8 @@
 //! equal to them.
 #![tactic(auto)]
 
+mod laws;
 mod specifier;
 
+pub use laws::forbidden_types_are_refused;
 pub use specifier::{CoreWord, Naming, SignWord, SizeWord, SpecifierPlace, StorageWord, TypeWords};
