@@ -7,6 +7,7 @@ use Rattle.cxx_model.specs.declared.place.Place.{Place}
 use Rattle.cxx_model.specs.Facts.Conflicts.{Given}
 use Rattle.cxx_model.specs.Facts.Declarations.{CxxGraph, CxxFact, unnamed, scope}
 use Rattle.cxx_model.specs.Facts.Here.{CxxHere}
+use Rattle.cxx_model.specs.Types.Trees.{CxxType}
 use Rattle.cxx_model.specs.Text.Lexemes.{first_place}
 use Rattle.cxx_meaning.specs.Conversions.Standard.{CxxOperand, CxxStandard}
 use Rattle.cxx_reading.specs.Trees.{CxxTree}
