@@ -16,3 +16,4 @@ pub mod Declaring
 pub mod Choosing
 pub mod Initializers
 pub mod Units
+pub mod TextOrder
