@@ -1,2 +1,4 @@
 mod Rows
 pub mod Forbidden
+pub mod Keeps
+pub mod KeepsSpecifiers

@@ -29,7 +29,7 @@ use Rattle.cxx_reading.specs.Trees.{CxxTree, CxxPath, CxxPathPart}
 
 -- ---- facts
 
-abbrev place_in : Option CxxFact → Place
+abbrev pub place_in : Option CxxFact → Place
 place_in None = nowhere
 place_in (Some fact) = fact.place
 
@@ -52,7 +52,7 @@ added fact state =
 abbrev pub conflicting_at : Place → List ℕ → Place → Stopped
 conflicting_at place word other = Faulty (record { place = place; text = says.ConflictingDeclaration word; evidence = Found other ∷ [] })
 
-abbrev free_by : CxxState → CxxFact → List ℕ → Option ℕ → Answer (Unit {0})
+abbrev pub free_by : CxxState → CxxFact → List ℕ → Option ℕ → Answer (Unit {0})
 free_by state fact word None = Ok tt
 free_by state fact word (Some number) = Err (conflicting_at fact.place word (place_of_fact state.graph number))
 
@@ -80,7 +80,7 @@ word_of (Some token) = token.spelling
 abbrev pub fact_here : CxxState → CxxName → Place → Declares → CxxFact
 fact_here state name place what = record { place = place; scope = state.here.scope; name = name; access = Public; what = what }
 
-abbrev number_id : ℕ → FactId
+abbrev pub number_id : ℕ → FactId
 number_id number = record { 0 = number }
 
 abbrev pub is_object : Declares → Bool
@@ -121,7 +121,7 @@ declare_function name of state = declare (fact_here state (spelled name.spelling
 abbrev pub object_here : CxxState → CxxName → CxxType → Declares
 object_here state name of = facts.object of member.Free false None (first_object (declared_here state name))
 
-abbrev undefined_by : CxxState → Place → List ℕ → Option ℕ → Answer (Unit {0})
+abbrev pub undefined_by : CxxState → Place → List ℕ → Option ℕ → Answer (Unit {0})
 undefined_by state place word None = Ok tt
 undefined_by state place word (Some number) = Err (conflicting_at place word (place_of_fact state.graph number))
 
@@ -136,7 +136,7 @@ with_definition number state = record state { defined = state.defined ++ number 
 unfoldable pub declare_object : Lexeme → CxxType → Asks CxxState ℕ
 declare_object name of state = declare (fact_here state (spelled name.spelling) name.place (object_here state (spelled name.spelling) of)) name.spelling state
 
-abbrev defined_as : ℕ × CxxState → ℕ × CxxState
+abbrev pub defined_as : ℕ × CxxState → ℕ × CxxState
 defined_as answer = (answer.0, with_definition answer.0 answer.1)
 
 -- 3.2: an object is defined, once
@@ -147,7 +147,7 @@ define_object name of state = do
   answer ← added (fact_here state (spelled name.spelling) name.place (object_here state (spelled name.spelling) of)) state
   Ok (defined_as answer)
 
-abbrev declares_by : Option CxxFact → Declares
+abbrev pub declares_by : Option CxxFact → Declares
 declares_by None = facts.synonym (enumeration zero)
 declares_by (Some fact) = fact.what
 
@@ -165,7 +165,7 @@ scope_count graph = length (scope_kinds graph.facts)
 abbrev pub at_scope : ℕ → CxxState → CxxState
 at_scope scope state = record state { here = record state.here { scope = scope } }
 
-abbrev place_of_scope : CxxGraph → ℕ → Place
+abbrev pub place_of_scope : CxxGraph → ℕ → Place
 place_of_scope graph scope = place_in (slice_get (scope_facts graph.facts) scope)
 
 abbrev pub parameters_scope : CxxState → CxxFact
@@ -177,7 +177,7 @@ parameters_scope state = record {
   what = facts.scope (Some (record { 0 = state.here.scope })) scope_kind.Parameters;
 }
 
-abbrev entered_as : ℕ → ℕ × CxxState → ℕ × CxxState
+abbrev pub entered_as : ℕ → ℕ × CxxState → ℕ × CxxState
 entered_as scope answer = (scope, at_scope scope answer.1)
 
 unfoldable pub enter_parameters : Asks CxxState ℕ
@@ -198,11 +198,11 @@ declare_parameter name place of state = do
 
 -- ---- enumerations (7.2)
 
-abbrev is_enumeration : Declares → Bool
+abbrev pub is_enumeration : Declares → Bool
 is_enumeration (facts.enumeration n) = true
 is_enumeration _ = false
 
-abbrev one_more : Bool → ℕ → ℕ
+abbrev pub one_more : Bool → ℕ → ℕ
 one_more true n = suc n
 one_more false n = n
 
@@ -213,7 +213,7 @@ enumeration_count (fact ∷ others) = one_more (is_enumeration fact.what) (enume
 abbrev pub in_enumeration : Option ℕ → CxxState → CxxState
 in_enumeration number state = record state { here = record state.here { enumeration = number } }
 
-abbrev begun_as : ℕ → ℕ × CxxState → ℕ × CxxState
+abbrev pub begun_as : ℕ → ℕ × CxxState → ℕ × CxxState
 begun_as number answer = (number, in_enumeration (Some number) answer.1)
 
 unfoldable pub declare_enumeration : Option Lexeme → Place → Asks CxxState ℕ
@@ -221,7 +221,7 @@ declare_enumeration name place state = do
   answer ← declare (fact_here state (name_of name) place (facts.enumeration (enumeration_count state.graph.facts))) (word_of name) state
   Ok (begun_as (enumeration_count state.graph.facts) answer)
 
-abbrev next_integer : ℤ → ℤ
+abbrev pub next_integer : ℤ → ℤ
 next_integer (pos n) = pos (suc n)
 next_integer (negsuc zero) = pos zero
 next_integer (negsuc (suc n)) = negsuc n
@@ -236,7 +236,7 @@ abbrev pub enumerator_value : Option ℤ → List ℤ → ℤ
 enumerator_value None values = implicit_value values
 enumerator_value (Some value) values = value
 
-abbrev held : Place → Bool → Answer (Unit {0})
+abbrev pub held : Place → Bool → Answer (Unit {0})
 held place true = Ok tt
 held place false = Err (fault place says.ConstantOverflow)
 
@@ -256,10 +256,10 @@ end_enumeration number state = Ok (tt, in_enumeration None state)
 
 -- ---- names that are read
 
-abbrev no_part : CxxPathPart
+abbrev pub no_part : CxxPathPart
 no_part = record { word = []; place = nowhere; arguments = None }
 
-abbrev last_part : List CxxPathPart → CxxPathPart
+abbrev pub last_part : List CxxPathPart → CxxPathPart
 last_part [] = no_part
 last_part (part ∷ []) = part
 last_part (part ∷ next ∷ others) = last_part (next ∷ others)
@@ -274,7 +274,7 @@ kind_here path state = Ok (kind_of_found state.graph (found state.graph state.he
 unfoldable pub type_here : CxxPath → Asks CxxState CxxType
 type_here path state = Ok (type_in (found state.graph state.here.scope (name_in path)), state)
 
-abbrev enumeration_in : List Numbered → Option ℕ
+abbrev pub enumeration_in : List Numbered → Option ℕ
 enumeration_in [] = None
 enumeration_in (one ∷ others) = by one.fact.what (enumeration_in others)
   where
@@ -282,7 +282,7 @@ enumeration_in (one ∷ others) = by one.fact.what (enumeration_in others)
     by (facts.enumeration n) later = Some n
     by _ later = later
 
-abbrev elaborated_by : CxxPathPart → List Numbered → Option ℕ → CxxState → Answer (CxxType × CxxState)
+abbrev pub elaborated_by : CxxPathPart → List Numbered → Option ℕ → CxxState → Answer (CxxType × CxxState)
 elaborated_by part all (Some n) state = Ok (enumeration n, state)
 elaborated_by part [] None state = Err (undeclared_at part.place part.word)
 elaborated_by part (one ∷ others) None state = Err (Faulty (record { place = part.place; text = says.WrongKindOfName part.word; evidence = Found one.fact.place ∷ [] }))

@@ -40,10 +40,10 @@ use Rattle.cxx_reading.specs.Trees.{CxxTree, tree_of}
 
 -- ---- trees
 
-abbrev void_operand : CxxOperand
+abbrev pub void_operand : CxxOperand
 void_operand = record { of = fundamental Void; lvalue = false; constant = constant.No }
 
-abbrev operand_or : Option CxxOperand → CxxOperand
+abbrev pub operand_or : Option CxxOperand → CxxOperand
 operand_or None = void_operand
 operand_or (Some operand) = operand
 
@@ -83,7 +83,7 @@ call_tree name candidate number arguments from to = tree_of (record (label_from 
   call = Some number;
 }) (converted_each candidate.parameters arguments)
 
-abbrev present : List (Option CxxStandard) → List CxxStandard
+abbrev pub present : List (Option CxxStandard) → List CxxStandard
 present [] = []
 present (None ∷ others) = present others
 present (Some one ∷ others) = one ∷ present others
@@ -104,30 +104,30 @@ call_record name operands one all = record {
 abbrev pub with_call : CxxCall → CxxState → CxxState
 with_call call state = record state { calls = state.calls ++ call ∷ [] }
 
-abbrev call_fault : Place → FaultText → List Evidence → Stopped
+abbrev pub call_fault : Place → FaultText → List Evidence → Stopped
 call_fault place text evidence = Faulty (record { place = place; text = text; evidence = evidence })
 
 -- a call that means the chosen function; one that gives no arithmetic value is not read yet
-abbrev called : Lexeme → List CxxTree → Ahead → Ahead → Rated → List Rated → CxxState → Answer (CxxTree × CxxState)
+abbrev pub called : Lexeme → List CxxTree → Ahead → Ahead → Rated → List Rated → CxxState → Answer (CxxTree × CxxState)
 called name arguments from to one all state =
     if is_arithmetic one.candidate.result
     then Ok (call_tree name one.candidate (length state.calls) arguments from to, with_call (call_record name (map operand_of arguments) one all) state)
     else Err (not_built_at name.place)
 
-abbrev called_by : Lexeme → List CxxTree → Ahead → Ahead → List Rated → CxxState → CxxChoice → Answer (CxxTree × CxxState)
+abbrev pub called_by : Lexeme → List CxxTree → Ahead → Ahead → List Rated → CxxState → CxxChoice → Answer (CxxTree × CxxState)
 called_by name arguments from to all state (chosen_one one) = called name arguments from to one all state
 called_by name arguments from to all state (none_viable evidence) = Err (call_fault name.place says.NoViableFunction evidence)
 called_by name arguments from to all state (ambiguous evidence) = Err (call_fault name.place says.AmbiguousCall evidence)
 
-abbrev rated_call : Lexeme → List CxxTree → Ahead → Ahead → CxxState → Result (List Rated) ClassId → Answer (CxxTree × CxxState)
+abbrev pub rated_call : Lexeme → List CxxTree → Ahead → Ahead → CxxState → Result (List Rated) ClassId → Answer (CxxTree × CxxState)
 rated_call name arguments from to state (Ok all) = called_by name arguments from to all state (choice state.graph all)
 rated_call name arguments from to state (Err class) = Err (not_built_at name.place)
 
-abbrev is_function : Declares → Bool
+abbrev pub is_function : Declares → Bool
 is_function (facts.function of member flags defaults first) = true
 is_function _ = false
 
-abbrev are_functions : List Numbered → Bool
+abbrev pub are_functions : List Numbered → Bool
 are_functions [] = true
 are_functions (one ∷ others) = is_function one.fact.what && are_functions others
 
@@ -137,7 +137,7 @@ asked_among name arguments from to all state =
     if not (are_built all) then Err (not_built_at name.place) else
     rated_call name arguments from to state (rated state.graph (map operand_of arguments) all))
 
-abbrev asked_of : Lexeme → List CxxTree → Ahead → Ahead → List Numbered → CxxState → Answer (CxxTree × CxxState)
+abbrev pub asked_of : Lexeme → List CxxTree → Ahead → Ahead → List Numbered → CxxState → Answer (CxxTree × CxxState)
 asked_of name arguments from to [] state = Err (undeclared_at name.place name.spelling)
 asked_of name arguments from to (one ∷ others) state =
     if are_functions (one ∷ others) then asked_among name arguments from to (candidates (one ∷ others)) state else Err (not_built_at name.place)
@@ -154,7 +154,7 @@ assigns n =
     n == punct.EQUALS || (n == punct.PLUS_EQUALS || (n == punct.MINUS_EQUALS || (n == punct.STAR_EQUALS || (n == punct.SLASH_EQUALS || (n == punct.PERCENT_EQUALS ||
     (n == punct.CARET_EQUALS || (n == punct.AMPERSAND_EQUALS || (n == punct.BAR_EQUALS || (n == punct.SHIFT_LEFT_EQUALS || n == punct.SHIFT_RIGHT_EQUALS)))))))))
 
-abbrev goes_on : TokenKind → Bool
+abbrev pub goes_on : TokenKind → Bool
 goes_on (Punct n) = continues n || (assigns n || is_member_pointer n)
 goes_on _ = false
 
@@ -162,7 +162,7 @@ goes_on _ = false
 unfoldable pub operand_ended : CxxTree → Reads CxxState CxxTree
 operand_ended tree state ahead = if goes_on (kind_ahead ahead) then not_built state ahead else got tree state ahead
 
-abbrev name_refused_by : {S A : Type 0} → List Numbered → Reads S A
+abbrev pub name_refused_by : {S A : Type 0} → List Numbered → Reads S A
 name_refused_by [] = λ state ahead. fault_at (place_ahead ahead) (says.UndeclaredName (word_ahead ahead)) state ahead
 name_refused_by (one ∷ others) = not_built
 
@@ -226,7 +226,7 @@ unfoldable pub argument_opened : ℕ → Reads CxxState CxxTree
 argument_opened zero = limited Nesting
 argument_opened (suc room) = argument_by room (argument_opened room)
 
-abbrev begins_keyword : ℕ → Bool
+abbrev pub begins_keyword : ℕ → Bool
 begins_keyword n = begins_operand n || (n == keyword.TYPEID || n == keyword.DYNAMIC_CAST)
 
 -- whether an expression begins ahead
@@ -272,7 +272,7 @@ call_at room = do
   to ← looked
   ask (call_asked name arguments from to)
 
-abbrev called_of : ℕ → Kind → Reads CxxState CxxTree
+abbrev pub called_of : ℕ → Kind → Reads CxxState CxxTree
 called_of room kind.OfType = not_built
 called_of room _ = call_at room
 
@@ -283,7 +283,7 @@ kind_of_name state word = kind_of_found state.graph (found state.graph state.her
 unfoldable pub named_call : ℕ → Reads CxxState CxxTree
 named_call room state ahead = called_of room (kind_of_name state (word_ahead ahead)) state ahead
 
-abbrev begins_call : Ahead → Bool
+abbrev pub begins_call : Ahead → Bool
 begins_call ahead = is_name (kind_ahead ahead) && is_punct punct.LEFT_PARENTHESIS (kind_ahead (behind ahead))
 
 -- what initializes an object, where `inside` reads it behind a bracket, and with room for so many brackets

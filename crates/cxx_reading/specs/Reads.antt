@@ -51,7 +51,7 @@ fault_at place text state ahead = Err (fault place text)
 abbrev pub Asks : Type 0 → Type 0 → Type 0
 Asks S A = S → Answer (A × S)
 
-abbrev answered : {S A : Type 0} → Answer (A × S) → Ahead → Answer (Got S A)
+abbrev pub answered : {S A : Type 0} → Answer (A × S) → Ahead → Answer (Got S A)
 answered (Ok one) ahead = got one.0 one.1 ahead
 answered (Err why) ahead = Err why
 

@@ -34,7 +34,7 @@ declared_in graph scope name = declared_from scope name zero graph.facts
 
 -- ---- outward
 
-abbrev scope_of_option : ℕ → Option CxxFact → ℕ
+abbrev pub scope_of_option : ℕ → Option CxxFact → ℕ
 scope_of_option scope None = scope
 scope_of_option scope (Some fact) = fact.scope
 
@@ -87,7 +87,7 @@ type_named_by (facts.enumeration n) = Some (enumeration n)
 type_named_by (facts.synonym of) = Some of
 type_named_by _ = None
 
-abbrev or_next : Option CxxType → CxxType → CxxType
+abbrev pub or_next : Option CxxType → CxxType → CxxType
 or_next None later = later
 or_next (Some of) later = of
 

@@ -24,7 +24,7 @@ pub data Line : Type 0 where
 
 -- ---- lines
 
-abbrev enumeration_of : ℕ → Declares → List Line
+abbrev pub enumeration_of : ℕ → Declares → List Line
 enumeration_of number (facts.enumeration n) = enumeration_line n number ∷ []
 enumeration_of number _ = []
 
@@ -32,7 +32,7 @@ abbrev pub enumeration_lines : ℕ → List CxxFact → List Line
 enumeration_lines number [] = []
 enumeration_lines number (fact ∷ others) = enumeration_of number fact.what ++ enumeration_lines (suc number) others
 
-abbrev function_of_fact : ℕ → Declares → List Line
+abbrev pub function_of_fact : ℕ → Declares → List Line
 function_of_fact number (facts.function of member flags defaults None) = function_line number ∷ []
 function_of_fact number _ = []
 
@@ -49,7 +49,7 @@ declarators_in (tree_then label children next) =
 abbrev pub declarators_of : CxxTree → List CxxTree
 declarators_of tree = declarators_in (tree_then tree.label tree.children no_trees)
 
-abbrev object_of_fact : CxxTree → ℕ → Option CxxFact → List Line
+abbrev pub object_of_fact : CxxTree → ℕ → Option CxxFact → List Line
 object_of_fact tree number None = []
 object_of_fact tree number (Some fact) = by fact.what
   where
@@ -57,7 +57,7 @@ object_of_fact tree number (Some fact) = by fact.what
     by (facts.object of member is_mutable value first) = object_line tree (first_or number first) ∷ []
     by _ = []
 
-abbrev object_by : List CxxFact → CxxTree → Option ℕ → List Line
+abbrev pub object_by : List CxxFact → CxxTree → Option ℕ → List Line
 object_by all tree None = []
 object_by all tree (Some number) = object_of_fact tree number (slice_get all number)
 
@@ -65,7 +65,7 @@ abbrev pub object_lines : List CxxFact → List CxxTree → List Line
 object_lines all [] = []
 object_lines all (tree ∷ others) = object_by all tree tree.label.target ++ object_lines all others
 
-abbrev part_tree : CxxPart → CxxTree
+abbrev pub part_tree : CxxPart → CxxTree
 part_tree part = part.tree
 
 -- the lines of the plain form, in order
@@ -77,7 +77,7 @@ lines state =
 
 -- ---- numbers
 
-abbrev is_enumerator_of : ℕ → Declares → Bool
+abbrev pub is_enumerator_of : ℕ → Declares → Bool
 is_enumerator_of n (facts.enumerator number value) = nat_eq number n
 is_enumerator_of n _ = false
 
@@ -118,7 +118,7 @@ name_stem (operator_function operator) = codes "op"
 name_stem (conversion_to of) = codes "conv"
 name_stem destructor = []
 
-abbrev stem_of_fact : Option CxxFact → List ℕ
+abbrev pub stem_of_fact : Option CxxFact → List ℕ
 stem_of_fact None = []
 stem_of_fact (Some fact) = name_stem fact.name
 

@@ -33,7 +33,7 @@ use Rattle.cxx_reading.specs.Trees.{CxxTree, tree_of}
 
 -- ---- trees
 
-abbrev storage_text : Option StorageWord → List ℕ
+abbrev pub storage_text : Option StorageWord → List ℕ
 storage_text None = []
 storage_text (Some storage.Auto) = codes "auto"
 storage_text (Some storage.Extern) = codes "extern"
@@ -62,10 +62,10 @@ pub record Said : Type 0 where
   pub is_typedef : Bool
   pub is_extern : Bool
 
-abbrev no_token : Lexeme
+abbrev pub no_token : Lexeme
 no_token = record { kind = End; place = nowhere; spelling = [] }
 
-abbrev token_or : Option Lexeme → Lexeme
+abbrev pub token_or : Option Lexeme → Lexeme
 token_or None = no_token
 token_or (Some token) = token
 
@@ -92,10 +92,10 @@ uninitialized name of state ahead =
     if is_reference of || is_const_type of then fault_at name.place says.NoConversion state ahead else
     got [] state ahead)
 
-abbrev ends_declarator : TokenKind → Bool
+abbrev pub ends_declarator : TokenKind → Bool
 ends_declarator kind = is_punct punct.COMMA kind || is_punct punct.SEMICOLON kind
 
-abbrev one_tree : CxxTree → Reads CxxState (List CxxTree)
+abbrev pub one_tree : CxxTree → Reads CxxState (List CxxTree)
 one_tree tree = give (tree ∷ [])
 
 -- the `=` of an object whose type is arithmetic; that of others is not read yet
@@ -137,7 +137,7 @@ defined_object room said declarator from = do
   to ← looked
   give (declarator_tree false (name_in declarator) (declared_type declarator.layers said.of) number (declarator.parts ++ parts) from to)
 
-abbrev is_some_scope : Option ℕ → Bool
+abbrev pub is_some_scope : Option ℕ → Bool
 is_some_scope None = false
 is_some_scope (Some scope) = true
 
@@ -170,7 +170,7 @@ declared_synonym said declarator from = do
   give (declarator_tree false (name_in declarator) (declared_type declarator.layers said.of) number declarator.parts from to)
 
 -- 3.3.1: a name is declared once its declarator is complete, before what follows is looked at
-abbrev declared_by : ℕ → Said → Bool → Ahead → Declarator → Reads CxxState CxxTree
+abbrev pub declared_by : ℕ → Said → Bool → Ahead → Declarator → Reads CxxState CxxTree
 declared_by room said is_first from declarator =
     if said.is_typedef then declared_synonym said declarator from else (
     if is_function_type (declared_type declarator.layers said.of) then declared_function said is_first declarator from else (
@@ -191,7 +191,7 @@ pub record Listed : Type 0 where
   pub trees : List CxxTree
   pub is_first : Bool
 
-abbrev with_declarator : CxxTree → Listed → Listed
+abbrev pub with_declarator : CxxTree → Listed → Listed
 with_declarator tree so_far = record { trees = so_far.trees ++ tree ∷ []; is_first = false }
 
 unfoldable pub declarator_ended : Listed → CxxTree → Reads CxxState (Turn Listed (List CxxTree))
@@ -203,16 +203,16 @@ declarator_ended so_far tree state ahead =
 unfoldable pub declarator_step : ℕ → Said → Listed → Reads CxxState (Turn Listed (List CxxTree))
 declarator_step room said so_far = init_declarator_at room said so_far.is_first >>= declarator_ended so_far
 
-abbrev give_trees : Listed → Reads CxxState (List CxxTree)
+abbrev pub give_trees : Listed → Reads CxxState (List CxxTree)
 give_trees so_far = give so_far.trees
 
-abbrev no_declarators : Listed
+abbrev pub no_declarators : Listed
 no_declarators = record { trees = []; is_first = true }
 
 unfoldable pub declarators_at : ℕ → Said → Reads CxxState (List CxxTree)
 declarators_at room said state ahead = repeat (declarator_step room said) give_trees (count_ahead ahead) no_declarators state ahead
 
-abbrev is_some_storage : Option StorageWord → Bool
+abbrev pub is_some_storage : Option StorageWord → Bool
 is_some_storage None = false
 is_some_storage (Some word) = true
 
@@ -221,11 +221,11 @@ unfoldable pub nothing_declared : Specifiers → Reads CxxState (List CxxTree)
 nothing_declared specifiers state ahead =
     if specifiers.is_enumeration && not (is_some_storage specifiers.storage) then got [] state (behind ahead) else refused state ahead
 
-abbrev is_typedef_word : Option StorageWord → Bool
+abbrev pub is_typedef_word : Option StorageWord → Bool
 is_typedef_word (Some storage.Typedef) = true
 is_typedef_word _ = false
 
-abbrev is_extern_word : Option StorageWord → Bool
+abbrev pub is_extern_word : Option StorageWord → Bool
 is_extern_word (Some storage.Extern) = true
 is_extern_word _ = false
 
@@ -256,10 +256,10 @@ abbrev pub empty_tree : Ahead → CxxTree
 empty_tree from = tree_of (label_from production.empty_declaration [] from (behind from)) []
 
 -- 7.3, 7.4, clause 14: a keyword with which another declaration begins
-abbrev begins_another : ℕ → Bool
+abbrev pub begins_another : ℕ → Bool
 begins_another n = n == keyword.ASM || (n == keyword.EXPORT || (n == keyword.NAMESPACE || (n == keyword.USING || n == keyword.TEMPLATE)))
 
-abbrev another_ahead : TokenKind → Bool
+abbrev pub another_ahead : TokenKind → Bool
 another_ahead (Keyword n) = begins_another n
 another_ahead _ = false
 
@@ -271,14 +271,14 @@ plain_declaration_at room counts_as_extern state ahead =
 
 -- ---- linkage (7.5)
 
-abbrev is_text : TokenKind → Bool
+abbrev pub is_text : TokenKind → Bool
 is_text Text = true
 is_text _ = false
 
 abbrev pub is_linkage : Ahead → Bool
 is_linkage ahead = is_keyword keyword.EXTERN (kind_ahead ahead) && is_text (kind_ahead (behind ahead))
 
-abbrev is_language : List ℕ → Bool
+abbrev pub is_language : List ℕ → Bool
 is_language spelling = bytes_eq spelling (codes "\"C\"") || bytes_eq spelling (codes "\"C++\"")
 
 -- `extern` and the name of a language, once more; it answers whether a brace follows
@@ -303,13 +303,13 @@ linkage_list inside = do
 unfoldable pub linked_one : ℕ → Reads CxxState (List CxxTree)
 linked_one room = plain_declaration_at room true >>= one_tree
 
-abbrev linked_by : ℕ → Reads CxxState (List CxxTree) → Reads CxxState (List CxxTree)
+abbrev pub linked_by : ℕ → Reads CxxState (List CxxTree) → Reads CxxState (List CxxTree)
 linked_by room inside state ahead = if is_punct punct.LEFT_BRACE (kind_ahead ahead) then linkage_list inside state ahead else linked_one room state ahead
 
-abbrev linked_tree : Ahead → List CxxTree → Reads CxxState CxxTree
+abbrev pub linked_tree : Ahead → List CxxTree → Reads CxxState CxxTree
 linked_tree from trees = looked >>= λ to. give (linkage_tree trees from to)
 
-abbrev linkage_by : ℕ → Reads CxxState (List CxxTree) → Ahead → Bool → Reads CxxState CxxTree
+abbrev pub linkage_by : ℕ → Reads CxxState (List CxxTree) → Ahead → Bool → Reads CxxState CxxTree
 linkage_by room inside from true = linked_by room inside >>= linked_tree from
 linkage_by room inside from false = plain_declaration_at room false
 
@@ -332,10 +332,10 @@ declaration_at room = declaration_by room (linkage_opened room)
 
 -- ---- the unit
 
-abbrev with_part : CxxTree → CxxState → CxxState
+abbrev pub with_part : CxxTree → CxxState → CxxState
 with_part tree state = record state { parts = state.parts ++ record { tree = tree; scope = zero; uses = state.uses } ∷ []; uses = [] }
 
-abbrev part_added : CxxTree → Asks CxxState (Unit {0})
+abbrev pub part_added : CxxTree → Asks CxxState (Unit {0})
 part_added tree state = Ok (tt, with_part tree state)
 
 unfoldable pub unit_step : Unit {0} → Reads CxxState (Turn (Unit {0}) (Unit {0}))
@@ -348,7 +348,7 @@ pub record CxxReading : Type 0 where
   pub options : Options
   pub state : CxxState
 
-abbrev read_as : Options → Answer (Got CxxState (Unit {0})) → Answer CxxReading
+abbrev pub read_as : Options → Answer (Got CxxState (Unit {0})) → Answer CxxReading
 read_as options (Ok one) = Ok (record { options = options; state = one.state })
 read_as options (Err why) = Err why
 
