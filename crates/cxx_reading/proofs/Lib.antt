@@ -2,3 +2,4 @@ mod Rows
 pub mod Forbidden
 pub mod Keeps
 pub mod KeepsSpecifiers
+pub mod KeepsShapes
