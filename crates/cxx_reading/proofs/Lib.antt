@@ -3,3 +3,4 @@ pub mod Forbidden
 pub mod Keeps
 pub mod KeepsSpecifiers
 pub mod KeepsShapes
+pub mod KeepsSyntax
