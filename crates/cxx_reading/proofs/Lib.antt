@@ -4,3 +4,4 @@ pub mod Keeps
 pub mod KeepsSpecifiers
 pub mod KeepsShapes
 pub mod KeepsSyntax
+pub mod Bound

@@ -17,3 +17,4 @@ pub mod Choosing
 pub mod Initializers
 pub mod Units
 pub mod TextOrder
+pub mod Bound
