@@ -95,3 +95,103 @@ added_keeps fact state = by (nat_eq (length state.graph.facts + length state.gra
     by : (b : Bool) → KeptBy Grown state (if b then Err (Limited Facts) else Ok (length state.graph.facts, with_fact fact state))
     by true = keeps_refusal _
     by false = keeps_answer _ (grown_by state (with_fact fact state) (fact ∷ []) refl refl)
+
+declare_keeps : (fact : CxxFact) (word : List ℕ) → Answers Grown (declare fact word)
+unfolding declare
+declare_keeps fact word state = by_then state (free state fact word) (λ is_free. added fact state) (λ is_free. added_keeps fact state)
+
+synonym_keeps : (name : Lexeme) (of : CxxType) → Answers Grown (declare_synonym name of)
+unfolding declare_synonym
+synonym_keeps name of state = declare_keeps _ _ state
+
+function_answer_keeps : (name : Lexeme) (of : CxxType) → Answers Grown (declare_function name of)
+unfolding declare_function
+function_answer_keeps name of state = declare_keeps _ _ state
+
+object_keeps : (name : Lexeme) (of : CxxType) → Answers Grown (declare_object name of)
+unfolding declare_object
+object_keeps name of state = declare_keeps _ _ state
+
+defined_answer : (state : CxxState) (answer : ℕ × CxxState) → Grown state answer.1 → Grown state (with_definition answer.0 answer.1)
+defined_answer state answer grown = grown_is_kept.later state answer.1 (with_definition answer.0 answer.1) grown (unchanged answer.1 (with_definition answer.0 answer.1) refl refl)
+
+define_keeps : (name : Lexeme) (of : CxxType) → Answers Grown (define_object name of)
+unfolding define_object
+define_keeps name of state =
+    let fact = fact_here state (spelled name.spelling) name.place (object_here state (spelled name.spelling) of) in
+    by_then state (free state fact name.spelling) _ (λ is_free. by_then state (undefined state name.place name.spelling (length state.graph.facts) fact.what) _ (λ is_first. by_answer state _ (added_keeps fact state) (λ answer grown. keeps_answer (defined_as answer) (defined_answer state answer grown))))
+
+define_later_keeps : (name : Lexeme) (number : ℕ) → Answers Grown (define_declared name number)
+unfolding define_declared
+define_later_keeps name number state = by_then state _ _ (λ is_first. keeps_answer (tt, with_definition number state) (unchanged state (with_definition number state) refl refl))
+
+-- what else an answer changes
+turned : (state : CxxState) (old new : CxxState) → Grown state old → new.graph.facts ≡ old.graph.facts → new.calls ≡ old.calls → Grown state new
+turned state old new grown facts calls = grown_is_kept.later state old new grown (unchanged old new facts calls)
+
+enter_keeps : Answers Grown enter_parameters
+unfolding enter_parameters
+enter_keeps state = by_answer state _ (added_keeps _ state) (λ answer grown. keeps_answer (entered_as (scope_count state.graph) answer) (turned state answer.1 (entered_as (scope_count state.graph) answer).1 grown refl refl))
+
+leave_keeps : Answers Grown leave_parameters
+unfolding leave_parameters
+leave_keeps state = keeps_answer _ (unchanged state _ refl refl)
+
+parameter_answer_keeps : (name : Option Lexeme) (place : Place) (of : CxxType) → Answers Grown (declare_parameter name place of)
+unfolding declare_parameter
+parameter_answer_keeps name place of state = by_answer state _ (declare_keeps _ _ state) (λ answer grown. keeps_answer (tt, answer.1) grown)
+
+enumeration_answer_keeps : (name : Option Lexeme) (place : Place) → Answers Grown (declare_enumeration name place)
+unfolding declare_enumeration
+enumeration_answer_keeps name place state = by_answer state _ (declare_keeps _ _ state) (λ answer grown. keeps_answer (begun_as (enumeration_count state.graph.facts) answer) (turned state answer.1 (begun_as (enumeration_count state.graph.facts) answer).1 grown refl refl))
+
+value_answer_keeps : (number : ℕ) (name : Lexeme) (value : ℤ) → Answers Grown (declare_value number name value)
+unfolding declare_value
+value_answer_keeps number name value state =
+    let fact = fact_here state (spelled name.spelling) name.place (facts.enumerator number value) in
+    by_then state (free state fact name.spelling) _ (λ is_free. by_then state (held name.place (one_holds (values_in number state.graph.facts ++ value ∷ []))) _ (λ is_held. by_answer state _ (added_keeps fact state) (λ answer grown. keeps_answer (tt, answer.1) grown)))
+
+enumerator_answer_keeps : (number : ℕ) (name : Lexeme) (value : Option ℤ) → Answers Grown (declare_enumerator number name value)
+unfolding declare_enumerator
+enumerator_answer_keeps number name value state = value_answer_keeps number name _ state
+
+enumerated_keeps : (number : ℕ) → Answers Grown (end_enumeration number)
+unfolding end_enumeration
+enumerated_keeps number state = keeps_answer _ (unchanged state _ refl refl)
+
+kind_keeps : (path : CxxPath) → Answers Grown (kind_here path)
+unfolding kind_here
+kind_keeps path state = keeps_answer _ (unchanged state state refl refl)
+
+type_keeps : (path : CxxPath) → Answers Grown (type_here path)
+unfolding type_here
+type_keeps path state = keeps_answer _ (unchanged state state refl refl)
+
+elaborated_by_keeps : (part : CxxPathPart) (all : List Numbered) (number : Option ℕ) (state : CxxState) → KeptBy Grown state (elaborated_by part all number state)
+elaborated_by_keeps part all (Some n) state = keeps_answer _ (unchanged state state refl refl)
+elaborated_by_keeps part [] None state = keeps_refusal _
+elaborated_by_keeps part (one ∷ others) None state = keeps_refusal _
+
+elaborated_answer_keeps : (path : CxxPath) → Answers Grown (elaborated_here path)
+unfolding elaborated_here
+elaborated_answer_keeps path state = elaborated_by_keeps (last_part path.parts) (found_types state.graph state.here.scope (name_in path)) (enumeration_in (found_types state.graph state.here.scope (name_in path))) state
+
+constant_answer_keeps : (tree : CxxTree) → Answers Grown (constant_here tree)
+unfolding constant_here
+constant_answer_keeps tree state = keeps_answer _ (unchanged state state refl refl)
+
+-- every answer to a reader keeps what stands
+pub declaring_keeps : (room : ℕ) → KindsKeep Grown (declaring room)
+unfolding declaring
+declaring_keeps room = record {
+  kind = kind_keeps;
+  type_named = type_keeps;
+  elaborated = elaborated_answer_keeps;
+  enumeration = enumeration_answer_keeps;
+  enumerator = enumerator_answer_keeps;
+  enumerated = enumerated_keeps;
+  constant = constant_answer_keeps;
+  enter_parameters = enter_keeps;
+  parameter = parameter_answer_keeps;
+  leave_parameters = leave_keeps;
+}
