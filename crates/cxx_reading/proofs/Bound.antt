@@ -195,3 +195,86 @@ declaring_keeps room = record {
   parameter = parameter_answer_keeps;
   leave_parameters = leave_keeps;
 }
+
+-- ---- a call
+
+one_more_call : (state : CxxState) (call : CxxCall) → IsBestCall (with_call call state) call → (calls : List CxxCall) → AllByRecursion (IsBestCall (with_call call state)) calls → AllByRecursion (IsBestCall (with_call call state)) (calls ++ call ∷ [])
+one_more_call state call best [] all = (best, tt)
+one_more_call state call best (first ∷ calls) all = (all.0, one_more_call state call best calls all.1)
+
+call_added : (state : CxxState) (call : CxxCall) → IsBestCall (with_call call state) call → Grown state (with_call call state)
+call_added state call best = record {
+  later = [];
+  facts = sym (append-nil state.graph.facts);
+  calls = λ all. one_more_call state call best state.calls (each_widened state (with_call call state) [] (sym (append-nil state.graph.facts)) state.calls all);
+}
+
+called_keeps : (state : CxxState) (name : Lexeme) (arguments : List CxxTree) (from to : Ahead) (scope : ℕ) (word : List ℕ) (all : List Rated) (one : Rated)
+    → rated state.graph (map operand_of arguments) (candidates (found state.graph scope (spelled word))) ≡ Ok all → chosen state.graph (viable all) ≡ Some one
+    → KeptBy Grown state (called name arguments from to one all state)
+unfolding chosen
+called_keeps state name arguments from to scope word all one rated_so chose = by (is_arithmetic one.candidate.result)
+  where
+    call : CxxCall
+    call = call_record name (map operand_of arguments) one all
+
+    best : IsBestCall (with_call call state) call
+    best = record {
+      before = state.graph;
+      later = [];
+      stands = sym (append-nil state.graph.facts);
+      scope = scope;
+      word = word;
+      all = all;
+      rated_so = rated_so;
+      meant = one;
+      best = best_is_best position_of (beats state.graph) (viable all) one chose;
+      chosen = refl;
+      candidates_are = refl;
+      outcomes_are = refl;
+      rows_are = refl;
+    }
+
+    by : (b : Bool) → KeptBy Grown state (if b then Ok (call_tree name one.candidate (length state.calls) arguments from to, with_call call state) else Err (not_built_at name.place))
+    by true = keeps_answer _ (call_added state call best)
+    by false = keeps_refusal _
+
+called_by_keeps : (state : CxxState) (name : Lexeme) (arguments : List CxxTree) (from to : Ahead) (scope : ℕ) (word : List ℕ) (all contenders : List Rated) (one : Option Rated)
+    → rated state.graph (map operand_of arguments) (candidates (found state.graph scope (spelled word))) ≡ Ok all → chosen state.graph (viable all) ≡ one
+    → KeptBy Grown state (called_by name arguments from to all state (choice_by state.graph all contenders one))
+called_by_keeps state name arguments from to scope word all contenders (Some one) rated_so chose = called_keeps state name arguments from to scope word all one rated_so chose
+called_by_keeps state name arguments from to scope word all [] None rated_so chose = keeps_refusal _
+called_by_keeps state name arguments from to scope word all (one ∷ others) None rated_so chose = keeps_refusal _
+
+rated_call_keeps : (state : CxxState) (name : Lexeme) (arguments : List CxxTree) (from to : Ahead) (scope : ℕ) (word : List ℕ) (answer : Result (List Rated) ClassId)
+    → rated state.graph (map operand_of arguments) (candidates (found state.graph scope (spelled word))) ≡ answer
+    → KeptBy Grown state (rated_call name arguments from to state answer)
+unfolding choice
+rated_call_keeps state name arguments from to scope word (Ok all) rated_so = called_by_keeps state name arguments from to scope word all (viable all) (chosen state.graph (viable all)) rated_so refl
+rated_call_keeps state name arguments from to scope word (Err class) rated_so = keeps_refusal _
+
+asked_among_keeps : (state : CxxState) (name : Lexeme) (arguments : List CxxTree) (from to : Ahead) (scope : ℕ) (word : List ℕ)
+    → KeptBy Grown state (asked_among name arguments from to (candidates (found state.graph scope (spelled word))) state)
+unfolding asked_among
+asked_among_keeps state name arguments from to scope word = by (nat_lt limits.MOST_CANDIDATES (length all)) (not (are_built all))
+  where
+    all : List CxxCandidate
+    all = candidates (found state.graph scope (spelled word))
+
+    by : (b c : Bool) → KeptBy Grown state (if b then Err (Limited Candidates) else (if c then Err (not_built_at name.place) else rated_call name arguments from to state (rated state.graph (map operand_of arguments) all)))
+    by true c = keeps_refusal _
+    by false true = keeps_refusal _
+    by false false = rated_call_keeps state name arguments from to scope word (rated state.graph (map operand_of arguments) all) refl
+
+asked_of_keeps : (state : CxxState) (name : Lexeme) (arguments : List CxxTree) (from to : Ahead) (scope : ℕ) (word : List ℕ) (declared : List Numbered) → found state.graph scope (spelled word) ≡ declared
+    → KeptBy Grown state (asked_of name arguments from to declared state)
+asked_of_keeps state name arguments from to scope word [] is = keeps_refusal _
+asked_of_keeps state name arguments from to scope word (one ∷ others) is = by (are_functions (one ∷ others))
+  where
+    by : (b : Bool) → KeptBy Grown state (if b then asked_among name arguments from to (candidates (one ∷ others)) state else Err (not_built_at name.place))
+    by true = subst (λ declared. KeptBy Grown state (asked_among name arguments from to (candidates declared) state)) is (asked_among_keeps state name arguments from to scope word)
+    by false = keeps_refusal _
+
+pub call_keeps : (name : Lexeme) (arguments : List CxxTree) (from to : Ahead) → Answers Grown (call_asked name arguments from to)
+unfolding call_asked
+call_keeps name arguments from to state = asked_of_keeps state name arguments from to state.here.scope name.spelling (found state.graph state.here.scope (spelled name.spelling)) refl
