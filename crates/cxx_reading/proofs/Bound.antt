@@ -1,28 +1,25 @@
 -- Each call of a whole reading means the best of the viable functions of its name that are declared before it.
-use Rattle.std.proofs.Common.{◌≡◌, ℕ, zero, suc, ◌+◌, Bool, true, false, List, [], ◌∷◌, ◌++◌, length, Option, Some, None, Result, Ok, Err, refl, sym, ap, subst, ◌∙◌}
+use Rattle.std.proofs.Common.{◌≡◌, ℕ, ◌+◌, Bool, true, false, List, [], ◌∷◌, ◌++◌, length, Option, Some, None, Result, Ok, Err, refl, sym, ap, subst, ◌∙◌}
 use Rattle.std.specs.Prelude.{if◌then◌else◌, ℤ, nat_eq, nat_lt, map, not}
-use Rattle.std.specs.List.{AllByRecursion, slice_get}
+use Rattle.std.specs.List.{AllByRecursion}
 use Rattle.std.proofs.lemmas.List.{append-nil, append_assoc}
 use Rattle.cxx_model.specs.declared.limits.TheConstants as limits
 use Rattle.cxx_model.specs.declared.place.Place.{Place}
 use Rattle.cxx_model.specs.declared.stop.LimitKind.TheVariants.{Candidates, Facts}
 use Rattle.cxx_model.specs.declared.types.ClassId.{ClassId}
-use Rattle.cxx_model.specs.Facts.Conflicts.{first_conflict, defined_before}
 use Rattle.cxx_model.specs.Facts.Declarations.{CxxFact, CxxGraph, Declares, spelled}
 use Rattle.cxx_model.specs.Facts.Declarations as facts
-use Rattle.cxx_model.specs.Facts.Entities.{entity_by}
-use Rattle.cxx_model.specs.Stops.{Answer, Stopped, Limited, ◌>>=◌, not_built_at}
+use Rattle.cxx_model.specs.Stops.{Answer, Limited, ◌>>=◌, not_built_at}
 use Rattle.cxx_model.specs.Text.Lexemes.{Lexeme}
 use Rattle.cxx_model.specs.Types.Integral.{one_holds}
 use Rattle.cxx_model.specs.Types.Trees.{CxxType}
 use Rattle.cxx_meaning.specs.Conversions.Enumerations.{values_in}
-use Rattle.cxx_meaning.specs.Conversions.Standard.{CxxOperand}
 use Rattle.cxx_model.proofs.Champion.{best_is_best}
 use Rattle.cxx_reading.specs.Bound.{IsBestCall, AreBestCalls}
-use Rattle.cxx_reading.specs.Choosing.{CxxCandidate, candidates, Rated, rated, viable, chosen, beats, position_of, CxxChoice, chosen_one, none_viable, ambiguous, choice_by, choice, is_arithmetic, are_built}
-use Rattle.cxx_reading.specs.Declaring.{with_fact, added, free_by, free, declare, declare_synonym, declare_function, declare_object, define_object, define_declared, undefined_by, undefined, defined_as, with_definition, enter_parameters, entered_as, leave_parameters, declare_parameter, declare_enumeration, begun_as, declare_enumerator, declare_value, held, end_enumeration, kind_here, type_here, elaborated_here, elaborated_by, enumeration_in, last_part, name_in, constant_here, declaring, most_facts, place_of_fact, fact_here, object_here, function_here, parameters_scope, parameter_object, name_of, word_of, scope_count, enumeration_count, enumerator_value}
-use Rattle.cxx_reading.specs.Initializers.{operand_of, row_of, call_record, with_call, call_tree, called, called_by, rated_call, are_functions, asked_among, asked_of, call_asked}
-use Rattle.cxx_reading.specs.Reads.{Ahead, Asks}
+use Rattle.cxx_reading.specs.Choosing.{CxxCandidate, candidates, Rated, rated, viable, chosen, beats, position_of, choice_by, choice, is_arithmetic, are_built}
+use Rattle.cxx_reading.specs.Declaring.{with_fact, added, free, declare, declare_synonym, declare_function, declare_object, define_object, define_declared, undefined, defined_as, with_definition, enter_parameters, entered_as, leave_parameters, declare_parameter, declare_enumeration, begun_as, declare_enumerator, declare_value, held, end_enumeration, kind_here, type_here, elaborated_here, elaborated_by, enumeration_in, last_part, name_in, constant_here, declaring, most_facts, fact_here, object_here, scope_count, enumeration_count}
+use Rattle.cxx_reading.specs.Initializers.{operand_of, call_record, with_call, call_tree, called, called_by, rated_call, are_functions, asked_among, asked_of, call_asked}
+use Rattle.cxx_reading.specs.Reads.{Ahead}
 use Rattle.cxx_reading.specs.Seen.{Numbered, found, found_types}
 use Rattle.cxx_reading.specs.State.{CxxState, CxxCall}
 use Rattle.cxx_reading.specs.Trees.{CxxTree, CxxPath, CxxPathPart}
@@ -100,28 +97,28 @@ declare_keeps : (fact : CxxFact) (word : List ℕ) → Answers Grown (declare fa
 unfolding declare
 declare_keeps fact word state = by_then state (free state fact word) (λ is_free. added fact state) (λ is_free. added_keeps fact state)
 
-synonym_keeps : (name : Lexeme) (of : CxxType) → Answers Grown (declare_synonym name of)
+pub synonym_keeps : (name : Lexeme) (of : CxxType) → Answers Grown (declare_synonym name of)
 unfolding declare_synonym
 synonym_keeps name of state = declare_keeps _ _ state
 
-function_answer_keeps : (name : Lexeme) (of : CxxType) → Answers Grown (declare_function name of)
+pub function_answer_keeps : (name : Lexeme) (of : CxxType) → Answers Grown (declare_function name of)
 unfolding declare_function
 function_answer_keeps name of state = declare_keeps _ _ state
 
-object_keeps : (name : Lexeme) (of : CxxType) → Answers Grown (declare_object name of)
+pub object_keeps : (name : Lexeme) (of : CxxType) → Answers Grown (declare_object name of)
 unfolding declare_object
 object_keeps name of state = declare_keeps _ _ state
 
 defined_answer : (state : CxxState) (answer : ℕ × CxxState) → Grown state answer.1 → Grown state (with_definition answer.0 answer.1)
 defined_answer state answer grown = grown_is_kept.later state answer.1 (with_definition answer.0 answer.1) grown (unchanged answer.1 (with_definition answer.0 answer.1) refl refl)
 
-define_keeps : (name : Lexeme) (of : CxxType) → Answers Grown (define_object name of)
+pub define_keeps : (name : Lexeme) (of : CxxType) → Answers Grown (define_object name of)
 unfolding define_object
 define_keeps name of state =
     let fact = fact_here state (spelled name.spelling) name.place (object_here state (spelled name.spelling) of) in
     by_then state (free state fact name.spelling) _ (λ is_free. by_then state (undefined state name.place name.spelling (length state.graph.facts) fact.what) _ (λ is_first. by_answer state _ (added_keeps fact state) (λ answer grown. keeps_answer (defined_as answer) (defined_answer state answer grown))))
 
-define_later_keeps : (name : Lexeme) (number : ℕ) → Answers Grown (define_declared name number)
+pub define_later_keeps : (name : Lexeme) (number : ℕ) → Answers Grown (define_declared name number)
 unfolding define_declared
 define_later_keeps name number state = by_then state _ _ (λ is_first. keeps_answer (tt, with_definition number state) (unchanged state (with_definition number state) refl refl))
 

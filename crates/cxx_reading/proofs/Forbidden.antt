@@ -1,10 +1,9 @@
 -- A declared type is forbidden exactly where a layer of its declarator is refused, if its parts are not.
-use Rattle.std.specs.Prelude.{ℕ, Bool, true, false, ◌≡◌, refl, List, [], ◌∷◌, Option, Some, None, ◌||◌, if◌then◌else◌}
-use Rattle.std.proofs.Common.{rules}
+use Rattle.std.specs.Prelude.{Bool, true, false, ◌≡◌, refl, List, [], ◌∷◌, Option, Some, None, if◌then◌else◌}
 use Rattle.cxx_model.specs.declared.evidence.SubstitutionText.{SubstitutionText}
 use Rattle.cxx_model.specs.declared.types.Cv.{Cv}
-use Rattle.cxx_model.specs.Types.Trees.{CxxType, fundamental, class_type, enumeration, pointer_to, reference_to, array_of, function_of, qualified, type_parameter, specialisation, nested_in, CxxTypes, no_types, type_then, with_cv, layered, any_cv}
-use Rattle.cxx_reading.specs.Declarators.{Layer, pointer_layer, reference_layer, array_layer, function_layer, layer_on, declared_type, refused_on, refused_in, forbidden, forbidden_parameters, is_reference, or_later, HasParts, HaveParts}
+use Rattle.cxx_model.specs.Types.Trees.{CxxType, pointer_to, qualified, layered, any_cv}
+use Rattle.cxx_reading.specs.Declarators.{Layer, pointer_layer, reference_layer, array_layer, function_layer, layer_on, declared_type, refused_on, refused_in, forbidden, or_later, HasParts, HaveParts}
 
 -- cv words forbid nothing
 layered_forbids : (cv : Cv) (of : CxxType) → forbidden (layered cv of) ≡ forbidden of

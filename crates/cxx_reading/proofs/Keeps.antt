@@ -1,9 +1,7 @@
 -- What readers keep of the state: a relation between the state before and after, which holds of each reader where it
 -- holds of each answer to a question.
-use Rattle.std.specs.Prelude.{ℕ, zero, suc, Bool, true, false, ◌≡◌, refl, List, [], ◌∷◌, Option, Some, None, Result, Ok, Err, if◌then◌else◌}
-use Rattle.cxx_model.specs.declared.fault.FaultText.{FaultText}
+use Rattle.std.specs.Prelude.{ℕ, zero, suc, Bool, true, false, Option, Ok, Err, if◌then◌else◌}
 use Rattle.cxx_model.specs.declared.place.Place.{Place}
-use Rattle.cxx_model.specs.declared.stop.LimitKind.{LimitKind}
 use Rattle.cxx_model.specs.Stops.{Answer, Stopped}
 use Rattle.cxx_model.specs.Text.Lexemes.{Lexeme}
 use Rattle.cxx_model.specs.Types.Trees.{CxxType}
@@ -12,7 +10,7 @@ use Rattle.cxx_reading.specs.declared.specifier.Naming.{Naming}
 use Rattle.cxx_reading.specs.Kinds.{Kinds, Readers}
 use Rattle.cxx_reading.specs.Tokens.{token_taken, punct_taken}
 use Rattle.cxx_reading.specs.Trees.{CxxPath, CxxTree}
-use Rattle.cxx_reading.specs.Reads.{Ahead, Got, Reads, Asks, Turn, More, Done, ◌>>=◌, then_read, got, give, stop, limited, fault_at, ask, answered, go_on, repeat, looked, taken, behind}
+use Rattle.cxx_reading.specs.Reads.{Ahead, Got, Reads, Asks, Turn, More, Done, then_read, got, give, answered, go_on, repeat, looked, taken}
 
 -- it holds of a state and itself, and from one to a third
 pub record IsKept {S : Type 0} (kept : S → S → Type 0) : Type 0 where

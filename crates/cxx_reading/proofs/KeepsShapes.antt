@@ -1,19 +1,18 @@
 -- What the test of shapes keeps of the state.
-use Rattle.std.specs.Prelude.{ℕ, suc, Bool, true, false, not, ◌&&◌, ◌||◌, if◌then◌else◌, ◌==◌, ◌-◌, Option, Some, None, Ok, Err}
+use Rattle.std.specs.Prelude.{ℕ, Bool, true, false, not, ◌&&◌, ◌||◌, ◌==◌}
 use Rattle.cxx_model.specs.declared.keyword.TheConstants as keyword
 use Rattle.cxx_model.specs.declared.punct.TheConstants as punct
-use Rattle.cxx_reading.specs.Declarators.{type_word, TypeWord}
-use Rattle.cxx_reading.specs.Specifiers.{storage_word, is_some_storage, is_of_members, begins_class}
-use Rattle.cxx_reading.specs.Tokens.{is_punct, is_keyword, is_name, is_end, is_qualified, path_ahead}
+use Rattle.cxx_reading.specs.Declarators.{type_word}
+use Rattle.cxx_reading.specs.Tokens.{is_punct, is_keyword, is_name, is_end, is_qualified}
 use Rattle.cxx_model.specs.declared.token.TokenKind.{TokenKind}
 use Rattle.cxx_model.specs.declared.token.TokenKind.TheVariants.{Name, Keyword, Punct, Integer, Character, Text, End}
 use Rattle.cxx_model.specs.declared.tree.Kind.{Kind}
 use Rattle.cxx_model.specs.declared.tree.Kind.TheVariants as kind
 use Rattle.cxx_model.specs.Stops.{Answer}
 use Rattle.cxx_reading.specs.Kinds.{Kinds, Readers}
-use Rattle.cxx_reading.specs.Reads.{Ahead, Got, Reads, More, give, repeat, count_ahead, kind_ahead, behind}
+use Rattle.cxx_reading.specs.Reads.{Ahead, Got, More, give, kind_ahead}
 use Rattle.cxx_reading.specs.Shapes.{opens, closes, is_specifier, is_some_word, is_key, ends_default, returned, bracket_step, give_nothing, brackets_passed, Run, no_type, a_type, surely, key_shape, kind_shape, name_shape, keyword_shape, run_by, run_step, give_ended, run_passed, is_type_kind, begins_by, begins_type, is_abstract_list, Outline, Fits, fits, fits_not, fits_surely, opened_by, prefix_step, give_unqualified, prefix_passed, passed_by, list_shape, suffix_step, give_closed, suffixes_by, declarator_passed, default_step, default_passed, separated, parameter_by, piece_by, piece_step, give_false, parameters_shape}
-use Rattle.cxx_reading.proofs.Keeps.{IsKept, Keeps, KeptIn, keeps_read, keeps_stop, KindsKeep, ReadersKeep, if_in, if_reads, then_in, ask_in, same_in, repeat_keeps, taken_in, looked_in, token_in, give_in}
+use Rattle.cxx_reading.proofs.Keeps.{IsKept, Keeps, KeptIn, keeps_read, keeps_stop, KindsKeep, ReadersKeep, if_in, if_reads, then_in, ask_in, same_in, repeat_keeps, give_in}
 
 pub returned_in : {S A : Type 0} {kept : S → S → Type 0} {state : S} {r : Answer (Got S A)} (ahead : Ahead) → KeptIn kept state r → KeptIn kept state (returned ahead r)
 returned_in ahead (keeps_read one h) = keeps_read (record { value = one.value; state = one.state; rest = ahead }) h

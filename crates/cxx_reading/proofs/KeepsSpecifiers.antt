@@ -1,5 +1,5 @@
 -- What the readers of specifiers keep of the state.
-use Rattle.std.specs.Prelude.{ℕ, Bool, true, false, List, [], ◌∷◌, ◌++◌, Option, Some, None}
+use Rattle.std.specs.Prelude.{ℕ, true, [], ◌∷◌, ◌++◌, Option, Some, None}
 use Rattle.cxx_model.specs.declared.token.TokenKind.{TokenKind}
 use Rattle.cxx_model.specs.declared.token.TokenKind.TheVariants.{Name, Keyword, Punct, Integer, Character, Text, End}
 use Rattle.cxx_model.specs.declared.tree.Kind.{Kind}
@@ -9,12 +9,12 @@ use Rattle.cxx_model.specs.Types.Trees.{enumeration}
 use Rattle.cxx_reading.specs.declared.specifier.SpecifierPlace.{SpecifierPlace}
 use Rattle.cxx_reading.specs.declared.specifier.StorageWord.{StorageWord}
 use Rattle.cxx_reading.specs.declared.specifier.TypeWords.{TypeWords}
-use Rattle.cxx_reading.specs.Declarators.{Specifiers, TypeWord, type_word, with_word, no_specifiers}
+use Rattle.cxx_reading.specs.Declarators.{Specifiers, TypeWord, type_word, with_word}
 use Rattle.cxx_reading.specs.Kinds.{Kinds, Readers}
-use Rattle.cxx_reading.specs.Reads.{Ahead, Reads, More, give, repeat, count_ahead, kind_ahead}
+use Rattle.cxx_reading.specs.Reads.{Ahead, Reads, More, kind_ahead}
 use Rattle.cxx_reading.specs.Specifiers.{elaborated_tree, enumeration_tree, storage_word, storage_step, inline_step, const_step, volatile_step, word_step, worded, named_step, named_by, elaborated_step, defined_step, list_step, key_named_step, key_step, enumeration_step, class_step, other_step, stored_by, worded_by, keyword_step, step_by, specifier_step, typed, specifiers_at}
 use Rattle.cxx_reading.specs.Trees.{CxxPath}
-use Rattle.cxx_reading.proofs.Keeps.{IsKept, Keeps, KeptIn, keeps_read, keeps_stop, KindsKeep, ReadersKeep, if_in, if_reads, then_in, ask_in, same_in, repeat_keeps, taken_in, looked_in, token_in, give_in}
+use Rattle.cxx_reading.proofs.Keeps.{IsKept, Keeps, KeptIn, keeps_stop, KindsKeep, ReadersKeep, if_in, if_reads, then_in, ask_in, same_in, repeat_keeps, taken_in, looked_in, token_in, give_in}
 
 pub storage_keeps : {S : Type 0} {kept : S → S → Type 0} → IsKept kept → (place : SpecifierPlace) (word : StorageWord) (so_far : Specifiers) → Keeps kept (storage_step {S = S} place word so_far)
 unfolding storage_step

@@ -1,37 +1,26 @@
 -- What the readers of declarators, parameters and enumerators keep of the state.
-use Rattle.std.specs.Prelude.{ℕ, zero, suc, ℤ, Bool, true, false, not, ◌&&◌, ◌||◌, ◌==◌, if◌then◌else◌, List, [], ◌∷◌, ◌++◌, Option, Some, None}
-use Rattle.cxx_model.specs.declared.fault.FaultText.TheVariants as says
-use Rattle.cxx_model.specs.declared.fault.LeftOut.TheVariants as form
+use Rattle.std.specs.Prelude.{ℕ, zero, suc, Bool, true, false, not, ◌==◌, List, [], ◌∷◌, ◌++◌, Option, Some, None}
 use Rattle.cxx_model.specs.declared.keyword.TheConstants as keyword
 use Rattle.cxx_model.specs.declared.limits.TheConstants as limits
-use Rattle.cxx_model.specs.declared.place.Place.{Place}
 use Rattle.cxx_model.specs.declared.punct.TheConstants as punct
-use Rattle.cxx_model.specs.declared.stop.LimitKind.TheVariants.{Arguments}
 use Rattle.cxx_model.specs.declared.types.Cv.{Cv}
 use Rattle.cxx_model.specs.Text.Lexemes.{Lexeme}
-use Rattle.cxx_model.specs.Types.Trees.{CxxType, CxxBound, unknown_bound, number_bound, fundamental}
 use Rattle.cxx_reading.specs.declared.specifier.Naming.{Naming}
 use Rattle.cxx_reading.specs.declared.specifier.Naming.TheVariants as naming
 use Rattle.cxx_reading.specs.declared.specifier.SpecifierPlace.TheVariants as where_
 use Rattle.cxx_reading.specs.Constants.{constant_at, literal_tree, literal_by, literal_at, keyword_refused, refused_by, no_expression, begins_unary, is_member_pointer, continues, ends_by, literal_ended, begins_operand}
-use Rattle.cxx_reading.specs.Declarators.{Specifiers, type_of_specifiers, Layer, pointer_layer, reference_layer, array_layer, function_layer, Declarator, no_declarator_yet, outward, is_named, ParameterTypes, adjusted_types, parameter_type, declared_type, refused_in, is_refused, is_void, no_cv, type_word, TypeWord}
-use Rattle.cxx_reading.specs.Labels.{label_from}
-use Rattle.cxx_reading.specs.Productions as production
-use Rattle.cxx_reading.specs.Shapes.{look, past, is_abstract_list, begins_type, parameters_shape}
-use Rattle.cxx_reading.specs.Specifiers.{specifiers_at, with_const, with_volatile, path_of_option, place_or}
-use Rattle.cxx_reading.specs.Tokens.{is_punct, is_keyword, is_name, is_qualified, token_taken, punct_taken, refused, not_built, no_declarator, is_number}
-use Rattle.cxx_reading.specs.Trees.{CxxTree, tree_of}
+use Rattle.cxx_reading.specs.Declarators.{Specifiers, pointer_layer, reference_layer, Declarator, no_declarator_yet, outward, is_named, ParameterTypes, parameter_type}
+use Rattle.cxx_reading.specs.Specifiers.{with_const, with_volatile}
+use Rattle.cxx_reading.specs.Tokens.{is_punct, is_keyword, is_name, is_qualified, no_declarator, is_number}
+use Rattle.cxx_reading.specs.Trees.{CxxTree}
 use Rattle.cxx_model.specs.declared.base.Base.{Base}
-use Rattle.cxx_model.specs.declared.sequence.ConstantKind.{ConstantKind}
-use Rattle.cxx_model.specs.declared.sequence.ConstantKind.TheVariants as constant
 use Rattle.cxx_model.specs.declared.token.TokenKind.{TokenKind}
 use Rattle.cxx_model.specs.declared.token.TokenKind.TheVariants.{Name, Keyword, Punct, Text, Integer, Character, End}
-use Rattle.cxx_model.specs.Text.Spelling.{literal_type, literal_value}
-use Rattle.cxx_meaning.specs.Conversions.Standard.{CxxOperand}
-use Rattle.cxx_reading.specs.Syntax.{is_required, is_never, cv_step, cv_at, bound_by, suffixed, array_part, function_part, array_suffix, exceptions_at, function_suffix, function_by, bracket_suffix, suffix_at, give_declarator, suffixes_at, name_read, named_declarator, name_part, grouped_part, grouped_by, bracket_part, star_part, ampersand_part, declarator_at, pointed_at, referred_at, grouped_at, valued, bound_value, bound_at, some_or_void, specified_type, place_of_declarator, is_refused_parameter, parameter_fits, parameter_tree, with_parameter, with_ellipsis, parameter_at, list_ended, comma_passed, parameter_ended, parameter_step, past_most, parameters_over, no_parameters, some_parameters, turn_result, is_void_list, list_at, parameters_at, no_value, value_at, enumerator_at, enumerator_ended, enumerator_step, enumerators_at, readers_by, readers, Suffixed}
+use Rattle.cxx_model.specs.Text.Spelling.{literal_type}
+use Rattle.cxx_reading.specs.Syntax.{is_required, is_never, cv_step, cv_at, suffixed, array_part, function_part, array_suffix, exceptions_at, function_suffix, function_by, bracket_suffix, suffix_at, give_declarator, suffixes_at, name_read, name_part, grouped_part, grouped_by, bracket_part, star_part, ampersand_part, declarator_at, pointed_at, referred_at, grouped_at, valued, bound_value, bound_at, specified_type, place_of_declarator, is_refused_parameter, parameter_fits, parameter_tree, with_parameter, with_ellipsis, parameter_at, list_ended, comma_passed, parameter_ended, parameter_step, past_most, parameters_over, no_parameters, some_parameters, turn_result, is_void_list, list_at, parameters_at, no_value, value_at, enumerator_at, enumerator_ended, enumerator_step, enumerators_at, readers, Suffixed}
 use Rattle.cxx_reading.specs.Kinds.{Kinds, Readers}
-use Rattle.cxx_reading.specs.Reads.{Ahead, Got, Reads, Turn, More, Done, give, repeat, count_ahead, kind_ahead, word_ahead, behind}
-use Rattle.cxx_reading.proofs.Keeps.{IsKept, Keeps, KeptIn, keeps_read, keeps_stop, KindsKeep, ReadersKeep, if_in, if_reads, then_in, ask_in, same_in, repeat_keeps, taken_in, looked_in, token_in, punct_in, give_in}
+use Rattle.cxx_reading.specs.Reads.{Turn, More, Done, give, kind_ahead, word_ahead, behind}
+use Rattle.cxx_reading.proofs.Keeps.{IsKept, Keeps, keeps_stop, KindsKeep, ReadersKeep, if_in, then_in, ask_in, same_in, repeat_keeps, taken_in, looked_in, token_in, punct_in, give_in}
 use Rattle.cxx_reading.proofs.KeepsShapes.{returned_in, begins_keeps, abstract_keeps, parameters_shape_keeps}
 use Rattle.cxx_reading.proofs.KeepsSpecifiers.{specifiers_keep}
 

@@ -5,3 +5,4 @@ pub mod KeepsSpecifiers
 pub mod KeepsShapes
 pub mod KeepsSyntax
 pub mod Bound
+pub mod KeepsUnits

@@ -2,9 +2,8 @@
 --
 -- Enumerations stand first, by the end of their lists, then functions, by their first declarations, then objects, each
 -- declaration of one in its place. A name has its number by where it stands first in the text.
-use Rattle.std.specs.Prelude.{ℕ, zero, suc, Bool, true, false, not, ◌&&◌, nat_eq, if◌then◌else◌, List, [], ◌∷◌, ◌++◌, map, flat_map, Option, Some, None}
+use Rattle.std.specs.Prelude.{ℕ, zero, suc, Bool, false, nat_eq, if◌then◌else◌, List, [], ◌∷◌, ◌++◌, map, flat_map, Option, Some, None}
 use Rattle.std.specs.List.{slice_get, list_any}
-use Rattle.cxx_model.specs.declared.types.FactId.{FactId}
 use Rattle.cxx_model.specs.Facts.Declarations as facts
 use Rattle.cxx_model.specs.Facts.Declarations.{CxxFact, CxxName, Declares, unnamed, spelled, operator_function, conversion_to, destructor}
 use Rattle.cxx_model.specs.Facts.Entities.{first_or}
@@ -12,8 +11,7 @@ use Rattle.cxx_model.specs.Printing.Names.{printed_name}
 use Rattle.std.specs.Prelude.{codes}
 use Rattle.cxx_reading.specs.Productions as production
 use Rattle.cxx_reading.specs.State.{CxxState, CxxPart}
-use Rattle.cxx_reading.specs.Trees.{CxxTree, CxxTrees, no_trees, tree_then, Label, children_of}
-use Rattle.cxx_reading.specs.Units.{CxxReading}
+use Rattle.cxx_reading.specs.Trees.{CxxTree, CxxTrees, no_trees, tree_then}
 
 -- a line of the plain form: of an enumeration, by its number and that of its declaration; of a function, by its first
 -- declaration; of an object, by the tree of a declarator of it, and its first declaration

@@ -8,5 +8,5 @@
 mod laws;
 mod specifier;
 
-pub use laws::forbidden_types_are_refused;
+pub use laws::{each_call_is_best, forbidden_types_are_refused};
 pub use specifier::{CoreWord, Naming, SignWord, SizeWord, SpecifierPlace, StorageWord, TypeWords};
