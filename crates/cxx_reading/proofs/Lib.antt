@@ -6,3 +6,4 @@ pub mod KeepsShapes
 pub mod KeepsSyntax
 pub mod Bound
 pub mod KeepsUnits
+mod PlainRows

@@ -18,3 +18,5 @@ pub mod Initializers
 pub mod Units
 pub mod TextOrder
 pub mod Bound
+pub mod Words
+pub mod Plain
