@@ -1,0 +1,311 @@
+-- How names are declared (3.3, 3.5, 7.2, 8.3): the conflict, the limit, the fact.
+use Rattle.std.specs.Prelude.{ℕ, zero, suc, ℤ, pos, negsuc, ◌+◌, Bool, true, false, nat_eq, if◌then◌else◌, List, [], ◌∷◌, ◌++◌, length, Option, Some, None, Ok, Err}
+use Rattle.std.specs.List.{slice_get}
+use Rattle.cxx_model.specs.declared.evidence.Evidence.TheVariants.{Found}
+use Rattle.cxx_model.specs.declared.facts.Access.TheVariants.{Public}
+use Rattle.cxx_model.specs.declared.facts.FunctionFlags.{FunctionFlags}
+use Rattle.cxx_model.specs.declared.facts.MemberKind.TheVariants as member
+use Rattle.cxx_model.specs.declared.facts.ScopeKind.TheVariants as scope_kind
+use Rattle.cxx_model.specs.declared.fault.FaultText.TheVariants as says
+use Rattle.cxx_model.specs.declared.place.Place.{Place}
+use Rattle.cxx_model.specs.declared.stop.LimitKind.TheVariants.{Facts}
+use Rattle.cxx_model.specs.declared.tree.Kind.{Kind}
+use Rattle.cxx_model.specs.declared.types.FactId.{FactId}
+use Rattle.cxx_model.specs.Facts.Conflicts.{first_conflict, same_parameters, scope_facts, defined_before}
+use Rattle.cxx_model.specs.Facts.Declarations as facts
+use Rattle.cxx_model.specs.Facts.Declarations.{CxxFact, CxxGraph, CxxName, Declares, unnamed, spelled}
+use Rattle.cxx_model.specs.Facts.Entities.{entity_by, scope_kinds}
+use Rattle.cxx_model.specs.Stops.{Answer, Stopped, Faulty, Limited, ◌>>=◌, fault, undeclared_at}
+use Rattle.cxx_model.specs.Text.Lexemes.{Lexeme, nowhere}
+use Rattle.cxx_model.specs.Types.Integral.{one_holds}
+use Rattle.cxx_model.specs.Types.Trees.{CxxType, enumeration}
+use Rattle.cxx_meaning.specs.Conversions.Enumerations.{values_in}
+use Rattle.cxx_reading.specs.Constants.{value_of_literal}
+use Rattle.cxx_reading.specs.Kinds.{Kinds}
+use Rattle.cxx_reading.specs.Reads.{Asks}
+use Rattle.cxx_reading.specs.Seen.{Numbered, declared_in, found, found_types, kind_of_found, type_in, parent_of}
+use Rattle.cxx_reading.specs.State.{CxxState}
+use Rattle.cxx_reading.specs.Trees.{CxxTree, CxxPath, CxxPathPart}
+
+-- ---- facts
+
+abbrev pub place_in : Option CxxFact → Place
+place_in None = nowhere
+place_in (Some fact) = fact.place
+
+abbrev pub place_of_fact : CxxGraph → ℕ → Place
+place_of_fact graph number = place_in (slice_get graph.facts number)
+
+-- facts and reserved classes of a unit, at most
+abbrev pub most_facts : ℕ
+most_facts = 2097152
+
+abbrev pub with_fact : CxxFact → CxxState → CxxState
+with_fact fact state = record state { graph = record state.graph { facts = state.graph.facts ++ fact ∷ [] } }
+
+-- a fact is added, where there is room for one: its number
+unfoldable pub added : CxxFact → Asks CxxState ℕ
+added fact state =
+    if nat_eq (length state.graph.facts + length state.graph.classes) most_facts then Err (Limited Facts) else
+    Ok (length state.graph.facts, with_fact fact state)
+
+abbrev pub conflicting_at : Place → List ℕ → Place → Stopped
+conflicting_at place word other = Faulty (record { place = place; text = says.ConflictingDeclaration word; evidence = Found other ∷ [] })
+
+abbrev pub free_by : CxxState → CxxFact → List ℕ → Option ℕ → Answer (Unit {0})
+free_by state fact word None = Ok tt
+free_by state fact word (Some number) = Err (conflicting_at fact.place word (place_of_fact state.graph number))
+
+-- 3.3: no declaration of its scope stands in the way
+unfoldable pub free : CxxState → CxxFact → List ℕ → Answer (Unit {0})
+free state fact word = free_by state fact word (first_conflict state.graph fact)
+
+-- 3.3.1: a name is declared; what conflicts with it comes before the limit
+unfoldable pub declare : CxxFact → List ℕ → Asks CxxState ℕ
+declare fact word state = do
+  is_free ← free state fact word
+  added fact state
+
+-- ---- names
+
+abbrev pub name_of : Option Lexeme → CxxName
+name_of None = unnamed
+name_of (Some token) = spelled token.spelling
+
+abbrev pub word_of : Option Lexeme → List ℕ
+word_of None = []
+word_of (Some token) = token.spelling
+
+-- a fact in the scope where the reader stands
+abbrev pub fact_here : CxxState → CxxName → Place → Declares → CxxFact
+fact_here state name place what = record { place = place; scope = state.here.scope; name = name; access = Public; what = what }
+
+abbrev pub number_id : ℕ → FactId
+number_id number = record { 0 = number }
+
+abbrev pub is_object : Declares → Bool
+is_object (facts.object of kind is_mutable value first) = true
+is_object _ = false
+
+-- 3: the first declaration of the object that has the name in a scope
+abbrev pub first_object : List Numbered → Option FactId
+first_object [] = None
+first_object (one ∷ others) = if is_object one.fact.what then Some (number_id one.number) else first_object others
+
+abbrev pub is_same_function : CxxType → Declares → Bool
+is_same_function of (facts.function other kind flags defaults first) = same_parameters false of other
+is_same_function of _ = false
+
+-- 13.1: the first declaration of the function with these parameters that has the name in a scope
+abbrev pub first_function : CxxType → List Numbered → Option FactId
+first_function of [] = None
+first_function of (one ∷ others) = if is_same_function of one.fact.what then Some (number_id one.number) else first_function of others
+
+abbrev pub declared_here : CxxState → CxxName → List Numbered
+declared_here state name = declared_in state.graph state.here.scope name
+
+abbrev pub no_flags : FunctionFlags
+no_flags = record { is_virtual = false; is_pure = false; is_explicit = false; is_implicit = false }
+
+-- 7.1.3
+unfoldable pub declare_synonym : Lexeme → CxxType → Asks CxxState ℕ
+declare_synonym name of state = declare (fact_here state (spelled name.spelling) name.place (facts.synonym of)) name.spelling state
+
+-- 8.3.5
+abbrev pub function_here : CxxState → CxxName → CxxType → Declares
+function_here state name of = facts.function of member.Free no_flags zero (first_function of (declared_here state name))
+
+unfoldable pub declare_function : Lexeme → CxxType → Asks CxxState ℕ
+declare_function name of state = declare (fact_here state (spelled name.spelling) name.place (function_here state (spelled name.spelling) of)) name.spelling state
+
+abbrev pub object_here : CxxState → CxxName → CxxType → Declares
+object_here state name of = facts.object of member.Free false None (first_object (declared_here state name))
+
+abbrev pub undefined_by : CxxState → Place → List ℕ → Option ℕ → Answer (Unit {0})
+undefined_by state place word None = Ok tt
+undefined_by state place word (Some number) = Err (conflicting_at place word (place_of_fact state.graph number))
+
+-- 3.2: an object with this first declaration, or that would have this number, has no definition yet
+unfoldable pub undefined : CxxState → Place → List ℕ → ℕ → Declares → Answer (Unit {0})
+undefined state place word number what = undefined_by state place word (defined_before state.graph.facts state.defined (entity_by number what))
+
+abbrev pub with_definition : ℕ → CxxState → CxxState
+with_definition number state = record state { defined = state.defined ++ number ∷ [] }
+
+-- 3.1, 3.2: an object is declared, and not defined
+unfoldable pub declare_object : Lexeme → CxxType → Asks CxxState ℕ
+declare_object name of state = declare (fact_here state (spelled name.spelling) name.place (object_here state (spelled name.spelling) of)) name.spelling state
+
+abbrev pub defined_as : ℕ × CxxState → ℕ × CxxState
+defined_as answer = (answer.0, with_definition answer.0 answer.1)
+
+-- 3.2: an object is defined, once
+unfoldable pub define_object : Lexeme → CxxType → Asks CxxState ℕ
+define_object name of state = do
+  is_free ← free state (fact_here state (spelled name.spelling) name.place (object_here state (spelled name.spelling) of)) name.spelling
+  is_first ← undefined state name.place name.spelling (length state.graph.facts) (object_here state (spelled name.spelling) of)
+  answer ← added (fact_here state (spelled name.spelling) name.place (object_here state (spelled name.spelling) of)) state
+  Ok (defined_as answer)
+
+abbrev pub declares_by : Option CxxFact → Declares
+declares_by None = facts.synonym (enumeration zero)
+declares_by (Some fact) = fact.what
+
+-- 3.1: an object that was declared is defined by the initializer that follows
+unfoldable pub define_declared : Lexeme → ℕ → Asks CxxState (Unit {0})
+define_declared name number state = do
+  is_first ← undefined state name.place name.spelling number (declares_by (slice_get state.graph.facts number))
+  Ok (tt, with_definition number state)
+
+-- ---- parameters (3.3.2, 8.3.5)
+
+abbrev pub scope_count : CxxGraph → ℕ
+scope_count graph = length (scope_kinds graph.facts)
+
+abbrev pub at_scope : ℕ → CxxState → CxxState
+at_scope scope state = record state { here = record state.here { scope = scope } }
+
+abbrev pub place_of_scope : CxxGraph → ℕ → Place
+place_of_scope graph scope = place_in (slice_get (scope_facts graph.facts) scope)
+
+abbrev pub parameters_scope : CxxState → CxxFact
+parameters_scope state = record {
+  place = place_of_scope state.graph state.here.scope;
+  scope = state.here.scope;
+  name = unnamed;
+  access = Public;
+  what = facts.scope (Some (record { 0 = state.here.scope })) scope_kind.Parameters;
+}
+
+abbrev pub entered_as : ℕ → ℕ × CxxState → ℕ × CxxState
+entered_as scope answer = (scope, at_scope scope answer.1)
+
+unfoldable pub enter_parameters : Asks CxxState ℕ
+enter_parameters state = do
+  answer ← added (parameters_scope state) state
+  Ok (entered_as (scope_count state.graph) answer)
+
+unfoldable pub leave_parameters : Asks CxxState (Unit {0})
+leave_parameters state = Ok (tt, at_scope (parent_of state.graph state.here.scope) state)
+
+abbrev pub parameter_object : CxxType → Declares
+parameter_object of = facts.object of member.Free false None None
+
+unfoldable pub declare_parameter : Option Lexeme → Place → CxxType → Asks CxxState (Unit {0})
+declare_parameter name place of state = do
+  answer ← declare (fact_here state (name_of name) place (parameter_object of)) (word_of name) state
+  Ok (tt, answer.1)
+
+-- ---- enumerations (7.2)
+
+abbrev pub is_enumeration : Declares → Bool
+is_enumeration (facts.enumeration n) = true
+is_enumeration _ = false
+
+abbrev pub one_more : Bool → ℕ → ℕ
+one_more true n = suc n
+one_more false n = n
+
+abbrev pub enumeration_count : List CxxFact → ℕ
+enumeration_count [] = zero
+enumeration_count (fact ∷ others) = one_more (is_enumeration fact.what) (enumeration_count others)
+
+abbrev pub in_enumeration : Option ℕ → CxxState → CxxState
+in_enumeration number state = record state { here = record state.here { enumeration = number } }
+
+abbrev pub begun_as : ℕ → ℕ × CxxState → ℕ × CxxState
+begun_as number answer = (number, in_enumeration (Some number) answer.1)
+
+unfoldable pub declare_enumeration : Option Lexeme → Place → Asks CxxState ℕ
+declare_enumeration name place state = do
+  answer ← declare (fact_here state (name_of name) place (facts.enumeration (enumeration_count state.graph.facts))) (word_of name) state
+  Ok (begun_as (enumeration_count state.graph.facts) answer)
+
+abbrev pub next_integer : ℤ → ℤ
+next_integer (pos n) = pos (suc n)
+next_integer (negsuc zero) = pos zero
+next_integer (negsuc (suc n)) = negsuc n
+
+-- 7.2: without a value an enumerator has the one after the last, and the first has zero
+abbrev pub implicit_value : List ℤ → ℤ
+implicit_value [] = pos zero
+implicit_value (value ∷ []) = next_integer value
+implicit_value (value ∷ next ∷ others) = implicit_value (next ∷ others)
+
+abbrev pub enumerator_value : Option ℤ → List ℤ → ℤ
+enumerator_value None values = implicit_value values
+enumerator_value (Some value) values = value
+
+abbrev pub held : Place → Bool → Answer (Unit {0})
+held place true = Ok tt
+held place false = Err (fault place says.ConstantOverflow)
+
+-- 7.2: the conflict, then one type for all values, then the limit
+unfoldable pub declare_value : ℕ → Lexeme → ℤ → Asks CxxState (Unit {0})
+declare_value number name value state = do
+  is_free ← free state (fact_here state (spelled name.spelling) name.place (facts.enumerator number value)) name.spelling
+  is_held ← held name.place (one_holds (values_in number state.graph.facts ++ value ∷ []))
+  answer ← added (fact_here state (spelled name.spelling) name.place (facts.enumerator number value)) state
+  Ok (tt, answer.1)
+
+unfoldable pub declare_enumerator : ℕ → Lexeme → Option ℤ → Asks CxxState (Unit {0})
+declare_enumerator number name value state = declare_value number name (enumerator_value value (values_in number state.graph.facts)) state
+
+unfoldable pub end_enumeration : ℕ → Asks CxxState (Unit {0})
+end_enumeration number state = Ok (tt, in_enumeration None state)
+
+-- ---- names that are read
+
+abbrev pub no_part : CxxPathPart
+no_part = record { word = []; place = nowhere; arguments = None }
+
+abbrev pub last_part : List CxxPathPart → CxxPathPart
+last_part [] = no_part
+last_part (part ∷ []) = part
+last_part (part ∷ next ∷ others) = last_part (next ∷ others)
+
+abbrev pub name_in : CxxPath → CxxName
+name_in path = spelled (last_part path.parts).word
+
+-- 3.4.1
+unfoldable pub kind_here : CxxPath → Asks CxxState Kind
+kind_here path state = Ok (kind_of_found state.graph (found state.graph state.here.scope (name_in path)), state)
+
+unfoldable pub type_here : CxxPath → Asks CxxState CxxType
+type_here path state = Ok (type_in (found state.graph state.here.scope (name_in path)), state)
+
+abbrev pub enumeration_in : List Numbered → Option ℕ
+enumeration_in [] = None
+enumeration_in (one ∷ others) = by one.fact.what (enumeration_in others)
+  where
+    by : Declares → Option ℕ → Option ℕ
+    by (facts.enumeration n) later = Some n
+    by _ later = later
+
+abbrev pub elaborated_by : CxxPathPart → List Numbered → Option ℕ → CxxState → Answer (CxxType × CxxState)
+elaborated_by part all (Some n) state = Ok (enumeration n, state)
+elaborated_by part [] None state = Err (undeclared_at part.place part.word)
+elaborated_by part (one ∷ others) None state = Err (Faulty (record { place = part.place; text = says.WrongKindOfName part.word; evidence = Found one.fact.place ∷ [] }))
+
+-- 3.4.4, 7.1.5.3: behind `enum` stands the name of an enumeration
+unfoldable pub elaborated_here : CxxPath → Asks CxxState CxxType
+elaborated_here path state = elaborated_by (last_part path.parts) (found_types state.graph state.here.scope (name_in path)) (enumeration_in (found_types state.graph state.here.scope (name_in path))) state
+
+-- 5.19
+unfoldable pub constant_here : CxxTree → Asks CxxState ℤ
+constant_here tree state = Ok (value_of_literal tree, state)
+
+-- what a reader asks of the declarations so far
+unfoldable pub declaring : ℕ → Kinds CxxState
+declaring room = record {
+  kind = kind_here;
+  type_named = type_here;
+  elaborated = elaborated_here;
+  enumeration = declare_enumeration;
+  enumerator = declare_enumerator;
+  enumerated = end_enumeration;
+  constant = constant_here;
+  enter_parameters = enter_parameters;
+  parameter = declare_parameter;
+  leave_parameters = leave_parameters;
+}

@@ -1,0 +1,225 @@
+-- How specifiers are read (7.1).
+use Rattle.std.specs.Prelude.{ℕ, Bool, true, false, not, ◌&&◌, ◌||◌, if◌then◌else◌, ◌==◌, List, [], ◌∷◌, ◌++◌, Option, Some, None, codes}
+use Rattle.cxx_model.specs.declared.keyword.TheConstants as keyword
+use Rattle.cxx_model.specs.declared.place.Place.{Place}
+use Rattle.cxx_model.specs.declared.punct.TheConstants as punct
+use Rattle.cxx_model.specs.declared.token.TokenKind.{TokenKind}
+use Rattle.cxx_model.specs.declared.token.TokenKind.TheVariants.{Name, Keyword, Punct}
+use Rattle.cxx_model.specs.declared.tree.Kind.{Kind}
+use Rattle.cxx_model.specs.declared.tree.Kind.TheVariants as kind
+use Rattle.cxx_model.specs.declared.types.Cv.{Cv}
+use Rattle.cxx_model.specs.Text.Lexemes.{Lexeme}
+use Rattle.cxx_model.specs.Types.Trees.{CxxType, enumeration}
+use Rattle.cxx_reading.specs.declared.specifier.SpecifierPlace.{SpecifierPlace}
+use Rattle.cxx_reading.specs.declared.specifier.SpecifierPlace.TheVariants as where_
+use Rattle.cxx_reading.specs.declared.specifier.StorageWord.{StorageWord}
+use Rattle.cxx_reading.specs.declared.specifier.StorageWord.TheVariants as storage
+use Rattle.cxx_reading.specs.declared.specifier.TypeWords.{TypeWords}
+use Rattle.cxx_reading.specs.Declarators.{Specifiers, no_specifiers, has_type, type_word, TypeWord, with_word}
+use Rattle.cxx_reading.specs.Kinds.{Kinds, Readers}
+use Rattle.cxx_reading.specs.Productions as production
+use Rattle.cxx_reading.specs.Reads.{Reads, Ahead, Turn, More, Done, ◌>>=◌, got, give, ask, looked, taken, kind_ahead, place_ahead, count_ahead, behind, repeat}
+use Rattle.cxx_reading.specs.Tokens.{is_punct, is_keyword, is_name, is_qualified, path_ahead, token_taken, refused, not_built}
+use Rattle.cxx_reading.specs.Trees.{CxxTree, CxxPath, tree_of}
+use Rattle.cxx_reading.specs.Labels.{label_from}
+
+-- ---- single words
+
+-- 7.1.1, 7.1.3
+abbrev pub storage_word : ℕ → Option StorageWord
+storage_word n =
+    if n == keyword.AUTO then Some storage.Auto else (
+    if n == keyword.EXTERN then Some storage.Extern else (
+    if n == keyword.REGISTER then Some storage.Register else (
+    if n == keyword.STATIC then Some storage.Static else (
+    if n == keyword.TYPEDEF then Some storage.Typedef else
+    None))))
+
+-- 7.1.1: which of these words may stand among the specifiers of a declaration of a namespace, and of a parameter
+abbrev pub may_store : SpecifierPlace → StorageWord → Bool
+may_store where_.Declaration storage.Extern = true
+may_store where_.Declaration storage.Static = true
+may_store where_.Declaration storage.Typedef = true
+may_store where_.Parameter storage.Auto = true
+may_store where_.Parameter storage.Register = true
+may_store _ _ = false
+
+abbrev pub is_declaration : SpecifierPlace → Bool
+is_declaration where_.Declaration = true
+is_declaration _ = false
+
+abbrev pub is_some_storage : Option StorageWord → Bool
+is_some_storage None = false
+is_some_storage (Some word) = true
+
+-- 7.1.2, 7.1.1, 11.4: words that stand among the specifiers of members alone
+abbrev pub is_of_members : ℕ → Bool
+is_of_members n = n == keyword.FRIEND || (n == keyword.VIRTUAL || (n == keyword.EXPLICIT || n == keyword.MUTABLE))
+
+-- 7.1.5.3, 14.6: a type begins that is not read yet
+abbrev pub begins_class : ℕ → Bool
+begins_class n = n == keyword.CLASS || (n == keyword.STRUCT || (n == keyword.UNION || n == keyword.TYPENAME))
+
+-- the word was taken
+abbrev pub went_on : {S : Type 0} → Specifiers → Reads S (Turn Specifiers Specifiers)
+went_on so_far state ahead = got (More so_far) state (behind ahead)
+
+unfoldable pub storage_step : {S : Type 0} → SpecifierPlace → StorageWord → Specifiers → Reads S (Turn Specifiers Specifiers)
+storage_step place word so_far state ahead =
+    if may_store place word && not (is_some_storage so_far.storage)
+    then went_on (record so_far { storage = Some word }) state ahead
+    else refused state ahead
+
+unfoldable pub inline_step : {S : Type 0} → SpecifierPlace → Specifiers → Reads S (Turn Specifiers Specifiers)
+inline_step place so_far state ahead =
+    if is_declaration place && not so_far.is_inline
+    then went_on (record so_far { is_inline = true }) state ahead
+    else refused state ahead
+
+abbrev pub with_const : Cv → Cv
+with_const cv = record { is_const = true; is_volatile = cv.is_volatile }
+
+abbrev pub with_volatile : Cv → Cv
+with_volatile cv = record { is_const = cv.is_const; is_volatile = true }
+
+unfoldable pub const_step : {S : Type 0} → Specifiers → Reads S (Turn Specifiers Specifiers)
+const_step so_far state ahead =
+    if so_far.cv.is_const then refused state ahead else went_on (record so_far { cv = with_const so_far.cv }) state ahead
+
+unfoldable pub volatile_step : {S : Type 0} → Specifiers → Reads S (Turn Specifiers Specifiers)
+volatile_step so_far state ahead =
+    if so_far.cv.is_volatile then refused state ahead else went_on (record so_far { cv = with_volatile so_far.cv }) state ahead
+
+abbrev pub is_some_named : Option CxxType → Bool
+is_some_named None = false
+is_some_named (Some of) = true
+
+abbrev pub worded : {S : Type 0} → Option TypeWords → Specifiers → Reads S (Turn Specifiers Specifiers)
+worded (Some words) so_far state ahead = went_on (record so_far { words = words }) state ahead
+worded None so_far state ahead = refused state ahead
+
+-- 7.1.5.2: behind a type that a name gives no further word stands
+unfoldable pub word_step : {S : Type 0} → TypeWord → Specifiers → Reads S (Turn Specifiers Specifiers)
+word_step word so_far state ahead = if is_some_named so_far.named then refused state ahead else worded (with_word word so_far.words) so_far state ahead
+
+-- ---- names of types
+
+abbrev pub named_by : {S : Type 0} → Kinds S → CxxPath → Specifiers → Kind → Reads S (Turn Specifiers Specifiers)
+named_by asks path so_far kind.OfType = do
+  of ← ask (asks.type_named path)
+  place ← taken
+  give (More (record so_far { named = Some of }))
+named_by asks path so_far _ = give (Done so_far)
+
+-- 7.1.5.2: A name of a type stands where no type is there yet; behind one it is the name of the declarator.
+unfoldable pub named_step : {S : Type 0} → Kinds S → Specifiers → Reads S (Turn Specifiers Specifiers)
+named_step asks so_far state ahead =
+    if has_type so_far then got (Done so_far) state ahead else (
+    if is_qualified ahead then not_built state ahead else
+    (ask (asks.kind (path_ahead ahead)) >>= named_by asks (path_ahead ahead) so_far) state ahead)
+
+-- ---- enumerations (7.1.5.3, 7.2)
+
+abbrev pub path_of : Lexeme → CxxPath
+path_of name = record { global = false; parts = record { word = name.spelling; place = name.place; arguments = None } ∷ [] }
+
+abbrev pub path_of_option : Option Lexeme → Option CxxPath
+path_of_option None = None
+path_of_option (Some name) = Some (path_of name)
+
+abbrev pub place_or : Place → Option Lexeme → Place
+place_or place None = place
+place_or place (Some name) = name.place
+
+-- 7.1.5.3: `enum` and a name
+abbrev pub elaborated_tree : Lexeme → CxxType → Ahead → Ahead → CxxTree
+elaborated_tree name of from to = tree_of (record (label_from production.elaborated (codes "enum") from to) { place = name.place; path = Some (path_of name); of = Some of }) []
+
+unfoldable pub elaborated_step : {S : Type 0} → Kinds S → Ahead → Lexeme → Specifiers → Reads S (Turn Specifiers Specifiers)
+elaborated_step asks from name so_far = do
+  of ← ask (asks.elaborated (path_of name))
+  to ← looked
+  give (More (record so_far { named = Some of; is_enumeration = true; parts = so_far.parts ++ elaborated_tree name of from to ∷ [] }))
+
+abbrev pub enumeration_tree : Option Lexeme → ℕ → List CxxTree → Ahead → Ahead → CxxTree
+enumeration_tree name number values from to = tree_of (record (label_from production.enumeration_list [] from to) { place = place_or (place_ahead from) name; path = path_of_option name; of = Some (enumeration number) }) values
+
+-- 7.2: an enumeration is declared before its list is read
+unfoldable pub defined_step : {S : Type 0} → Kinds S → Readers S → Ahead → Option Lexeme → Specifiers → Reads S (Turn Specifiers Specifiers)
+defined_step asks inner from name so_far = do
+  number ← ask (asks.enumeration name (place_or (place_ahead from) name))
+  opened ← taken
+  values ← inner.enumerators number
+  ended ← ask (asks.enumerated number)
+  to ← looked
+  give (More (record so_far { named = Some (enumeration number); is_enumeration = true; parts = so_far.parts ++ enumeration_tree name number values from to ∷ [] }))
+
+-- 8.3.5, 5.3.3: no enumeration is defined among parameters and in a type that is named
+unfoldable pub list_step : {S : Type 0} → Kinds S → Readers S → SpecifierPlace → Ahead → Option Lexeme → Specifiers → Reads S (Turn Specifiers Specifiers)
+list_step asks inner place from name so_far state ahead =
+    if is_declaration place then defined_step asks inner from name so_far state ahead else refused state ahead
+
+unfoldable pub key_named_step : {S : Type 0} → Kinds S → Readers S → SpecifierPlace → Ahead → Specifiers → Lexeme → Reads S (Turn Specifiers Specifiers)
+key_named_step asks inner place from so_far name state ahead =
+    if is_punct punct.LEFT_BRACE (kind_ahead ahead) then list_step asks inner place from (Some name) so_far state ahead else
+    elaborated_step asks from name so_far state ahead
+
+-- behind `enum`
+unfoldable pub key_step : {S : Type 0} → Kinds S → Readers S → SpecifierPlace → Ahead → Specifiers → Reads S (Turn Specifiers Specifiers)
+key_step asks inner place from so_far state ahead =
+    if is_punct punct.LEFT_BRACE (kind_ahead ahead) then list_step asks inner place from None so_far state ahead else (
+    if is_qualified ahead then not_built state ahead else (
+    if is_name (kind_ahead ahead) then (token_taken >>= key_named_step asks inner place from so_far) state ahead else
+    refused state ahead))
+
+unfoldable pub enumeration_step : {S : Type 0} → Kinds S → Readers S → SpecifierPlace → Specifiers → Reads S (Turn Specifiers Specifiers)
+enumeration_step asks inner place so_far state ahead =
+    if has_type so_far then refused state ahead else key_step asks inner place ahead so_far state (behind ahead)
+
+-- ---- all specifiers
+
+-- 7.1.5.3, 14.6: a class is not read yet
+unfoldable pub class_step : {S : Type 0} → Specifiers → Reads S (Turn Specifiers Specifiers)
+class_step so_far state ahead = if has_type so_far then refused state ahead else not_built state ahead
+
+-- a keyword that is no storage word and no word of a type
+unfoldable pub other_step : {S : Type 0} → Kinds S → Readers S → SpecifierPlace → ℕ → Specifiers → Reads S (Turn Specifiers Specifiers)
+other_step asks inner place n so_far state ahead =
+    if n == keyword.CONST then const_step so_far state ahead else (
+    if n == keyword.VOLATILE then volatile_step so_far state ahead else (
+    if n == keyword.INLINE then inline_step place so_far state ahead else (
+    if n == keyword.ENUM then enumeration_step asks inner place so_far state ahead else (
+    if begins_class n then class_step so_far state ahead else (
+    if is_of_members n then refused state ahead else
+    got (Done so_far) state ahead)))))
+
+abbrev pub stored_by : {S : Type 0} → Option StorageWord → Reads S (Turn Specifiers Specifiers) → SpecifierPlace → Specifiers → Reads S (Turn Specifiers Specifiers)
+stored_by (Some word) others place so_far = storage_step place word so_far
+stored_by None others place so_far = others
+
+abbrev pub worded_by : {S : Type 0} → Option TypeWord → Reads S (Turn Specifiers Specifiers) → Specifiers → Reads S (Turn Specifiers Specifiers)
+worded_by (Some word) others so_far = word_step word so_far
+worded_by None others so_far = others
+
+unfoldable pub keyword_step : {S : Type 0} → Kinds S → Readers S → SpecifierPlace → ℕ → Specifiers → Reads S (Turn Specifiers Specifiers)
+keyword_step asks inner place n so_far =
+    stored_by (storage_word n) (worded_by (type_word n) (other_step asks inner place n so_far) so_far) place so_far
+
+abbrev pub step_by : {S : Type 0} → Kinds S → Readers S → SpecifierPlace → TokenKind → Specifiers → Reads S (Turn Specifiers Specifiers)
+step_by asks inner place (Keyword n) so_far = keyword_step asks inner place n so_far
+step_by asks inner place Name so_far = named_step asks so_far
+step_by asks inner place (Punct n) so_far = if n == punct.SCOPE then named_step asks so_far else give (Done so_far)
+step_by asks inner place _ so_far = give (Done so_far)
+
+unfoldable pub specifier_step : {S : Type 0} → Kinds S → Readers S → SpecifierPlace → Specifiers → Reads S (Turn Specifiers Specifiers)
+specifier_step asks inner place so_far state ahead = step_by asks inner place (kind_ahead ahead) so_far state ahead
+
+-- 7.1.5: a type stands among the specifiers
+unfoldable pub typed : {S : Type 0} → SpecifierPlace → Specifiers → Reads S Specifiers
+typed place specifiers state ahead =
+    if has_type specifiers then got specifiers state ahead else (
+    if is_declaration place && is_keyword keyword.OPERATOR (kind_ahead ahead) then not_built state ahead else
+    refused state ahead)
+
+unfoldable pub specifiers_at : {S : Type 0} → Kinds S → Readers S → SpecifierPlace → Reads S Specifiers
+specifiers_at asks inner place state ahead = (repeat (specifier_step asks inner place) give (count_ahead ahead) no_specifiers >>= typed place) state ahead
