@@ -1,0 +1,3 @@
+pub mod Stems
+pub mod Words
+mod Rows

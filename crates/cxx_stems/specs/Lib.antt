@@ -1,0 +1,2 @@
+-- The stems of declared names.
+pub mod Names
