@@ -1,0 +1,2 @@
+-- Pages, and the words before and behind a declared name.
+pub mod Sheets
