@@ -6,13 +6,13 @@
 
 mod fault;
 mod page;
-// mod tags;
-// mod types;
-// mod values;
-// mod words;
+mod tags;
+mod types;
+mod values;
+mod words;
 
 pub use fault::PlainFault;
 pub use page::Page;
-// pub use tags::Tags;
-// pub use types::{write_declaration_back, write_declaration_front, write_type};
+pub use tags::Tags;
+pub use types::{write_declaration_back, write_declaration_front, write_type};
 // pub use values::write_value;

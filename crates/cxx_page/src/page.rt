@@ -1,4 +1,4 @@
-ghost use Rattle.std.specs.Prelude.{◌≡◌, ◌≤◌, ◌+◌, [], ◌∷◌, length};
+ghost use Rattle.std.specs.Prelude.{◌≡◌, ◌≤◌, ◌+◌, [], ◌∷◌, ◌++◌, length};
 ghost use Rattle.cxx_reading.specs.Words.{has_gap as has_gap_of};
 ghost use Rattle.cxx_page.specs.Sheets.{Writes, blank, put, line_ended, word_of};
 
@@ -69,6 +69,38 @@ impl Page {
             self.bytes.extend_from_slice(b" ")?;
         }
         self.bytes.extend_from_slice(spelling)?;
+        self.last = role;
+        Ok(())
+    }
+
+    #[tactic(auto, using(crate::proofs::Held::held_fits, crate::proofs::Held::held_not), unfolding(crate::specs::Sheets::put, crate::specs::Sheets::put_word))]
+    /// Writes a word whose spelling is three parts, one behind another.
+    pub fn word_in_parts(
+        &mut self,
+        role: Role,
+        one: &[u8],
+        two: &[u8],
+        three: &[u8],
+    ) -> Result<(), PlainFault>
+        ensures { Writes result self.new (put (word_of role (one.now ++ two.now ++ three.now) ∷ []) self.old) }
+    {
+        let gap = has_gap(self.last, role);
+        let room = self.room();
+        let size = if gap { 1 } else { 0 };
+        if one.len() > room || two.len() > room - one.len() {
+            return Err(PlainFault::Limit);
+        }
+        if three.len() > room - one.len() - two.len()
+            || size > room - one.len() - two.len() - three.len()
+        {
+            return Err(PlainFault::Limit);
+        }
+        if gap {
+            self.bytes.extend_from_slice(b" ")?;
+        }
+        self.bytes.extend_from_slice(one)?;
+        self.bytes.extend_from_slice(two)?;
+        self.bytes.extend_from_slice(three)?;
         self.last = role;
         Ok(())
     }
