@@ -18,7 +18,7 @@ pub record NamesOfText : Type 0 where
   pub name_of : ℕ → List ℕ
   pub tags : Tags
 
-abbrev number_of_enumeration : ℕ → ℕ → List CxxFact → ℕ
+abbrev pub number_of_enumeration : ℕ → ℕ → List CxxFact → ℕ
 number_of_enumeration n number [] = number
 number_of_enumeration n number (fact ∷ others) = by fact.what (number_of_enumeration n (suc number) others)
   where
@@ -26,7 +26,7 @@ number_of_enumeration n number (fact ∷ others) = by fact.what (number_of_enume
     by (facts.enumeration m) later = if nat_eq m n then number else later
     by _ later = later
 
-abbrev name_by : List CxxFact → List ℕ → ℕ → List ℕ
+abbrev pub name_by : List CxxFact → List ℕ → ℕ → List ℕ
 name_by all order number = text_name all order number
 
 unfoldable pub names_of_text : CxxState → NamesOfText
@@ -37,22 +37,22 @@ names_of_text state = record {
 
 -- ---- expressions
 
-abbrev type_or_void : Option CxxType → CxxType
+abbrev pub type_or_void : Option CxxType → CxxType
 type_or_void None = fundamental Void
 type_or_void (Some of) = of
 
-abbrev target_or : Option ℕ → ℕ
+abbrev pub target_or : Option ℕ → ℕ
 target_or None = zero
 target_or (Some number) = number
 
-abbrev first_words : List (List Word) → List Word
+abbrev pub first_words : List (List Word) → List Word
 first_words [] = []
 first_words (one ∷ others) = one
 
-abbrev cast_words : NamesOfText → CxxType → List Word → List Word
+abbrev pub cast_words : NamesOfText → CxxType → List Word → List Word
 cast_words names of inner = keyword_word (codes "static_cast") ∷ less_word ∷ (declared names.tags no_cv of [] ++ (greater_word ∷ open_word ∷ inner ++ close_word ∷ []))
 
-abbrev call_words : NamesOfText → ℕ → List (List Word) → List Word
+abbrev pub call_words : NamesOfText → ℕ → List (List Word) → List Word
 call_words names number arguments = name_word (names.name_of number) ∷ open_word ∷ separated arguments ++ close_word ∷ []
 
 -- the words of an expression, given those of its parts
@@ -68,18 +68,18 @@ expressions names (tree_then label children next) = expression_by names label (e
 
 -- ---- lines
 
-abbrev value_in : ℕ → ℕ → CxxFact → List (ℕ × ℤ)
+abbrev pub value_in : ℕ → ℕ → CxxFact → List (ℕ × ℤ)
 value_in n number fact = by fact.what
   where
     by : Declares → List (ℕ × ℤ)
     by (facts.enumerator m value) = if nat_eq m n then (number, value) ∷ [] else []
     by _ = []
 
-abbrev values_from : ℕ → ℕ → List CxxFact → List (ℕ × ℤ)
+abbrev pub values_from : ℕ → ℕ → List CxxFact → List (ℕ × ℤ)
 values_from n number [] = []
 values_from n number (fact ∷ others) = value_in n number fact ++ values_from n (suc number) others
 
-abbrev enumerator_words : NamesOfText → ℕ × ℤ → List Word
+abbrev pub enumerator_words : NamesOfText → ℕ × ℤ → List Word
 enumerator_words names one = name_word (names.name_of one.0) ∷ keyword_word (codes "=") ∷ value_words one.1
 
 -- 7.2
@@ -87,7 +87,7 @@ abbrev pub enumeration_words : NamesOfText → List CxxFact → ℕ → ℕ → 
 enumeration_words names all n number =
     keyword_word (codes "enum") ∷ name_word (names.name_of number) ∷ keyword_word (codes "{") ∷ separated (map (enumerator_words names) (values_from n zero all)) ++ keyword_word (codes "}") ∷ semicolon_word ∷ []
 
-abbrev type_of_function : Option CxxFact → CxxType
+abbrev pub type_of_function : Option CxxFact → CxxType
 type_of_function None = fundamental Void
 type_of_function (Some fact) = by fact.what
   where
@@ -100,15 +100,15 @@ abbrev pub function_words : NamesOfText → List CxxFact → ℕ → List Word
 function_words names all number = declared names.tags no_cv (type_of_function (slice_get all number)) (name_word (names.name_of number) ∷ []) ++ semicolon_word ∷ []
 
 -- the initializer among the parts of a declarator
-abbrev initializers_in : CxxTrees → List CxxTrees
+abbrev pub initializers_in : CxxTrees → List CxxTrees
 initializers_in no_trees = []
 initializers_in (tree_then label children next) = if nat_eq label.production production.initializer then children ∷ initializers_in next else initializers_in next
 
-abbrev initializer_words : NamesOfText → List CxxTrees → List Word
+abbrev pub initializer_words : NamesOfText → List CxxTrees → List Word
 initializer_words names [] = []
 initializer_words names (parts ∷ others) = keyword_word (codes "=") ∷ first_words (expressions names parts)
 
-abbrev is_empty : List ℕ → Bool
+abbrev pub is_empty : List ℕ → Bool
 is_empty [] = true
 is_empty (b ∷ text) = false
 
@@ -132,7 +132,7 @@ plain_text reading = text_by (names_of_text reading.state) reading.state
 
 -- ---- the functions that printed calls name
 
-abbrev parameters_of : Option CxxFact → CxxTypes
+abbrev pub parameters_of : Option CxxFact → CxxTypes
 parameters_of fact = by (type_of_function fact)
   where
     by : CxxType → CxxTypes
@@ -144,18 +144,18 @@ pub record NamedFunction : Type 0 where
   pub name : List ℕ
   pub parameters : List (List Word)
 
-abbrev named_function : NamesOfText → List CxxFact → ℕ → NamedFunction
+abbrev pub named_function : NamesOfText → List CxxFact → ℕ → NamedFunction
 named_function names all number = record { name = names.name_of number; parameters = declared_each names.tags (parameters_of (slice_get all number)) }
 
 -- the arguments of a call stand before it
-abbrev call_of_label : NamesOfText → List CxxFact → Label → List NamedFunction
+abbrev pub call_of_label : NamesOfText → List CxxFact → Label → List NamedFunction
 call_of_label names all label = if nat_eq label.production production.call then named_function names all (target_or label.target) ∷ [] else []
 
 abbrev pub calls_in : NamesOfText → List CxxFact → CxxTrees → List NamedFunction
 calls_in names all no_trees = []
 calls_in names all (tree_then label children next) = calls_in names all children ++ (call_of_label names all label ++ calls_in names all next)
 
-abbrev calls_on : NamesOfText → List CxxFact → Line → List NamedFunction
+abbrev pub calls_on : NamesOfText → List CxxFact → Line → List NamedFunction
 calls_on names all (object_line tree number) = calls_in names all tree.children
 calls_on names all _ = []
 

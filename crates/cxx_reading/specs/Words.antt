@@ -4,105 +4,91 @@ use Rattle.cxx_model.specs.declared.base.Base.{Base}
 use Rattle.cxx_model.specs.declared.base.Base.TheVariants as base
 use Rattle.cxx_model.specs.declared.types.Cv.{Cv}
 use Rattle.cxx_model.specs.Types.Trees.{CxxType, fundamental, class_type, enumeration, pointer_to, reference_to, array_of, function_of, qualified, type_parameter, specialisation, nested_in, CxxTypes, no_types, type_then, CxxBound, unknown_bound, number_bound, formula_bound, merged}
+use Rattle.cxx_reading.specs.declared.role.Role.{Role}
+use Rattle.cxx_reading.specs.declared.role.Role.TheVariants as role
 use Rattle.cxx_reading.specs.Declarators.{no_cv}
 
 -- ---- roles
-
-pub data Role : Type 0 where
-  -- a keyword, a literal, a binary operator, a brace, the name of a type before a declarator
-  alone : Role
-  -- any other name
-  named : Role
-  -- `(` and `[`
-  opens : Role
-  -- `)` and `]`, and the `>` of a cast
-  closes : Role
-  -- `,` and `;`, the colon of a label, a postfix operator
-  follows : Role
-  -- a prefix or pointer operator
-  leads : Role
-  -- `.` and `::`, and the `<` of a cast
-  joins : Role
 
 pub record Word : Type 0 where
   pub role : Role
   pub spelling : List ℕ
 
-abbrev none_behind : Role → Bool
-none_behind opens = true
-none_behind leads = true
-none_behind joins = true
+abbrev pub none_behind : Role → Bool
+none_behind role.Opens = true
+none_behind role.Leads = true
+none_behind role.Joins = true
 none_behind _ = false
 
-abbrev none_before : Role → Bool
-none_before closes = true
-none_before follows = true
-none_before joins = true
+abbrev pub none_before : Role → Bool
+none_before role.Closes = true
+none_before role.Follows = true
+none_before role.Joins = true
 none_before _ = false
 
-abbrev takes_bracket : Role → Bool
-takes_bracket named = true
-takes_bracket closes = true
+abbrev pub takes_bracket : Role → Bool
+takes_bracket role.Named = true
+takes_bracket role.Closes = true
 takes_bracket _ = false
 
-abbrev is_opening : Role → Bool
-is_opening opens = true
+abbrev pub is_opening : Role → Bool
+is_opening role.Opens = true
 is_opening _ = false
 
 -- whether a space stands between two words
 abbrev pub has_gap : Role → Role → Bool
 has_gap one two = not (none_behind one || (none_before two || (takes_bracket one && is_opening two)))
 
-abbrev pub gap : Word → List Word → List ℕ
-gap word [] = []
-gap word (next ∷ others) = if has_gap word.role next.role then codes " " else []
+-- the text of words behind a word with a role
+abbrev pub text_behind : Role → List Word → List ℕ
+text_behind last [] = []
+text_behind last (word ∷ others) = (if has_gap last word.role then codes " " else []) ++ (word.spelling ++ text_behind word.role others)
 
--- the text of a line, with the newline that ends it
+-- the text of a line, with the newline that ends it; no space stands before its first word
 abbrev pub line_text : List Word → List ℕ
-line_text [] = codes "\n"
-line_text (word ∷ others) = word.spelling ++ (gap word others ++ line_text others)
+line_text words = text_behind role.Leads words ++ codes "\n"
 
 abbrev pub keyword_word : List ℕ → Word
-keyword_word spelling = record { role = alone; spelling = spelling }
+keyword_word spelling = record { role = role.Alone; spelling = spelling }
 
 abbrev pub name_word : List ℕ → Word
-name_word spelling = record { role = named; spelling = spelling }
+name_word spelling = record { role = role.Named; spelling = spelling }
 
 abbrev pub type_name_word : List ℕ → Word
-type_name_word spelling = record { role = alone; spelling = spelling }
+type_name_word spelling = record { role = role.Alone; spelling = spelling }
 
 abbrev pub open_word : Word
-open_word = record { role = opens; spelling = codes "(" }
+open_word = record { role = role.Opens; spelling = codes "(" }
 
 abbrev pub close_word : Word
-close_word = record { role = closes; spelling = codes ")" }
+close_word = record { role = role.Closes; spelling = codes ")" }
 
 abbrev pub open_bracket_word : Word
-open_bracket_word = record { role = opens; spelling = codes "[" }
+open_bracket_word = record { role = role.Opens; spelling = codes "[" }
 
 abbrev pub close_bracket_word : Word
-close_bracket_word = record { role = closes; spelling = codes "]" }
+close_bracket_word = record { role = role.Closes; spelling = codes "]" }
 
 abbrev pub comma_word : Word
-comma_word = record { role = follows; spelling = codes "," }
+comma_word = record { role = role.Follows; spelling = codes "," }
 
 abbrev pub semicolon_word : Word
-semicolon_word = record { role = follows; spelling = codes ";" }
+semicolon_word = record { role = role.Follows; spelling = codes ";" }
 
 abbrev pub less_word : Word
-less_word = record { role = joins; spelling = codes "<" }
+less_word = record { role = role.Joins; spelling = codes "<" }
 
 abbrev pub greater_word : Word
-greater_word = record { role = closes; spelling = codes ">" }
+greater_word = record { role = role.Closes; spelling = codes ">" }
 
 abbrev pub star_word : Word
-star_word = record { role = leads; spelling = codes "*" }
+star_word = record { role = role.Leads; spelling = codes "*" }
 
 abbrev pub ampersand_word : Word
-ampersand_word = record { role = leads; spelling = codes "&" }
+ampersand_word = record { role = role.Leads; spelling = codes "&" }
 
 abbrev pub minus_word : Word
-minus_word = record { role = leads; spelling = codes "-" }
+minus_word = record { role = role.Leads; spelling = codes "-" }
 
 abbrev pub others_separated : List (List Word) → List Word
 others_separated [] = []
@@ -120,7 +106,7 @@ abbrev pub value_suffix : ℕ → List ℕ
 value_suffix n = if nat_lt n 2147483648 then [] else (if nat_lt n 9223372036854775808 then codes "L" else codes "UL")
 
 abbrev pub literal_word : ℕ → Word
-literal_word n = record { role = alone; spelling = decimal n ++ value_suffix n }
+literal_word n = record { role = role.Alone; spelling = decimal n ++ value_suffix n }
 
 -- a value of an integer: a negative one is the negation of a literal, and the least has none
 abbrev pub value_words : ℤ → List Word
@@ -136,10 +122,10 @@ pub record Tags : Type 0 where
   pub class_name : ℕ → List ℕ
   pub enumeration_name : ℕ → List ℕ
 
-abbrev one_word : List ℕ → List Word
+abbrev pub one_word : List ℕ → List Word
 one_word spelling = keyword_word spelling ∷ []
 
-abbrev two_words : List ℕ → List ℕ → List Word
+abbrev pub two_words : List ℕ → List ℕ → List Word
 two_words one two = keyword_word one ∷ keyword_word two ∷ []
 
 -- Table 7, without `int` beside another word

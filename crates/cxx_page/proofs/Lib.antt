@@ -1,0 +1,4 @@
+pub mod Held
+pub mod Sides
+pub mod Put
+pub mod Listing
