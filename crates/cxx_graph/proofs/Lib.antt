@@ -1,3 +1,4 @@
+pub mod Awaiting
 pub mod Classes
 pub mod Keeping
 pub mod Marks

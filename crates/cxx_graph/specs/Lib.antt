@@ -1,3 +1,4 @@
+pub mod Defining
 pub mod Ended
 pub mod Kept
 pub mod Numbered

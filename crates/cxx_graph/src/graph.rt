@@ -1,7 +1,10 @@
-ghost use Rattle.std.specs.Prelude.{◌≡◌, ◌<◌, ◌+◌, ◌++◌, ◌⊎◌, [], ◌∷◌, length, None, Some, Err, ℕ, false, IsTrue, ◌↔◌, IfErr, IfNone, IfOk, IfSome, OnErr, OnOk};
+ghost use Rattle.std.specs.Prelude.{◌≡◌, ◌<◌, ◌+◌, ◌++◌, ◌⊎◌, [], ◌∷◌, List, length, None, Some, Err, ℕ, false, IsTrue, ◌↔◌, IfErr, IfNone, IfOk, IfSome, OnErr, OnOk};
 ghost use Rattle.std.specs.List.{slice_get};
 ghost use Rattle.std.specs.Option.{option_copied};
 ghost use Rattle.cxx_model.specs.Facts.Graph.{InRange, IsClassInRange, IsOneClassMore, IsPatternInRange, IsReservedAlready, IsReservedFor, IsSpecialisationOf, IsTemplateInRange, appended, is_complete, values_of, with_class, with_pattern};
+ghost use Rattle.cxx_model.specs.Facts.Declarations.{graph_at};
+ghost use Rattle.cxx_model.specs.Facts.Pending.{is_pending};
+ghost use Rattle.cxx_model.specs.Types.Trees.{CxxType};
 ghost use Rattle.cxx_model.specs.Types.Integral.{promoted_of_values};
 ghost use Rattle.cxx_graph.specs.Ended.{ended};
 ghost use Rattle.cxx_graph.specs.Numbered.{is_ancestor_of, is_in_scope, numbers_of};
@@ -256,6 +259,21 @@ impl Graph {
         let place = self.classes[class.0 as usize]?;
         let (of, _) = self.specialisations.get_index(place as usize)?;
         Some(of)
+    }
+
+    /// Whether a class has to be complete before it is asked (14.7.1): a specialisation that is neither complete nor being
+    /// read, of a template that is defined. What is no specialisation is answered at once; else the facts are gone over.
+    #[tactic(auto, using(crate::proofs::Awaiting::pending_past, crate::proofs::Awaiting::pending_none))]
+    pub fn pending(&self, class: ClassId) -> bool
+        ensures { (types : List CxxType) → result ≡ is_pending (graph_at types self.now) class.0 }
+    {
+        if class.0 as usize >= self.class_count() {
+            return false;
+        }
+        match self.specialisation(class) {
+            None => false,
+            Some(of) => self.is_waiting(of.template, class),
+        }
     }
 
     /// Appends a template (14). The scope of its parameters is a fact, so there are more facts than templates before.

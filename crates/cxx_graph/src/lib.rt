@@ -4,6 +4,7 @@
 mod graph;
 mod kept;
 pub mod laws;
+mod pending;
 mod promotion;
 mod rows;
 
