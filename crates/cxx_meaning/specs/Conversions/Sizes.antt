@@ -2,7 +2,7 @@
 -- each at a multiple of its alignment.
 use Rattle.std.specs.Prelude.{ℕ, [], ◌∷◌, ◌++◌, ◌+◌, ◌-◌, ◌*◌, ◌/◌, ◌^◌, Bool, true, false, ◌&&◌, ◌||◌, not, nat_eq, nat_le, min, max, if◌then◌else◌, List, Option, Some, None, Result, Ok, Err}
 use Rattle.std.specs.List.{slice_get}
-use Rattle.cxx_meaning.specs.Conversions.Pending.{is_pending}
+use Rattle.cxx_model.specs.Facts.Pending.{is_pending}
 use Rattle.cxx_meaning.specs.declared.size.Extent.{Extent}
 use Rattle.cxx_meaning.specs.declared.size.Layout.{Layout}
 use Rattle.cxx_meaning.specs.declared.size.SizeReason.{SizeReason}
