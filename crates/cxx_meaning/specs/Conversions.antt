@@ -10,3 +10,4 @@ pub mod Pointers
 pub mod BuiltIn
 pub mod Sizes
 pub mod Conditional
+pub mod Casts

@@ -14,7 +14,7 @@ mod values;
 pub use classes::is_derived;
 pub use cxx_model::Order;
 pub use kinds::{TypeKind, is_function, kind_of, value_kind};
-pub use levels::{cv_of, pointee, same_cv};
+pub use levels::{cv_of, is_cv_within, pointee, same_cv};
 pub use order::{compare, is_pointing};
 pub use sequence::{standard_sequence, steps_between};
 pub use table::{is_complete, is_pending, promoted};

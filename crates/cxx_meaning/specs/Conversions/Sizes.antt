@@ -16,7 +16,7 @@ use Rattle.cxx_model.specs.Facts.Declarations as facts
 use Rattle.cxx_model.specs.Facts.Declarations.{CxxFact, CxxGraph, Declares}
 use Rattle.cxx_model.specs.Facts.Entities.{scope_kinds}
 use Rattle.cxx_model.specs.Types.Bases.{base_row}
-use Rattle.cxx_model.specs.Types.Trees.{CxxType, class_type, reference_to, array_of, qualified, CxxBound, number_bound}
+use Rattle.cxx_model.specs.Types.Trees.{CxxType, reference_to, array_of, CxxBound, number_bound}
 use Rattle.cxx_model.specs.Types.Integral.{promoted_of_values}
 use Rattle.cxx_meaning.specs.Conversions.Asking.{Asked, ◌>>=◌}
 use Rattle.cxx_meaning.specs.Conversions.Enumerations.{values_in}

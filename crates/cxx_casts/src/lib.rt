@@ -1,0 +1,8 @@
+//! Casts (5.2.9 to 5.2.11): which are allowed, where no function of a class is called.
+#![tactic(auto)]
+
+mod named;
+mod pointers;
+mod words;
+
+pub use named::{const_cast, reinterpret_cast, static_cast};
