@@ -41,7 +41,7 @@ def on_purpose(cast, source, target):
             return True
         if s in ("object", "function") and t == "number" and target[1] not in (LONG, ULONG):
             return True
-        if {s, t} == {"object", "function"}:
+        if {s, t} == {"object", "function"} or "(&@)()" in target[0] or t == "reference" and s == "function":
             return True
     return s == "floating" and t == "enum"
 
@@ -76,7 +76,7 @@ def main():
             continue
         rows[a].append(case)
     out = ["""-- Casts of objects that clang++ and g++ both take, or both refuse: made by bench/meanings/casts.py.
-use Rattle.std.specs.Prelude.{ℕ, ◌≡◌, Bool, true, false, List, [], ◌∷◌, Option, Some, None, Result, Ok, Err, refl}
+use Rattle.std.specs.Prelude.{ℕ, ◌≡◌, Bool, true, false, List, [], ◌∷◌, Option, Some, None, Result, Ok, Err, pos, refl}
 use Rattle.cxx_model.specs.declared.base.Base.TheVariants as base
 use Rattle.cxx_model.specs.declared.facts.Access.TheVariants.{Public}
 use Rattle.cxx_model.specs.declared.facts.ScopeKind.TheVariants as kind
@@ -101,7 +101,7 @@ here scope what = record { place = record { line = 1; column = 1 }; scope = scop
 
 -- enum E { e0 }; struct B { int b; }; struct D : B { int d; };
 abbrev sample : CxxGraph
-sample = record { facts = here 0 (facts.scope None kind.Space) ∷ here 0 (facts.enumeration 0) ∷ here 0 (facts.enumerator 0 0) ∷ here 0 (facts.class (record { 0 = 0 }) false) ∷ here 0 (facts.complete (record { 0 = 0 })) ∷ here 0 (facts.class (record { 0 = 1 }) false) ∷ here 0 (facts.ancestor (record { 0 = 1 }) (record { 0 = 0 }) 1 Public) ∷ here 0 (facts.complete (record { 0 = 1 })) ∷ []; classes = None ∷ None ∷ []; patterns = [] }
+sample = record { facts = here 0 (facts.scope None kind.Space) ∷ here 0 (facts.enumeration 0) ∷ here 0 (facts.enumerator 0 (pos 0)) ∷ here 0 (facts.class (record { 0 = 0 }) false) ∷ here 0 (facts.complete (record { 0 = 0 })) ∷ here 0 (facts.class (record { 0 = 1 }) false) ∷ here 0 (facts.ancestor (record { 0 = 1 }) (record { 0 = 0 }) 1 Public) ∷ here 0 (facts.complete (record { 0 = 1 })) ∷ []; classes = None ∷ None ∷ []; patterns = [] }
 
 abbrev object_of : CxxType → CxxOperand
 object_of t = record { of = t; lvalue = true; constant = constant.No }
