@@ -1,5 +1,5 @@
 -- The type between two casts.
-use Rattle.std.specs.Prelude.{◌≡◌, ◌<◌, ◌∷◌, Bool, true, false, List, length, Option, Some, Result, Ok, Err, refl}
+use Rattle.std.specs.Prelude.{◌≡◌, ◌<◌, ◌∷◌, Bool, true, false, List, length, Option, Some, Result, Ok, Err, if◌then◌else◌, refl}
 use Rattle.std.proofs.Common.{ap, sym, subst, ◌∙◌}
 use Rattle.cxx_model.specs.declared.memory.OutOfMemory.{OutOfMemory}
 use Rattle.cxx_model.specs.declared.sequence.Operand.{Operand}
@@ -15,10 +15,12 @@ use Rattle.cxx_model.specs.Types.Numbers.{type_at}
 use Rattle.cxx_model.specs.Types.Trees.{CxxType, pointer_to, reference_to}
 use Rattle.cxx_graph.proofs.Fitting.{graph-kept}
 use Rattle.cxx_types.specs.Makes.{Makes}
-use Rattle.cxx_meaning.specs.Conversions.Asking.{Asked, Waits}
-use Rattle.cxx_meaning.specs.Conversions.Casts.{CxxCast, by_const, by_static, between, cast, cast_between, cast_operand, cast_unless, const_cast, static_cast}
-use Rattle.cxx_meaning.specs.Conversions.Kinds.{cv_of, signature}
-use Rattle.cxx_meaning.specs.Conversions.Standard.{CxxOperand}
+use Rattle.cxx_meaning.specs.Conversions.Asking.{Asked, Waits, ◌>>=◌}
+use Rattle.cxx_meaning.specs.Conversions.Casts.{CxxCast, by_const, by_static, between, cast, cast_between, cast_operand, cast_unless, const_cast, static_cast, static_unless}
+use Rattle.cxx_meaning.specs.Conversions.Kinds.{cv_of, kind_of, signature}
+use Rattle.cxx_meaning.specs.Conversions.Pointers.{is_void}
+use Rattle.cxx_meaning.specs.declared.steps.SequenceSteps.{SequenceSteps}
+use Rattle.cxx_meaning.specs.Conversions.Standard.{CxxOperand, steps_between}
 use Rattle.cxx_builtin.proofs.Drawing.{fitted_later, leveled_in_range}
 use Rattle.cxx_standard.specs.Views.{operand_at}
 use Rattle.cxx_casts.specs.declared.explicit.CastSteps.{CastSteps}
@@ -85,11 +87,11 @@ cast_stopped graph old new fault t asked makes = record { keeps = makes.keeps; c
 cast_here : (graph : Graph) (types : List CxxType) (result : Result (Option CastSteps) Wait) (asked : Asked (Option CxxCast)) → Fitted graph types → IsCast types result asked → Casts graph types types result asked
 cast_here graph types result asked fitted cast = record { keeps = Keeps-refl types; cast = cast; fitted = fitted }
 
-const_is : (graph : CxxGraph) (is_single : Bool) (from : CxxOperand) (to : CxxType) → const_cast from to ≡ true → cast graph is_single from to ≡ Ok (Some by_const)
+pub const_is : (graph : CxxGraph) (is_single : Bool) (from : CxxOperand) (to : CxxType) → const_cast from to ≡ true → cast graph is_single from to ≡ Ok (Some by_const)
 unfolding cast
 const_is graph is_single from to is = rw is refl
 
-static_is : (graph : CxxGraph) (is_single : Bool) (from : CxxOperand) (to : CxxType) → const_cast from to ≡ false → static_cast graph is_single from to ≡ Ok true → cast graph is_single from to ≡ Ok (Some by_static)
+pub static_is : (graph : CxxGraph) (is_single : Bool) (from : CxxOperand) (to : CxxType) → const_cast from to ≡ false → static_cast graph is_single from to ≡ Ok true → cast graph is_single from to ≡ Ok (Some by_static)
 unfolding cast cast_unless
 static_is graph is_single from to not_const is = rw not_const (rw is refl)
 
@@ -118,3 +120,11 @@ pub by_more : (graph : Graph) (old new : List CxxType) (is_single : Bool) (from 
 by_more graph old new is_single from to test is_static result is not_const asked not_static more =
     let answer : static_cast (graph_at old graph) is_single (operand_at old from) (type_at old to.0) ≡ Ok false = asked ∙ ap (λ (b : Bool). let one : Asked Bool = Ok b in one) not_static in
     subst (λ (a : Asked (Option CxxCast)). Casts graph old new result a) (sym (between_is (graph_at old graph) is_single (operand_at old from) (type_at old to.0) (sym is ∙ not_const) answer)) more
+
+pub conversion_is : (graph : CxxGraph) (is_single : Bool) (from : CxxOperand) (to : CxxType) (steps : SequenceSteps) → steps_between graph from to ≡ Ok (Some steps) → static_cast graph is_single from to ≡ Ok true
+unfolding static_cast static_unless
+conversion_is graph is_single from to steps is = by (is_void (kind_of to))
+  where
+    by : (b : Bool) → (if b then Ok true else (steps_between graph from to >>= λ found. static_unless graph is_single from to found)) ≡ Ok true
+    by true = refl
+    by false = rw is refl

@@ -2,6 +2,7 @@
 #![tactic(auto)]
 
 mod explicit;
+pub mod laws;
 mod middle;
 mod named;
 mod pointers;
