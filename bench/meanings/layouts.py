@@ -110,9 +110,7 @@ use Rattle.cxx_model.specs.declared.types.Cv.{Cv}
 use Rattle.cxx_model.specs.Facts.Declarations as facts
 use Rattle.cxx_model.specs.Facts.Declarations.{CxxFact, CxxGraph, CxxSpecialisation, Declares, unnamed}
 use Rattle.cxx_model.specs.Types.Trees.{CxxType, fundamental, class_type, pointer_to, reference_to, array_of, function_of, no_types, number_bound}
-use Rattle.cxx_meaning.specs.Conversions.Enumerations.{promoted}
-use Rattle.cxx_meaning.specs.Conversions.Pending.{is_pending}
-use Rattle.cxx_meaning.specs.Conversions.Sizes.{class_extent, extent, extent_of, layout_of, member_extent, noted}
+use Rattle.cxx_meaning.specs.Conversions.Sizes.{added, class_extent, enumerations_in, extent_of, layouts_of, member_extent, object_extent}
 
 abbrev no_words : Cv
 no_words = record { is_const = false; is_volatile = false }
@@ -127,7 +125,7 @@ abbrev three : List (Option CxxSpecialisation)
 three = None ∷ None ∷ None ∷ []
 
 abbrev HasExtent : ℕ → List CxxFact → ℕ → ℕ → Type 0
-HasExtent class all size alignment = extent (record { facts = all; classes = three; patterns = [] }) (class_type class) ≡ Ok (Ok (record { size = size; alignment = alignment }))
+HasExtent class all size alignment = object_extent (record { facts = all; classes = three; patterns = [] }) (class_type class) ≡ Ok (record { size = size; alignment = alignment })
 """]
     answers = sizes(units)
     n = 0
@@ -135,7 +133,7 @@ HasExtent class all size alignment = extent (record { facts = all; classes = thr
         if a is None or differs_on_purpose(u) and not sys.argv[1:]:
             continue
         n += 1
-        out.append(f"-- {text(n, u)[len(f'namespace n{n} {{ '):-2]}\nlayout_{n} : HasExtent {len(u) - 1} ({facts(u)}) {a[0]} {a[1]}\nunfolding extent extent_of layout_of class_extent member_extent noted is_pending promoted\nlayout_{n} = refl\n")
+        out.append(f"-- {text(n, u)[len(f'namespace n{n} {{ '):-2]}\nlayout_{n} : HasExtent {len(u) - 1} ({facts(u)}) {a[0]} {a[1]}\nunfolding object_extent extent_of enumerations_in layouts_of class_extent member_extent added\nlayout_{n} = refl\n")
     sys.stdout.write("\n".join(out).rstrip() + "\n")
     sys.stderr.write(f"{n} layouts\n")
 

@@ -16,3 +16,5 @@ mod unary;
 
 pub use answer::{ResultFault, built_in_result, conditional_result};
 pub use cxx_model::BuiltIn;
+pub use making::leveled;
+pub use operand::operand_kind;

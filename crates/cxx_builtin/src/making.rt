@@ -92,7 +92,7 @@ fn joined_level(inner: JoinedLevels, one: Cv, two: Cv) -> Result<JoinedLevels, O
 
 /// A type with other cv words: its own, and those behind each `*`.
 #[cycle(leveled)]
-fn leveled(types: &mut TypeTable, of: TypeId, levels: &[Cv]) -> Result<TypeId, OutOfMemory>
+pub fn leveled(types: &mut TypeTable, of: TypeId, levels: &[Cv]) -> Result<TypeId, OutOfMemory>
     requires { of.0 < length types.old }
     ensures { Makes types.old types.new result (pointers.leveled levels.now (type_at types.old of.0)) }
 {

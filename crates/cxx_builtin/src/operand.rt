@@ -13,7 +13,8 @@ use cxx_model::{Operand, TypeId, TypeNode};
 use cxx_standard::{TypeKind, cv_of, is_function, value_kind};
 use cxx_types::TypeTable;
 
-pub(crate) fn operand_kind(graph: &Graph, types: &TypeTable, one: Operand) -> TypeKind
+/// The kind of the value of an operand (4.1 to 4.3).
+pub fn operand_kind(graph: &Graph, types: &TypeTable, one: Operand) -> TypeKind
     requires known { one.of.0 < length types.now }
     requires fitted { Fitted graph.now types.now }
     ensures is { kind_at types.now result ≡ definition.operand_kind (operand_at types.now one) }

@@ -1,3 +1,4 @@
+mod CastRows
 mod Compilers
 mod Layouts
 mod Operators

@@ -10,5 +10,5 @@ mod size;
 mod steps;
 
 pub use operator::{BinaryFamily, UnaryFamily};
-pub use size::SizeReason;
+pub use size::{Extent, Layout, SizeReason};
 pub use steps::SequenceSteps;

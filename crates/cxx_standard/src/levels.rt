@@ -28,7 +28,8 @@ pub(crate) fn only_const() -> Cv
     }
 }
 
-pub(crate) fn is_cv_within(one: Cv, two: Cv) -> bool
+/// Whether each word of the first stands in the second.
+pub fn is_cv_within(one: Cv, two: Cv) -> bool
     ensures { result ≡ is_cv_within_of one two }
 {
     (!one.is_const || two.is_const) && (!one.is_volatile || two.is_volatile)

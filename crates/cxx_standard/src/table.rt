@@ -2,6 +2,7 @@
 ghost use Rattle.std.specs.Prelude.{◌≡◌, ◌<◌, length, Bool};
 ghost use Rattle.cxx_model.specs.Facts.Declarations.{graph_at};
 ghost use Rattle.cxx_model.specs.Facts.Graph.{enumerations};
+ghost use Rattle.cxx_model.specs.Facts.Pending.{is_pending as is_pending_of};
 ghost use Rattle.cxx_meaning.specs.Conversions.Enumerations.{promoted as promoted_of};
 ghost use Rattle.cxx_meaning.specs.Conversions.Pointers.{is_complete as is_complete_of};
 
@@ -25,4 +26,12 @@ pub fn is_complete(graph: &Graph, types: &TypeTable, class: ClassId) -> bool
 {
     let _ = types;
     graph.complete(class)
+}
+
+/// Whether a class must be complete before it is asked (14.7.1). A class that is no specialisation never is.
+pub fn is_pending(graph: &Graph, types: &TypeTable, class: ClassId) -> bool
+    ensures { result ≡ is_pending_of (graph_at types.now graph.now) class.0 }
+{
+    let _ = types;
+    graph.pending(class)
 }

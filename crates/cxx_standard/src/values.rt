@@ -15,8 +15,7 @@ ghost use Rattle.cxx_standard.specs.Views.{kind_at, operand_at, IsKindBelow, IsK
 use crate::classes::is_derived;
 use crate::kinds::{TypeKind, is_function, kind_of, value_kind};
 use crate::levels::{cv_of, is_cv_within, is_widened, no_cv, only_const, same_cv, widens};
-use crate::pending::is_pending;
-use crate::table::promoted;
+use crate::table::{is_pending, promoted};
 use cxx_graph::Graph;
 use cxx_meaning::SequenceSteps;
 use cxx_model::{

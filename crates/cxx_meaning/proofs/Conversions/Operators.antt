@@ -16,7 +16,7 @@ use Rattle.cxx_meaning.specs.Conversions.Conditional.{conditional, arms_of, arms
 use Rattle.cxx_meaning.specs.Conversions.Pointers.{common_pointer, common_other, common_class, both_ready, is_complete_object, is_complete_class}
 use Rattle.cxx_meaning.specs.Conversions.Derived.{is_derived}
 use Rattle.cxx_meaning.specs.Conversions.Enumerations.{promoted}
-use Rattle.cxx_meaning.specs.Conversions.Pending.{is_pending}
+use Rattle.cxx_model.specs.Facts.Pending.{is_pending}
 use Rattle.cxx_meaning.specs.Conversions.Standard.{CxxOperand, pointer_to_class, pointer_to_other, steps_of_pointers, step_of_enumeration, is_text, steps_of_arithmetic, steps_of_enumeration, steps_of_pointer, steps_of_kinds, value_step, class_step, steps_to_scalar, steps_to_class, steps_by_kinds, steps_of_value, related_kinds, related, steps_of_related, steps_of_unrelated, steps_by_relation, steps_of_reference, steps_between, standard_sequence}
 
 -- ---- how rows are written

@@ -15,7 +15,7 @@ use Rattle.cxx_model.specs.Types.Trees.{CxxType, fundamental, class_type, enumer
 use Rattle.cxx_meaning.specs.declared.steps.SequenceSteps.{SequenceSteps}
 use Rattle.cxx_meaning.specs.Conversions.Derived.{is_derived}
 use Rattle.cxx_meaning.specs.Conversions.Enumerations.{promoted}
-use Rattle.cxx_meaning.specs.Conversions.Pending.{is_pending}
+use Rattle.cxx_model.specs.Facts.Pending.{is_pending}
 use Rattle.cxx_meaning.specs.Conversions.Standard.{CxxOperand, CxxStandard, no_steps, sequence_by, pointer_to_class, pointer_to_other, steps_of_pointers, step_of_enumeration, is_text, steps_of_arithmetic, steps_of_enumeration, steps_of_pointer, steps_of_kinds, value_step, class_step, steps_to_scalar, steps_to_class, steps_by_kinds, steps_of_value, related_kinds, related, steps_of_related, steps_of_unrelated, steps_by_relation, steps_of_reference, steps_between, standard_sequence}
 use Rattle.cxx_meaning.specs.Conversions.Order.{order_of, is_proper_part, is_no_pointer_to_bool, way_of, way_of_pointers, way_of_classes, is_shorter, is_nearer, has_nearer_class, is_less_qualified, refers_to_less, is_bound_to_less}
 

@@ -9,7 +9,7 @@ use Rattle.cxx_model.specs.Types.Trees.{CxxType, pointer_to, array_of, qualified
 use Rattle.cxx_meaning.specs.Conversions.Asking.{Asked, ◌>>=◌}
 use Rattle.cxx_meaning.specs.Conversions.Derived.{is_derived}
 use Rattle.cxx_meaning.specs.Conversions.Kinds.{CxxKind, no_value, arithmetic, enumerated, pointing, of_class, kind_of, cv_of, signature, is_similar, is_function}
-use Rattle.cxx_meaning.specs.Conversions.Pending.{is_pending}
+use Rattle.cxx_model.specs.Facts.Pending.{is_pending}
 
 -- ---- complete objects
 

@@ -22,7 +22,7 @@ use Rattle.cxx_meaning.specs.Conversions.Asking.{Asked, ◌>>=◌}
 use Rattle.cxx_meaning.specs.Conversions.Derived.{is_derived}
 use Rattle.cxx_meaning.specs.Conversions.Enumerations.{promoted}
 use Rattle.cxx_meaning.specs.Conversions.Kinds.{CxxKind, no_value, arithmetic, enumerated, pointing, of_class, kind_of, value_kind, no_cv, cv_of, signature, is_cv_within, is_similar, is_same_unqualified, is_function}
-use Rattle.cxx_meaning.specs.Conversions.Pending.{is_pending}
+use Rattle.cxx_model.specs.Facts.Pending.{is_pending}
 
 -- 3.10: what an expression is to a conversion. Its type is no reference.
 pub record CxxOperand : Type 0 where

@@ -1,0 +1,2 @@
+mod Reserved
+mod Sampled
