@@ -10,7 +10,7 @@ use Rattle.cxx_meaning.specs.Lookups.Qualified.{leads_to, standing_in}
 use Rattle.cxx_meaning.specs.Lookups.Sightings.{Sighting as SightingMeant, standing}
 use Rattle.cxx_meaning.specs.Lookups.Wanted.{Wanted}
 use Rattle.cxx_members.specs.declared.sightings.Sighting.{Sighting}
-use Rattle.cxx_members.specs.Sighted.{Adds, AreBelow, sighting_at}
+use Rattle.cxx_members.specs.Sighted.{Adds, sighting_at}
 
 -- a namespace that has own declarations leads nowhere
 leads_by : (graph : CxxGraph) (cut : ℕ) (wanted : Wanted) (name : CxxName) (space : ScopeId) (one : SightingMeant) (others : List SightingMeant) → standing graph cut wanted name space ≡ one ∷ others → leads_to graph cut wanted name space ≡ []

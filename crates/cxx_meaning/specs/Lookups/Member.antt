@@ -173,3 +173,30 @@ pub data IsWay (graph : CxxGraph) (wanted : Wanted) (name : CxxName) : ClassId �
 -- Whatever is counted as a way of a class is one.
 abbrev pub EachIsWay : Type 0
 EachIsWay = (graph : CxxGraph) (wanted : Wanted) (name : CxxName) (class : ClassId) (way : Way) → Contains (ways graph wanted name class) way → IsWay graph wanted name class way
+
+-- 10: a path of base positions that leads from a class to one of its subobjects, whatever that declares
+pub data IsPath (graph : CxxGraph) : ClassId → Way → Type 0 where
+  Ends : (class : ClassId) → IsPath graph class (record { path = []; holder = class })
+  Goes : (fact : CxxFact) (derived parent : ClassId) (index : ℕ) (access : Access) (way : Way) → Contains graph.facts fact → fact.what ≡ facts.ancestor derived parent index access → IsPath graph parent way → IsPath graph derived (through index way)
+
+-- a path to a subobject of which another is a base subobject, or to that one itself
+abbrev pub IsPrefix : List ℕ → List ℕ → Type 0
+IsPrefix [] ys = Unit {0}
+IsPrefix (x ∷ xs) [] = ⊥
+IsPrefix (x ∷ xs) (y ∷ ys) = (x ≡ y) × IsPrefix xs ys
+
+-- 10.2: Each way is a path to a class that declares the name.
+abbrev pub WaysArePaths : Type 0
+WaysArePaths = (graph : CxxGraph) (wanted : Wanted) (name : CxxName) (class : ClassId) (way : Way) → IsWay graph wanted name class way → IsPath graph class way × (declares_member graph wanted name way.holder ≡ true)
+
+-- 10.2: What a subobject declares is found, or what one declares of which it is a base subobject hides it.
+abbrev pub HiddenByDerived : Type 0
+HiddenByDerived = (graph : CxxGraph) (wanted : Wanted) (name : CxxName) (class : ClassId) (way : Way) → IsPath graph class way → declares_member graph wanted name way.holder ≡ true → (one : Way) × IsWay graph wanted name class one × IsPrefix one.path way.path
+
+-- 10: a class has one base at a position
+abbrev pub HasOneBase : CxxGraph → Type 0
+HasOneBase graph = (one two : CxxFact) (derived parent other : ClassId) (index : ℕ) (access wider : Access) → Contains graph.facts one → Contains graph.facts two → one.what ≡ facts.ancestor derived parent index access → two.what ≡ facts.ancestor derived other index wider → parent ≡ other
+
+-- 10.2: No subobject of which a way's last one is a base subobject declares the name.
+abbrev pub NothingHides : Type 0
+NothingHides = (graph : CxxGraph) (wanted : Wanted) (name : CxxName) (class : ClassId) (way one : Way) → HasOneBase graph → IsWay graph wanted name class way → IsPath graph class one → IsPrefix one.path way.path → (one.path ≡ way.path → ⊥) → declares_member graph wanted name one.holder ≡ false
