@@ -236,7 +236,8 @@ def spaces(rng):
             lines.append(inside(unit_scope, ""))
         elif what in "ofC" and can(at, what):
             n = len(unit.facts)
-            unit.fact({"o": f"o{at},23", "f": f"f{at},23,3", "C": None}[what] or f"+ C{at},23,{sum(w.startswith('+') for w in unit.words)}", what, at)
+            classes_so_far = sum(w.startswith("+") for w in unit.words)
+            unit.fact({"o": f"o{at},23", "f": f"f{at},23,3", "C": f"+ C{at},23,{classes_so_far}"}[what], what, at)
             lines.append(inside(at, declared(what, n)))
         elif what == "D":
             to = rng.choice(spaces_now())
@@ -269,7 +270,6 @@ def spaces(rng):
     for g in range(rng.randint(0, 2)):
         at = rng.choice(spaces_now())
         outer = unit.open("b", unit.open("p", at))
-        unit.words[-1], unit.words[-2] = unit.words[-1], unit.words[-2]
         body = []
         for _ in range(rng.randint(1, 3)):
             to = rng.choice(spaces_now())
@@ -352,8 +352,6 @@ def main():
         if good:
             print(" ".join(unit.words), " ".join(good))
             left -= 1
-        elif good is None and os.environ.get("SHOW"):
-            sys.stderr.write(text + str([errors(c, text) for c in COMPILERS]) + "\n")
 
 
 main()

@@ -7,3 +7,5 @@ pub mod Nearest
 pub mod Searched
 pub mod Subobjects
 pub mod Seen
+pub mod Counted
+pub mod Ordered

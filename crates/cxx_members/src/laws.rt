@@ -1,6 +1,6 @@
 //! Laws of the definitions, each the contract of a function that does nothing.
 
-ghost use Rattle.cxx_meaning.specs.Lookups.Member.{EachIsWay, HiddenByDerived, NothingHides, WaysArePaths};
+ghost use Rattle.cxx_meaning.specs.Lookups.Member.{EachIsWay, EachWayIsCounted, FactsAreInOrder, HiddenByDerived, NothingHides, WaysArePaths};
 ghost use Rattle.cxx_meaning.specs.Lookups.Sightings.{EachIsOfOne, EachIsSeen};
 
 /// Each declaration that a lookup sees in a scope stands there with the name, is seen at the cut, is of what is wanted, and
@@ -20,6 +20,13 @@ pub fn entities_of_declarations()
 pub fn found_by_bases()
     ensures way { EachIsWay }
     ensures path { WaysArePaths }
+{}
+
+/// Each way by bases to a class that declares the name, with no class before it that does, is among those that a lookup
+/// counts, where each base is complete before a class names it; in a graph in range it is (10, 10.2).
+pub fn every_way_is_counted()
+    ensures counted { EachWayIsCounted }
+    ensures order { FactsAreInOrder }
 {}
 
 /// Whatever a subobject declares is found, or one of which it is a base subobject declares the name, is found, and hides it
