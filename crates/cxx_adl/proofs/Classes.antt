@@ -1,12 +1,10 @@
 -- The classes of a graph, with the arguments of those that are specialisations as trees.
-use Rattle.std.proofs.Common.{Bool, true, false, not, ◌&&◌, ◌≡◌, ℕ, zero, suc, List, [], ◌∷◌, Option, Some, None, option_map, refl, ap, ◌∙◌, subst}
-use Rattle.std.specs.List.{list_any, slice_get}
+use Rattle.std.proofs.Common.{◌≡◌, ℕ, zero, suc, List, [], ◌∷◌, Option, Some, None, option_map, refl, ap, ◌∙◌, subst}
+use Rattle.std.specs.List.{slice_get}
 use Rattle.cxx_model.specs.declared.facts.Specialisation.{Specialisation}
 use Rattle.cxx_model.specs.Types.Trees.{CxxType}
 use Rattle.cxx_model.specs.Types.Numbers.{AreArgumentsBelow, arguments_at}
-use Rattle.cxx_model.specs.Facts.Declarations.{CxxGraph, CxxSpecialisation, class_at, classes_at, facts_at, graph_at}
-use Rattle.cxx_model.specs.Facts.Graph.{Graph}
-use Rattle.cxx_model.specs.Facts.Pending.{begins_or_ends, defining_classes, is_defined_since, is_pending}
+use Rattle.cxx_model.specs.Facts.Declarations.{CxxGraph, class_at, classes_at}
 use Rattle.cxx_model.specs.Facts.Fitted.{AreClassesBelow}
 use Rattle.cxx_meaning.specs.Lookups.Associated.{arguments_for, scope_of_pattern, scope_of_template, types_among}
 use Rattle.cxx_adl.specs.Views.{specialisation_in}
@@ -53,35 +51,3 @@ pattern_is graph types classes n of some = ap (scope_of_pattern graph) (class_is
     by None e = absurd cc
     by (Some None) e = absurd cc
     by (Some (Some other)) e = let same : other ≡ of = cc in ap (λ x. scope_of_template graph x.template.0) same
-
--- ---- pending
-
-abbrev pending_by : CxxGraph → ℕ → Option (Option CxxSpecialisation) → Bool
-pending_by graph class (Some (Some of)) = not (list_any (λ fact. begins_or_ends class fact.what) graph.facts) && is_defined_since (defining_classes graph of.template) class false graph.facts
-pending_by graph class _ = false
-
-pending_as : (graph : CxxGraph) (class : ℕ) → is_pending graph class ≡ pending_by graph class (slice_get graph.classes class)
-unfolding is_pending
-pending_as graph class = refl
-
-pub not_pending : (types : List CxxType) (graph : Graph) (n : ℕ) → specialisation_in (slice_get graph.classes n) ≡ None → is_pending (graph_at types graph) n ≡ false
-not_pending types graph n none = pending_as (graph_at types graph) n ∙ (ap (pending_by (graph_at types graph) n) (class_is types graph.classes n) ∙ by (slice_get graph.classes n) none)
-  where
-    by : (o : Option (Option Specialisation)) → specialisation_in o ≡ None → pending_by (graph_at types graph) n (option_map (class_at types) o) ≡ false
-    by None e = refl
-    by (Some None) e = refl
-    by (Some (Some of)) e = absurd cc
-
-pending_or_begun : (types : List CxxType) (graph : Graph) (n : ℕ) (of : Specialisation) → specialisation_in (slice_get graph.classes n) ≡ Some of → is_pending (graph_at types graph) n ≡ (not (list_any (λ fact. begins_or_ends n fact.what) (facts_at types graph.facts)) && is_defined_since (defining_classes (graph_at types graph) of.template.0) n false (facts_at types graph.facts))
-pending_or_begun types graph n of some = pending_as (graph_at types graph) n ∙ (ap (pending_by (graph_at types graph) n) (class_is types graph.classes n) ∙ by (slice_get graph.classes n) some)
-  where
-    by : (o : Option (Option Specialisation)) → specialisation_in o ≡ Some of → pending_by (graph_at types graph) n (option_map (class_at types) o) ≡ (not (list_any (λ fact. begins_or_ends n fact.what) (facts_at types graph.facts)) && is_defined_since (defining_classes (graph_at types graph) of.template.0) n false (facts_at types graph.facts))
-    by None e = absurd cc
-    by (Some None) e = absurd cc
-    by (Some (Some other)) e = let same : other ≡ of = cc in ap (λ x. not (list_any (λ fact. begins_or_ends n fact.what) (facts_at types graph.facts)) && is_defined_since (defining_classes (graph_at types graph) x.template.0) n false (facts_at types graph.facts)) same
-
-pub begun_is : (types : List CxxType) (graph : Graph) (n : ℕ) (of : Specialisation) → specialisation_in (slice_get graph.classes n) ≡ Some of → list_any (λ fact. begins_or_ends n fact.what) (facts_at types graph.facts) ≡ true → is_pending (graph_at types graph) n ≡ false
-begun_is types graph n of some begun = pending_or_begun types graph n of some ∙ ap (λ t. not t && is_defined_since (defining_classes (graph_at types graph) of.template.0) n false (facts_at types graph.facts)) begun
-
-pub pending_is : (types : List CxxType) (graph : Graph) (n : ℕ) (of : Specialisation) → specialisation_in (slice_get graph.classes n) ≡ Some of → list_any (λ fact. begins_or_ends n fact.what) (facts_at types graph.facts) ≡ false → is_pending (graph_at types graph) n ≡ is_defined_since (defining_classes (graph_at types graph) of.template.0) n false (facts_at types graph.facts)
-pending_is types graph n of some begun = pending_or_begun types graph n of some ∙ ap (λ t. not t && is_defined_since (defining_classes (graph_at types graph) of.template.0) n false (facts_at types graph.facts)) begun

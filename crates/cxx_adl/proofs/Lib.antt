@@ -6,7 +6,7 @@ pub mod Turns
 pub mod Placed
 pub mod Holding
 pub mod Homes
-pub mod Defining
+pub mod Patterns
 pub mod FactsPlaced
 pub mod First
 pub mod Standing

@@ -2,6 +2,7 @@
 
 ghost use Rattle.std.specs.Prelude.{◌≡◌, ◌<◌, ◌∷◌, [], length};
 ghost use Rattle.std.specs.List.{slice_get};
+ghost use Rattle.std.specs.Option.{option_copied};
 ghost use Rattle.cxx_model.specs.declared.types.FactId.{FactId as FactNumber};
 ghost use Rattle.cxx_model.specs.declared.types.ScopeId.{ScopeId as ScopeNumber};
 ghost use Rattle.cxx_model.specs.Facts.Declarations.{declares_at};
@@ -12,8 +13,7 @@ ghost use Rattle.cxx_adl.specs.Functions.{firsts, fact_list, meant_at};
 ghost use Rattle.cxx_adl.specs.Views.{facts_of, graph_of};
 
 use crate::asking::Asking;
-use crate::pending::pattern_at;
-use cxx_model::{Entity, FactId, Steps, TemplateId};
+use cxx_model::{Entity, FactId, Pattern, Steps, TemplateId};
 use std::sync::ledger::Ledger;
 
 /// What a fact stands for (7.3.3).
@@ -45,7 +45,7 @@ impl Asking<'_> {
         }
     }
 
-    #[tactic(auto, using(crate::proofs::Defining::functions_some, crate::proofs::Defining::functions_none))]
+    #[tactic(auto, using(crate::proofs::Patterns::functions_some, crate::proofs::Patterns::functions_none))]
     fn is_of_functions(&self, template: TemplateId) -> bool
         ensures { result ≡ is_one_of_functions (slice_get (graph_of self.now).patterns template.0) }
     {
@@ -84,4 +84,11 @@ fn first_or(number: FactId, first: Option<FactId>) -> FactId
         Some(first) => first,
         None => number,
     }
+}
+
+// The template with a number, where there is one.
+fn pattern_at(patterns: &[Pattern], template: TemplateId) -> Option<&Pattern>
+    ensures { option_copied result ≡ slice_get patterns.now template.0 }
+{
+    patterns.get(template.0 as usize)
 }

@@ -10,7 +10,6 @@ pub mod laws;
 mod names;
 mod numbers;
 mod parts;
-mod pending;
 mod scopes;
 mod sets;
 

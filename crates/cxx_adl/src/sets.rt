@@ -158,16 +158,23 @@ impl Asking<'_> {
         })
     }
 
+    // Whether a class has to be complete before it is asked.
+    fn is_pending(&self, class: ClassId) -> bool
+        ensures { result ≡ is_pending_class (graph_of self.now) class.0 }
+    {
+        self.graph.pending(class)
+    }
+
     // The first of some classes that is pending.
-    fn first_pending(&self, classes: &[u32]) -> Result<Option<u32>, AllocError>
-        ensures { IfOk result (λ first. first ≡ find (is_pending_class (graph_of self.now)) classes.now) }
+    fn first_pending(&self, classes: &[u32]) -> Option<u32>
+        ensures { result ≡ find (is_pending_class (graph_of self.now)) classes.now }
     {
         for class in classes {
-            if self.is_pending(ClassId(*class))? {
-                return Ok(Some(*class));
+            if self.is_pending(ClassId(*class)) {
+                return Some(*class);
             }
         }
-        Ok(None)
+        None
     }
 }
 
@@ -203,7 +210,7 @@ pub fn associated(
     };
     let parts = asking.parts(of.as_slice())?;
     let own = asking.own_classes(&parts)?;
-    if let Some(class) = asking.first_pending(&own)? {
+    if let Some(class) = asking.first_pending(&own) {
         return Err(Wait::Needs(ClassId(class)));
     }
     Ok(asking.sets(&parts, own)?)

@@ -8,10 +8,10 @@ use Rattle.cxx_model.proofs.Champion.{first_or_later, later_of}
 use Rattle.cxx_meaning.specs.Lookups.Directives.{EachIsReached, IsReached, Directly, Further, nominated, reached}
 use Rattle.cxx_meaning.specs.Lookups.Gathered.{holds_scope, spread, with_scope, with_scopes}
 
-abbrev AllAre : (ScopeId → Type 0) → List ScopeId → Type 0
+abbrev pub AllAre : (ScopeId → Type 0) → List ScopeId → Type 0
 AllAre p xs = (n : ScopeId) → Contains xs n → p n
 
-all_of_one : (p : ScopeId → Type 0) (one n : ScopeId) → p one → Contains (one ∷ []) n → p n
+pub all_of_one : (p : ScopeId → Type 0) (one n : ScopeId) → p one → Contains (one ∷ []) n → p n
 all_of_one p one n h m = elim (first_or_later one [] n m) [
   | inl here ↦ subst p here h
   | inr there ↦ absurd (omega (arith, there.1))
@@ -47,7 +47,7 @@ spread_zero : (next : ScopeId → List ScopeId) (place : ℕ) (found : List Scop
 unfolding spread
 spread_zero next place found = refl
 
-all_spread : (p : ScopeId → Type 0) (next : ScopeId → List ScopeId) (room place : ℕ) (found : List ScopeId) → ((m : ScopeId) → p m → AllAre p (next m)) → AllAre p found → AllAre p (spread next room place found)
+pub all_spread : (p : ScopeId → Type 0) (next : ScopeId → List ScopeId) (room place : ℕ) (found : List ScopeId) → ((m : ScopeId) → p m → AllAre p (next m)) → AllAre p found → AllAre p (spread next room place found)
 all_spread p next zero place found closed all = subst (AllAre p) (sym (spread_zero next place found)) all
 all_spread p next (suc room) place found closed all = by (slice_get found place) refl (λ more. all_spread p next room (place + 1) more closed)
   where

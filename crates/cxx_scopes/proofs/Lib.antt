@@ -1,16 +1,4 @@
-pub mod Gathering
-pub mod Noted
-pub mod Placed
-pub mod Scanned
 pub mod Spreading
-pub mod Patterns
-pub mod Sighting
-pub mod Nodes
 pub mod Shows
 pub mod Searching
-pub mod Functions
-pub mod Joining
-pub mod Tables
-pub mod Holders
-pub mod Finding
 pub mod Outward

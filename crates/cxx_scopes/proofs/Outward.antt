@@ -12,7 +12,7 @@ use Rattle.std.proofs.lemmas.List.{at_drop_more, at_drop_all}
 use Rattle.cxx_meaning.specs.Lookups.Scopes.{unit_scope}
 use Rattle.cxx_meaning.specs.Lookups.Pending.{Asked}
 use Rattle.cxx_meaning.specs.Lookups.Wanted.{Wanted}
-use Rattle.cxx_scopes.specs.Answers.{Answers}
+use Rattle.cxx_members.specs.Answers.{Answers}
 
 -- nothing is found in the first scope
 pub goes_out : (graph : CxxGraph) (wanted : Wanted) (name : CxxName) (cut : ℕ) (shown now : List Shown) (scope : ScopeId) (outer : List ScopeId) → found_in_scope graph wanted name cut (shown ++ shows graph.facts cut scope) scope ≡ Ok None → now ≡ shown ++ shows graph.facts cut scope → ordinary_in graph wanted name cut shown (scope ∷ outer) ≡ ordinary_in graph wanted name cut now outer

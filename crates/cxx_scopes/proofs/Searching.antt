@@ -9,8 +9,8 @@ use Rattle.cxx_meaning.specs.Lookups.Gathered.{with_scopes}
 use Rattle.cxx_meaning.specs.Lookups.Qualified.{leads_to, standing_in}
 use Rattle.cxx_meaning.specs.Lookups.Sightings.{Sighting as SightingMeant, standing}
 use Rattle.cxx_meaning.specs.Lookups.Wanted.{Wanted}
-use Rattle.cxx_scopes.specs.declared.sightings.Sighting.{Sighting}
-use Rattle.cxx_scopes.specs.Sighted.{Adds, AreBelow, sighting_at}
+use Rattle.cxx_members.specs.declared.sightings.Sighting.{Sighting}
+use Rattle.cxx_members.specs.Sighted.{Adds, sighting_at}
 
 -- a namespace that has own declarations leads nowhere
 leads_by : (graph : CxxGraph) (cut : ℕ) (wanted : Wanted) (name : CxxName) (space : ScopeId) (one : SightingMeant) (others : List SightingMeant) → standing graph cut wanted name space ≡ one ∷ others → leads_to graph cut wanted name space ≡ []
@@ -34,6 +34,3 @@ pub standing_more : (types : List CxxType) (graph : CxxGraph) (cut : ℕ) (wante
 unfolding standing_in
 standing_more types graph cut wanted name old new space others adds =
     sym (append_assoc (map (sighting_at types) old) (standing graph cut wanted name space) (standing_in graph cut wanted name others)) ∙ ap (λ xs. xs ++ standing_in graph cut wanted name others) (sym adds.seen)
-
-pub adds_to_none : (types : List CxxType) (found : List Sighting) (more : List SightingMeant) → Adds types [] found more → (map (sighting_at types) found ≡ more) × AreBelow (length types) found
-adds_to_none types found more adds = (adds.seen, adds.below tt)

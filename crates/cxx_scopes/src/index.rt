@@ -1,21 +1,15 @@
 ghost use Rattle.std.specs.Prelude.{◌≡◌, ◌+◌, ◌<◌, [], length, take, OnOk, OnErr};
-ghost use Rattle.cxx_scopes.specs.Views.{Notes, noted_of};
+ghost use Rattle.cxx_scopes.specs.Views.{Notes};
 
 use cxx_graph::Graph;
-use cxx_model::{Entity, Fact, FactId, OutOfMemory, ScopeId, ScopeKind};
+use cxx_members::MemberIndex;
+use cxx_model::{FactId, OutOfMemory};
 use std::alloc::Global;
-
-/// A scope, and the one that holds it.
-#[derive(Clone, Copy)]
-pub struct Noted {
-    pub(crate) kind: ScopeKind,
-    pub(crate) parent: ScopeId,
-}
 
 /// What lookups keep of the facts of a graph. It notes each fact as it is added.
 #[derive(Drop)]
 pub struct ScopeIndex {
-    pub(crate) scopes: Vec<Noted>,
+    pub(crate) members: MemberIndex,
 }
 
 impl ScopeIndex {
@@ -24,7 +18,7 @@ impl ScopeIndex {
         ensures { Notes result [] }
     {
         ScopeIndex {
-            scopes: Vec::new(alloc),
+            members: MemberIndex::new(alloc),
         }
     }
 
@@ -35,23 +29,6 @@ impl ScopeIndex {
         ensures ok { OnOk result (Notes self.new (take (number.0 + 1) graph.now.facts)) }
         ensures err { OnErr result (Notes self.new (take number.0 graph.now.facts)) }
     {
-        let noted = noted_in(&graph.facts()[number.0 as usize]);
-        if let Some(noted) = noted {
-            self.scopes.push(noted)?;
-        }
-        Ok(())
-    }
-}
-
-// What is kept of a fact.
-fn noted_in(fact: &Fact) -> Option<Noted>
-    ensures { result ≡ noted_of fact.now }
-{
-    match fact.what {
-        Entity::Scope { kind, .. } => Some(Noted {
-            kind,
-            parent: fact.scope,
-        }),
-        _ => None,
+        self.members.note(graph, number)
     }
 }

@@ -2,22 +2,13 @@
 #![tactic(auto)]
 
 mod directives;
-mod entities;
 mod index;
 pub mod laws;
 mod lists;
-mod looking;
 mod lookups;
-mod member;
-mod members;
 mod ordinary;
-mod pending;
 mod qualified;
-mod sightings;
-mod table;
-mod wanted;
-mod ways;
 
+pub use cxx_members::Wanted;
 pub use cxx_model::{Found, Hit, MemberFound};
 pub use index::ScopeIndex;
-pub use wanted::Wanted;

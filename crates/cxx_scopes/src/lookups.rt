@@ -7,14 +7,15 @@ ghost use Rattle.cxx_meaning.specs.Lookups.Wanted.{any_name};
 ghost use Rattle.cxx_meaning.specs.Lookups.Member.{member as member_of};
 ghost use Rattle.cxx_meaning.specs.Lookups.Ordinary.{ordinary as ordinary_of};
 ghost use Rattle.cxx_meaning.specs.Lookups.Qualified.{qualified as qualified_of, brought as brought_of};
-ghost use Rattle.cxx_scopes.specs.Answers.{Answers};
-ghost use Rattle.cxx_scopes.specs.Views.{Notes, wanted_at};
+ghost use Rattle.cxx_members.specs.Answers.{Answers};
+ghost use Rattle.cxx_members.specs.Views.{wanted_at};
+ghost use Rattle.cxx_scopes.specs.Views.{Notes};
 
 use crate::index::ScopeIndex;
-use crate::looking::Looking;
-use crate::sightings::Sought;
-use crate::wanted::Wanted;
+use crate::ordinary::ordinary_at;
+use crate::qualified::{brought_from, qualified_in};
 use cxx_graph::Graph;
+use cxx_members::{Looking, Sought, Wanted};
 use cxx_model::{ClassId, FactId, Found, MemberFound, Name, ScopeId, Steps, Wait};
 use cxx_types::TypeTable;
 use std::alloc::Global;
@@ -62,9 +63,9 @@ impl ScopeIndex {
             alloc,
             graph,
             types,
-            scopes: self.scopes.as_slice(),
+            scopes: self.members.scopes(),
         };
-        looking.ordinary(cut.0, &sought, scope, steps)
+        ordinary_at(&looking, cut.0, &sought, scope, steps)
     }
 
     /// What a name means behind `::` in a namespace (3.4.3.2).
@@ -108,9 +109,9 @@ impl ScopeIndex {
             alloc,
             graph,
             types,
-            scopes: self.scopes.as_slice(),
+            scopes: self.members.scopes(),
         };
-        Ok(looking.qualified(cut.0, &sought, space, steps)?)
+        Ok(qualified_in(&looking, cut.0, &sought, space, steps)?)
     }
 
     /// What a using-declaration of a namespace or a block brings from a namespace: all entities of the name, also those that others hide (7.3.3).
@@ -137,9 +138,9 @@ impl ScopeIndex {
             alloc,
             graph,
             types,
-            scopes: self.scopes.as_slice(),
+            scopes: self.members.scopes(),
         };
-        Ok(looking.brought(cut.0, &sought, space, steps)?)
+        Ok(brought_from(&looking, cut.0, &sought, space, steps)?)
     }
 
     /// What a name means as a member of a class (10.2).
@@ -157,7 +158,7 @@ impl ScopeIndex {
         requires name { IsNameBelow (length types.now) name.now }
         ensures { Answers result (member_of (graph_at types.now graph.now) any_name class (name_at types.now name.now)) }
     {
-        self.member_for(alloc, graph, types, Wanted::Any, class, name, steps)
+        self.members.member(alloc, graph, types, class, name, steps)
     }
 
     /// The same, for what is wanted alone.
@@ -176,13 +177,7 @@ impl ScopeIndex {
         requires name { IsNameBelow (length types.now) name.now }
         ensures { Answers result (member_of (graph_at types.now graph.now) (wanted_at wanted) class (name_at types.now name.now)) }
     {
-        let sought = Sought { wanted, name };
-        let looking = Looking {
-            alloc,
-            graph,
-            types,
-            scopes: self.scopes.as_slice(),
-        };
-        looking.member(&sought, class, steps)
+        self.members
+            .member_for(alloc, graph, types, wanted, class, name, steps)
     }
 }

@@ -11,7 +11,9 @@ use Rattle.cxx_model.specs.declared.types.ClassId.{ClassId}
 use Rattle.cxx_model.specs.declared.types.ScopeId.{ScopeId}
 use Rattle.cxx_model.specs.Facts.Conflicts.{same_parameters}
 use Rattle.cxx_model.specs.Facts.Declarations as facts
-use Rattle.cxx_model.specs.Facts.Declarations.{CxxFact, CxxGraph, CxxName, Declares}
+use Rattle.cxx_model.specs.Facts.Declarations.{CxxFact, CxxGraph, CxxName, Declares, facts_at}
+use Rattle.cxx_model.specs.Facts.Graph.{Graph, InRange}
+use Rattle.cxx_model.specs.Types.Trees.{CxxType}
 use Rattle.cxx_meaning.specs.Lookups.Gathered.{gathered}
 use Rattle.cxx_meaning.specs.Lookups.Pending.{Asked, asked}
 use Rattle.cxx_meaning.specs.Lookups.Scopes.{kind_of}
@@ -173,3 +175,55 @@ pub data IsWay (graph : CxxGraph) (wanted : Wanted) (name : CxxName) : ClassId �
 -- Whatever is counted as a way of a class is one.
 abbrev pub EachIsWay : Type 0
 EachIsWay = (graph : CxxGraph) (wanted : Wanted) (name : CxxName) (class : ClassId) (way : Way) → Contains (ways graph wanted name class) way → IsWay graph wanted name class way
+
+-- 10: a path of base positions that leads from a class to one of its subobjects, whatever that declares
+pub data IsPath (graph : CxxGraph) : ClassId → Way → Type 0 where
+  Ends : (class : ClassId) → IsPath graph class (record { path = []; holder = class })
+  Goes : (fact : CxxFact) (derived parent : ClassId) (index : ℕ) (access : Access) (way : Way) → Contains graph.facts fact → fact.what ≡ facts.ancestor derived parent index access → IsPath graph parent way → IsPath graph derived (through index way)
+
+-- a path to a subobject of which another is a base subobject, or to that one itself
+abbrev pub IsPrefix : List ℕ → List ℕ → Type 0
+IsPrefix [] ys = Unit {0}
+IsPrefix (x ∷ xs) [] = ⊥
+IsPrefix (x ∷ xs) (y ∷ ys) = (x ≡ y) × IsPrefix xs ys
+
+-- 10.2: Each way is a path to a class that declares the name.
+abbrev pub WaysArePaths : Type 0
+WaysArePaths = (graph : CxxGraph) (wanted : Wanted) (name : CxxName) (class : ClassId) (way : Way) → IsWay graph wanted name class way → IsPath graph class way × (declares_member graph wanted name way.holder ≡ true)
+
+-- 10.2: What a subobject declares is found, or what one declares of which it is a base subobject hides it.
+abbrev pub HiddenByDerived : Type 0
+HiddenByDerived = (graph : CxxGraph) (wanted : Wanted) (name : CxxName) (class : ClassId) (way : Way) → IsPath graph class way → declares_member graph wanted name way.holder ≡ true → (one : Way) × IsWay graph wanted name class one × IsPrefix one.path way.path
+
+-- 10: a class has one base at a position
+abbrev pub HasOneBase : CxxGraph → Type 0
+HasOneBase graph = (one two : CxxFact) (derived parent other : ClassId) (index : ℕ) (access wider : Access) → Contains graph.facts one → Contains graph.facts two → one.what ≡ facts.ancestor derived parent index access → two.what ≡ facts.ancestor derived other index wider → parent ≡ other
+
+-- 10.2: No subobject of which a way's last one is a base subobject declares the name.
+abbrev pub NothingHides : Type 0
+NothingHides = (graph : CxxGraph) (wanted : Wanted) (name : CxxName) (class : ClassId) (way one : Way) → HasOneBase graph → IsWay graph wanted name class way → IsPath graph class one → IsPrefix one.path way.path → (one.path ≡ way.path → ⊥) → declares_member graph wanted name one.holder ≡ false
+
+abbrev pub ends : ClassId → Declares → Bool
+ends class (facts.complete other) = nat_eq other.0 class.0
+ends class _ = false
+
+-- 9.2: whether the end of a class stands among some facts
+abbrev pub is_ended : List CxxFact → ClassId → Bool
+is_ended all class = list_any (λ fact. ends class fact.what) all
+
+abbrev pub StandsInOrder : List CxxFact → Declares → Type 0
+StandsInOrder before (facts.ancestor derived parent index access) = (is_ended before parent ≡ true) × (is_ended before derived ≡ false)
+StandsInOrder before _ = Unit {0}
+
+-- 10: Each base is complete before it is named as one, by a class that is not.
+abbrev pub BasesInOrder : List CxxFact → List CxxFact → Type 0
+BasesInOrder before [] = Unit {0}
+BasesInOrder before (fact ∷ later) = StandsInOrder before fact.what × BasesInOrder (before ++ fact ∷ []) later
+
+-- Each way is counted, where bases are complete before they are named.
+abbrev pub EachWayIsCounted : Type 0
+EachWayIsCounted = (graph : CxxGraph) (wanted : Wanted) (name : CxxName) (class : ClassId) (way : Way) → BasesInOrder [] graph.facts → IsWay graph wanted name class way → Contains (ways graph wanted name class) way
+
+-- The facts of a graph in range are in this order.
+abbrev pub FactsAreInOrder : Type 0
+FactsAreInOrder = (types : List CxxType) (graph : Graph) → InRange graph → BasesInOrder [] (facts_at types graph.facts)

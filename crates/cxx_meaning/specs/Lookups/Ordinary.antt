@@ -1,5 +1,5 @@
 -- Unqualified names (3.4.1).
-use Rattle.std.specs.Prelude.{ℕ, if◌then◌else◌, List, [], ◌∷◌, ◌++◌, Option, Some, None, Ok, Err}
+use Rattle.std.specs.Prelude.{◌≡◌, ℕ, if◌then◌else◌, List, [], ◌∷◌, ◌++◌, Option, Some, None, Ok, Err}
 use Rattle.cxx_model.specs.declared.lookup.Found.{Found}
 use Rattle.cxx_model.specs.declared.lookup.Found.TheVariants as found
 use Rattle.cxx_model.specs.declared.lookup.MemberFound.{MemberFound}
@@ -67,3 +67,19 @@ ordinary_in graph wanted name cut shown (scope ∷ outer) =
 -- 3.4.1, 7.3.4
 abbrev pub ordinary : CxxGraph → Wanted → ScopeId → CxxName → ℕ → Asked Found
 ordinary graph wanted scope name cut = ordinary_in graph wanted name cut [] (chain graph.facts scope)
+
+-- ---- in words
+
+-- 3.4.1: What is found is found in the first scope that has something, and no scope nearer has a declaration.
+pub data IsFirst (graph : CxxGraph) (wanted : Wanted) (name : CxxName) (cut : ℕ) : List Shown → List ScopeId → Found → Type 0 where
+  Here : (shown : List Shown) (scope : ScopeId) (outer : List ScopeId) (found : Found) → found_in_scope graph wanted name cut (shown ++ shows graph.facts cut scope) scope ≡ Ok (Some found) → IsFirst graph wanted name cut shown (scope ∷ outer) found
+  Outside : (shown : List Shown) (scope : ScopeId) (outer : List ScopeId) (found : Found) → found_in_scope graph wanted name cut (shown ++ shows graph.facts cut scope) scope ≡ Ok None → IsFirst graph wanted name cut (shown ++ shows graph.facts cut scope) outer found → IsFirst graph wanted name cut shown (scope ∷ outer) found
+  Nowhere : (shown : List Shown) → IsFirst graph wanted name cut shown [] found.Empty
+
+-- What is found is what the first scope of the chain that has something has.
+abbrev pub FirstIsFound : Type 0
+FirstIsFound = (graph : CxxGraph) (wanted : Wanted) (scope : ScopeId) (name : CxxName) (cut : ℕ) (found : Found) → ordinary graph wanted scope name cut ≡ Ok found → IsFirst graph wanted name cut [] (chain graph.facts scope) found
+
+-- A scope of no class that has nothing has no declaration, of itself or by directives.
+abbrev pub NothingIsNoDeclaration : Type 0
+NothingIsNoDeclaration = (graph : CxxGraph) (wanted : Wanted) (name : CxxName) (cut : ℕ) (shown : List Shown) (scope : ScopeId) → class_of_scope graph.facts scope ≡ None → found_in_scope graph wanted name cut shown scope ≡ Ok None → sightings_at graph cut wanted name shown scope ≡ []

@@ -1,5 +1,6 @@
 -- Names behind `::` in a namespace (3.4.3.2), and what a using-declaration brings (7.3.3).
-use Rattle.std.specs.Prelude.{ℕ, List, [], ◌∷◌, ◌++◌, length, Ok}
+use Rattle.std.specs.Prelude.{◌≡◌, ℕ, List, [], ◌∷◌, ◌++◌, length, Ok}
+use Rattle.std.specs.List.{Contains}
 use Rattle.cxx_model.specs.declared.lookup.Found.{Found}
 use Rattle.cxx_model.specs.declared.lookup.Found.TheVariants as found
 use Rattle.cxx_model.specs.declared.types.ScopeId.{ScopeId}
@@ -47,3 +48,15 @@ brought_in graph sightings = brought_by (looked_up graph sightings) sightings
 -- 7.3.3: what a using-declaration of a namespace or a block brings
 abbrev pub brought : CxxGraph → ScopeId → CxxName → ℕ → Asked Found
 brought graph space name cut = Ok (brought_in graph (sightings_of graph cut any_name name space))
+
+-- ---- in words
+
+-- 3.4.3.2: A namespace is searched where it is the one that is named, or where a directive nominates it in one that is
+-- searched and that does not declare the name itself.
+pub data IsSearched (graph : CxxGraph) (cut : ℕ) (wanted : Wanted) (name : CxxName) (from : ScopeId) : ScopeId → Type 0 where
+  Itself : IsSearched graph cut wanted name from from
+  Nominated : (m n : ScopeId) → IsSearched graph cut wanted name from m → standing graph cut wanted name m ≡ [] → Contains (nominated graph.facts cut m) n → IsSearched graph cut wanted name from n
+
+-- Whatever counts as searched is.
+abbrev pub EachIsSearched : Type 0
+EachIsSearched = (graph : CxxGraph) (cut : ℕ) (wanted : Wanted) (name : CxxName) (from n : ScopeId) → Contains (searched graph cut wanted name from) n → IsSearched graph cut wanted name from n

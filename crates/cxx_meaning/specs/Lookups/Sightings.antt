@@ -1,6 +1,6 @@
 -- The declarations of a name that a lookup sees, and what it finds in them (3.3.7, 3.4, 7.3.3).
-use Rattle.std.specs.Prelude.{ℕ, ◌+◌, Bool, true, false, not, ◌&&◌, nat_eq, nat_lt, if◌then◌else◌, List, [], ◌∷◌, map, filter, find, Option, Some, None, option_map}
-use Rattle.std.specs.List.{slice_get, list_any}
+use Rattle.std.specs.Prelude.{◌≡◌, ℕ, ◌+◌, Bool, true, false, not, ◌&&◌, nat_eq, nat_lt, if◌then◌else◌, List, [], ◌∷◌, map, filter, find, Option, Some, None, option_map}
+use Rattle.std.specs.List.{Contains, slice_get, list_any}
 use Rattle.cxx_model.specs.declared.lookup.Found.{Found}
 use Rattle.cxx_model.specs.declared.lookup.Found.TheVariants as found
 use Rattle.cxx_model.specs.declared.types.FactId.{FactId}
@@ -128,3 +128,26 @@ found_of graph facts = by facts (odd_pair graph facts)
 -- what a lookup finds in the declarations that it sees
 abbrev pub looked_up : CxxGraph → List Sighting → Found
 looked_up graph sightings = found_of graph (entities (unhidden graph sightings))
+
+-- ---- in words
+
+-- 3.4, 3.3: A declaration of the name stands in the scope; it is seen at the cut, it is of what is wanted, and not only a
+-- friend declaration makes it.
+pub record IsSeenIn (graph : CxxGraph) (cut : ℕ) (wanted : Wanted) (name : CxxName) (scope : ScopeId) (one : Sighting) : Type 0 where
+  pub number : ℕ
+  pub fact : CxxFact
+  pub stands : slice_get graph.facts number ≡ Some fact
+  pub within : nat_eq fact.scope scope.0 ≡ true
+  pub named : is_named name fact ≡ true
+  pub seen : is_seen graph.facts cut number fact ≡ true
+  pub no_friend : is_by_friend graph.facts number fact ≡ false
+  pub kind : is_wanted graph wanted one.what ≡ true
+  pub itself : sighting_of graph.facts number fact ≡ one
+
+-- Whatever counts as a declaration in a scope is one.
+abbrev pub EachIsSeen : Type 0
+EachIsSeen = (graph : CxxGraph) (cut : ℕ) (wanted : Wanted) (name : CxxName) (scope : ScopeId) (one : Sighting) → Contains (standing graph cut wanted name scope) one → IsSeenIn graph cut wanted name scope one
+
+-- Each entity of a set that is found is that of a declaration that a lookup sees, and that no other one of its scope hides.
+abbrev pub EachIsOfOne : Type 0
+EachIsOfOne = (graph : CxxGraph) (sightings : List Sighting) (facts : List FactId) (fact : FactId) → looked_up graph sightings ≡ found.Set facts → Contains facts fact → (one : Sighting) × Contains sightings one × (is_hidden_among graph sightings one ≡ false) × (named_by (unhidden graph sightings) one ≡ fact)

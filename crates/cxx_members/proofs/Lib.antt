@@ -1,0 +1,12 @@
+pub mod Gathering
+pub mod Kept
+pub mod Placed
+pub mod Scanned
+pub mod Patterns
+pub mod Adding
+pub mod Nodes
+pub mod Functions
+pub mod Joining
+pub mod Tables
+pub mod Holders
+pub mod Finding

@@ -1,6 +1,0 @@
-use Rattle.std.proofs.Common.{◌≡◌, ◌+◌, drop}
-use Rattle.cxx_scopes.specs.Places.{place_in}
-use Rattle.cxx_scopes.proofs.lists.place_of.Given as goal
-
-abbrev pub invariant-loop-other : goal.invariant-loop-other
-invariant-loop-other l = record { so_far : l.place ≡ l.other-index; rest : place_in l.fact (drop l.other-index l.facts) + l.place ≡ place_in l.fact l.facts }

@@ -1,7 +1,0 @@
-use Rattle.std.proofs.Common.{◌≡◌, ◌++◌, map, drop}
-use Rattle.cxx_meaning.specs.Lookups.Directives.{shown_from}
-use Rattle.cxx_scopes.specs.Views.{facts_of, shown_of}
-use Rattle.cxx_scopes.proofs.looking.Looking.add_shown.Given as goal
-
-abbrev pub invariant-loop-space : goal.invariant-loop-space
-invariant-loop-space g l = map shown_of l.shown.items ++ map (shown_from (facts_of l.self) l.chain.items) (drop l.space-index l.space-items) ≡ map shown_of l.fn.shown.items ++ map (shown_from (facts_of l.self) l.chain.items) l.space-items

@@ -1,9 +1,0 @@
-use Rattle.std.proofs.Common.{◌≡◌, drop}
-use Rattle.std.specs.List.{find}
-use Rattle.cxx_model.specs.Facts.Entities.{is_space}
-use Rattle.cxx_meaning.specs.Lookups.Scopes.{kind_of}
-use Rattle.cxx_scopes.specs.Views.{facts_of}
-use Rattle.cxx_scopes.proofs.looking.Looking.first_space.Given as goal
-
-abbrev pub invariant-loop-one : goal.invariant-loop-one
-invariant-loop-one l = find (λ one. is_space (kind_of (facts_of l.self) one)) (drop l.one-index l.scopes) ≡ find (λ one. is_space (kind_of (facts_of l.self) one)) l.scopes

@@ -1,6 +1,0 @@
-use Rattle.std.proofs.Common.{◌∙◌, sym}
-use Rattle.cxx_scopes.proofs.Functions.{none_left}
-use Rattle.cxx_scopes.proofs.looking.Looking.same_types.Goals as goal
-
-pub returns : goal.returns
-returns c = c.is_empty.ensures ∙ (sym (none_left c.args.self.now.types.now c.loop-ones.ones.now c.loop-ones.twos.now c.in_default.len_below) ∙ c.loop-ones.invariant.rest)

@@ -1,6 +1,0 @@
-use Rattle.std.proofs.Common.{◌≡◌, drop}
-use Rattle.cxx_scopes.specs.Tables.{holds}
-use Rattle.cxx_scopes.proofs.table.holds.Given as goal
-
-abbrev pub invariant-loop-other : goal.invariant-loop-other
-invariant-loop-other l = holds (drop l.other-index l.holders) l.class ≡ holds l.holders l.class

@@ -1,6 +1,0 @@
-use Rattle.std.proofs.Common.{◌≡◌, None, drop}
-use Rattle.cxx_scopes.specs.Ways.{latest}
-use Rattle.cxx_scopes.proofs.ways.latest_of.Given as goal
-
-abbrev pub invariant-loop-one : goal.invariant-loop-one
-invariant-loop-one l = latest l.class l.found (drop l.one-index l.records) ≡ latest l.class None l.records
