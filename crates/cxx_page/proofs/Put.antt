@@ -24,3 +24,6 @@ put_more word words sheet = put_append (word ∷ []) words sheet
 pub put_none : (sheet : Sheet) → put [] sheet ≡ Some sheet
 unfolding put
 put_none sheet = refl
+
+pub put_two_and_two : (one two three four : Word) (sheet : Sheet) → put (one ∷ two ∷ three ∷ four ∷ []) sheet ≡ and_then (put (one ∷ two ∷ []) sheet) (put (three ∷ four ∷ []))
+put_two_and_two one two three four sheet = put_append (one ∷ two ∷ []) (three ∷ four ∷ []) sheet

@@ -53,3 +53,17 @@ abbrev pub Writes : Result (Unit {0}) PlainFault → Sheet → Option Sheet → 
 Writes (Ok done) new written = written ≡ Some new
 Writes (Err fault.Limit) new written = written ≡ None
 Writes (Err fault.OutOfMemory) new written = Unit {0}
+
+-- ---- in words
+
+abbrev pub role_behind : Role → List Word → Role
+role_behind last [] = last
+role_behind last (word ∷ words) = role_behind word.role words
+
+abbrev pub text_of_lines : List (List Word) → List ℕ
+text_of_lines [] = []
+text_of_lines (words ∷ others) = line_text words ++ text_of_lines others
+
+-- A page on which lines were written has their text, or that text is too long.
+abbrev pub HasLines : List (List Word) → Type 0
+HasLines lines = put_lines lines blank ≡ held role.Leads (text_of_lines lines)

@@ -5,6 +5,8 @@
 #![tactic(auto)]
 
 mod fault;
+mod laws;
+mod names;
 mod page;
 mod tags;
 mod types;
@@ -12,7 +14,9 @@ mod values;
 mod words;
 
 pub use fault::PlainFault;
+pub use laws::{declarations_have_sides, lines_are_texts};
+pub use names::write_name;
 pub use page::Page;
 pub use tags::Tags;
 pub use types::{write_declaration_back, write_declaration_front, write_type};
-// pub use values::write_value;
+pub use values::write_value;

@@ -123,7 +123,7 @@ fn write_bound_value(page: &mut Page, types: &TypeTable, bound: &Bound) -> Resul
 {
     let _ = types;
     match bound {
-        Bound::Number(value) => write_literal(page, *value),
+        Bound::Number(value) => write_literal(page, u128::from(*value)),
         Bound::Unknown | Bound::Computed(_) => Ok(()),
     }
 }
