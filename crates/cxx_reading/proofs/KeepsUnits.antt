@@ -21,11 +21,10 @@ use Rattle.cxx_reading.specs.Syntax.{readers, specified_type}
 use Rattle.cxx_reading.specs.Tokens.{is_punct, is_keyword, is_name, is_number, is_qualified, is_end, no_declaration}
 use Rattle.cxx_reading.specs.Trees.{CxxTree}
 use Rattle.cxx_model.specs.declared.options.Options.{Options}
-use Rattle.cxx_model.specs.Facts.Entities.{has_no_bound}
 use Rattle.cxx_reading.specs.Initializers.{initializer_at, cast_tree, goes_on, operand_ended, name_refused_by, name_refused, no_initial, no_argument, type_fits, target_at, cast_at, argument_by, argument_opened, begins_expression, arguments_over, argument_ended, argument_step, arguments_by, arguments_opened, call_at, called_of, kind_of_name, named_call, begins_call, initial_by, initial_opened, initial_at, initializer_tree}
 use Rattle.cxx_model.specs.Stops.{Answer}
 use Rattle.cxx_reading.specs.Bound.{AreBestCalls, EachCallIsBest}
-use Rattle.cxx_reading.specs.Units.{specifiers_tree, declarator_tree, name_in as name_of_declarator, declared_fits, is_const_type, uninitialized, ends_declarator, one_tree, equals_part, defined_part, defined_later, extern_part, extern_object, defined_object, is_some_scope, function_ended, declared_function, synonym_ended, declared_synonym, declared_by, init_declarator_at, with_declarator, declarator_ended, declarator_step, give_trees, no_declarators, declarators_at, is_some_storage, nothing_declared, said_by, declarators_of, simple_tree, simple_declaration_at, empty_tree, another_ahead, plain_declaration_at, is_linkage, is_language, linkage_step, linkages_passed, linkage_tree, linkage_list, linked_one, linked_by, linked_tree, linkage_by, declaration_by, inside_step, linkage_opened, declaration_at, with_part, part_added, unit_step, read_as, unit_reading, Said, Listed, CxxReading}
+use Rattle.cxx_reading.specs.Units.{is_unbounded, specifiers_tree, declarator_tree, name_in as name_of_declarator, declared_fits, is_const_type, uninitialized, ends_declarator, one_tree, equals_part, defined_part, defined_later, extern_part, extern_object, defined_object, is_some_scope, function_ended, declared_function, synonym_ended, declared_synonym, declared_by, init_declarator_at, with_declarator, declarator_ended, declarator_step, give_trees, no_declarators, declarators_at, is_some_storage, nothing_declared, said_by, declarators_of, simple_tree, simple_declaration_at, empty_tree, another_ahead, plain_declaration_at, is_linkage, is_language, linkage_step, linkages_passed, linkage_tree, linkage_list, linked_one, linked_by, linked_tree, linkage_by, declaration_by, inside_step, linkage_opened, declaration_at, with_part, part_added, unit_step, read_as, unit_reading, Said, Listed, CxxReading}
 use Rattle.cxx_reading.specs.Reads.{Ahead, Got, Reads, More, Done, give, repeat, count_ahead, kind_ahead, word_ahead, behind}
 use Rattle.cxx_reading.proofs.Bound.{Grown, grown_is_kept, unchanged, declaring_keeps, call_keeps, synonym_keeps, function_answer_keeps, object_keeps, define_keeps, define_later_keeps}
 use Rattle.cxx_reading.proofs.Keeps.{Keeps, KeptIn, keeps_read, keeps_stop, keeps_answer, Answers, ReadersKeep, if_in, if_reads, then_in, ask_in, same_in, repeat_keeps, taken_in, looked_in, token_in, punct_in, give_in}
@@ -141,7 +140,7 @@ declared_fits_keeps said declarator state ahead = if_in (is_refused (refused_in 
 
 pub uninitialized_keeps : (name : Lexeme) (of : CxxType) → Keeps Grown (uninitialized name of)
 unfolding uninitialized
-uninitialized_keeps name of state ahead = if_in (has_no_bound of) (keeps_stop _) (if_in (is_reference of || is_const_type of) (keeps_stop _) (same_in grown_is_kept ([]) state ahead))
+uninitialized_keeps name of state ahead = if_in (is_unbounded of) (keeps_stop _) (if_in (is_reference of || is_const_type of) (keeps_stop _) (same_in grown_is_kept ([]) state ahead))
 
 one_tree_keeps : (tree : CxxTree) → Keeps Grown (one_tree tree)
 one_tree_keeps tree = give_in grown_is_kept (tree ∷ [])

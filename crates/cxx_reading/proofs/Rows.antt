@@ -380,6 +380,10 @@ row_61 : row (codes "int N::x;") ≡ Broken 1 5 says.NotBuilt []
 unfolding row row_of_tokens
 row_61 = refl
 
+row_94 : row (codes "typedef int A[]; extern A a[3]; A b[3];") ≡ Broken 1 35 says.IncompleteClass []
+unfolding row row_of_tokens
+row_94 = refl
+
 -- ---- enumerations (7.2)
 
 row_62 : row (codes "enum E { a, b = 5, c };") ≡ Declared (facts.enumeration 0 ∷ facts.enumerator 0 (pos 0) ∷ facts.enumerator 0 (pos 5) ∷ facts.enumerator 0 (pos 6) ∷ [])

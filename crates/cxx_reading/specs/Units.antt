@@ -10,7 +10,7 @@ use Rattle.cxx_model.specs.declared.punct.TheConstants as punct
 use Rattle.cxx_model.specs.declared.stop.LimitKind.TheVariants.{Nesting}
 use Rattle.cxx_model.specs.declared.token.TokenKind.{TokenKind}
 use Rattle.cxx_model.specs.declared.token.TokenKind.TheVariants.{Keyword, Text, End}
-use Rattle.cxx_model.specs.Facts.Entities.{has_no_bound}
+use Rattle.cxx_model.specs.Facts.Conflicts.{is_unknown}
 use Rattle.cxx_model.specs.Stops.{Answer}
 use Rattle.cxx_model.specs.Text.Lexemes.{Lexeme, first_place, nowhere}
 use Rattle.cxx_model.specs.Types.Trees.{CxxType, array_of, qualified}
@@ -86,9 +86,14 @@ is_const_type (qualified cv of) = cv.is_const
 is_const_type (array_of of bound) = is_const_type of
 is_const_type _ = false
 
+-- 8.3.4: an array without a bound, or of such arrays
+abbrev pub is_unbounded : CxxType → Bool
+is_unbounded (array_of of bound) = is_unknown bound || is_unbounded of
+is_unbounded _ = false
+
 unfoldable pub uninitialized : Lexeme → CxxType → Reads CxxState (List CxxTree)
 uninitialized name of state ahead =
-    if has_no_bound of then fault_at name.place says.IncompleteClass state ahead else (
+    if is_unbounded of then fault_at name.place says.IncompleteClass state ahead else (
     if is_reference of || is_const_type of then fault_at name.place says.NoConversion state ahead else
     got [] state ahead)
 
