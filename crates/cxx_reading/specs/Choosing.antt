@@ -36,18 +36,18 @@ abbrev pub each_type : CxxTypes → List CxxType
 each_type no_types = []
 each_type (type_then of others) = of ∷ each_type others
 
-abbrev candidate_by : ℕ → ℕ → Place → CxxType → Option CxxCandidate
+abbrev pub candidate_by : ℕ → ℕ → Place → CxxType → Option CxxCandidate
 candidate_by position number place (function_of result parameters ellipsis cv) = Some (record { position = position; number = number; place = place; result = result; parameters = each_type parameters; ellipsis = ellipsis })
 candidate_by position number place _ = None
 
-abbrev candidate_of : ℕ → Numbered → Option CxxCandidate
-candidate_of position one = by one.fact.what
-  where
-    by : Declares → Option CxxCandidate
-    by (facts.function of kind flags defaults None) = candidate_by position one.number one.fact.place of
-    by _ = None
+abbrev pub candidate_by_what : ℕ → ℕ → Place → Declares → Option CxxCandidate
+candidate_by_what position number place (facts.function of kind flags defaults None) = candidate_by position number place of
+candidate_by_what position number place _ = None
 
-abbrev put : Option CxxCandidate → (ℕ → List CxxCandidate) → ℕ → List CxxCandidate
+abbrev pub candidate_of : ℕ → Numbered → Option CxxCandidate
+candidate_of position one = candidate_by_what position one.number one.fact.place one.fact.what
+
+abbrev pub put : Option CxxCandidate → (ℕ → List CxxCandidate) → ℕ → List CxxCandidate
 put None later position = later position
 put (Some candidate) later position = candidate ∷ later (suc position)
 
@@ -75,7 +75,7 @@ first_without position [] = None
 first_without position (None ∷ others) = Some position
 first_without position (Some one ∷ others) = first_without (suc position) others
 
-abbrev by_sequences : Option ℕ → Outcome
+abbrev pub by_sequences : Option ℕ → Outcome
 by_sequences None = Viable
 by_sequences (Some position) = NotViable (NoConversion position)
 
@@ -91,7 +91,7 @@ pub record Rated : Type 0 where
   pub sequences : List (Option CxxStandard)
   pub outcome : Outcome
 
-abbrev rated_by : List CxxOperand → CxxCandidate → List (Option CxxStandard) → Rated
+abbrev pub rated_by : List CxxOperand → CxxCandidate → List (Option CxxStandard) → Rated
 rated_by operands candidate sequences = record { candidate = candidate; sequences = sequences; outcome = outcome_by (length operands) candidate sequences }
 
 unfoldable pub rated : CxxGraph → List CxxOperand → List CxxCandidate → Asked (List Rated)
@@ -154,7 +154,7 @@ pub data CxxChoice : Type 0 where
   none_viable : List Evidence → CxxChoice
   ambiguous : List Evidence → CxxChoice
 
-abbrev choice_by : CxxGraph → List Rated → List Rated → Option Rated → CxxChoice
+abbrev pub choice_by : CxxGraph → List Rated → List Rated → Option Rated → CxxChoice
 choice_by graph all contenders (Some one) = chosen_one one
 choice_by graph all [] None = none_viable (refusals all)
 choice_by graph all (one ∷ others) None = ambiguous (ties graph (one ∷ others))

@@ -1,0 +1,11 @@
+//! Which function a call means (13.3), over a graph and a table of types.
+//!
+//! `candidates` takes the functions from the declarations that lookup found, `rate` asks the sequences of each for the
+//! arguments and whether it is viable, and `choice` is the best viable one, or what shows that none is.
+#![tactic(auto)]
+
+mod candidate;
+mod rating;
+
+pub use candidate::{Candidate, candidates};
+pub use rating::{Rated, rate};
