@@ -1,3 +1,4 @@
 pub mod Gathering
 pub mod Asked
 pub mod Loops
+pub mod Contests

@@ -1,3 +1,5 @@
 pub mod Views
 pub mod Candidates
 pub mod Asking
+pub mod Contests
+pub mod Asymmetry

@@ -1,5 +1,5 @@
 -- What the values of the code stand for, given the types of a table.
-use Rattle.std.specs.Prelude.{ℕ, ◌<◌, List, [], ◌∷◌, map, Option, Some, None}
+use Rattle.std.specs.Prelude.{ℕ, ◌<◌, List, [], ◌∷◌, ◌++◌, map, Option, Some, None}
 use Rattle.std.specs.List.{All, slice_get}
 use Rattle.cxx_model.specs.declared.sequence.Operand.{Operand}
 use Rattle.cxx_model.specs.declared.sequence.StandardSequence.{StandardSequence}
@@ -70,3 +70,8 @@ rated_at types one = record { candidate = candidate_at types one.candidate; sequ
 -- the numbers of the types of its sequences are below a count
 abbrev pub IsRatedBelow : ℕ → Rated → Type 0
 IsRatedBelow count one = AreFoundBelow count one.sequences
+
+-- a list with what is there at its end
+abbrev pub with_option : {A : Type 0} → List A → Option A → List A
+with_option xs None = xs
+with_option xs (Some x) = xs ++ x ∷ []

@@ -8,9 +8,10 @@ ghost use Rattle.cxx_model.specs.Facts.Declarations.{graph_at};
 ghost use Rattle.cxx_model.specs.Facts.Fitted.{Fitted};
 ghost use Rattle.cxx_model.specs.Types.Numbers.{type_at, AreTypesBelow};
 ghost use Rattle.cxx_meaning.specs.Conversions.Asking.{Gives};
-ghost use Rattle.cxx_reading.specs.Choosing.{first_without as first_without_of, order_between as order_between_of, outcome_by, rated as rated_of, sequences_of};
+ghost use Rattle.cxx_reading.specs.Choosing.{first_without as first_without_of, order_between as order_between_of, outcome_by, position_of, rated as rated_of, sequences_of};
 ghost use Rattle.cxx_meaning.specs.Conversions.Standard as standard;
 ghost use Rattle.cxx_standard.specs.Views.{found_at, operand_at, Computes};
+ghost use Rattle.cxx_viable.specs.Candidates.{AreNumbered, place_among};
 ghost use Rattle.cxx_viable.specs.Asking.{rated_one, Joins};
 ghost use Rattle.cxx_viable.specs.Views.{candidate_at, listed_at, operands_at, rated_at, sequences_at, AreFoundBelow, AreOperandsBelow, IsCandidateBelow, IsFoundBelow, IsRatedBelow};
 
@@ -180,6 +181,7 @@ pub fn rate<'t>(
     requires fitted { Fitted graph.now types.now }
     ensures is { Gives (λ all. map (rated_at types.now) all.items) result (rated_of (graph_at types.now graph.now) (operands_at types.now operands.now) (map (candidate_at types.now) candidates.now)) }
     ensures below { IfOk result (λ all. All (IsRatedBelow (length types.now)) all.items) }
+    ensures numbered { AreNumbered place_among 1 (map (candidate_at types.now) candidates.now) → IfOk result (λ all. AreNumbered position_of 1 (map (rated_at types.now) all.items)) }
 {
     let mut all = Vec::new(alloc);
     for candidate in candidates {

@@ -4,6 +4,7 @@ use Rattle.cxx_reading.specs.Choosing.{rated}
 use Rattle.cxx_viable.specs.Asking.{after}
 use Rattle.std.proofs.lemmas.Result.{err_from_is_err_and}
 use Rattle.cxx_model.specs.Facts.Declarations.{graph_at}
+use Rattle.cxx_viable.proofs.Contests.{rated_numbered}
 use Rattle.cxx_viable.proofs.Asked.{rated_stop, rated_step, rated_end}
 use Rattle.cxx_viable.specs.Views.{candidate_at, operands_at, rated_at}
 use Rattle.cxx_viable.proofs.rating.rate.Goals as goal
@@ -32,3 +33,6 @@ returns-clause-is c =
     let past : drop c.loop-candidate.candidate-index c.args.candidates.now ≡ [] = grind (arith, common_steps) in
     rated_end c.args.types.now graph operands c.loop-candidate.all.items _
     (sym (ap (λ xs. after (map (rated_at c.args.types.now) c.loop-candidate.all.items) (rated graph operands (map (candidate_at c.args.types.now) xs))) past) ∙ c.loop-candidate.invariant.same)
+
+pub returns-clause-numbered : goal.returns-clause-numbered
+returns-clause-numbered c n = rated_numbered (graph_at c.args.types.now c.args.graph.now) (operands_at c.args.types.now c.args.operands.now) (map (candidate_at c.args.types.now) c.args.candidates.now) _ 1 (returns-clause-is c) n
