@@ -1,9 +1,8 @@
 -- How answers are gathered one after another.
-use Rattle.std.proofs.Common.{◌≡◌, ℕ, suc, ◌+◌, List, [], ◌∷◌, ◌++◌, length, map, Option, Some, None, Result, Ok, Err, refl, sym, ap, ◌∙◌, arith, append_assoc, get_or, drop, drop-cons, ◌<◌, subst, add-one, IfSome}
+use Rattle.std.proofs.Common.{◌≡◌, ℕ, suc, ◌+◌, List, [], ◌∷◌, ◌++◌, length, map, Option, Some, None, Ok, Err, refl, sym, ap, ◌∙◌, arith, append_assoc, get_or, drop, drop-cons, ◌<◌, add-one, IfSome}
 use Rattle.std.proofs.lemmas.List.{append-nil}
 use Rattle.cxx_model.specs.declared.stop.Wait.{Wait}
 use Rattle.cxx_model.specs.declared.stop.Wait.TheVariants as wait
-use Rattle.cxx_model.specs.declared.types.ClassId.{ClassId}
 use Rattle.cxx_model.specs.declared.types.TypeId.{TypeId}
 use Rattle.cxx_model.specs.declared.sequence.StandardSequence.{StandardSequence}
 use Rattle.cxx_model.specs.Facts.Declarations.{CxxGraph}
@@ -18,7 +17,7 @@ use Rattle.cxx_standard.specs.Views.{found_at, operand_at}
 use Rattle.cxx_viable.specs.declared.candidate.Candidate.{Candidate}
 use Rattle.cxx_viable.specs.declared.rating.Rated.{Rated}
 use Rattle.cxx_viable.specs.Asking.{after, joined, rated_one}
-use Rattle.cxx_viable.specs.Views.{candidate_at, operands_at, rated_at, listed_at, IsFoundBelow, AreFoundBelow, IsRatedBelow, sequences_at}
+use Rattle.cxx_viable.specs.Views.{candidate_at, operands_at, rated_at, listed_at, IsFoundBelow, AreFoundBelow, sequences_at}
 
 pub after_none : {A : Type 0} (asked : Asked (List A)) → after [] asked ≡ asked
 after_none (Ok xs) = refl

@@ -1,6 +1,6 @@
 -- The contender that the definition chooses is the best of the contest, and a counter is the first other that one does
 -- not beat.
-use Rattle.std.proofs.Common.{◌≡◌, ◌≢◌, ℕ, zero, suc, ◌+◌, ◌<◌, ◌≤◌, Bool, true, false, not, cond, ◌&&◌, ◌||◌, eqb, List, [], ◌∷◌, length, Option, Some, None, refl, sym, ◌∙◌, ap, subst, ◌⊎◌, inl, inr, arith, Ok, Err, drop, map, get_or, ◌++◌, append_assoc, add-one}
+use Rattle.std.proofs.Common.{◌≡◌, ◌≢◌, ℕ, zero, suc, ◌+◌, ◌<◌, ◌≤◌, Bool, true, false, not, cond, ◌&&◌, ◌||◌, eqb, List, [], ◌∷◌, length, Option, Some, None, refl, sym, ◌∙◌, ap, subst, ◌⊎◌, inl, inr, arith, Ok, Err, drop, get_or, ◌++◌, append_assoc, add-one}
 use Rattle.std.specs.Option.{option_map}
 use Rattle.std.proofs.lemmas.Option.{slice_get-map, slice_get-get_or}
 use Rattle.std.specs.List.{slice_get, find, list_all, filter, filter_map, cons_option}
@@ -14,7 +14,7 @@ use Rattle.std.proofs.lemmas.Bool.{cases_order}
 use Rattle.cxx_model.specs.Choice.Better.{beats_if_other, best, counter}
 use Rattle.cxx_model.specs.Facts.Declarations.{CxxGraph}
 use Rattle.cxx_model.proofs.Champion.{and_true, or_false, eqb_of_other}
-use Rattle.cxx_champion.specs.Contests.{IsAsymmetric, IsBest, IsLeastCounter, BeatsBelow}
+use Rattle.cxx_champion.specs.Contests.{IsAsymmetric, IsBest, IsLeastCounter}
 use Rattle.cxx_champion.specs.Verdicts.{IsVerdict}
 use Rattle.cxx_champion.specs.declared.Verdict.{Verdict}
 use Rattle.cxx_champion.specs.declared.Verdict.TheVariants.{Best, NoBest, Empty}
@@ -40,7 +40,7 @@ there_below [] k y e = absurd cc
 there_below (x ∷ xs) zero y e = omega arith
 there_below (x ∷ xs) (suc k) y e = let h = there_below xs k y e in omega arith
 
-below_there : {X : Type 0} (xs : List X) (k : ℕ) → k < length xs → (y : X) × (slice_get xs k ≡ Some y)
+pub below_there : {X : Type 0} (xs : List X) (k : ℕ) → k < length xs → (y : X) × (slice_get xs k ≡ Some y)
 below_there [] k h = absurd (omega arith)
 below_there (x ∷ xs) zero h = (x, refl)
 below_there (x ∷ xs) (suc k) h = below_there xs k (omega arith)
@@ -98,7 +98,7 @@ at_least number least [] n k f e = absurd cc
 at_least number least (one ∷ others) n zero f e = let same : one ≡ f = cc in let equal : number one ≡ number f = ap number same in omega (arith, n.0, equal)
 at_least number least (one ∷ others) n (suc k) f e = let h = at_least number (number one + 1) others n.1 k f e in omega (arith, n.0, h)
 
-apart : {F : Type 0} (number : F → ℕ) (least : ℕ) (all : List F) → AreNumbered number least all → (i j : ℕ) (f g : F) → slice_get all i ≡ Some f → slice_get all j ≡ Some g → i ≢ j → number g ≢ number f
+pub apart : {F : Type 0} (number : F → ℕ) (least : ℕ) (all : List F) → AreNumbered number least all → (i j : ℕ) (f g : F) → slice_get all i ≡ Some f → slice_get all j ≡ Some g → i ≢ j → number g ≢ number f
 apart number least [] n i j f g at_i at_j ne = absurd cc
 apart number least (one ∷ others) n zero zero f g at_i at_j ne = absurd (ne refl)
 apart number least (one ∷ others) n zero (suc j) f g at_i at_j ne = λ e.
@@ -113,7 +113,7 @@ apart number least (one ∷ others) n (suc i) (suc j) f g at_i at_j ne = apart n
 
 -- ---- the contest
 
-wins_of : {F : Type 0} (beats : F → F → Bool) (all : List F) (i j : ℕ) (f g : F) → slice_get all i ≡ Some f → slice_get all j ≡ Some g → wins_at beats all i j ≡ beats f g
+pub wins_of : {F : Type 0} (beats : F → F → Bool) (all : List F) (i j : ℕ) (f g : F) → slice_get all i ≡ Some f → slice_get all j ≡ Some g → wins_at beats all i j ≡ beats f g
 wins_of beats all i j f g at_i at_j = ap (λ o. wins_between beats o (slice_get all j)) at_i ∙ ap (λ o. wins_between beats (Some f) o) at_j
 
 beats_all : {F : Type 0} → (F → ℕ) → (F → F → Bool) → List F → F → Bool
@@ -127,7 +127,7 @@ or_right : (a b : Bool) → b ≡ true → (a || b) ≡ true
 or_right true b e = refl
 or_right false b e = e
 
-eqb_same : (a b : ℕ) → a ≡ b → eqb a b ≡ true
+pub eqb_same : (a b : ℕ) → a ≡ b → eqb a b ≡ true
 eqb_same a b e = grind (arith, e)
 
 -- it is the same one, or it is beaten

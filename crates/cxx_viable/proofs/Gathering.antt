@@ -21,7 +21,7 @@ use Rattle.cxx_model.specs.declared.types.TypeNode.{TypeNode}
 use Rattle.cxx_model.specs.declared.types.TypeNode.TheVariants.{Function}
 use Rattle.cxx_model.specs.Types.Numbers.{AreTypesBelow, IsNodeBelow}
 use Rattle.cxx_model.proofs.TypeTrees.{types_later}
-use Rattle.cxx_model.specs.Facts.Fitted.{Fitted, IsFactBelow, AreFactsBelow}
+use Rattle.cxx_model.specs.Facts.Fitted.{IsFactBelow, AreFactsBelow}
 use Rattle.cxx_model.specs.Types.Trees.{CxxType, fundamental, function_of}
 use Rattle.cxx_model.specs.Facts.Declarations as declares
 use Rattle.cxx_reading.specs.Choosing.{CxxCandidate, candidate_by, candidate_by_what, candidate_of, candidates, candidates_from, put}

@@ -2,3 +2,4 @@ pub mod Gathering
 pub mod Asked
 pub mod Loops
 pub mod Contests
+pub mod InWords

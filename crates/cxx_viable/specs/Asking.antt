@@ -1,5 +1,5 @@
 -- Answers that are gathered one after another, each of which may need a class first (14.7.1).
-use Rattle.std.specs.Prelude.{◌≡◌, List, [], ◌∷◌, ◌++◌, Result, Ok, Err}
+use Rattle.std.specs.Prelude.{◌≡◌, List, ◌∷◌, ◌++◌, Result, Ok, Err}
 use Rattle.cxx_model.specs.declared.stop.Wait.{Wait}
 use Rattle.cxx_model.specs.Facts.Declarations.{CxxGraph}
 use Rattle.cxx_meaning.specs.Conversions.Asking.{Asked, ◌>>=◌, Waits}

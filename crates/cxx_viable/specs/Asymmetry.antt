@@ -1,5 +1,5 @@
 -- Of two viable functions at most one beats the other: the law of their contest (13.3.3).
-use Rattle.std.proofs.Common.{◌≡◌, ℕ, true, false, Bool, List, Option, Some, None, refl, sym, ap, ◌∙◌}
+use Rattle.std.proofs.Common.{◌≡◌, ℕ, true, false, List, Option, Some, None, refl, ◌∙◌}
 use Rattle.std.specs.List.{slice_get}
 use Rattle.cxx_model.specs.declared.sequence.Order.{Order}
 use Rattle.cxx_model.specs.declared.sequence.Order.TheVariants.{Better, Worse, Same}

@@ -3,3 +3,4 @@ pub mod Candidates
 pub mod Asking
 pub mod Contests
 pub mod Asymmetry
+pub mod Words

@@ -4,11 +4,14 @@
 //! arguments and whether it is viable, and `choose` gives the best viable one, or what shows that none is.
 #![tactic(auto)]
 
+mod arithmetic;
 mod candidate;
 mod champion;
 mod contender;
+pub mod laws;
 mod rating;
 
+pub use arithmetic::{are_built, is_arithmetic};
 pub use candidate::{Candidate, candidates};
 pub use champion::{Choice, choose, chosen, ties};
 pub use contender::{Contender, contenders, refusals};

@@ -1,4 +1,4 @@
-use Rattle.std.proofs.Common.{◌≡◌, [], drop, map, refl, subst, sym, arith, ◌∙◌}
+use Rattle.std.proofs.Common.{◌≡◌, [], drop, map, refl, subst, sym, arith}
 use Rattle.std.proofs.lemmas.Grind.{common_steps}
 use Rattle.cxx_model.specs.Facts.Declarations.{graph_at}
 use Rattle.cxx_viable.specs.Candidates.{AreNumbered, place_among, so_far}
