@@ -1,5 +1,5 @@
 -- Graphs and tables that grow.
-use Rattle.std.specs.Prelude.{ℕ, ◌≡◌, ◌<◌, ◌≤◌, ◌+◌, Bool, true, false, List, [], ◌∷◌, ◌++◌, length, Result, Ok, Option, Some, None, refl}
+use Rattle.std.specs.Prelude.{ℕ, ◌≡◌, ◌<◌, ◌+◌, Bool, true, false, List, [], ◌∷◌, ◌++◌, length, Result, Ok, None, refl}
 use Rattle.std.proofs.Common.{ap, sym, subst, ◌∙◌, arith, cond}
 use Rattle.cxx_model.specs.declared.facts.Entity.{Entity}
 use Rattle.cxx_model.specs.declared.facts.Fact.{Fact}
@@ -22,7 +22,6 @@ use Rattle.cxx_graph.proofs.GraphRange.{appended-in-range}
 use Rattle.cxx_graph.proofs.Fitting.{fitted-fact, fitted-table}
 use Rattle.cxx_types.specs.Makes.{Makes}
 use Rattle.cxx_types.specs.Parameters.{adjusted_types}
-use Rattle.cxx_viable_tests.specs.declared.world.World.{World}
 use Rattle.cxx_viable_tests.specs.Worlds.{IsWorld}
 
 follows : (graph : Graph) (facts : List Fact) (fact : Fact) → fact.scope.0 < scopes facts → IsEntityInRange (record graph { facts = facts }) fact fact.what → MayFollow (record graph { facts = facts }) fact
@@ -49,17 +48,17 @@ enumerations_more facts fact = count_more _ facts fact
 pub makes_fitted : (graph : Graph) (old new : List CxxType) (answer : Result TypeId OutOfMemory) (t : CxxType) → Fitted graph old → Makes old new answer t → IsTypeInRange graph t → Fitted graph new
 makes_fitted graph old new answer t fitted makes ok = fitted-table graph old new fitted makes.keeps (λ i least below. makes.fits graph fitted.names ok i below)
 
-pub typed : (world : World) (new : List CxxType) (number : TypeId) (t : CxxType) → IsWorld world → Makes world.types new (Ok number) t → IsTypeInRange world.graph t → IsWorld (record world { types = new; last = number })
-typed world new number t whole makes ok = record {
-  fitted = makes_fitted world.graph world.types new (Ok number) t whole.fitted makes ok;
+pub typed : (graph : Graph) (types : List CxxType) (last : TypeId) (parameters : List TypeId) (new : List CxxType) (number : TypeId) (t : CxxType) → IsWorld graph types last parameters → Makes types new (Ok number) t → IsTypeInRange graph t → IsWorld graph new number parameters
+typed graph types last parameters new number t whole makes ok = record {
+  fitted = makes_fitted graph types new (Ok number) t whole.fitted makes ok;
   scopes = whole.scopes;
   enumerations = whole.enumerations;
-  last = makes.made.0;
-  below = types_later (length world.types) (length new) world.parameters makes.keeps.grows whole.below;
+  read = makes.made.0;
+  below = types_later (length types) (length new) parameters makes.keeps.grows whole.below;
 }
 
-pub last_range : (world : World) → IsWorld world → IsTypeInRange world.graph (type_at world.types world.last.0)
-last_range world whole = whole.fitted.names world.last.0 whole.last
+pub last_range : (graph : Graph) (types : List CxxType) (last : TypeId) (parameters : List TypeId) → IsWorld graph types last parameters → IsTypeInRange graph (type_at types last.0)
+last_range graph types last parameters whole = whole.fitted.names last.0 whole.read
 
 layered_range : (graph : Graph) (cv : Cv) (t : CxxType) → IsTypeInRange graph t → IsTypeInRange graph (layered cv t)
 layered_range graph cv t ok = by (any_cv cv)
@@ -111,13 +110,13 @@ pub parts_below : (count : ℕ) (ns : List TypeId) (d : TypeId) → 0 < length n
 parts_below count [] d some below = absurd (omega (arith, some))
 parts_below count (n ∷ ns) d some below = (below.0, below.1)
 
-pub pushed : (world : World) (parameters : List TypeId) → IsWorld world → parameters ≡ world.parameters ++ world.last ∷ [] → IsWorld (record world { parameters = parameters })
-pushed world parameters whole is = record {
+pub pushed : (graph : Graph) (types : List CxxType) (last : TypeId) (parameters : List TypeId) (new : List TypeId) → IsWorld graph types last parameters → new ≡ parameters ++ last ∷ [] → IsWorld graph types last new
+pushed graph types last parameters new whole is = record {
   fitted = whole.fitted;
   scopes = whole.scopes;
   enumerations = whole.enumerations;
-  last = whole.last;
-  below = subst (AreTypesBelow (length world.types)) (sym is) (numbers_more (length world.types) world.parameters world.last whole.below whole.last);
+  read = whole.read;
+  below = subst (AreTypesBelow (length types)) (sym is) (numbers_more (length types) parameters last whole.below whole.read);
 }
 
 abbrev pub function_fact : TypeId → Fact
@@ -126,22 +125,22 @@ function_fact of = record { place = record { line = 1; column = 1 }; scope = rec
 pub function_in_range : (graph : Graph) (fact : Fact) (of : TypeId) → InRange graph → 0 < scopes graph.facts → fact ≡ function_fact of → InRange (appended graph fact)
 function_in_range graph fact of ok some is = subst (λ (f : Fact). InRange (appended graph f)) (sym is) (declared_in_range graph (function_fact of) ok some tt)
 
-pub grown : (world : World) (graph : Graph) (types : List CxxType) (last : TypeId) (fact : Fact) (given parameters : List TypeId) (ellipsis : Bool) (cv : Cv) → IsWorld world → given ≡ world.parameters → Makes world.types types (Ok last) (function_of (type_at world.types world.last.0) (adjusted_types (types_at world.types given)) world.ellipsis cv) → fact ≡ function_fact last → graph ≡ appended world.graph fact → parameters ≡ [] → IsWorld (record { graph = graph; types = types; last = last; parameters = parameters; ellipsis = ellipsis })
-grown world graph types last fact given parameters ellipsis cv whole same made is_fact is_graph none =
-    let makes = subst (λ (ps : List TypeId). Makes world.types types (Ok last) (function_of (type_at world.types world.last.0) (adjusted_types (types_at world.types ps)) world.ellipsis cv)) same made in
-    let function : CxxType = function_of (type_at world.types world.last.0) (adjusted_types (types_at world.types world.parameters)) world.ellipsis cv in
-    let range : IsTypeInRange world.graph function = (last_range world whole, parameters_range world.graph world.types world.parameters whole.fitted whole.below) in
-    let fitted : Fitted world.graph types = makes_fitted world.graph world.types types (Ok last) function whole.fitted makes range in
-    let below : IsFactBelow (length types) (function_fact last) = record { name = tt; what = makes.made.0 } in
-    let facts : graph.facts ≡ world.graph.facts ++ fact ∷ [] = ap (λ (g : Graph). g.facts) is_graph in
+pub grown : (graph : Graph) (types : List CxxType) (last : TypeId) (parameters : List TypeId) (after : Graph) (new : List CxxType) (of : TypeId) (fact : Fact) (given none : List TypeId) (ellipsis : Bool) (cv : Cv) → IsWorld graph types last parameters → given ≡ parameters → Makes types new (Ok of) (function_of (type_at types last.0) (adjusted_types (types_at types given)) ellipsis cv) → fact ≡ function_fact of → after ≡ appended graph fact → none ≡ [] → IsWorld after new of none
+grown graph types last parameters after new of fact given none ellipsis cv whole same made is_fact is_graph empty =
+    let makes = subst (λ (ps : List TypeId). Makes types new (Ok of) (function_of (type_at types last.0) (adjusted_types (types_at types ps)) ellipsis cv)) same made in
+    let function : CxxType = function_of (type_at types last.0) (adjusted_types (types_at types parameters)) ellipsis cv in
+    let range : IsTypeInRange graph function = (last_range graph types last parameters whole, parameters_range graph types parameters whole.fitted whole.below) in
+    let fitted : Fitted graph new = makes_fitted graph types new (Ok of) function whole.fitted makes range in
+    let below : IsFactBelow (length new) (function_fact of) = record { name = tt; what = makes.made.0 } in
+    let facts : after.facts ≡ graph.facts ++ fact ∷ [] = ap (λ (g : Graph). g.facts) is_graph in
     let some = whole.scopes in
     let one = whole.enumerations in
-    let more : scopes graph.facts ≡ scopes world.graph.facts + scopes (fact ∷ []) = ap scopes facts ∙ scopes_more world.graph.facts fact in
-    let others : enumerations graph.facts ≡ enumerations world.graph.facts + enumerations (fact ∷ []) = ap enumerations facts ∙ enumerations_more world.graph.facts fact in
+    let more : scopes after.facts ≡ scopes graph.facts + scopes (fact ∷ []) = ap scopes facts ∙ scopes_more graph.facts fact in
+    let others : enumerations after.facts ≡ enumerations graph.facts + enumerations (fact ∷ []) = ap enumerations facts ∙ enumerations_more graph.facts fact in
     record {
-      fitted = subst (λ (g : Graph). Fitted g types) (sym is_graph) (fitted-fact world.graph types fact fitted (subst (IsFactBelow (length types)) (sym is_fact) below));
+      fitted = subst (λ (g : Graph). Fitted g new) (sym is_graph) (fitted-fact graph new fact fitted (subst (IsFactBelow (length new)) (sym is_fact) below));
       scopes = omega (arith, more, some);
       enumerations = omega (arith, others, one);
-      last = makes.made.0;
-      below = subst (AreTypesBelow (length types)) (sym none) tt;
+      read = makes.made.0;
+      below = subst (AreTypesBelow (length new)) (sym empty) tt;
     }

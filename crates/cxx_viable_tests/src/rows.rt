@@ -10,8 +10,8 @@ ghost use Rattle.cxx_viable_tests.specs.Worlds.{IsWorld};
 use crate::stopped::Stopped;
 use crate::world::{World, start, step};
 use cxx_model::{ConstantKind, Evidence, FactId, Operand, Steps, TypeId};
-use cxx_viable::{Choice, candidates, choose, rate};
 use cxx_types::TypeTable;
+use cxx_viable::{Choice, candidates, choose, rate};
 use std::alloc::{AllocError, Global};
 use std::marker::Brand;
 use std::sync::ledger::{Blank, Ledger};
@@ -91,7 +91,7 @@ fn add_operand(all: &mut Vec<Operand>, types: &TypeTable, of: TypeId) -> Result<
 }
 
 fn operands(alloc: Global, world: &World) -> Result<Vec<Operand>, Stopped>
-    requires { IsWorld world.now }
+    requires { IsWorld world.now.graph world.now.types world.now.last world.now.parameters }
     ensures below { IfOk result (λ all. AreOperandsBelow (length world.now.types) all.items) }
 {
     let mut all = Vec::new(alloc);
@@ -122,7 +122,7 @@ fn letter(choice: &Choice) -> u8 {
 
 // Which function a call with the arguments of the list means.
 fn answer<L: Ledger>(alloc: Global, world: &World, steps: &mut Steps<L>) -> Result<u8, Stopped>
-    requires { IsWorld world.now }
+    requires { IsWorld world.now.graph world.now.types world.now.last world.now.parameters }
 {
     let found = functions(alloc, world)?;
     let operands = operands(alloc, world)?;
@@ -136,7 +136,7 @@ fn answer<L: Ledger>(alloc: Global, world: &World, steps: &mut Steps<L>) -> Resu
 }
 
 fn answer_by<L: Ledger>(alloc: Global, world: &World, blank: Blank) -> Result<u8, Stopped>
-    requires world { IsWorld world.now }
+    requires world { IsWorld world.now.graph world.now.types world.now.last world.now.parameters }
     requires name { blank.name ≡ L.name }
     requires parts { blank.parts ≡ L.parts }
     requires some { 0 < blank.parts }

@@ -7,8 +7,8 @@ use crate::stopped::Stopped;
 use cxx_graph::Graph;
 use cxx_hash::Key;
 use cxx_model::{
-    Access, Base, Cv, Entity, EnumId, Fact, FunctionFlags, Listed, MemberKind, Name, Place, ScopeId,
-    ScopeKind, TypeId, TypeIdList,
+    Access, Base, Cv, Entity, EnumId, Fact, FunctionFlags, Listed, MemberKind, Name, Place,
+    ScopeId, ScopeKind, TypeId, TypeIdList,
 };
 use cxx_types::TypeTable;
 use std::alloc::Global;
@@ -72,7 +72,7 @@ const NO_FLAGS: FunctionFlags = FunctionFlags {
 
 /// An enumeration, and `int` as the type that was read.
 pub(crate) fn start(alloc: Global) -> Result<World, Stopped>
-    ensures { IfOk result IsWorld }
+    ensures { IfOk result (λ made. IsWorld made.graph made.types made.last made.parameters) }
 {
     let mut graph = Graph::new(alloc, Key::of(&[]));
     let mut types = TypeTable::new(alloc, Key::of(&[]));
@@ -91,8 +91,8 @@ pub(crate) fn start(alloc: Global) -> Result<World, Stopped>
 
 /// A pointer to the type.
 fn pointer(world: World) -> Result<World, Stopped>
-    requires { IsWorld world }
-    ensures { IfOk result IsWorld }
+    requires { IsWorld world.graph world.types world.last world.parameters }
+    ensures { IfOk result (λ made. IsWorld made.graph made.types made.last made.parameters) }
 {
     let World {
         graph,
@@ -114,8 +114,8 @@ fn pointer(world: World) -> Result<World, Stopped>
 
 /// A reference to the type.
 fn reference(world: World) -> Result<World, Stopped>
-    requires { IsWorld world }
-    ensures { IfOk result IsWorld }
+    requires { IsWorld world.graph world.types world.last world.parameters }
+    ensures { IfOk result (λ made. IsWorld made.graph made.types made.last made.parameters) }
 {
     let World {
         graph,
@@ -137,8 +137,8 @@ fn reference(world: World) -> Result<World, Stopped>
 
 /// The type with `const`.
 fn constant(world: World) -> Result<World, Stopped>
-    requires { IsWorld world }
-    ensures { IfOk result IsWorld }
+    requires { IsWorld world.graph world.types world.last world.parameters }
+    ensures { IfOk result (λ made. IsWorld made.graph made.types made.last made.parameters) }
 {
     let World {
         graph,
@@ -160,8 +160,8 @@ fn constant(world: World) -> Result<World, Stopped>
 
 /// The enumeration.
 fn enumeration(world: World) -> Result<World, Stopped>
-    requires { IsWorld world }
-    ensures { IfOk result IsWorld }
+    requires { IsWorld world.graph world.types world.last world.parameters }
+    ensures { IfOk result (λ made. IsWorld made.graph made.types made.last made.parameters) }
 {
     let World {
         graph,
@@ -183,8 +183,8 @@ fn enumeration(world: World) -> Result<World, Stopped>
 
 /// A fundamental type.
 fn plain(world: World, base: Base) -> Result<World, Stopped>
-    requires { IsWorld world }
-    ensures { IfOk result IsWorld }
+    requires { IsWorld world.graph world.types world.last world.parameters }
+    ensures { IfOk result (λ made. IsWorld made.graph made.types made.last made.parameters) }
 {
     let World {
         graph,
@@ -206,8 +206,8 @@ fn plain(world: World, base: Base) -> Result<World, Stopped>
 
 /// The type stands in the list.
 fn listed(world: World) -> Result<World, Stopped>
-    requires { IsWorld world }
-    ensures { IfOk result IsWorld }
+    requires { IsWorld world.graph world.types world.last world.parameters }
+    ensures { IfOk result (λ made. IsWorld made.graph made.types made.last made.parameters) }
 {
     let World {
         graph,
@@ -227,8 +227,8 @@ fn listed(world: World) -> Result<World, Stopped>
 }
 
 fn with_ellipsis(world: World) -> World
-    requires { IsWorld world }
-    ensures { IsWorld result }
+    requires { IsWorld world.graph world.types world.last world.parameters }
+    ensures { IsWorld result.graph result.types result.last result.parameters }
 {
     World {
         ellipsis: true,
@@ -238,8 +238,8 @@ fn with_ellipsis(world: World) -> World
 
 /// A function with the parameters of the list is declared.
 fn declared(alloc: Global, world: World) -> Result<World, Stopped>
-    requires { IsWorld world }
-    ensures { IfOk result IsWorld }
+    requires { IsWorld world.graph world.types world.last world.parameters }
+    ensures { IfOk result (λ made. IsWorld made.graph made.types made.last made.parameters) }
 {
     let World {
         mut graph,
@@ -285,8 +285,8 @@ fn base_of(letter: u8) -> Base {
 
 /// One more letter: of a type, `,` behind one, `.` for an ellipsis, `;` behind the parameters of a function.
 pub(crate) fn step(alloc: Global, world: World, letter: u8) -> Result<World, Stopped>
-    requires { IsWorld world }
-    ensures { IfOk result IsWorld }
+    requires { IsWorld world.graph world.types world.last world.parameters }
+    ensures { IfOk result (λ made. IsWorld made.graph made.types made.last made.parameters) }
 {
     match letter {
         b'p' => pointer(world),
