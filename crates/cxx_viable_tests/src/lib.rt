@@ -2,6 +2,8 @@
 #![tactic(auto)]
 
 #[cfg(test)]
+mod largest;
+#[cfg(test)]
 mod rows;
 #[cfg(test)]
 mod stopped;

@@ -135,7 +135,11 @@ fn answer<L: Ledger>(alloc: Global, world: &World, steps: &mut Steps<L>) -> Resu
     Ok(letter(&choice))
 }
 
-fn answer_by<L: Ledger>(alloc: Global, world: &World, blank: Blank) -> Result<u8, Stopped>
+pub(crate) fn answer_by<L: Ledger>(
+    alloc: Global,
+    world: &World,
+    blank: Blank,
+) -> Result<u8, Stopped>
     requires world { IsWorld world.now.graph world.now.types world.now.last world.now.parameters }
     requires name { blank.name ≡ L.name }
     requires parts { blank.parts ≡ L.parts }
