@@ -3,3 +3,4 @@ pub mod Asked
 pub mod Loops
 pub mod Contests
 pub mod InWords
+pub mod Numbers

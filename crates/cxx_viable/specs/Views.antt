@@ -1,5 +1,5 @@
 -- What the values of the code stand for, given the types of a table.
-use Rattle.std.specs.Prelude.{ℕ, ◌<◌, List, [], ◌∷◌, ◌++◌, map, Option, Some, None}
+use Rattle.std.specs.Prelude.{◌≡◌, ℕ, ◌<◌, List, [], ◌∷◌, ◌++◌, map, Option, Some, None}
 use Rattle.std.specs.List.{slice_get}
 use Rattle.cxx_model.specs.declared.sequence.Operand.{Operand}
 use Rattle.cxx_model.specs.declared.sequence.StandardSequence.{StandardSequence}
@@ -25,6 +25,11 @@ with_fact number (Some fact) others = record { number = number; fact = fact } �
 abbrev pub numbered_in : CxxGraph → List FactId → List Numbered
 numbered_in graph [] = []
 numbered_in graph (n ∷ numbers) = with_fact n.0 (slice_get graph.facts n.0) (numbered_in graph numbers)
+
+-- each declaration stands in the graph under its number
+abbrev pub AreOf : CxxGraph → List Numbered → Type 0
+AreOf graph [] = Unit {0}
+AreOf graph (one ∷ others) = (slice_get graph.facts one.number ≡ Some one.fact) × AreOf graph others
 
 -- ---- candidates
 
