@@ -24,6 +24,9 @@ pub trait Contest {
     /// That no memory is left to compare two members.
     ghost lacks_memory: { Self → ℕ → ℕ → Type 0 };
 
+    /// What comparing two members asks of the contest.
+    ghost is_ready: { Self → Type 0 } = { λ _. Unit {0} };
+
     fn size(&self) -> usize
         ensures { result ≡ count self.now };
 
@@ -36,6 +39,7 @@ pub trait Contest {
     ) -> Result<bool, AllocError>
         requires first { first < count self.now }
         requires second { second < count self.now }
+        requires ready { is_ready self.now }
         ensures answer { IfOk result (λ beaten. beaten ≡ wins self.now first second) }
         ensures memory { OnErr result (lacks_memory self.now first second) }
         ensures step { steps.new ≡ steps.old + 1 };
@@ -64,6 +68,7 @@ fn beats_or_is<C: Contest, L: Ledger>(
 ) -> Result<bool, AllocError>
     requires first { first < C.count contest.now }
     requires second { second < C.count contest.now }
+    requires ready { C.is_ready contest.now }
     ensures answer { IfOk result (λ beaten. beaten ≡ (second == first || C.wins contest.now first second)) }
     ensures memory { OnErr result ((i : ℕ) × (j : ℕ) × C.lacks_memory contest.now i j) }
     ensures cost { steps.new ≡ steps.old + (if second == first then 0 else 1) }
@@ -84,6 +89,7 @@ fn counter_below<C: Contest, L: Ledger>(
 ) -> Result<Option<usize>, AllocError>
     requires member { member < C.count contest.now }
     requires bound { bound ≤ C.count contest.now }
+    requires ready { C.is_ready contest.now }
     ensures answer { IfOk result (λ counter. IsLeastCounter (C.wins contest.now) bound member counter) }
     ensures memory { OnErr result ((i : ℕ) × (j : ℕ) × C.lacks_memory contest.now i j) }
     ensures cost { IfOk result (λ counter. steps.new ≡ steps.old + comparisons_to bound member counter) }
@@ -106,6 +112,7 @@ fn stronger<C: Contest, L: Ledger>(
 ) -> Result<usize, AllocError>
     requires first { champion < C.count contest.now }
     requires second { challenger < C.count contest.now }
+    requires ready { C.is_ready contest.now }
     ensures answer { IfOk result (λ stands. stands ≡ (if C.wins contest.now champion challenger then champion else challenger)) }
     ensures memory { OnErr result ((i : ℕ) × (j : ℕ) × C.lacks_memory contest.now i j) }
     ensures cost { steps.new ≡ steps.old + 1 }
@@ -119,7 +126,8 @@ fn stronger<C: Contest, L: Ledger>(
 /// The champion of all members compared in turn. It beats those behind it, and no other is the best.
 #[tactic(auto, using(crate::proofs::Champions::standing_first, crate::proofs::Champions::standing_more))]
 fn standing<C: Contest, L: Ledger>(contest: &C, steps: &mut Steps<L>) -> Result<usize, AllocError>
-    requires { 0 < C.count contest.now }
+    requires some { 0 < C.count contest.now }
+    requires ready { C.is_ready contest.now }
     ensures answer { IfOk result (IsStanding (C.wins contest.now) (C.count contest.now) (C.count contest.now)) }
     ensures memory { OnErr result ((i : ℕ) × (j : ℕ) × C.lacks_memory contest.now i j) }
     ensures cost { IfOk result (λ _. steps.new + 1 ≡ steps.old + C.count contest.now) }
@@ -138,7 +146,8 @@ pub fn counter_of<C: Contest, L: Ledger>(
     member: usize,
     steps: &mut Steps<L>,
 ) -> Result<Option<usize>, AllocError>
-    requires { member < C.count contest.now }
+    requires member { member < C.count contest.now }
+    requires ready { C.is_ready contest.now }
     ensures least { IfOk result (λ counter. IsLeastCounter (C.wins contest.now) (C.count contest.now) member counter) }
     // Memory is lacking only where it is for a comparison.
     ensures memory { OnErr result ((i : ℕ) × (j : ℕ) × C.lacks_memory contest.now i j) }
@@ -155,6 +164,7 @@ pub fn best_of<C: Contest, L: Ledger>(
     contest: &C,
     steps: &mut Steps<L>,
 ) -> Result<Verdict, AllocError>
+    requires { C.is_ready contest.now }
     ensures verdict { IfOk result (IsVerdict (C.wins contest.now) (C.count contest.now)) }
     ensures best { IfOk result (λ verdict. (member : ℕ) → IsBest (C.wins contest.now) (C.count contest.now) member → verdict ≡ Verdict.Best member) }
     ensures empty { C.count contest.now ≡ 0 → result ≡ Ok Verdict.Empty }

@@ -40,12 +40,12 @@ abbrev pub candidate_by : ℕ → ℕ → Place → CxxType → Option CxxCandid
 candidate_by position number place (function_of result parameters ellipsis cv) = Some (record { position = position; number = number; place = place; result = result; parameters = each_type parameters; ellipsis = ellipsis })
 candidate_by position number place _ = None
 
+abbrev pub candidate_by_what : ℕ → ℕ → Place → Declares → Option CxxCandidate
+candidate_by_what position number place (facts.function of kind flags defaults None) = candidate_by position number place of
+candidate_by_what position number place _ = None
+
 abbrev pub candidate_of : ℕ → Numbered → Option CxxCandidate
-candidate_of position one = by one.fact.what
-  where
-    by : Declares → Option CxxCandidate
-    by (facts.function of kind flags defaults None) = candidate_by position one.number one.fact.place of
-    by _ = None
+candidate_of position one = candidate_by_what position one.number one.fact.place one.fact.what
 
 abbrev pub put : Option CxxCandidate → (ℕ → List CxxCandidate) → ℕ → List CxxCandidate
 put None later position = later position
@@ -168,17 +168,24 @@ abbrev pub is_arithmetic_base : Base → Bool
 is_arithmetic_base base.Void = false
 is_arithmetic_base _ = true
 
+abbrev pub is_plain_arithmetic : CxxType → Bool
+is_plain_arithmetic (fundamental of) = is_arithmetic_base of
+is_plain_arithmetic _ = false
+
 -- 3.9.1: an arithmetic type, its cv words aside
 abbrev pub is_arithmetic : CxxType → Bool
 is_arithmetic (fundamental of) = is_arithmetic_base of
-is_arithmetic (qualified cv (fundamental of)) = is_arithmetic_base of
+is_arithmetic (qualified cv of) = is_plain_arithmetic of
 is_arithmetic _ = false
 
 abbrev pub are_arithmetic : List CxxType → Bool
 are_arithmetic [] = true
 are_arithmetic (of ∷ others) = is_arithmetic of && are_arithmetic others
 
+abbrev pub is_built : CxxCandidate → Bool
+is_built candidate = are_arithmetic candidate.parameters && not candidate.ellipsis
+
 -- whether each candidate has arithmetic parameters alone, and no ellipsis
 abbrev pub are_built : List CxxCandidate → Bool
 are_built [] = true
-are_built (candidate ∷ others) = (are_arithmetic candidate.parameters && not candidate.ellipsis) && are_built others
+are_built (candidate ∷ others) = is_built candidate && are_built others
