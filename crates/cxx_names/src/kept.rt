@@ -1,0 +1,101 @@
+ghost use Rattle.std.specs.Prelude.{◌≡◌, ◌+◌, ◌<◌, ◌^◌, ◌++◌, ℕ, List, [], OnOk, OnErr};
+ghost use Rattle.std.specs.Option.{option_to_list};
+ghost use Rattle.cxx_names.specs.declared.entry.Noted.{Noted as NotedBefore};
+ghost use Rattle.cxx_model.specs.Facts.Graph.{counted};
+ghost use Rattle.cxx_names.specs.Index.{AreSameKept, HasKept, Keeps};
+ghost use Rattle.cxx_names.specs.declared.kept.Kept.{Kept as KeptBefore};
+
+use crate::entry::{Entry, Noted};
+use crate::filed::Filed;
+use cxx_hash::Key;
+use cxx_model::{EnumId, OutOfMemory, ScopeId};
+use std::alloc::Global;
+
+/// The scopes and the enumerations of a unit.
+#[derive(Drop)]
+pub(crate) struct Kept {
+    pub(crate) scopes: Vec<Noted>,
+    // The outermost blocks of functions that each scope holds.
+    pub(crate) blocks: Filed<ScopeId, ScopeId>,
+    pub(crate) enumerations: u32,
+    // The values of the enumerators of each enumeration.
+    pub(crate) values: Filed<EnumId, i128>,
+}
+
+fn one_more(is_one: bool, count: u32) -> u32
+    requires { count + 1 < 2 ^ 32 }
+    ensures { result ≡ counted is_one count }
+{
+    if is_one { count + 1 } else { count }
+}
+
+fn one_less(is_one: bool, count: u32) -> u32
+    ensures { (before : ℕ) → count ≡ counted is_one before → result ≡ before }
+{
+    if is_one && count > 0 {
+        count - 1
+    } else {
+        count
+    }
+}
+
+fn push_some(scopes: &mut Vec<Noted>, noted: Option<Noted>) -> Result<(), OutOfMemory>
+    ensures more { OnOk result (scopes.new.items ≡ scopes.old.items ++ option_to_list noted) }
+    ensures same { OnErr result (scopes.new.items ≡ scopes.old.items) }
+{
+    if let Some(noted) = noted {
+        scopes.push(noted)?;
+    }
+    Ok(())
+}
+
+fn pop_some(scopes: &mut Vec<Noted>, noted: Option<Noted>)
+    ensures { (before : List NotedBefore) → scopes.old.items ≡ before ++ option_to_list noted → scopes.new.items ≡ before }
+{
+    if noted.is_some() {
+        let _ = scopes.pop();
+    }
+}
+
+impl Kept {
+    pub(crate) fn new(alloc: Global, key: Key) -> Kept
+        ensures { Keeps result [] }
+    {
+        Kept {
+            scopes: Vec::new(alloc),
+            blocks: Filed::new(alloc, key),
+            enumerations: 0,
+            values: Filed::new(alloc, key),
+        }
+    }
+
+    /// Keeps what is to be kept of one more fact. An `Err` changes nothing of what is kept.
+    pub(crate) fn note(&mut self, one: Entry) -> Result<(), OutOfMemory>
+        requires { self.old.enumerations + 1 < 2 ^ 32 }
+        ensures noted { OnOk result (HasKept self.old self.new one.entry) }
+        ensures same { OnErr result (AreSameKept self.old self.new) }
+    {
+        push_some(&mut self.scopes, one.noted)?;
+        if let Err(fault) = self.blocks.add(one.block) {
+            pop_some(&mut self.scopes, one.noted);
+            return Err(fault);
+        }
+        if let Err(fault) = self.values.add(one.value) {
+            self.blocks.take_back(one.block);
+            pop_some(&mut self.scopes, one.noted);
+            return Err(fault);
+        }
+        self.enumerations = one_more(one.is_enumeration, self.enumerations);
+        Ok(())
+    }
+
+    /// Takes back what was kept of the last fact.
+    pub(crate) fn take_back(&mut self, one: Entry)
+        ensures { (before : KeptBefore) → HasKept before self.old one.entry → AreSameKept before self.new }
+    {
+        pop_some(&mut self.scopes, one.noted);
+        self.blocks.take_back(one.block);
+        self.values.take_back(one.value);
+        self.enumerations = one_less(one.is_enumeration, self.enumerations);
+    }
+}

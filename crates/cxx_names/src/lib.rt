@@ -1,0 +1,7 @@
+//! The declarations of a unit by scope and name, so that no lookup goes over all of them (3.3, 3.4.1).
+#![tactic(auto)]
+
+mod entry;
+mod filed;
+mod kept;
+mod names;
