@@ -43,7 +43,7 @@ abbrev pub IsSpelledBy : Name → List ℕ → Type 0
 IsSpelledBy (name.Spelled spelling) word = spelling ≡ word
 IsSpelledBy _ word = Unit {0}
 
-abbrev is_spelled : Name → Bool
+abbrev pub is_spelled : Name → Bool
 is_spelled (name.Spelled word) = true
 is_spelled _ = false
 
