@@ -17,19 +17,19 @@ pub(crate) struct Kept {
     pub(crate) scopes: Vec<Noted>,
     // The outermost blocks of functions that each scope holds.
     pub(crate) blocks: Filed<ScopeId, ScopeId>,
-    pub(crate) enumerations: u32,
+    pub(crate) enumerations: u64,
     // The values of the enumerators of each enumeration.
     pub(crate) values: Filed<EnumId, i128>,
 }
 
-fn one_more(is_one: bool, count: u32) -> u32
-    requires { count + 1 < 2 ^ 32 }
+fn one_more(is_one: bool, count: u64) -> u64
+    requires { count + 1 < 2 ^ 64 }
     ensures { result ≡ counted is_one count }
 {
     if is_one { count + 1 } else { count }
 }
 
-fn one_less(is_one: bool, count: u32) -> u32
+fn one_less(is_one: bool, count: u64) -> u64
     ensures { (before : ℕ) → count ≡ counted is_one before → result ≡ before }
 {
     if is_one && count > 0 {
@@ -71,7 +71,7 @@ impl Kept {
 
     /// Keeps what is to be kept of one more fact. An `Err` changes nothing of what is kept.
     pub(crate) fn note(&mut self, one: Entry) -> Result<(), OutOfMemory>
-        requires { self.old.enumerations + 1 < 2 ^ 32 }
+        requires { self.old.enumerations + 1 < 2 ^ 64 }
         ensures noted { OnOk result (HasKept self.old self.new one.entry) }
         ensures same { OnErr result (AreSameKept self.old self.new) }
     {
