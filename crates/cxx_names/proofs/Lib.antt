@@ -1,2 +1,5 @@
 pub mod Counting
+pub mod Known
+pub mod Looking
 pub mod Noting
+pub mod Templates

@@ -26,7 +26,9 @@ use Rattle.cxx_names.specs.declared.entry.Spelling.{Spelling}
 use Rattle.cxx_names.specs.declared.kept.Kept.{Kept}
 use Rattle.cxx_names.specs.declared.names.Names.{Names}
 use Rattle.cxx_names.specs.Filed.{row, those_in, AreSame, IsMoreBy}
-use Rattle.cxx_names.specs.Index.{same_spelling, same_scope, same_enumeration, IsSpelledBy, is_spelled, declares_word, noted_by, value_by, is_outermost_kind, block_by, scopes_of, blocks_from, numbers_in, Keeps, Notes, HasKept, HasNoted, AreSameKept, AreSameNames}
+use Rattle.cxx_names.specs.declared.words.Words.{Words}
+use Rattle.cxx_names.specs.Words.{same_spelling, is_known, IsSound, HasWord}
+use Rattle.cxx_names.specs.Index.{same_scope, same_enumeration, IsSpelledBy, is_spelled, declares_word, noted_by, value_by, is_outermost_kind, block_by, scopes_of, blocks_from, numbers_in, Keeps, Notes, HasKept, HasNoted, AreSameKept, AreSameNames}
 
 -- ---- declarations of a name
 
@@ -253,6 +255,29 @@ keeps_same old new facts kept same = record {
   values = λ number types. same.values number ∙ kept.values number types;
 }
 
+-- ---- spellings
+
+not_both : (a b : Bool) → a ≡ true → a ≡ false → b ≡ true
+not_both a b p q = absurd (cc)
+
+apart : (one two : List ℕ) (words : List (Bor (List ℕ))) → is_known words one ≡ true → is_known words two ≡ false → bytes_eq one two ≡ false
+apart one two words p q = by (bytes_eq one two) refl
+  where
+    by : (t : Bool) → bytes_eq one two ≡ t → t ≡ false
+    by true e = (let same : one ≡ two = (bytes_eq-Decides one two).0 e in let k : is_known words two ≡ true = subst (λ w. is_known words w ≡ true) same p in absurd (cc))
+    by false e = refl
+
+and_false : (a b : Bool) → b ≡ false → (a && b) ≡ false
+and_false true b e = e
+and_false false b e = refl
+
+sound_more : (old new : Words) (name : Option (Spelling × FactId)) → IsSound old → HasWord old new name → IsSound new
+sound_more old new None sound has key none = has.rows key ∙ sound key (has.knows key.word.now none)
+sound_more old new (Some name) sound has key none =
+    has.rows key
+    ∙ ap (λ t. cond t (row same_spelling old.rows.rows.entries name.0 ++ name.1 ∷ []) (row same_spelling old.rows.rows.entries key)) (and_false (nat_eq name.0.scope.0 key.scope.0) (bytes_eq name.0.word.now key.word.now) (apart name.0.word.now key.word.now new.spellings.keys has.known none))
+    ∙ sound key (has.knows key.word.now none)
+
 -- ---- all of it
 
 pub notes_more : (old new : Names) (one : Entry) (facts : List Fact) (fact : Fact) (word : Bor (List ℕ)) (number : FactId) (scopes : ℕ) → number.0 ≡ length facts → scopes ≡ length (scopes_of facts) → IsSpelledBy fact.name word.now
@@ -260,12 +285,14 @@ pub notes_more : (old new : Names) (one : Entry) (facts : List Fact) (fact : Fac
     → one.noted ≡ noted_by fact.scope fact.what → one.block ≡ block_by scopes (noted_by fact.scope fact.what) → one.value ≡ value_by fact.what → one.is_enumeration ≡ is_enumeration fact.what
     → Notes old facts → HasNoted old new one → Notes new (facts ++ fact ∷ [])
 notes_more old new one facts fact word number scopes n m s name noted block value counts notes has = record {
-  words = λ key types. names_noted types old.words.rows.entries new.words.rows.entries facts fact word number n s (λ k. notes.words k types) (subst (λ o. IsMoreBy same_spelling old.words.rows.entries new.words.rows.entries o) name has.words) key;
+  sound = sound_more old.words new.words one.name notes.sound has.words;
+  words = λ key types. names_noted types old.words.rows.rows.entries new.words.rows.rows.entries facts fact word number n s (λ k. notes.words k types) (subst (λ o. IsMoreBy same_spelling old.words.rows.rows.entries new.words.rows.rows.entries o) name has.words.rows) key;
   kept = keeps_more old.kept new.kept one facts fact noted (block ∙ ap (λ k. block_by k (noted_by fact.scope fact.what)) m) value counts notes.kept has.kept;
 }
 
 pub notes_same : (old new : Names) (facts : List Fact) → Notes old facts → AreSameNames old new → Notes new facts
 notes_same old new facts notes same = record {
-  words = λ key types. same.words key ∙ notes.words key types;
+  sound = λ key none. same.words.rows key ∙ notes.sound key (same.words.knows key.word.now none);
+  words = λ key types. same.words.rows key ∙ notes.words key types;
   kept = keeps_same old.kept new.kept facts notes.kept same.kept;
 }

@@ -19,6 +19,7 @@ use Rattle.cxx_model.specs.Types.Trees.{CxxType}
 use Rattle.cxx_meaning.specs.Conversions.Enumerations.{values_in}
 use Rattle.cxx_reading.specs.Seen.{Numbered, declared_from}
 use Rattle.cxx_names.specs.Filed.{row, AreSame, IsMoreBy}
+use Rattle.cxx_names.specs.Words.{AreSameWords, HasWord, IsSound, same_spelling}
 use Rattle.cxx_names.specs.declared.entry.Entry.{Entry}
 use Rattle.cxx_names.specs.declared.entry.Noted.{Noted}
 use Rattle.cxx_names.specs.declared.entry.Spelling.{Spelling}
@@ -26,9 +27,6 @@ use Rattle.cxx_names.specs.declared.kept.Kept.{Kept}
 use Rattle.cxx_names.specs.declared.names.Names.{Names}
 
 -- ---- keys
-
-abbrev pub same_spelling : Spelling → Spelling → Bool
-same_spelling one two = nat_eq one.scope.0 two.scope.0 && bytes_eq one.word.now two.word.now
 
 abbrev pub same_scope : ScopeId → ScopeId → Bool
 same_scope one two = nat_eq one.0 two.0
@@ -95,7 +93,8 @@ pub record Keeps (kept : Kept) (facts : List Fact) : Type 0 where
 
 -- Exactly these facts were noted.
 pub record Notes (names : Names) (facts : List Fact) : Type 0 where
-  pub words : (key : Spelling) (types : List CxxType) → row same_spelling names.words.rows.entries key ≡ numbers_in (declared_from key.scope.0 (spelled key.word.now) zero (facts_at types facts))
+  pub sound : IsSound names.words
+  pub words : (key : Spelling) (types : List CxxType) → row same_spelling names.words.rows.rows.entries key ≡ numbers_in (declared_from key.scope.0 (spelled key.word.now) zero (facts_at types facts))
   pub kept : Keeps names.kept facts
 
 -- ---- what one more fact changes
@@ -114,9 +113,9 @@ pub record AreSameKept (old new : Kept) : Type 0 where
   pub values : AreSame same_enumeration old.values.rows.entries new.values.rows.entries
 
 pub record HasNoted (old new : Names) (one : Entry) : Type 0 where
-  pub words : IsMoreBy same_spelling old.words.rows.entries new.words.rows.entries one.name
+  pub words : HasWord old.words new.words one.name
   pub kept : HasKept old.kept new.kept one
 
 pub record AreSameNames (old new : Names) : Type 0 where
-  pub words : AreSame same_spelling old.words.rows.entries new.words.rows.entries
+  pub words : AreSameWords old.words new.words
   pub kept : AreSameKept old.kept new.kept

@@ -1,2 +1,4 @@
 pub mod Filed
 pub mod Index
+pub mod Looked
+pub mod Words

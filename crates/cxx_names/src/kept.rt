@@ -1,4 +1,5 @@
 ghost use Rattle.std.specs.Prelude.{◌≡◌, ◌+◌, ◌<◌, ◌^◌, ◌++◌, ℕ, List, [], OnOk, OnErr};
+ghost use Rattle.std.specs.List.{slice_get};
 ghost use Rattle.std.specs.Option.{option_to_list};
 ghost use Rattle.cxx_names.specs.declared.entry.Noted.{Noted as NotedBefore};
 ghost use Rattle.cxx_model.specs.Facts.Graph.{counted};
@@ -66,6 +67,16 @@ impl Kept {
             blocks: Filed::new(alloc, key),
             enumerations: 0,
             values: Filed::new(alloc, key),
+        }
+    }
+
+    /// What is kept of a scope.
+    pub(crate) fn noted(&self, scope: ScopeId) -> Option<Noted>
+        ensures { result ≡ slice_get self.now.scopes.items scope.0 }
+    {
+        match self.scopes.get(scope.0 as usize) {
+            Some(noted) => Some(*noted),
+            None => None,
         }
     }
 

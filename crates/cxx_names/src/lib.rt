@@ -3,5 +3,8 @@
 
 mod entry;
 mod filed;
+mod found;
 mod kept;
+mod looked;
 mod names;
+mod words;

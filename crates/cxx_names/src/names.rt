@@ -6,9 +6,9 @@ ghost use Rattle.cxx_reading.specs.Declaring.{enumeration_count, scope_count};
 ghost use Rattle.cxx_names.specs.Index.{AreSameNames, HasNoted, IsSpelledBy, Notes};
 ghost use Rattle.cxx_names.specs.declared.names.Names.{Names as NamesBefore};
 
-use crate::entry::{Entry, Spelling};
-use crate::filed::Filed;
+use crate::entry::Entry;
 use crate::kept::Kept;
+use crate::words::Words;
 use cxx_graph::{AddFault, Graph};
 use cxx_hash::Key;
 use cxx_model::{EnumId, Fact, FactId, OutOfMemory, ScopeId};
@@ -20,8 +20,7 @@ const LIMIT: usize = 2_097_152;
 /// What is kept beside the facts of a graph, so that no question about names goes over them all.
 #[derive(Drop)]
 pub struct Names<'a> {
-    // The declarations of each spelled name in each scope.
-    pub(crate) words: Filed<Spelling<'a>, FactId>,
+    pub(crate) words: Words<'a>,
     pub(crate) kept: Kept,
 }
 
@@ -31,7 +30,7 @@ impl<'a> Names<'a> {
         ensures { Notes result [] }
     {
         Names {
-            words: Filed::new(alloc, key),
+            words: Words::new(alloc, key),
             kept: Kept::new(alloc, key),
         }
     }

@@ -1,0 +1,97 @@
+//! Facts by their numbers, and what they are to a lookup.
+
+ghost use Rattle.std.specs.Prelude.{◌≡◌, [], ◌∷◌, List};
+ghost use Rattle.std.specs.List.{slice_get};
+ghost use Rattle.std.specs.Option.{option_copied};
+ghost use Rattle.cxx_model.specs.Facts.Declarations.{declares_at, graph_at};
+ghost use Rattle.cxx_model.specs.Types.Trees.{CxxType};
+ghost use Rattle.cxx_meaning.specs.Lookups.Wanted.{hides_types as hides_a_type, is_function as is_a_function, is_of_functions as is_one_of_functions, names_type as names_a_type};
+ghost use Rattle.cxx_names.specs.Looked.{any_wanted, looked_up, wanted_by};
+
+use cxx_graph::Graph;
+use cxx_model::{Entity, Fact, FactId, Pattern, TemplateId};
+
+pub(crate) fn fact_of(graph: &Graph, number: FactId) -> Option<&Fact>
+    ensures { option_copied result ≡ slice_get graph.now.facts number.0 }
+{
+    graph.facts().get(number.0 as usize)
+}
+
+fn pattern_of(graph: &Graph, template: TemplateId) -> Option<&Pattern>
+    ensures { option_copied result ≡ slice_get graph.now.patterns template.0 }
+{
+    graph.patterns().get(template.0 as usize)
+}
+
+// Whether a template is one of functions (14).
+#[tactic(auto, using(crate::proofs::Templates::functions_some, crate::proofs::Templates::functions_none))]
+fn is_of_functions(graph: &Graph, template: TemplateId) -> bool
+    ensures { (types : List CxxType) → result ≡ is_one_of_functions (slice_get (graph_at types graph.now).patterns template.0) }
+{
+    match pattern_of(graph, template) {
+        Some(pattern) => pattern.of.is_some(),
+        None => false,
+    }
+}
+
+fn is_function(graph: &Graph, what: Entity) -> bool
+    ensures { (types : List CxxType) → result ≡ is_a_function (graph_at types graph.now) (declares_at types what) }
+{
+    match what {
+        Entity::Function { .. } => true,
+        Entity::Template { template, .. } => is_of_functions(graph, template),
+        _ => false,
+    }
+}
+
+/// Whether a declaration hides a type of its scope (3.3.7).
+pub(crate) fn hides_types(graph: &Graph, what: Entity) -> bool
+    ensures { (types : List CxxType) → result ≡ hides_a_type (graph_at types graph.now) (declares_at types what) }
+{
+    match what {
+        Entity::Object { .. } => true,
+        Entity::Enumerator { .. } => true,
+        _ => is_function(graph, what),
+    }
+}
+
+/// Whether a declaration names a type (3.4.4).
+pub(crate) fn names_type(graph: &Graph, what: Entity) -> bool
+    ensures { (types : List CxxType) → result ≡ names_a_type (graph_at types graph.now) (declares_at types what) }
+{
+    match what {
+        Entity::Injected { .. } => true,
+        Entity::Class { .. } => true,
+        Entity::Enumeration { .. } => true,
+        Entity::Synonym { .. } => true,
+        Entity::Template { template, .. } => !is_of_functions(graph, template),
+        _ => false,
+    }
+}
+
+fn is_wanted(graph: &Graph, types_only: bool, what: Entity) -> bool
+    ensures { (types : List CxxType) → result ≡ wanted_by (graph_at types graph.now) types_only (declares_at types what) }
+{
+    !types_only || names_type(graph, what)
+}
+
+fn is_wanted_at(graph: &Graph, types_only: bool, number: FactId) -> bool
+    ensures { (types : List CxxType) → result ≡ any_wanted (graph_at types graph.now) types_only (looked_up types graph.now.facts (number ∷ [])) }
+{
+    match fact_of(graph, number) {
+        Some(fact) => is_wanted(graph, types_only, fact.what),
+        None => false,
+    }
+}
+
+/// Whether one of some declarations is wanted: one of a type, or any.
+pub(crate) fn has_wanted(graph: &Graph, types_only: bool, numbers: &[FactId]) -> bool
+    ensures { (types : List CxxType) → result ≡ any_wanted (graph_at types graph.now) types_only (looked_up types graph.now.facts numbers.now) }
+{
+    for number in numbers {
+        if is_wanted_at(graph, types_only, *number) {
+            return true;
+        }
+    }
+    false
+}
