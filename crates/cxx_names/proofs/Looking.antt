@@ -11,7 +11,10 @@ use Rattle.cxx_model.specs.Facts.Conflicts.{scope_facts}
 use Rattle.cxx_model.specs.Facts.Declarations.{CxxFact, CxxGraph, CxxName, Declares, fact_at, facts_at, graph_at}
 use Rattle.cxx_model.specs.Facts.Graph.{Graph}
 use Rattle.cxx_model.specs.Types.Trees.{CxxType}
-use Rattle.cxx_reading.specs.Seen.{Numbered, any_declaration, declared_from, declared_in, declares_in, found, found_from, found_types, kept, or_outside, parent_of}
+use Rattle.cxx_meaning.specs.Lookups.Wanted.{hides_types, names_type}
+use Rattle.cxx_model.specs.declared.tree.Kind.TheVariants as kind
+use Rattle.cxx_reading.specs.Declaring.{first_object, is_object}
+use Rattle.cxx_reading.specs.Seen.{Numbered, any_hides, any_type, kind_of_found, any_declaration, declared_from, declared_in, declares_in, found, found_from, found_types, kept, or_outside, parent_of}
 use Rattle.cxx_names.specs.declared.entry.Noted.{Noted}
 use Rattle.cxx_names.specs.Index.{noted_by, numbers_in, scopes_of}
 use Rattle.cxx_names.specs.Looked.{any_wanted, holder_in, looked_up, seen_by, wanted_by}
@@ -131,3 +134,44 @@ wanted_more graph t types facts number numbers = by (slice_get facts number.0)
     by : (o : Option Fact) → any_wanted graph t (seen_by types number (looked_up types facts numbers) o) ≡ (any_wanted graph t (seen_by types number [] o) || any_wanted graph t (looked_up types facts numbers))
     by None = refl
     by (Some fact) = or_again (wanted_by graph t (fact_at types fact).what) (any_wanted graph t (looked_up types facts numbers))
+
+pub hides_more : (graph : CxxGraph) (types : List CxxType) (facts : List Fact) (number : FactId) (numbers : List FactId)
+    → any_hides graph (looked_up types facts (number ∷ numbers)) ≡ (any_hides graph (looked_up types facts (number ∷ [])) || any_hides graph (looked_up types facts numbers))
+hides_more graph types facts number numbers = by (slice_get facts number.0)
+  where
+    or_again : (a b : Bool) → (a || b) ≡ ((a || false) || b)
+    or_again true b = refl
+    or_again false b = refl
+
+    by : (o : Option Fact) → any_hides graph (seen_by types number (looked_up types facts numbers) o) ≡ (any_hides graph (seen_by types number [] o) || any_hides graph (looked_up types facts numbers))
+    by None = refl
+    by (Some fact) = or_again (hides_types graph (fact_at types fact).what) (any_hides graph (looked_up types facts numbers))
+
+pub any_type_wanted : (graph : CxxGraph) (all : List Numbered) → any_wanted graph true all ≡ any_type graph all
+any_type_wanted graph [] = refl
+any_type_wanted graph (one ∷ others) = ap (λ t. names_type graph one.fact.what || t) (any_type_wanted graph others)
+
+pub kind_hidden : (graph : CxxGraph) (all : List Numbered) → any_hides graph all ≡ true → kind_of_found graph all ≡ kind.Value
+kind_hidden graph all e = rw e refl
+
+pub kind_type : (graph : CxxGraph) (all : List Numbered) → any_hides graph all ≡ false → any_wanted graph true all ≡ true → kind_of_found graph all ≡ kind.OfType
+kind_type graph all e f = let g = sym (any_type_wanted graph all) ∙ f in rw (e, g) refl
+
+pub kind_value : (graph : CxxGraph) (all : List Numbered) → any_hides graph all ≡ false → any_wanted graph true all ≡ false → kind_of_found graph all ≡ kind.Value
+kind_value graph all e f = let g = sym (any_type_wanted graph all) ∙ f in rw (e, g) refl
+
+abbrev pub or_later : Option FactId → Option FactId → Option FactId
+or_later None later = later
+or_later (Some one) later = Some one
+
+pub object_more : (types : List CxxType) (facts : List Fact) (number : FactId) (numbers : List FactId)
+    → first_object (looked_up types facts (number ∷ numbers)) ≡ or_later (first_object (looked_up types facts (number ∷ []))) (first_object (looked_up types facts numbers))
+object_more types facts number numbers = by (slice_get facts number.0)
+  where
+    one : (t : Bool) (later : Option FactId) → cond t (Some (record { 0 = number.0 })) later ≡ or_later (cond t (Some (record { 0 = number.0 })) None) later
+    one true later = refl
+    one false later = refl
+
+    by : (o : Option Fact) → first_object (seen_by types number (looked_up types facts numbers) o) ≡ or_later (first_object (seen_by types number [] o)) (first_object (looked_up types facts numbers))
+    by None = refl
+    by (Some fact) = one (is_object (fact_at types fact).what) (first_object (looked_up types facts numbers))

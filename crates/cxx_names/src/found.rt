@@ -5,14 +5,15 @@ ghost use Rattle.cxx_model.specs.Facts.Declarations.{facts_at, graph_at, spelled
 ghost use Rattle.cxx_model.specs.Types.Trees.{CxxType};
 ghost use Rattle.cxx_meaning.specs.Conversions.Enumerations.{values_in};
 ghost use Rattle.cxx_meaning.specs.Lookups.Wanted.{names_type};
-ghost use Rattle.cxx_reading.specs.Seen.{declared_in as declared_by, found as found_by, found_from, found_types as found_types_by, kept, parent_of};
+ghost use Rattle.cxx_reading.specs.Declaring.{first_object as first_object_by};
+ghost use Rattle.cxx_reading.specs.Seen.{kind_of_found, declared_in as declared_by, found as found_by, found_from, found_types as found_types_by, kept, parent_of};
 ghost use Rattle.cxx_names.specs.Index.{Notes, numbers_in};
 ghost use Rattle.cxx_names.specs.Looked.{any_wanted, looked_up, wanted_by};
 
-use crate::looked::has_wanted;
+use crate::looked::{first_object_of, has_wanted, kind_of};
 use crate::names::Names;
 use cxx_graph::Graph;
-use cxx_model::{EnumId, FactId, ScopeId};
+use cxx_model::{EnumId, FactId, Kind, ScopeId};
 
 impl Names<'_> {
     /// The declarations of a spelled name in a scope, in order.
@@ -49,7 +50,8 @@ impl Names<'_> {
     // The declarations of a name in the innermost scope round a place that declares one that is wanted.
     fn innermost(&self, graph: &Graph, types_only: bool, scope: ScopeId, word: &[u8]) -> &[FactId]
         requires { Notes self.now graph.now.facts }
-        ensures { (types : List CxxType) → kept (wanted_by (graph_at types graph.now) types_only) (looked_up types graph.now.facts result.now) ≡ found_from (graph_at types graph.now) (wanted_by (graph_at types graph.now) types_only) (spelled word.now) scope.0 scope.0 }
+        ensures numbers { (types : List CxxType) → result.now ≡ numbers_in (looked_up types graph.now.facts result.now) }
+        ensures found { (types : List CxxType) → kept (wanted_by (graph_at types graph.now) types_only) (looked_up types graph.now.facts result.now) ≡ found_from (graph_at types graph.now) (wanted_by (graph_at types graph.now) types_only) (spelled word.now) scope.0 scope.0 }
     {
         let mut now = scope;
         for _turn in 0..scope.0 {
@@ -69,7 +71,8 @@ impl Names<'_> {
     /// What a name means where it stands (3.4.1): the declarations of it in the innermost scope that has some, in order.
     pub fn found(&self, graph: &Graph, scope: ScopeId, word: &[u8]) -> &[FactId]
         requires { Notes self.now graph.now.facts }
-        ensures { (types : List CxxType) → looked_up types graph.now.facts result.now ≡ found_by (graph_at types graph.now) scope.0 (spelled word.now) }
+        ensures numbers { (types : List CxxType) → result.now ≡ numbers_in (found_by (graph_at types graph.now) scope.0 (spelled word.now)) }
+        ensures facts { (types : List CxxType) → looked_up types graph.now.facts result.now ≡ found_by (graph_at types graph.now) scope.0 (spelled word.now) }
     {
         self.innermost(graph, false, scope, word)
     }
@@ -81,5 +84,21 @@ impl Names<'_> {
         ensures { (types : List CxxType) → kept (names_type (graph_at types graph.now)) (looked_up types graph.now.facts result.now) ≡ found_types_by (graph_at types graph.now) scope.0 (spelled word.now) }
     {
         self.innermost(graph, true, scope, word)
+    }
+
+    /// What a name is to a reader (3.3.7).
+    pub fn kind(&self, graph: &Graph, scope: ScopeId, word: &[u8]) -> Kind
+        requires { Notes self.now graph.now.facts }
+        ensures { (types : List CxxType) → result ≡ kind_of_found (graph_at types graph.now) (found_by (graph_at types graph.now) scope.0 (spelled word.now)) }
+    {
+        kind_of(graph, self.found(graph, scope, word))
+    }
+
+    /// The first declaration of the object that has a name in a scope (3).
+    pub fn first_object(&self, graph: &Graph, scope: ScopeId, word: &[u8]) -> Option<FactId>
+        requires { Notes self.now graph.now.facts }
+        ensures { (types : List CxxType) → result ≡ first_object_by (declared_by (graph_at types graph.now) scope.0 (spelled word.now)) }
+    {
+        first_object_of(graph, self.declared_in(graph, scope, word))
     }
 }

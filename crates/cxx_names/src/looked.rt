@@ -1,15 +1,17 @@
 //! Facts by their numbers, and what they are to a lookup.
 
-ghost use Rattle.std.specs.Prelude.{◌≡◌, [], ◌∷◌, List};
+ghost use Rattle.std.specs.Prelude.{◌≡◌, [], ◌∷◌, List, Some, None, if◌then◌else◌};
 ghost use Rattle.std.specs.List.{slice_get};
 ghost use Rattle.std.specs.Option.{option_copied};
 ghost use Rattle.cxx_model.specs.Facts.Declarations.{declares_at, graph_at};
 ghost use Rattle.cxx_model.specs.Types.Trees.{CxxType};
 ghost use Rattle.cxx_meaning.specs.Lookups.Wanted.{hides_types as hides_a_type, is_function as is_a_function, is_of_functions as is_one_of_functions, names_type as names_a_type};
+ghost use Rattle.cxx_reading.specs.Declaring.{first_object, is_object as is_an_object};
+ghost use Rattle.cxx_reading.specs.Seen.{any_hides, kind_of_found};
 ghost use Rattle.cxx_names.specs.Looked.{any_wanted, looked_up, wanted_by};
 
 use cxx_graph::Graph;
-use cxx_model::{Entity, Fact, FactId, Pattern, TemplateId};
+use cxx_model::{Entity, Fact, FactId, Kind, Pattern, TemplateId};
 
 pub(crate) fn fact_of(graph: &Graph, number: FactId) -> Option<&Fact>
     ensures { option_copied result ≡ slice_get graph.now.facts number.0 }
@@ -94,4 +96,68 @@ pub(crate) fn has_wanted(graph: &Graph, types_only: bool, numbers: &[FactId]) ->
         }
     }
     false
+}
+
+fn hides_at(graph: &Graph, number: FactId) -> bool
+    ensures { (types : List CxxType) → result ≡ any_hides (graph_at types graph.now) (looked_up types graph.now.facts (number ∷ [])) }
+{
+    match fact_of(graph, number) {
+        Some(fact) => hides_types(graph, fact.what),
+        None => false,
+    }
+}
+
+// Whether one of some declarations hides a type of its scope.
+fn has_hiding(graph: &Graph, numbers: &[FactId]) -> bool
+    ensures { (types : List CxxType) → result ≡ any_hides (graph_at types graph.now) (looked_up types graph.now.facts numbers.now) }
+{
+    for number in numbers {
+        if hides_at(graph, *number) {
+            return true;
+        }
+    }
+    false
+}
+
+/// What declarations that were found are to a reader (3.3.7).
+pub(crate) fn kind_of(graph: &Graph, numbers: &[FactId]) -> Kind
+    ensures { (types : List CxxType) → result ≡ kind_of_found (graph_at types graph.now) (looked_up types graph.now.facts numbers.now) }
+{
+    if has_hiding(graph, numbers) {
+        Kind::Value
+    } else if has_wanted(graph, true, numbers) {
+        Kind::OfType
+    } else {
+        Kind::Value
+    }
+}
+
+fn is_object(what: Entity) -> bool
+    ensures { (types : List CxxType) → result ≡ is_an_object (declares_at types what) }
+{
+    match what {
+        Entity::Object { .. } => true,
+        _ => false,
+    }
+}
+
+fn is_object_at(graph: &Graph, number: FactId) -> bool
+    ensures { (types : List CxxType) → (if result then Some number else None) ≡ first_object (looked_up types graph.now.facts (number ∷ [])) }
+{
+    match fact_of(graph, number) {
+        Some(fact) => is_object(fact.what),
+        None => false,
+    }
+}
+
+/// The first of some declarations that is one of an object.
+pub(crate) fn first_object_of(graph: &Graph, numbers: &[FactId]) -> Option<FactId>
+    ensures { (types : List CxxType) → result ≡ first_object (looked_up types graph.now.facts numbers.now) }
+{
+    for number in numbers {
+        if is_object_at(graph, *number) {
+            return Some(*number);
+        }
+    }
+    None
 }

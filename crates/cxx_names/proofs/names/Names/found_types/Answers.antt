@@ -4,4 +4,4 @@ use Rattle.cxx_names.proofs.Looking.{found_type}
 use Rattle.cxx_names.proofs.names.Names.found_types.Goals as goal
 
 pub returns : goal.returns
-returns c = λ types. found_type (graph_at types c.args.graph.now) (spelled c.args.word.now) c.args.scope.0 (looked_up types c.args.graph.now.facts c.innermost.result.now) (c.innermost.ensures types)
+returns c = λ types. found_type (graph_at types c.args.graph.now) (spelled c.args.word.now) c.args.scope.0 (looked_up types c.args.graph.now.facts c.innermost.result.now) (c.innermost.ensures.found types)
