@@ -1,3 +1,4 @@
+pub mod Clashing
 pub mod Counting
 pub mod Known
 pub mod Looking

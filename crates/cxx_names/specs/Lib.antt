@@ -1,3 +1,4 @@
+pub mod Clashes
 pub mod Filed
 pub mod Index
 pub mod Looked
