@@ -1,5 +1,5 @@
 -- The first conflict is among the declarations of one name in scopes that are one.
-use Rattle.std.proofs.Common.{◌≡◌, ℕ, zero, suc, ◌+◌, ◌<◌, ◌≤◌, Bool, true, false, cond, ◌&&◌, ◌||◌, nat_eq, nat_lt, List, [], ◌∷◌, ◌++◌, length, Option, Some, None, option_map, refl, sym, ap, ◌∙◌, subst, arith, eq-eqb}
+use Rattle.std.proofs.Common.{◌≡◌, ℕ, zero, suc, ◌+◌, ◌<◌, ◌≤◌, Bool, true, false, not, cond, ◌&&◌, ◌||◌, nat_eq, nat_lt, List, [], ◌∷◌, ◌++◌, length, Option, Some, None, option_map, refl, sym, ap, ◌∙◌, subst, arith, eq-eqb}
 use Rattle.std.specs.List.{list_any, slice_get}
 use Rattle.std.specs.Option.{option_to_list}
 use Rattle.std.proofs.lemmas.Bool.{eqb-true}
@@ -136,3 +136,167 @@ first_in_scopes graph new name scopes all =
     ap (conflict_in_scopes graph new name scopes) (sym (none_where graph zero graph.facts new))
     ∙ scopes_are graph new name scopes (λ f. false)
     ∙ where_all (λ f. in_scopes name scopes f) graph zero graph.facts new all
+
+-- ---- scopes that are one
+
+and_left : (a b : Bool) → (a && b) ≡ true → a ≡ true
+and_left true b e = refl
+and_left false b e = absurd (cc)
+
+and_right : (a b : Bool) → (a && b) ≡ true → b ≡ true
+and_right true b e = e
+and_right false b e = absurd (cc)
+
+abbrev seen_fact : CxxFact → Bool × ℕ
+seen_fact fact = (is_outermost fact.what, fact.scope)
+
+abbrev seen_noted : Noted → Bool × ℕ
+seen_noted noted = (is_outermost_kind noted.kind, noted.parent.0)
+
+same_outermost : (types : List CxxType) (fact : Fact) (parent : Option ScopeId) (k : ScopeKind) → seen_fact (fact_at types (record fact { what = entity.Scope parent k })) ≡ seen_noted (record { kind = k; parent = fact.scope })
+same_outermost types fact parent kind.Space = refl
+same_outermost types fact parent (kind.Class class) = refl
+same_outermost types fact parent (kind.Block None) = refl
+same_outermost types fact parent (kind.Block (Some function)) = refl
+same_outermost types fact parent kind.Parameters = refl
+
+pub scopes_seen : (types : List CxxType) (facts : List Fact) (n : ℕ) → option_map seen_fact (slice_get (scope_facts (facts_at types facts)) n) ≡ option_map seen_noted (slice_get (scopes_of facts) n)
+scopes_seen types [] n = refl
+scopes_seen types (fact ∷ facts) n = by fact.what n (scopes_seen types facts)
+  where
+    by : (what : Entity) (n : ℕ) → ((m : ℕ) → option_map seen_fact (slice_get (scope_facts (facts_at types facts)) m) ≡ option_map seen_noted (slice_get (scopes_of facts) m)) → option_map seen_fact (slice_get (scope_facts (fact_at types (record fact { what = what }) ∷ facts_at types facts)) n) ≡ option_map seen_noted (slice_get (option_to_list (noted_by fact.scope what) ++ scopes_of facts) n)
+    by (entity.Scope parent k) zero rest = ap Some (same_outermost types fact parent k)
+    by (entity.Scope parent k) (suc n) rest = rest n
+    by _ n rest = rest n
+
+pub record IsBlockIn (scopes : List Noted) (scope other : ℕ) : Type 0 where
+  pub noted : Noted
+  pub at : slice_get scopes scope ≡ Some noted
+  pub outermost : is_outermost_kind noted.kind ≡ true
+  pub parent : noted.parent.0 ≡ other
+
+noted_seen : (o : Option Noted) (fact : CxxFact) → Some (seen_fact fact) ≡ option_map seen_noted o → (noted : Noted) × ((o ≡ Some noted) × (is_outermost fact.what ≡ is_outermost_kind noted.kind) × (fact.scope ≡ noted.parent.0))
+noted_seen None fact e = absurd (cc)
+noted_seen (Some noted) fact e = (let same : seen_fact fact ≡ seen_noted noted = cc in (noted, (refl, ap (λ v. v.0) same, ap (λ v. v.1) same)))
+
+of_parameters : (all : List CxxFact) (scopes : List Noted) (scope other : ℕ) (o : Option CxxFact) → slice_get (scope_facts all) scope ≡ o → option_map seen_fact o ≡ option_map seen_noted (slice_get scopes scope) → is_of_parameters all scope other ≡ true → IsBlockIn scopes scope other
+of_parameters all scopes scope other None e v t = absurd (let f = rw e at t in cc)
+of_parameters all scopes scope other (Some fact) e v t =
+    let f : (is_outermost fact.what && (nat_eq fact.scope other && are_parameters (slice_get (scope_kinds all) other))) ≡ true = rw e at t in
+    let s = noted_seen (slice_get scopes scope) fact v in
+    record {
+      noted = s.0;
+      at = s.1.0;
+      outermost = sym s.1.1 ∙ and_left (is_outermost fact.what) (nat_eq fact.scope other && are_parameters (slice_get (scope_kinds all) other)) f;
+      parent = sym s.1.2 ∙ eqb-true fact.scope other (and_left (nat_eq fact.scope other) (are_parameters (slice_get (scope_kinds all) other)) (and_right (is_outermost fact.what) (nat_eq fact.scope other && are_parameters (slice_get (scope_kinds all) other)) f));
+    }
+
+-- ---- the scopes in which a declaration may conflict
+
+any_append : (test : ScopeId → Bool) (xs ys : List ScopeId) → list_any test (xs ++ ys) ≡ (list_any test xs || list_any test ys)
+any_append test [] ys = refl
+any_append test (x ∷ xs) ys = ap (λ t. test x || t) (any_append test xs ys) ∙ sym (or_assoc (test x) (list_any test xs) (list_any test ys))
+
+any_alike : (one two : ScopeId → Bool) (xs : List ScopeId) → ((x : ScopeId) → one x ≡ two x) → list_any one xs ≡ list_any two xs
+any_alike one two [] same = refl
+any_alike one two (x ∷ xs) same = ap (λ t. t || list_any one xs) (same x) ∙ ap (λ t. two x || t) (any_alike one two xs same)
+
+or_true : (a : Bool) → (a || true) ≡ true
+or_true true = refl
+or_true false = refl
+
+and_true : (a : Bool) → (a && true) ≡ a
+and_true true = refl
+and_true false = refl
+
+block_there : (number scope k : ℕ) (scopes : List Noted) → IsBlockIn scopes k scope → list_any (λ (t : ScopeId). nat_eq (number + k) t.0) (blocks_from number scope scopes) ≡ true
+block_there number scope k [] block = absurd (let e = block.at in cc)
+block_there number scope zero (noted ∷ scopes) block =
+    let same : noted ≡ block.noted = (let e : Some noted ≡ Some block.noted = block.at in cc) in
+    let k : is_outermost_kind noted.kind ≡ true = ap (λ n. is_outermost_kind n.kind) same ∙ block.outermost in
+    let p : nat_eq noted.parent.0 scope ≡ true = eq-eqb noted.parent.0 scope (ap (λ n. n.parent.0) same ∙ block.parent) in
+    let z : nat_eq (number + zero) number ≡ true = eq-eqb (number + zero) number (omega arith) in
+    rw (k, p) (ap (λ t. t || list_any (λ (t : ScopeId). nat_eq (number + zero) t.0) (blocks_from (suc number) scope scopes)) z)
+block_there number scope (suc k) (noted ∷ scopes) block =
+    by (is_outermost_kind noted.kind && nat_eq noted.parent.0 scope)
+    (ap (λ (n : ℕ). list_any (λ (t : ScopeId). nat_eq n t.0) (blocks_from (suc number) scope scopes)) place ∙ block_there (suc number) scope k scopes (record { noted = block.noted; at = block.at; outermost = block.outermost; parent = block.parent }))
+  where
+    place : number + suc k ≡ suc number + k
+    place = omega arith
+
+    by : (t : Bool) → list_any (λ (t : ScopeId). nat_eq (number + suc k) t.0) (blocks_from (suc number) scope scopes) ≡ true → list_any (λ (t : ScopeId). nat_eq (number + suc k) t.0) (cond t (record { 0 = number } ∷ blocks_from (suc number) scope scopes) (blocks_from (suc number) scope scopes)) ≡ true
+    by true rest = ap (λ t. nat_eq (number + suc k) number || t) rest ∙ or_true (nat_eq (number + suc k) number)
+    by false rest = rest
+
+abbrev pub scopes_of_one : List Noted → ScopeId → List ScopeId
+scopes_of_one scopes scope = scope ∷ (holder_of_block (slice_get scopes scope.0) ++ blocks_from zero scope.0 scopes)
+
+one_of_three : (a b c : Bool) → (a || (b || c)) ≡ true → (b ≡ true → (a || (b || c)) ≡ true) → (a || (b || c)) ≡ true
+one_of_three a b c e rest = e
+
+scope_among : (types : List CxxType) (facts : List Fact) (old : ℕ) (scope : ScopeId) → is_one_scope (facts_at types facts) old scope.0 ≡ true → list_any (λ (t : ScopeId). nat_eq old t.0) (scopes_of_one (scopes_of facts) scope) ≡ true
+scope_among types facts old scope e = by (nat_eq old scope.0) (is_of_parameters all old scope.0) (is_of_parameters all scope.0 old) refl refl refl e
+  where
+    all : List CxxFact
+    all = facts_at types facts
+
+    scopes : List Noted
+    scopes = scopes_of facts
+
+    test : ScopeId → Bool
+    test t = nat_eq old t.0
+
+    holds : IsBlockIn scopes scope.0 old → list_any test (holder_of_block (slice_get scopes scope.0)) ≡ true
+    holds block =
+        ap (λ o. list_any test (holder_of_block o)) block.at
+        ∙ (ap (λ t. list_any test (cond t (block.noted.parent ∷ []) [])) block.outermost
+        ∙ ap (λ t. t || false) (eq-eqb old block.noted.parent.0 (sym block.parent)))
+
+    inside : IsBlockIn scopes old scope.0 → list_any test (blocks_from zero scope.0 scopes) ≡ true
+    inside block = (let z : old ≡ zero + old = omega arith in ap (λ (n : ℕ). list_any (λ (t : ScopeId). nat_eq n t.0) (blocks_from zero scope.0 scopes)) z ∙ block_there zero scope.0 old scopes block)
+
+    by : (a b c : Bool) → nat_eq old scope.0 ≡ a → is_of_parameters all old scope.0 ≡ b → is_of_parameters all scope.0 old ≡ c → (nat_eq old scope.0 || (is_of_parameters all old scope.0 || is_of_parameters all scope.0 old)) ≡ true → list_any test (scopes_of_one scopes scope) ≡ true
+    by true b c p q r e = ap (λ t. t || list_any test (holder_of_block (slice_get scopes scope.0) ++ blocks_from zero scope.0 scopes)) p
+    by false true c p q r e =
+        ap (λ t. nat_eq old scope.0 || t) (any_append test (holder_of_block (slice_get scopes scope.0)) (blocks_from zero scope.0 scopes) ∙ (ap (λ t. list_any test (holder_of_block (slice_get scopes scope.0)) || t) (inside (of_parameters all scopes old scope.0 (slice_get (scope_facts all) old) refl (scopes_seen types facts old) q)) ∙ or_true (list_any test (holder_of_block (slice_get scopes scope.0)))))
+        ∙ or_true (nat_eq old scope.0)
+    by false false true p q r e =
+        ap (λ t. nat_eq old scope.0 || t) (any_append test (holder_of_block (slice_get scopes scope.0)) (blocks_from zero scope.0 scopes) ∙ ap (λ t. t || list_any test (blocks_from zero scope.0 scopes)) (holds (of_parameters all scopes scope.0 old (slice_get (scope_facts all) scope.0) refl (scopes_seen types facts scope.0) r)))
+        ∙ or_true (nat_eq old scope.0)
+    by false false false p q r e = absurd (let f = rw (p, q, r) at e in cc)
+
+or_left : (a b : Bool) → b ≡ false → (a || b) ≡ true → a ≡ true
+or_left true b f e = refl
+or_left false b f e = absurd (cc)
+
+and_none : (a b : Bool) → b ≡ false → (a && b) ≡ false
+and_none true b f = f
+and_none false b f = refl
+
+named : (old : CxxFact) (word : List ℕ) (new : CxxFact) → new.name ≡ spelled word → is_constructor new.what ≡ false → of_one_name old new ≡ true → (scope : ℕ) → declares_in scope (spelled word) old ≡ nat_eq old.scope scope
+named old word new name free e scope =
+    let declared = and_left (declares_name old.what) (declares_name new.what) (and_left (declares_name old.what && declares_name new.what) ((has_name old.name && same_name old.name new.name) || (is_constructor old.what && is_constructor new.what)) e) in
+    let either = and_right (declares_name old.what && declares_name new.what) ((has_name old.name && same_name old.name new.name) || (is_constructor old.what && is_constructor new.what)) e in
+    let same = and_right (has_name old.name) (same_name old.name new.name) (or_left (has_name old.name && same_name old.name new.name) (is_constructor old.what && is_constructor new.what) (and_none (is_constructor old.what) (is_constructor new.what) free) either) in
+    let spelled_same : same_name old.name (spelled word) ≡ true = ap (λ n. same_name old.name n) (sym name) ∙ same in
+    ap (λ t. nat_eq old.scope scope && (t && (true && same_name old.name (spelled word)))) declared ∙ (ap (λ t. nat_eq old.scope scope && t) spelled_same ∙ and_true (nat_eq old.scope scope))
+
+-- what conflicts with a declaration of a name declares the name in a scope that is one with its own
+conflict_among_scopes : (types : List CxxType) (graph : Graph) (new : CxxFact) (scope : ScopeId) (word : List ℕ) → new.scope ≡ scope.0 → new.name ≡ spelled word → is_constructor new.what ≡ false
+    → (n : ℕ) (old : CxxFact) → conflicts (graph_at types graph) n old new ≡ true → in_scopes (spelled word) (scopes_of_one (scopes_of graph.facts) scope) old ≡ true
+conflict_among_scopes types graph new scope word place name free n old e =
+    let all = facts_at types graph.facts in
+    let one = and_left (is_one_scope all old.scope new.scope) (of_one_name old new && ((are_parameters (slice_get (scope_kinds all) old.scope) || are_parameters (slice_get (scope_kinds all) new.scope)) || not (stand_together (graph_at types graph) n old (length all) new))) e in
+    let rest = and_right (is_one_scope all old.scope new.scope) (of_one_name old new && ((are_parameters (slice_get (scope_kinds all) old.scope) || are_parameters (slice_get (scope_kinds all) new.scope)) || not (stand_together (graph_at types graph) n old (length all) new))) e in
+    let same = and_left (of_one_name old new) ((are_parameters (slice_get (scope_kinds all) old.scope) || are_parameters (slice_get (scope_kinds all) new.scope)) || not (stand_together (graph_at types graph) n old (length all) new)) rest in
+    any_alike (λ (t : ScopeId). declares_in t.0 (spelled word) old) (λ (t : ScopeId). nat_eq old.scope t.0) (scopes_of_one (scopes_of graph.facts) scope) (λ t. named old word new name free same t.0)
+    ∙ scope_among types graph.facts old.scope scope (ap (is_one_scope all old.scope) (sym place) ∙ one)
+
+pub first_among : (types : List CxxType) (graph : Graph) (new : CxxFact) (scope : ScopeId) (word : List ℕ) → new.scope ≡ scope.0 → new.name ≡ spelled word → is_constructor new.what ≡ false
+    → conflict_in_scopes (graph_at types graph) new (spelled word) (scopes_of_one (scopes_of graph.facts) scope) None ≡ first_conflict (graph_at types graph) new
+first_among types graph new scope word place name free = first_in_scopes (graph_at types graph) new (spelled word) (scopes_of_one (scopes_of graph.facts) scope) (conflict_among_scopes types graph new scope word place name free)
+
+-- what has no name, and is no constructor, conflicts with nothing
+nothing : (graph : CxxGraph) (number : ℕ) (facts : List CxxFact) (new : CxxFact) → ((n : ℕ) (old : CxxFact) → conflicts graph n old new ≡ false) → conflict_among graph number facts new ≡ None
+nothing graph number [] new none = refl
+nothing graph number (old ∷ others) new none = ap (λ t. cond t (Some number) (conflict_among graph (suc number) others new)) (none number old) ∙ nothing graph (suc number) others new none
