@@ -4,3 +4,4 @@ pub mod Known
 pub mod Looking
 pub mod Noting
 pub mod Templates
+pub mod Types

@@ -1,6 +1,7 @@
 //! The declarations of a unit by scope and name, so that no lookup goes over all of them (3.3, 3.4.1).
 #![tactic(auto)]
 
+mod alike;
 mod entry;
 mod filed;
 mod found;
