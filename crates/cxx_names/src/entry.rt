@@ -77,7 +77,8 @@ fn value_in(what: Entity) -> Option<(EnumId, i128)>
     }
 }
 
-fn is_outermost(kind: ScopeKind) -> bool
+/// Whether a scope is the outermost block of a function.
+pub(crate) fn is_outermost(kind: ScopeKind) -> bool
     ensures { result ≡ is_outermost_kind kind }
 {
     match kind {

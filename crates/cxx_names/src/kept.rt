@@ -3,13 +3,14 @@ ghost use Rattle.std.specs.List.{slice_get};
 ghost use Rattle.std.specs.Option.{option_to_list};
 ghost use Rattle.cxx_names.specs.declared.entry.Noted.{Noted as NotedBefore};
 ghost use Rattle.cxx_model.specs.Facts.Graph.{counted};
+ghost use Rattle.cxx_names.specs.Clashes.{are_parameters_in, is_block_in, is_one_scope_in, holder_of_block as holder_of_a_block};
 ghost use Rattle.cxx_names.specs.Index.{AreSameKept, HasKept, Keeps};
 ghost use Rattle.cxx_names.specs.declared.kept.Kept.{Kept as KeptBefore};
 
-use crate::entry::{Entry, Noted};
+use crate::entry::{Entry, Noted, is_outermost};
 use crate::filed::Filed;
 use cxx_hash::Key;
-use cxx_model::{EnumId, OutOfMemory, ScopeId};
+use cxx_model::{EnumId, OutOfMemory, ScopeId, ScopeKind};
 use std::alloc::Global;
 
 /// The scopes and the enumerations of a unit.
@@ -77,6 +78,47 @@ impl Kept {
         match self.scopes.get(scope.0 as usize) {
             Some(noted) => Some(*noted),
             None => None,
+        }
+    }
+
+    /// Whether a scope is that of the parameters of a function (3.3.2).
+    pub(crate) fn is_parameters(&self, scope: ScopeId) -> bool
+        ensures { result ≡ are_parameters_in (slice_get self.now.scopes.items scope.0) }
+    {
+        match self.noted(scope) {
+            Some(noted) => match noted.kind {
+                ScopeKind::Parameters => true,
+                _ => false,
+            },
+            None => false,
+        }
+    }
+
+    // Whether a scope is the outermost block of a function whose parameters another scope has (3.3.2).
+    fn is_block_of(&self, scope: ScopeId, other: ScopeId) -> bool
+        ensures { result ≡ is_block_in self.now.scopes.items scope.0 other.0 }
+    {
+        match self.noted(scope) {
+            Some(noted) => is_outermost(noted.kind)
+                && (noted.parent.0 == other.0 && self.is_parameters(other)),
+            None => false,
+        }
+    }
+
+    /// Whether two scopes are one for the names that they declare (3.3.2).
+    pub(crate) fn is_one_scope(&self, one: ScopeId, two: ScopeId) -> bool
+        ensures { result ≡ is_one_scope_in self.now.scopes.items one.0 two.0 }
+    {
+        one.0 == two.0 || (self.is_block_of(one, two) || self.is_block_of(two, one))
+    }
+
+    /// The scope that holds a scope, where that is the outermost block of a function.
+    pub(crate) fn holder_of_block(&self, scope: ScopeId) -> Option<ScopeId>
+        ensures { option_to_list result ≡ holder_of_a_block (slice_get self.now.scopes.items scope.0) }
+    {
+        match self.noted(scope) {
+            Some(noted) if is_outermost(noted.kind) => Some(noted.parent),
+            _ => None,
         }
     }
 

@@ -8,4 +8,5 @@ mod found;
 mod kept;
 mod looked;
 mod names;
+mod pair;
 mod words;

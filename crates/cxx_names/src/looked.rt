@@ -25,9 +25,9 @@ fn pattern_of(graph: &Graph, template: TemplateId) -> Option<&Pattern>
     graph.patterns().get(template.0 as usize)
 }
 
-// Whether a template is one of functions (14).
+/// Whether a template is one of functions (14).
 #[tactic(auto, using(crate::proofs::Templates::functions_some, crate::proofs::Templates::functions_none))]
-fn is_of_functions(graph: &Graph, template: TemplateId) -> bool
+pub(crate) fn is_of_functions(graph: &Graph, template: TemplateId) -> bool
     ensures { (types : List CxxType) → result ≡ is_one_of_functions (slice_get (graph_at types graph.now).patterns template.0) }
 {
     match pattern_of(graph, template) {
