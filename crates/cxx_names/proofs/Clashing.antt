@@ -9,14 +9,19 @@ use Rattle.cxx_model.specs.declared.facts.Fact.{Fact}
 use Rattle.cxx_model.specs.declared.facts.ScopeKind.{ScopeKind}
 use Rattle.cxx_model.specs.declared.facts.ScopeKind.TheVariants as kind
 use Rattle.cxx_model.specs.declared.types.ScopeId.{ScopeId}
-use Rattle.cxx_model.specs.Facts.Conflicts.{are_parameters, clash, conflicts, conflict_among, declares_name, first_conflict, has_name, is_constructor, is_of_parameters, is_one_scope, is_outermost, of_one_name, same_name, scope_facts, stand_together}
-use Rattle.cxx_model.specs.Facts.Declarations.{CxxFact, CxxGraph, CxxName, fact_at, facts_at, graph_at, spelled}
+use Rattle.cxx_model.specs.Facts.Conflicts.{are_parameters, clash, conflicts, conflict_among, declares_name, first_conflict, has_name, is_constructor, is_of_parameters, is_one_scope, is_outermost, is_closed, is_using, may_stand, standing, of_one_name, same_name, scope_facts, stand_together}
+use Rattle.cxx_model.specs.Facts.Declarations.{CxxFact, CxxGraph, CxxName, declares_at, fact_at, facts_at, graph_at, name_at, spelled, unnamed}
+use Rattle.cxx_model.specs.declared.facts.Name.TheVariants as name
+use Rattle.cxx_model.specs.declared.types.FactId.{FactId}
+use Rattle.cxx_model.specs.Facts.Fitted.{AreFactsBelow, IsFactBelow}
 use Rattle.cxx_model.specs.Facts.Entities.{scope_kinds}
 use Rattle.cxx_model.specs.Facts.Graph.{Graph}
 use Rattle.cxx_model.specs.Types.Trees.{CxxType}
 use Rattle.cxx_reading.specs.Seen.{Numbered, declared_from, declared_in, declares_in}
 use Rattle.cxx_names.specs.declared.entry.Noted.{Noted}
-use Rattle.cxx_names.specs.Clashes.{conflict_in, conflict_in_scopes, holder_of_block, sooner}
+use Rattle.cxx_names.proofs.Pairs.{plain_free}
+use Rattle.cxx_names.specs.Looked.{looked_up, seen_by}
+use Rattle.cxx_names.specs.Clashes.{are_parameters_in, block_in, is_block_in, is_one_scope_in, IsPlain, IsPlainEntity, NoneBrought, conflict_in, conflict_in_scopes, holder_of_block, sooner}
 use Rattle.cxx_names.specs.Index.{blocks_from, is_outermost_kind, noted_by, scopes_of}
 
 -- ---- the first of those that pass a test
@@ -300,3 +305,107 @@ first_among types graph new scope word place name free = first_in_scopes (graph_
 nothing : (graph : CxxGraph) (number : ℕ) (facts : List CxxFact) (new : CxxFact) → ((n : ℕ) (old : CxxFact) → conflicts graph n old new ≡ false) → conflict_among graph number facts new ≡ None
 nothing graph number [] new none = refl
 nothing graph number (old ∷ others) new none = ap (λ t. cond t (Some number) (conflict_among graph (suc number) others new)) (none number old) ∙ nothing graph (suc number) others new none
+
+-- ---- the test of two scopes
+
+parameters_are : (types : List CxxType) (facts : List Fact) (n : ℕ) → are_parameters_in (slice_get (scopes_of facts) n) ≡ are_parameters (slice_get (scope_kinds (facts_at types facts)) n)
+parameters_are types [] n = refl
+parameters_are types (fact ∷ facts) n = by fact.what n (parameters_are types facts)
+  where
+    by : (what : Entity) (n : ℕ) → ((m : ℕ) → are_parameters_in (slice_get (scopes_of facts) m) ≡ are_parameters (slice_get (scope_kinds (facts_at types facts)) m)) → are_parameters_in (slice_get (option_to_list (noted_by fact.scope what) ++ scopes_of facts) n) ≡ are_parameters (slice_get (scope_kinds (fact_at types (record fact { what = what }) ∷ facts_at types facts)) n)
+    by (entity.Scope parent k) zero rest = refl
+    by (entity.Scope parent k) (suc n) rest = rest n
+    by _ n rest = rest n
+
+block_is : (all : List CxxFact) (scopes : List Noted) (scope other : ℕ) (o : Option CxxFact) (p : Option Noted) → slice_get (scope_facts all) scope ≡ o → option_map seen_fact o ≡ option_map seen_noted p → are_parameters_in (slice_get scopes other) ≡ are_parameters (slice_get (scope_kinds all) other) → block_in scopes other p ≡ is_of_parameters all scope other
+block_is all scopes scope other None None e v k = rw e refl
+block_is all scopes scope other (Some fact) None e v k = absurd (cc)
+block_is all scopes scope other None (Some noted) e v k = absurd (cc)
+block_is all scopes scope other (Some fact) (Some noted) e v k =
+    let same : seen_fact fact ≡ seen_noted noted = cc in
+    let a : is_outermost_kind noted.kind ≡ is_outermost fact.what = ap (λ w. w.0) (sym same) in
+    let b : noted.parent.0 ≡ fact.scope = ap (λ w. w.1) (sym same) in
+    rw e (ap (λ t. t && (nat_eq noted.parent.0 other && are_parameters_in (slice_get scopes other))) a ∙ (ap (λ m. is_outermost fact.what && (nat_eq m other && are_parameters_in (slice_get scopes other))) b ∙ ap (λ t. is_outermost fact.what && (nat_eq fact.scope other && t)) k))
+
+one_scope_is : (types : List CxxType) (facts : List Fact) (one two : ℕ) → is_one_scope_in (scopes_of facts) one two ≡ is_one_scope (facts_at types facts) one two
+one_scope_is types facts one two =
+    ap (λ t. nat_eq one two || (t || is_block_in (scopes_of facts) two one)) (at one two)
+    ∙ ap (λ t. nat_eq one two || (is_of_parameters (facts_at types facts) one two || t)) (at two one)
+  where
+    at : (scope other : ℕ) → is_block_in (scopes_of facts) scope other ≡ is_of_parameters (facts_at types facts) scope other
+    at scope other = block_is (facts_at types facts) (scopes_of facts) scope other (slice_get (scope_facts (facts_at types facts)) scope) (slice_get (scopes_of facts) scope) refl (scopes_seen types facts scope) (parameters_are types facts other)
+
+-- ---- the test of two declarations
+
+together : (graph : CxxGraph) (m n : ℕ) (one two : CxxFact) → is_using one.what ≡ false → is_using two.what ≡ false → stand_together graph m one n two ≡ may_stand (is_closed graph.facts one.scope || is_closed graph.facts two.scope) (standing graph one.what) (standing graph two.what)
+together graph m n one two e f = rw (e, f) refl
+
+pub clash_is : (types : List CxxType) (graph : Graph) (scopes : List Noted) (number : ℕ) (old new : Fact) (one named first second stands : Bool) → scopes ≡ scopes_of graph.facts → is_using (declares_at types old.what) ≡ false → is_using (declares_at types new.what) ≡ false
+    → one ≡ is_one_scope_in scopes old.scope.0 new.scope.0 → named ≡ of_one_name (fact_at types old) (fact_at types new) → first ≡ are_parameters_in (slice_get scopes old.scope.0) → second ≡ are_parameters_in (slice_get scopes new.scope.0)
+    → ((closed : Bool) → stands ≡ may_stand closed (standing (graph_at types graph) (declares_at types old.what)) (standing (graph_at types graph) (declares_at types new.what)))
+    → (one && (named && ((first || second) || not stands))) ≡ conflicts (graph_at types graph) number (fact_at types old) (fact_at types new)
+clash_is types graph scopes number old new one named first second stands s u v p q r t w =
+    let all = facts_at types graph.facts in
+    ap (λ b. b && (named && ((first || second) || not stands))) (p ∙ (ap (λ xs. is_one_scope_in xs old.scope.0 new.scope.0) s ∙ one_scope_is types graph.facts old.scope.0 new.scope.0))
+    ∙ (ap (λ b. is_one_scope all old.scope.0 new.scope.0 && (b && ((first || second) || not stands))) q
+    ∙ (ap (λ b. is_one_scope all old.scope.0 new.scope.0 && (of_one_name (fact_at types old) (fact_at types new) && ((b || second) || not stands))) (r ∙ (ap (λ xs. are_parameters_in (slice_get xs old.scope.0)) s ∙ parameters_are types graph.facts old.scope.0))
+    ∙ (ap (λ b. is_one_scope all old.scope.0 new.scope.0 && (of_one_name (fact_at types old) (fact_at types new) && ((are_parameters (slice_get (scope_kinds all) old.scope.0) || b) || not stands))) (t ∙ (ap (λ xs. are_parameters_in (slice_get xs new.scope.0)) s ∙ parameters_are types graph.facts new.scope.0))
+    ∙ ap (λ b. is_one_scope all old.scope.0 new.scope.0 && (of_one_name (fact_at types old) (fact_at types new) && ((are_parameters (slice_get (scope_kinds all) old.scope.0) || are_parameters (slice_get (scope_kinds all) new.scope.0)) || not b))) (w (is_closed all old.scope.0 || is_closed all new.scope.0) ∙ sym (together (graph_at types graph) number (length all) (fact_at types old) (fact_at types new) u v)))))
+
+-- ---- one number after another
+
+pub conflict_more : (graph : CxxGraph) (new : CxxFact) (types : List CxxType) (facts : List Fact) (number : FactId) (numbers : List FactId) (t : Bool)
+    → cond t (Some number.0) None ≡ conflict_in graph new (looked_up types facts (number ∷ [])) → conflict_in graph new (looked_up types facts (number ∷ numbers)) ≡ cond t (Some number.0) (conflict_in graph new (looked_up types facts numbers))
+conflict_more graph new types facts number numbers t e = by (slice_get facts number.0) e
+  where
+    clear : (t : Bool) (c : Bool) (later : Option ℕ) → cond t (Some number.0) None ≡ cond c (Some number.0) None → cond c (Some number.0) later ≡ cond t (Some number.0) later
+    clear true true later e = refl
+    clear true false later e = absurd (cc)
+    clear false true later e = absurd (cc)
+    clear false false later e = refl
+
+    by : (o : Option Fact) → cond t (Some number.0) None ≡ conflict_in graph new (seen_by types number [] o) → conflict_in graph new (seen_by types number (looked_up types facts numbers) o) ≡ cond t (Some number.0) (conflict_in graph new (looked_up types facts numbers))
+    by None e = clear t false (conflict_in graph new (looked_up types facts numbers)) e
+    by (Some fact) e = clear t (conflicts graph number.0 (fact_at types fact) new) (conflict_in graph new (looked_up types facts numbers)) e
+
+pub in_both : (graph : CxxGraph) (new : CxxFact) (name : CxxName) (xs ys : List ScopeId) (best : Option ℕ) → conflict_in_scopes graph new name (xs ++ ys) best ≡ conflict_in_scopes graph new name ys (conflict_in_scopes graph new name xs best)
+in_both graph new name [] ys best = refl
+in_both graph new name (x ∷ xs) ys best = in_both graph new name xs ys (sooner best (conflict_in graph new (declared_in graph x.0 name)))
+
+-- what has no name conflicts with nothing
+unnamed_free : (types : List CxxType) (new : Fact) → IsPlain new → new.name ≡ name.Unnamed → (old : CxxFact) → of_one_name old (fact_at types new) ≡ false
+unnamed_free types new plain e old =
+    let none : same_name old.name (name_at types new.name) ≡ same_name old.name unnamed = ap (λ n. same_name old.name (name_at types n)) e in
+    ap (λ t. (declares_name old.what && declares_name (declares_at types new.what)) && ((has_name old.name && t) || (is_constructor old.what && is_constructor (declares_at types new.what)))) none
+    ∙ (ap (λ t. (declares_name old.what && declares_name (declares_at types new.what)) && ((has_name old.name && same_name old.name unnamed) || (is_constructor old.what && t))) (plain_free types new.what plain.what)
+    ∙ by (declares_name old.what && declares_name (declares_at types new.what)) (is_constructor old.what) old.name)
+  where
+    by : (a b : Bool) (n : CxxName) → (a && ((has_name n && same_name n unnamed) || (b && false))) ≡ false
+    by true true unnamed = refl
+    by true true (spelled w) = refl
+    by true true _ = refl
+    by true false unnamed = refl
+    by true false (spelled w) = refl
+    by true false _ = refl
+    by false b n = refl
+
+pub unnamed_nothing : (types : List CxxType) (graph : Graph) (new : Fact) → IsPlain new → new.name ≡ name.Unnamed → None ≡ first_conflict (graph_at types graph) (fact_at types new)
+unnamed_nothing types graph new plain e = sym (nothing (graph_at types graph) 0 (facts_at types graph.facts) (fact_at types new) (λ n old. and_none (is_one_scope (facts_at types graph.facts) old.scope new.scope.0) _ (ap (λ t. t && ((are_parameters (slice_get (scope_kinds (facts_at types graph.facts)) old.scope) || are_parameters (slice_get (scope_kinds (facts_at types graph.facts)) new.scope.0)) || not (stand_together (graph_at types graph) n old (length (facts_at types graph.facts)) (fact_at types new)))) (unnamed_free types new plain e old))))
+
+pub fact_below : (count : ℕ) (facts : List Fact) (number : ℕ) (fact : Fact) → AreFactsBelow count facts → slice_get facts number ≡ Some fact → IsFactBelow count fact
+fact_below count [] number fact below at = absurd cc
+fact_below count (one ∷ facts) zero fact below at = (let same : one ≡ fact = cc in subst (λ f. IsFactBelow count f) same below.0)
+fact_below count (one ∷ facts) (suc number) fact below at = fact_below count facts number fact below.1 at
+
+using_alike : (types : List CxxType) (what : Entity) → is_using (declares_at types what) ≡ is_using (declares_at [] what)
+using_alike types (entity.Using target) = refl
+using_alike types _ = refl
+
+pub not_brought : (types : List CxxType) (facts : List Fact) (number : ℕ) (fact : Fact) → NoneBrought facts → slice_get facts number ≡ Some fact → is_using (declares_at types fact.what) ≡ false
+not_brought types [] number fact none at = absurd cc
+not_brought types (one ∷ facts) zero fact none at = (let same : one ≡ fact = cc in using_alike types fact.what ∙ subst (λ f. is_using (declares_at [] f.what) ≡ false) same none.0)
+not_brought types (one ∷ facts) (suc number) fact none at = not_brought types facts number fact none.1 at
+
+pub plain_not_brought : (types : List CxxType) (what : Entity) → IsPlainEntity what → is_using (declares_at types what) ≡ false
+plain_not_brought types (entity.Using target) plain = absurd plain
+plain_not_brought types _ plain = refl

@@ -43,7 +43,7 @@ abbrev pub are_parameters_in : Option Noted → Bool
 are_parameters_in (Some noted) = are_parameters (Some noted.kind)
 are_parameters_in None = false
 
-abbrev block_in : List Noted → ℕ → Option Noted → Bool
+abbrev pub block_in : List Noted → ℕ → Option Noted → Bool
 block_in scopes other None = false
 block_in scopes other (Some noted) = is_outermost_kind noted.kind && (nat_eq noted.parent.0 other && are_parameters_in (slice_get scopes other))
 

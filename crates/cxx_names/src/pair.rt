@@ -4,7 +4,7 @@
 ghost use Rattle.std.specs.Prelude.{◌≡◌, ◌<◌, Bool, List, None, length};
 ghost use Rattle.cxx_model.specs.declared.facts.MemberKind.TheVariants.{Free as FreeKind};
 ghost use Rattle.cxx_model.specs.Facts.Conflicts.{a_function, a_hidden_name, a_name, an_enumerator, an_object, functions_agree as functions_agree_by, is_static as is_static_kind, may_stand, objects_agree as objects_agree_by, of_one_name as of_one_name_by, same_member, standing};
-ghost use Rattle.cxx_model.specs.Facts.Declarations.{declares_at, fact_at, graph_at};
+ghost use Rattle.cxx_model.specs.Facts.Declarations.{CxxGraph, declares_at, fact_at, graph_at};
 ghost use Rattle.cxx_model.specs.Facts.Entities.{of_type};
 ghost use Rattle.cxx_model.specs.Facts.Fitted.{IsEntityBelow};
 ghost use Rattle.cxx_model.specs.Types.Numbers.{type_at};
@@ -80,12 +80,11 @@ fn function_stands(graph: &Graph, types: &TypeTable, old: Entity, of: TypeId) ->
 }
 
 #[tactic(auto, using(crate::proofs::Pairs::template_object))]
-fn object_stands(graph: &Graph, types: &TypeTable, old: Entity, of: TypeId) -> bool
+fn object_stands(types: &TypeTable, old: Entity, of: TypeId) -> bool
     requires old { IsEntityBelow (length types.now) old }
     requires of { of.0 < length types.now }
-    ensures { (closed : Bool) → result ≡ may_stand closed (standing (graph_at types.now graph.now) (declares_at types.now old)) (an_object (type_at types.now of.0) FreeKind) }
+    ensures { (closed : Bool) (graph : CxxGraph) → result ≡ may_stand closed (standing graph (declares_at types.now old)) (an_object (type_at types.now of.0) FreeKind) }
 {
-    let _ = graph;
     match old {
         Entity::Object {
             of: one,
@@ -100,10 +99,9 @@ fn object_stands(graph: &Graph, types: &TypeTable, old: Entity, of: TypeId) -> b
 }
 
 #[tactic(auto, using(crate::proofs::Pairs::template_enumerator))]
-fn enumerator_stands(graph: &Graph, old: Entity) -> bool
-    ensures { (closed : Bool) (types : List CxxType) → result ≡ may_stand closed (standing (graph_at types graph.now) (declares_at types old)) an_enumerator }
+fn enumerator_stands(old: Entity) -> bool
+    ensures { (closed : Bool) (types : List CxxType) (graph : CxxGraph) → result ≡ may_stand closed (standing graph (declares_at types old)) an_enumerator }
 {
-    let _ = graph;
     match old {
         Entity::Class { .. } => true,
         Entity::Injected { .. } => true,
@@ -129,12 +127,11 @@ fn enumeration_stands(graph: &Graph, types: &TypeTable, old: Entity, number: Enu
 }
 
 #[tactic(auto, using(crate::proofs::Pairs::template_name))]
-fn name_stands(graph: &Graph, types: &TypeTable, old: Entity, of: TypeId) -> bool
+fn name_stands(types: &TypeTable, old: Entity, of: TypeId) -> bool
     requires old { IsEntityBelow (length types.now) old }
     requires of { of.0 < length types.now }
-    ensures { (closed : Bool) → result ≡ may_stand closed (standing (graph_at types.now graph.now) (declares_at types.now old)) (a_name (of_type (type_at types.now of.0))) }
+    ensures { (closed : Bool) (graph : CxxGraph) → result ≡ may_stand closed (standing graph (declares_at types.now old)) (a_name (of_type (type_at types.now of.0))) }
 {
-    let _ = graph;
     match old {
         Entity::Class { class, .. } => is_class(types, of, class),
         Entity::Injected { class } => is_class(types, of, class),
@@ -153,10 +150,10 @@ pub(crate) fn stand(graph: &Graph, types: &TypeTable, old: Entity, new: Entity) 
 {
     match new {
         Entity::Function { of, .. } => function_stands(graph, types, old, of),
-        Entity::Object { of, .. } => object_stands(graph, types, old, of),
-        Entity::Enumerator { .. } => enumerator_stands(graph, old),
+        Entity::Object { of, .. } => object_stands(types, old, of),
+        Entity::Enumerator { .. } => enumerator_stands(old),
         Entity::Enumeration { number } => enumeration_stands(graph, types, old, number),
-        Entity::Synonym { of } => name_stands(graph, types, old, of),
+        Entity::Synonym { of } => name_stands(types, old, of),
         _ => false,
     }
 }
