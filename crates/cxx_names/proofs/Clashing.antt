@@ -1,5 +1,5 @@
 -- The first conflict is among the declarations of one name in scopes that are one.
-use Rattle.std.proofs.Common.{◌≡◌, ℕ, zero, suc, ◌+◌, ◌<◌, ◌≤◌, Bool, true, false, not, cond, ◌&&◌, ◌||◌, nat_eq, nat_lt, List, [], ◌∷◌, ◌++◌, length, Option, Some, None, option_map, refl, sym, ap, ◌∙◌, subst, arith, eq-eqb}
+use Rattle.std.proofs.Common.{drop, get_or, add-one, drop-cons, ◌≡◌, ℕ, zero, suc, ◌+◌, ◌<◌, ◌≤◌, Bool, true, false, not, cond, ◌&&◌, ◌||◌, nat_eq, nat_lt, List, [], ◌∷◌, ◌++◌, length, Option, Some, None, option_map, refl, sym, ap, ◌∙◌, subst, arith, eq-eqb}
 use Rattle.std.specs.List.{list_any, slice_get}
 use Rattle.std.specs.Option.{option_to_list}
 use Rattle.std.proofs.lemmas.Bool.{eqb-true}
@@ -409,3 +409,11 @@ not_brought types (one ∷ facts) (suc number) fact none at = not_brought types 
 pub plain_not_brought : (types : List CxxType) (what : Entity) → IsPlainEntity what → is_using (declares_at types what) ≡ false
 plain_not_brought types (entity.Using target) plain = absurd plain
 plain_not_brought types _ plain = refl
+
+drop_at : (numbers : List FactId) (i : ℕ) (d : FactId) → i < length numbers → drop i numbers ≡ get_or numbers i d ∷ drop (i + 1) numbers
+drop_at numbers i d h = rw (add-one, drop-cons numbers i d) refl
+
+pub conflict_step : (graph : CxxGraph) (new : CxxFact) (types : List CxxType) (facts : List Fact) (numbers : List FactId) (i : ℕ) (d : FactId) (t : Bool) → i < length numbers
+    → cond t (Some (get_or numbers i d).0) None ≡ conflict_in graph new (looked_up types facts (get_or numbers i d ∷ []))
+    → conflict_in graph new (looked_up types facts (drop i numbers)) ≡ cond t (Some (get_or numbers i d).0) (conflict_in graph new (looked_up types facts (drop (i + 1) numbers)))
+conflict_step graph new types facts numbers i d t h e = ap (λ ns. conflict_in graph new (looked_up types facts ns)) (drop_at numbers i d h) ∙ conflict_more graph new types facts (get_or numbers i d) (drop (i + 1) numbers) t e

@@ -9,6 +9,7 @@ use Rattle.cxx_model.specs.declared.facts.Name.TheVariants as name
 use Rattle.std.specs.Prelude.{ℕ, ◌≡◌, ◌||◌, Bool, true, false, ◌&&◌, nat_eq, nat_lt, if◌then◌else◌, List, [], ◌∷◌, ◌++◌, Option, Some, None}
 use Rattle.cxx_model.specs.declared.facts.ScopeKind.{ScopeKind}
 use Rattle.cxx_model.specs.declared.facts.ScopeKind.TheVariants as kind
+use Rattle.cxx_model.specs.declared.types.FactId.{FactId}
 use Rattle.cxx_model.specs.declared.types.ScopeId.{ScopeId}
 use Rattle.cxx_model.specs.Facts.Conflicts.{are_parameters, conflicts, is_using}
 use Rattle.cxx_model.specs.Facts.Declarations.{CxxFact, CxxGraph, CxxName, declares_at}
@@ -83,3 +84,6 @@ NoneBrought (fact ∷ facts) = (is_using (declares_at [] fact.what) ≡ false) �
 abbrev pub same_spelled : Name → Name → Bool
 same_spelled (name.Spelled one) (name.Spelled two) = same_word one two
 same_spelled _ _ = false
+
+abbrev pub number_in : FactId → ℕ
+number_in fact = fact.0

@@ -2,6 +2,7 @@
 #![tactic(auto)]
 
 mod alike;
+mod clash;
 mod entry;
 mod filed;
 mod found;
