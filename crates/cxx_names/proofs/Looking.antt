@@ -13,7 +13,7 @@ use Rattle.cxx_model.specs.Facts.Graph.{Graph}
 use Rattle.cxx_model.specs.Types.Trees.{CxxType}
 use Rattle.cxx_meaning.specs.Lookups.Wanted.{hides_types, names_type}
 use Rattle.cxx_model.specs.declared.tree.Kind.TheVariants as kind
-use Rattle.cxx_reading.specs.Declaring.{first_object, is_object}
+use Rattle.cxx_reading.specs.Declaring.{first_function, first_object, is_object, is_same_function}
 use Rattle.cxx_reading.specs.Seen.{Numbered, any_hides, any_type, kind_of_found, any_declaration, declared_from, declared_in, declares_in, found, found_from, found_types, kept, or_outside, parent_of}
 use Rattle.cxx_names.specs.declared.entry.Noted.{Noted}
 use Rattle.cxx_names.specs.Index.{noted_by, numbers_in, scopes_of}
@@ -175,3 +175,15 @@ object_more types facts number numbers = by (slice_get facts number.0)
     by : (o : Option Fact) → first_object (seen_by types number (looked_up types facts numbers) o) ≡ or_later (first_object (seen_by types number [] o)) (first_object (looked_up types facts numbers))
     by None = refl
     by (Some fact) = one (is_object (fact_at types fact).what) (first_object (looked_up types facts numbers))
+
+pub function_more : (of : CxxType) (types : List CxxType) (facts : List Fact) (number : FactId) (numbers : List FactId)
+    → first_function of (looked_up types facts (number ∷ numbers)) ≡ or_later (first_function of (looked_up types facts (number ∷ []))) (first_function of (looked_up types facts numbers))
+function_more of types facts number numbers = by (slice_get facts number.0)
+  where
+    one : (t : Bool) (later : Option FactId) → cond t (Some (record { 0 = number.0 })) later ≡ or_later (cond t (Some (record { 0 = number.0 })) None) later
+    one true later = refl
+    one false later = refl
+
+    by : (o : Option Fact) → first_function of (seen_by types number (looked_up types facts numbers) o) ≡ or_later (first_function of (seen_by types number [] o)) (first_function of (looked_up types facts numbers))
+    by None = refl
+    by (Some fact) = one (is_same_function of (fact_at types fact).what) (first_function of (looked_up types facts numbers))

@@ -1,19 +1,22 @@
 //! What names mean among the declarations so far (3.4.1, 3.4.4).
 
-ghost use Rattle.std.specs.Prelude.{◌≡◌, List};
+ghost use Rattle.std.specs.Prelude.{◌≡◌, ◌<◌, List, length};
 ghost use Rattle.cxx_model.specs.Facts.Declarations.{facts_at, graph_at, spelled};
+ghost use Rattle.cxx_model.specs.Facts.Fitted.{IsGraphBelow};
+ghost use Rattle.cxx_model.specs.Types.Numbers.{type_at};
 ghost use Rattle.cxx_model.specs.Types.Trees.{CxxType};
 ghost use Rattle.cxx_meaning.specs.Conversions.Enumerations.{values_in};
 ghost use Rattle.cxx_meaning.specs.Lookups.Wanted.{names_type};
-ghost use Rattle.cxx_reading.specs.Declaring.{first_object as first_object_by};
+ghost use Rattle.cxx_reading.specs.Declaring.{first_function as first_function_by, first_object as first_object_by};
 ghost use Rattle.cxx_reading.specs.Seen.{kind_of_found, declared_in as declared_by, found as found_by, found_from, found_types as found_types_by, kept, parent_of};
 ghost use Rattle.cxx_names.specs.Index.{Notes, numbers_in};
 ghost use Rattle.cxx_names.specs.Looked.{any_wanted, looked_up, wanted_by};
 
-use crate::looked::{first_object_of, has_wanted, kind_of};
+use crate::looked::{first_function_of, first_object_of, has_wanted, kind_of};
 use crate::names::Names;
 use cxx_graph::Graph;
-use cxx_model::{EnumId, FactId, Kind, ScopeId};
+use cxx_model::{EnumId, FactId, Kind, ScopeId, TypeId};
+use cxx_types::TypeTable;
 
 impl Names<'_> {
     /// The declarations of a spelled name in a scope, in order.
@@ -100,5 +103,22 @@ impl Names<'_> {
         ensures { (types : List CxxType) → result ≡ first_object_by (declared_by (graph_at types graph.now) scope.0 (spelled word.now)) }
     {
         first_object_of(graph, self.declared_in(graph, scope, word))
+    }
+
+    /// The first declaration of the function with the parameters of a type that has a name in a scope (13.1).
+    pub fn first_function(
+        &self,
+        graph: &Graph,
+        types: &TypeTable,
+        of: TypeId,
+        scope: ScopeId,
+        word: &[u8],
+    ) -> Option<FactId>
+        requires noted { Notes self.now graph.now.facts }
+        requires below { IsGraphBelow (length types.now) graph.now }
+        requires of { of.0 < length types.now }
+        ensures { result ≡ first_function_by (type_at types.now of.0) (declared_by (graph_at types.now graph.now) scope.0 (spelled word.now)) }
+    {
+        first_function_of(graph, types, of, self.declared_in(graph, scope, word))
     }
 }

@@ -1,17 +1,21 @@
 //! Facts by their numbers, and what they are to a lookup.
 
-ghost use Rattle.std.specs.Prelude.{◌≡◌, [], ◌∷◌, List, Some, None, if◌then◌else◌};
+ghost use Rattle.std.specs.Prelude.{◌≡◌, ◌<◌, length, [], ◌∷◌, List, Some, None, if◌then◌else◌};
 ghost use Rattle.std.specs.List.{slice_get};
 ghost use Rattle.std.specs.Option.{option_copied};
 ghost use Rattle.cxx_model.specs.Facts.Declarations.{declares_at, graph_at};
+ghost use Rattle.cxx_model.specs.Facts.Fitted.{IsEntityBelow, IsGraphBelow};
+ghost use Rattle.cxx_model.specs.Types.Numbers.{type_at};
 ghost use Rattle.cxx_model.specs.Types.Trees.{CxxType};
 ghost use Rattle.cxx_meaning.specs.Lookups.Wanted.{hides_types as hides_a_type, is_function as is_a_function, is_of_functions as is_one_of_functions, names_type as names_a_type};
-ghost use Rattle.cxx_reading.specs.Declaring.{first_object, is_object as is_an_object};
+ghost use Rattle.cxx_reading.specs.Declaring.{first_function, first_object, is_object as is_an_object, is_same_function as is_one_function};
 ghost use Rattle.cxx_reading.specs.Seen.{any_hides, kind_of_found};
 ghost use Rattle.cxx_names.specs.Looked.{any_wanted, looked_up, wanted_by};
 
+use crate::alike::same_parameters;
 use cxx_graph::Graph;
-use cxx_model::{Entity, Fact, FactId, Kind, Pattern, TemplateId};
+use cxx_model::{Entity, Fact, FactId, Kind, Pattern, TemplateId, TypeId};
+use cxx_types::TypeTable;
 
 pub(crate) fn fact_of(graph: &Graph, number: FactId) -> Option<&Fact>
     ensures { option_copied result ≡ slice_get graph.now.facts number.0 }
@@ -156,6 +160,48 @@ pub(crate) fn first_object_of(graph: &Graph, numbers: &[FactId]) -> Option<FactI
 {
     for number in numbers {
         if is_object_at(graph, *number) {
+            return Some(*number);
+        }
+    }
+    None
+}
+
+fn is_same_function(types: &TypeTable, of: TypeId, what: Entity) -> bool
+    requires of { of.0 < length types.now }
+    requires what { IsEntityBelow (length types.now) what }
+    ensures { result ≡ is_one_function (type_at types.now of.0) (declares_at types.now what) }
+{
+    match what {
+        Entity::Function { of: other, .. } => same_parameters(types, false, of, other),
+        _ => false,
+    }
+}
+
+#[tactic(auto, using(crate::proofs::Clashing::fact_below))]
+fn is_function_at(graph: &Graph, types: &TypeTable, of: TypeId, number: FactId) -> bool
+    requires of { of.0 < length types.now }
+    requires below { IsGraphBelow (length types.now) graph.now }
+    ensures { (if result then Some number else None) ≡ first_function (type_at types.now of.0) (looked_up types.now graph.now.facts (number ∷ [])) }
+{
+    match fact_of(graph, number) {
+        Some(fact) => is_same_function(types, of, fact.what),
+        None => false,
+    }
+}
+
+/// The first of some declarations that is one of the function with the parameters of a type (13.1).
+pub(crate) fn first_function_of(
+    graph: &Graph,
+    types: &TypeTable,
+    of: TypeId,
+    numbers: &[FactId],
+) -> Option<FactId>
+    requires of { of.0 < length types.now }
+    requires below { IsGraphBelow (length types.now) graph.now }
+    ensures { result ≡ first_function (type_at types.now of.0) (looked_up types.now graph.now.facts numbers.now) }
+{
+    for number in numbers {
+        if is_function_at(graph, types, of, *number) {
             return Some(*number);
         }
     }
