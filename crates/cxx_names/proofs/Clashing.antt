@@ -9,7 +9,7 @@ use Rattle.cxx_model.specs.declared.facts.Fact.{Fact}
 use Rattle.cxx_model.specs.declared.facts.ScopeKind.{ScopeKind}
 use Rattle.cxx_model.specs.declared.facts.ScopeKind.TheVariants as kind
 use Rattle.cxx_model.specs.declared.types.ScopeId.{ScopeId}
-use Rattle.cxx_model.specs.Facts.Conflicts.{are_parameters, clash, conflicts, conflict_among, declares_name, first_conflict, has_name, is_constructor, is_of_parameters, is_one_scope, is_outermost, is_closed, is_using, may_stand, standing, of_one_name, same_name, scope_facts, stand_together}
+use Rattle.cxx_model.specs.Facts.Conflicts.{are_parameters, conflicts, conflict_among, declares_name, first_conflict, has_name, is_constructor, is_of_parameters, is_one_scope, is_outermost, is_closed, is_using, may_stand, standing, of_one_name, same_name, scope_facts, stand_together}
 use Rattle.cxx_model.specs.Facts.Declarations.{CxxFact, CxxGraph, CxxName, declares_at, fact_at, facts_at, graph_at, name_at, spelled, unnamed}
 use Rattle.cxx_model.specs.declared.facts.Name.TheVariants as name
 use Rattle.cxx_model.specs.declared.types.FactId.{FactId}
@@ -17,7 +17,7 @@ use Rattle.cxx_model.specs.Facts.Fitted.{AreFactsBelow, IsFactBelow}
 use Rattle.cxx_model.specs.Facts.Entities.{scope_kinds}
 use Rattle.cxx_model.specs.Facts.Graph.{Graph}
 use Rattle.cxx_model.specs.Types.Trees.{CxxType}
-use Rattle.cxx_reading.specs.Seen.{Numbered, declared_from, declared_in, declares_in}
+use Rattle.cxx_reading.specs.Seen.{declared_from, declared_in, declares_in}
 use Rattle.cxx_names.specs.declared.entry.Noted.{Noted}
 use Rattle.cxx_names.proofs.Pairs.{plain_free}
 use Rattle.cxx_names.specs.Looked.{looked_up, seen_by}
@@ -417,3 +417,7 @@ pub conflict_step : (graph : CxxGraph) (new : CxxFact) (types : List CxxType) (f
     → cond t (Some (get_or numbers i d).0) None ≡ conflict_in graph new (looked_up types facts (get_or numbers i d ∷ []))
     → conflict_in graph new (looked_up types facts (drop i numbers)) ≡ cond t (Some (get_or numbers i d).0) (conflict_in graph new (looked_up types facts (drop (i + 1) numbers)))
 conflict_step graph new types facts numbers i d t h e = ap (λ ns. conflict_in graph new (looked_up types facts ns)) (drop_at numbers i d h) ∙ conflict_more graph new types facts (get_or numbers i d) (drop (i + 1) numbers) t e
+
+pub none_brought_more : (facts : List Fact) (fact : Fact) → NoneBrought facts → is_using (declares_at [] fact.what) ≡ false → NoneBrought (facts ++ fact ∷ [])
+none_brought_more [] fact none e = (e, tt)
+none_brought_more (one ∷ facts) fact none e = (none.0, none_brought_more facts fact none.1 e)

@@ -1,10 +1,10 @@
 -- How many scopes and enumerations there are.
-use Rattle.std.proofs.Common.{◌≡◌, ℕ, suc, ◌+◌, ◌≤◌, Bool, true, false, List, [], ◌∷◌, ◌++◌, length, Option, Some, None, refl, sym, ap, ◌∙◌, arith}
+use Rattle.std.proofs.Common.{◌≡◌, suc, ◌+◌, ◌≤◌, Bool, true, false, List, [], ◌∷◌, ◌++◌, length, Option, Some, None, refl, ap, ◌∙◌, arith}
 use Rattle.std.specs.Option.{option_to_list}
 use Rattle.cxx_model.specs.declared.facts.Entity.{Entity}
 use Rattle.cxx_model.specs.declared.facts.Entity.TheVariants as entity
 use Rattle.cxx_model.specs.declared.facts.Fact.{Fact}
-use Rattle.cxx_model.specs.Facts.Declarations.{CxxFact, fact_at, facts_at}
+use Rattle.cxx_model.specs.Facts.Declarations.{fact_at, facts_at}
 use Rattle.cxx_model.specs.Facts.Entities.{scope_kinds}
 use Rattle.cxx_model.specs.Facts.Graph.{counted, enumerations, is_enumeration}
 use Rattle.cxx_model.specs.Types.Trees.{CxxType}

@@ -1,5 +1,5 @@
 -- The declarations that are found are those of the definitions.
-use Rattle.std.proofs.Common.{◌≡◌, ℕ, zero, suc, ◌+◌, ◌-◌, ◌<◌, ◌≤◌, Bool, true, false, cond, ◌||◌, List, [], ◌∷◌, ◌++◌, length, Option, Some, None, option_map, refl, sym, ap, ◌∙◌, subst, arith}
+use Rattle.std.proofs.Common.{◌≡◌, ℕ, zero, suc, ◌+◌, Bool, true, false, cond, ◌||◌, List, [], ◌∷◌, ◌++◌, Option, Some, None, refl, sym, ap, ◌∙◌, arith}
 use Rattle.std.specs.List.{slice_get}
 use Rattle.std.specs.Option.{option_to_list}
 use Rattle.cxx_model.specs.declared.facts.Entity.{Entity}
@@ -8,14 +8,14 @@ use Rattle.cxx_model.specs.declared.facts.Fact.{Fact}
 use Rattle.cxx_model.specs.declared.types.FactId.{FactId}
 use Rattle.cxx_model.specs.declared.types.ScopeId.{ScopeId}
 use Rattle.cxx_model.specs.Facts.Conflicts.{scope_facts}
-use Rattle.cxx_model.specs.Facts.Declarations.{CxxFact, CxxGraph, CxxName, Declares, fact_at, facts_at, graph_at}
+use Rattle.cxx_model.specs.Facts.Declarations.{CxxFact, CxxGraph, CxxName, fact_at, facts_at, graph_at}
 use Rattle.cxx_model.specs.Facts.Graph.{Graph}
 use Rattle.cxx_model.specs.Types.Trees.{CxxType}
 use Rattle.cxx_meaning.specs.Lookups.Wanted.{hides_types, names_type}
 use Rattle.cxx_model.specs.declared.tree.Kind.TheVariants as kind
 use Rattle.cxx_reading.specs.Declaring.{first_function, first_object, is_object, is_same_function}
-use Rattle.cxx_reading.specs.Seen.{Numbered, any_hides, any_type, kind_of_found, any_declaration, declared_from, declared_in, declares_in, found, found_from, found_types, kept, or_outside, parent_of}
-use Rattle.cxx_names.specs.declared.entry.Noted.{Noted}
+use Rattle.cxx_names.specs.Meant.{first_named, first_or, or_void}
+use Rattle.cxx_reading.specs.Seen.{type_in, type_named_by, Numbered, any_hides, any_type, kind_of_found, declared_from, declared_in, declares_in, found, found_from, found_types, kept, or_outside, parent_of}
 use Rattle.cxx_names.specs.Index.{noted_by, numbers_in, scopes_of}
 use Rattle.cxx_names.specs.Looked.{any_wanted, holder_in, looked_up, seen_by, wanted_by}
 
@@ -187,3 +187,36 @@ function_more of types facts number numbers = by (slice_get facts number.0)
     by : (o : Option Fact) → first_function of (seen_by types number (looked_up types facts numbers) o) ≡ or_later (first_function of (seen_by types number [] o)) (first_function of (looked_up types facts numbers))
     by None = refl
     by (Some fact) = one (is_same_function of (fact_at types fact).what) (first_function of (looked_up types facts numbers))
+
+-- ---- the types that names mean
+
+first_alone : (o : Option CxxType) → first_or o None ≡ o
+first_alone None = refl
+first_alone (Some of) = refl
+
+pub named_alone : (types : List CxxType) (facts : List Fact) (number : FactId) (fact : Fact) → slice_get facts number.0 ≡ Some fact → first_named (looked_up types facts (number ∷ [])) ≡ type_named_by (fact_at types fact).what
+named_alone types facts number fact at = ap (λ o. first_named (seen_by types number [] o)) at ∙ first_alone (type_named_by (fact_at types fact).what)
+
+pub named_more : (types : List CxxType) (facts : List Fact) (number : FactId) (numbers : List FactId)
+    → first_named (looked_up types facts (number ∷ numbers)) ≡ first_or (first_named (looked_up types facts (number ∷ []))) (first_named (looked_up types facts numbers))
+named_more types facts number numbers = by (slice_get facts number.0)
+  where
+    one : (o later : Option CxxType) → first_or o later ≡ first_or (first_or o None) later
+    one None later = refl
+    one (Some of) later = refl
+
+    by : (o : Option Fact) → first_named (seen_by types number (looked_up types facts numbers) o) ≡ first_or (first_named (seen_by types number [] o)) (first_named (looked_up types facts numbers))
+    by None = refl
+    by (Some fact) = one (type_named_by (fact_at types fact).what) (first_named (looked_up types facts numbers))
+
+abbrev or_next_type : Option CxxType → CxxType → CxxType
+or_next_type None later = later
+or_next_type (Some of) later = of
+
+pub type_is : (all : List Numbered) → or_void (first_named all) ≡ type_in all
+type_is [] = refl
+type_is (one ∷ others) = by (type_named_by one.fact.what) (type_is others)
+  where
+    by : (o : Option CxxType) → or_void (first_named others) ≡ type_in others → or_void (first_or o (first_named others)) ≡ or_next_type o (type_in others)
+    by None ih = ih
+    by (Some of) ih = refl

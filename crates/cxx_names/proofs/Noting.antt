@@ -16,16 +16,16 @@ use Rattle.cxx_model.specs.declared.types.FactId.{FactId}
 use Rattle.cxx_model.specs.declared.types.ScopeId.{ScopeId}
 use Rattle.cxx_model.specs.Facts.Conflicts.{declares_name, same_name}
 use Rattle.cxx_model.specs.Facts.Declarations.{CxxName, declares_at, fact_at, facts_at, name_at, spelled}
-use Rattle.cxx_model.specs.Facts.Graph.{count, counted, enumerations, is_enumeration}
+use Rattle.cxx_model.specs.Facts.Graph.{counted, enumerations, is_enumeration}
 use Rattle.cxx_model.specs.Types.Trees.{CxxType}
 use Rattle.cxx_meaning.specs.Conversions.Enumerations.{values_in}
-use Rattle.cxx_reading.specs.Seen.{Numbered, declared_from, declares_in}
+use Rattle.cxx_reading.specs.Seen.{declared_from, declares_in}
 use Rattle.cxx_names.specs.declared.entry.Entry.{Entry}
 use Rattle.cxx_names.specs.declared.entry.Noted.{Noted}
 use Rattle.cxx_names.specs.declared.entry.Spelling.{Spelling}
 use Rattle.cxx_names.specs.declared.kept.Kept.{Kept}
 use Rattle.cxx_names.specs.declared.names.Names.{Names}
-use Rattle.cxx_names.specs.Filed.{row, those_in, AreSame, IsMoreBy}
+use Rattle.cxx_names.specs.Filed.{row, those_in, IsMoreBy}
 use Rattle.cxx_names.specs.declared.words.Words.{Words}
 use Rattle.cxx_names.specs.Words.{same_spelling, is_known, IsSound, HasWord}
 use Rattle.cxx_names.specs.Index.{same_scope, same_enumeration, IsSpelledBy, is_spelled, declares_word, noted_by, value_by, is_outermost_kind, block_by, scopes_of, blocks_from, numbers_in, Keeps, Notes, HasKept, HasNoted, AreSameKept, AreSameNames}

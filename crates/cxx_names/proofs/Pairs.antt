@@ -1,5 +1,5 @@
 -- Two declarations of one name, of which the later one is no member of a class.
-use Rattle.std.proofs.Common.{◌≡◌, ℕ, Bool, true, false, cond, not, ◌&&◌, ◌||◌, List, [], ◌∷◌, Option, Some, None, refl, sym, ap, ◌∙◌}
+use Rattle.std.proofs.Common.{◌≡◌, ℕ, Bool, true, false, cond, ◌&&◌, ◌||◌, List, Option, Some, None, refl, ap, ◌∙◌}
 use Rattle.std.specs.List.{slice_get}
 use Rattle.cxx_model.specs.declared.facts.Entity.{Entity}
 use Rattle.cxx_model.specs.declared.facts.Entity.TheVariants as entity

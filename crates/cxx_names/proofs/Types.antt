@@ -9,7 +9,7 @@ use Rattle.cxx_model.specs.declared.types.EnumId.{EnumId}
 use Rattle.cxx_model.specs.declared.types.TypeId.{TypeId}
 use Rattle.cxx_model.specs.declared.types.TypeNode.{TypeNode}
 use Rattle.cxx_model.specs.declared.types.TypeNode.TheVariants as node
-use Rattle.cxx_model.specs.Facts.Conflicts.{agree, are_parameters_same, array_parts, is_unknown, same_but_bound, same_parameters, function_parts, FunctionParts}
+use Rattle.cxx_model.specs.Facts.Conflicts.{are_parameters_same, array_parts, is_unknown, same_but_bound, same_parameters, function_parts, FunctionParts}
 use Rattle.cxx_model.specs.Types.Numbers.{bound_at, type_at, type_over, types_at, AreTypesBelow, IsNodeBelow}
 use Rattle.cxx_model.specs.Types.Same.{same_bool, same_cv, same_type, same_types}
 use Rattle.cxx_model.specs.Types.Trees.{CxxType, CxxBound, class_type, enumeration}

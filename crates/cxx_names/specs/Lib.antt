@@ -2,4 +2,5 @@ pub mod Clashes
 pub mod Filed
 pub mod Index
 pub mod Looked
+pub mod Meant
 pub mod Words

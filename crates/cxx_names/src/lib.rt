@@ -8,6 +8,9 @@ mod filed;
 mod found;
 mod kept;
 mod looked;
+mod named;
 mod names;
 mod pair;
 mod words;
+
+pub use names::Names;

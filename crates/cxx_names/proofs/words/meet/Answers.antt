@@ -1,6 +1,6 @@
 use Rattle.std.proofs.Common.{subst, sym}
 use Rattle.cxx_names.specs.Words.{IsKnownBy}
-use Rattle.cxx_names.proofs.Known.{inserted_known, knows_inserted}
+use Rattle.cxx_names.proofs.Known.{inserted_known}
 use Rattle.cxx_names.proofs.words.meet.Goals as goal
 
 pub returns-in_ok-insert-clause-known : goal.returns-in_ok-insert-clause-known

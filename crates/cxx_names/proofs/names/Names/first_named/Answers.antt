@@ -1,4 +1,4 @@
-use Rattle.std.proofs.Common.{◌≡◌, ◌++◌, ◌∷◌, [], refl, None, ap, sym, ◌∙◌, option_map}
+use Rattle.std.proofs.Common.{◌∷◌, [], refl, None, ap, sym, ◌∙◌, option_map}
 use Rattle.std.specs.List.{slice_get}
 use Rattle.std.specs.Option.{option_to_list}
 use Rattle.cxx_model.specs.Facts.Declarations.{fact_at, graph_at, name_at, spelled}

@@ -1,4 +1,4 @@
-use Rattle.std.proofs.Common.{◌≡◌, ◌<◌, ◌+◌, cond, length, drop, get_or, Some, None, ap, sym, ◌∙◌, arith}
+use Rattle.std.proofs.Common.{◌<◌, ◌+◌, cond, length, drop, get_or, Some, ap, sym, ◌∙◌, arith}
 use Rattle.cxx_model.specs.declared.types.FactId.{FactId}
 use Rattle.cxx_model.specs.Facts.Declarations.{fact_at, graph_at}
 use Rattle.cxx_names.specs.Clashes.{conflict_in}

@@ -1,4 +1,4 @@
-use Rattle.std.proofs.Common.{◌≡◌, ◌+◌, ◌-◌, suc, true, false, [], List, ap, sym, ◌∙◌, arith}
+use Rattle.std.proofs.Common.{◌≡◌, ◌+◌, ◌-◌, suc, ap, sym, ◌∙◌, arith}
 use Rattle.cxx_model.specs.Facts.Declarations.{graph_at, spelled}
 use Rattle.cxx_reading.specs.Seen.{declared_in, found_from, kept}
 use Rattle.cxx_names.specs.Index.{numbers_in}
