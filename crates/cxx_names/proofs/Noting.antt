@@ -1,0 +1,298 @@
+-- What is kept after one more fact.
+use Rattle.std.proofs.Common.{Bor, ◌≡◌, ℕ, zero, suc, ◌+◌, ℤ, Bool, true, false, cond, ◌&&◌, List, [], ◌∷◌, ◌++◌, length, Option, Some, None, refl, sym, ap, ◌∙◌, subst, arith, append-nil, append_assoc, nat_eq}
+use Rattle.std.specs.Global.{Vec}
+use Rattle.std.specs.Map.{lookup}
+use Rattle.std.specs.Option.{option_to_list}
+use Rattle.std.specs.Str.{bytes_eq}
+use Rattle.std.proofs.lemmas.Bool.{eqb-true}
+use Rattle.std.proofs.lemmas.Slice.Eq.{bytes_eq-Decides}
+use Rattle.cxx_model.specs.declared.facts.Entity.{Entity}
+use Rattle.cxx_model.specs.declared.facts.Entity.TheVariants as entity
+use Rattle.cxx_model.specs.declared.facts.Fact.{Fact}
+use Rattle.cxx_model.specs.declared.facts.Name.{Name}
+use Rattle.cxx_model.specs.declared.facts.Name.TheVariants as name
+use Rattle.cxx_model.specs.declared.types.EnumId.{EnumId}
+use Rattle.cxx_model.specs.declared.types.FactId.{FactId}
+use Rattle.cxx_model.specs.declared.types.ScopeId.{ScopeId}
+use Rattle.cxx_model.specs.Facts.Conflicts.{declares_name, same_name}
+use Rattle.cxx_model.specs.Facts.Declarations.{CxxName, declares_at, fact_at, facts_at, name_at, spelled}
+use Rattle.cxx_model.specs.Facts.Graph.{counted, enumerations, is_enumeration}
+use Rattle.cxx_model.specs.Types.Trees.{CxxType}
+use Rattle.cxx_meaning.specs.Conversions.Enumerations.{values_in}
+use Rattle.cxx_reading.specs.Seen.{declared_from, declares_in}
+use Rattle.cxx_names.specs.declared.entry.Entry.{Entry}
+use Rattle.cxx_names.specs.declared.entry.Noted.{Noted}
+use Rattle.cxx_names.specs.declared.entry.Spelling.{Spelling}
+use Rattle.cxx_names.specs.declared.kept.Kept.{Kept}
+use Rattle.cxx_names.specs.declared.names.Names.{Names}
+use Rattle.cxx_names.specs.Filed.{row, those_in, IsMoreBy}
+use Rattle.cxx_names.specs.declared.words.Words.{Words}
+use Rattle.cxx_names.specs.Words.{same_spelling, is_known, IsSound, HasWord}
+use Rattle.cxx_names.specs.Index.{same_scope, same_enumeration, IsSpelledBy, is_spelled, declares_word, noted_by, value_by, is_outermost_kind, block_by, scopes_of, blocks_from, numbers_in, Keeps, Notes, HasKept, HasNoted, AreSameKept, AreSameNames}
+
+-- ---- declarations of a name
+
+numbers_more : (types : List CxxType) (scope : ℕ) (word : CxxName) (n : ℕ) (facts : List Fact) (fact : Fact)
+    → numbers_in (declared_from scope word n (facts_at types (facts ++ fact ∷ []))) ≡ cond (declares_in scope word (fact_at types fact)) (numbers_in (declared_from scope word n (facts_at types facts)) ++ record { 0 = n + length facts } ∷ []) (numbers_in (declared_from scope word n (facts_at types facts)))
+numbers_more types scope word n [] fact = let e : n + 0 ≡ n = omega arith in rw e (by (declares_in scope word (fact_at types fact)))
+  where
+    by : (p : Bool) → numbers_in (cond p (record { number = n; fact = fact_at types fact } ∷ []) []) ≡ cond p (record { 0 = n } ∷ []) []
+    by true = refl
+    by false = refl
+numbers_more types scope word n (one ∷ facts) fact =
+    by (declares_in scope word (fact_at types one)) (declares_in scope word (fact_at types fact)) (numbers_more types scope word (suc n) facts fact ∙ ap (λ (k : ℕ). cond (declares_in scope word (fact_at types fact)) (later ++ record { 0 = k } ∷ []) later) place)
+  where
+    later : List FactId
+    later = numbers_in (declared_from scope word (suc n) (facts_at types facts))
+
+    place : suc n + length facts ≡ n + length (one ∷ facts)
+    place = omega arith
+
+    by : (p q : Bool) → numbers_in (declared_from scope word (suc n) (facts_at types (facts ++ fact ∷ []))) ≡ cond q (later ++ record { 0 = n + length (one ∷ facts) } ∷ []) later
+        → numbers_in (cond p (record { number = n; fact = fact_at types one } ∷ declared_from scope word (suc n) (facts_at types (facts ++ fact ∷ []))) (declared_from scope word (suc n) (facts_at types (facts ++ fact ∷ []))))
+        ≡ cond q (numbers_in (cond p (record { number = n; fact = fact_at types one } ∷ declared_from scope word (suc n) (facts_at types facts)) (declared_from scope word (suc n) (facts_at types facts))) ++ record { 0 = n + length (one ∷ facts) } ∷ []) (numbers_in (cond p (record { number = n; fact = fact_at types one } ∷ declared_from scope word (suc n) (facts_at types facts)) (declared_from scope word (suc n) (facts_at types facts))))
+    by true true ih = ap (λ ns. record { 0 = n } ∷ ns) ih
+    by true false ih = ap (λ ns. record { 0 = n } ∷ ns) ih
+    by false true ih = ih
+    by false false ih = ih
+
+declares_alike : (types : List CxxType) (what : Entity) → declares_name (declares_at types what) ≡ declares_name (declares_at [] what)
+declares_alike types (entity.Scope parent kind) = refl
+declares_alike types (entity.Object of member is_mutable value first) = refl
+declares_alike types (entity.Function of member flags defaults first) = refl
+declares_alike types (entity.Template number member defaults is_explicit first) = refl
+declares_alike types (entity.Parameter depth index of) = refl
+declares_alike types (entity.Injected number) = refl
+declares_alike types (entity.Class number is_union) = refl
+declares_alike types (entity.Complete number) = refl
+declares_alike types (entity.Passed number) = refl
+declares_alike types (entity.Ancestor number parent index access) = refl
+declares_alike types (entity.Enumeration number) = refl
+declares_alike types (entity.Enumerator number value) = refl
+declares_alike types (entity.Synonym of) = refl
+declares_alike types (entity.Namespace inner) = refl
+declares_alike types (entity.Directive nominated) = refl
+declares_alike types (entity.Using target) = refl
+declares_alike types (entity.Friend number target) = refl
+
+abbrev same_text : Name → List ℕ → Bool
+same_text (name.Spelled word) other = bytes_eq word other
+same_text _ other = false
+
+named_alike : (types : List CxxType) (scope : ℕ) (word : List ℕ) (fact : Fact) → declares_in scope (spelled word) (fact_at types fact) ≡ (nat_eq fact.scope.0 scope && (declares_name (declares_at [] fact.what) && same_text fact.name word))
+named_alike types scope word fact = ap (λ b. nat_eq fact.scope.0 scope && (b && (true && same_name (name_at types fact.name) (spelled word)))) (declares_alike types fact.what) ∙ by fact.name
+  where
+    by : (n : Name) → (nat_eq fact.scope.0 scope && (declares_name (declares_at [] fact.what) && (true && same_name (name_at types n) (spelled word)))) ≡ (nat_eq fact.scope.0 scope && (declares_name (declares_at [] fact.what) && same_text n word))
+    by name.Unnamed = refl
+    by (name.Spelled v) = refl
+    by (name.Operator o) = refl
+    by (name.Conversion of) = refl
+    by name.Destructor = refl
+
+never : {A : Type 0} (a d : Bool) (x y : A) → cond (a && (d && false)) x y ≡ y
+never true true x y = refl
+never true false x y = refl
+never false d x y = refl
+
+not_declared : {A : Type 0} (a b : Bool) (x y : A) → cond (a && (false && b)) x y ≡ y
+not_declared true b x y = refl
+not_declared false b x y = refl
+
+both_true : (a b : Bool) → (a && b) ≡ true → (a ≡ true) × (b ≡ true)
+both_true true b e = (refl, e)
+both_true false b e = absurd (cc)
+
+module _ (old new : List (Spelling × Vec FactId)) (scope : ScopeId) (word : Bor (List ℕ)) (number : FactId) where
+  abbrev at : List (Spelling × Vec FactId) → Spelling → List FactId
+  at entries key = row same_spelling entries key
+
+  abbrev by_parts : ℕ → List ℕ → List FactId
+  by_parts m w = those_in (lookup (λ k. nat_eq m k.scope.0 && bytes_eq w k.word.now) old)
+
+  here : (key : Spelling) (v : List ℕ) → v ≡ word.now → (t : Bool) → (nat_eq scope.0 key.scope.0 && bytes_eq v key.word.now) ≡ t
+      → cond t (at old (record { scope = scope; word = word }) ++ number ∷ []) (at old key) ≡ cond t (at old key ++ number ∷ []) (at old key)
+  here key v s true e =
+      let both = both_true (nat_eq scope.0 key.scope.0) (bytes_eq v key.word.now) e in
+      let one : scope.0 ≡ key.scope.0 = eqb-true scope.0 key.scope.0 both.0 in
+      let two : word.now ≡ key.word.now = sym s ∙ (bytes_eq-Decides v key.word.now).0 both.1 in
+      ap (λ ns. ns ++ number ∷ []) (ap (λ m. by_parts m word.now) one ∙ ap (by_parts key.scope.0) two)
+  here key v s false e = refl
+
+  one_name : (n : Name) (d : Bool) → IsSpelledBy n word.now → IsMoreBy same_spelling old new (cond (is_spelled n && d) (Some (record { scope = scope; word = word }, number)) None)
+      → (key : Spelling) → at new key ≡ cond (nat_eq scope.0 key.scope.0 && (d && same_text n key.word.now)) (at old key ++ number ∷ []) (at old key)
+  one_name name.Unnamed d s more key = more key ∙ sym (never (nat_eq scope.0 key.scope.0) d _ _)
+  one_name (name.Operator o) d s more key = more key ∙ sym (never (nat_eq scope.0 key.scope.0) d _ _)
+  one_name (name.Conversion of) d s more key = more key ∙ sym (never (nat_eq scope.0 key.scope.0) d _ _)
+  one_name name.Destructor d s more key = more key ∙ sym (never (nat_eq scope.0 key.scope.0) d _ _)
+  one_name (name.Spelled v) false s more key = more key ∙ sym (not_declared (nat_eq scope.0 key.scope.0) (bytes_eq v key.word.now) _ _)
+  one_name (name.Spelled v) true s more key =
+      more key
+      ∙ ap (λ w. cond (nat_eq scope.0 key.scope.0 && bytes_eq w key.word.now) (at old (record { scope = scope; word = word }) ++ number ∷ []) (at old key)) (sym s)
+      ∙ here key v s (nat_eq scope.0 key.scope.0 && bytes_eq v key.word.now) refl
+
+-- the declarations of each name, with one more
+pub names_noted : (types : List CxxType) (old new : List (Spelling × Vec FactId)) (facts : List Fact) (fact : Fact) (word : Bor (List ℕ)) (number : FactId) → number.0 ≡ length facts → IsSpelledBy fact.name word.now
+    → ((key : Spelling) → row same_spelling old key ≡ numbers_in (declared_from key.scope.0 (spelled key.word.now) zero (facts_at types facts)))
+    → IsMoreBy same_spelling old new (cond (declares_word fact) (Some (record { scope = fact.scope; word = word }, number)) None)
+    → (key : Spelling) → row same_spelling new key ≡ numbers_in (declared_from key.scope.0 (spelled key.word.now) zero (facts_at types (facts ++ fact ∷ [])))
+names_noted types old new facts fact word number n s kept more key =
+    let test : Bool = nat_eq fact.scope.0 key.scope.0 && (declares_name (declares_at [] fact.what) && same_text fact.name key.word.now) in
+    let before : List FactId = numbers_in (declared_from key.scope.0 (spelled key.word.now) zero (facts_at types facts)) in
+    let place : 0 + length facts ≡ number.0 = omega (arith, n) in
+    one_name old new fact.scope word number fact.name (declares_name (declares_at [] fact.what)) s more key
+    ∙ ap (λ ns. cond test (ns ++ number ∷ []) ns) (kept key)
+    ∙ ap (λ k. cond test (before ++ record { 0 = k } ∷ []) before) (sym place)
+    ∙ ap (λ t. cond t (before ++ record { 0 = 0 + length facts } ∷ []) before) (sym (named_alike types key.scope.0 key.word.now fact))
+    ∙ sym (numbers_more types key.scope.0 (spelled key.word.now) zero facts fact)
+
+-- ---- scopes and enumerations
+
+scopes_more : (facts : List Fact) (fact : Fact) → scopes_of (facts ++ fact ∷ []) ≡ scopes_of facts ++ option_to_list (noted_by fact.scope fact.what)
+scopes_more [] fact = append-nil _
+scopes_more (one ∷ facts) fact = ap (λ xs. option_to_list (noted_by one.scope one.what) ++ xs) (scopes_more facts fact) ∙ sym (append_assoc (option_to_list (noted_by one.scope one.what)) (scopes_of facts) (option_to_list (noted_by fact.scope fact.what)))
+
+blocks_more : (scope : ℕ) (n : ℕ) (scopes : List Noted) (noted : Noted)
+    → blocks_from n scope (scopes ++ noted ∷ []) ≡ cond (is_outermost_kind noted.kind && nat_eq noted.parent.0 scope) (blocks_from n scope scopes ++ record { 0 = n + length scopes } ∷ []) (blocks_from n scope scopes)
+blocks_more scope n [] noted = let e : n + 0 ≡ n = omega arith in rw e refl
+blocks_more scope n (one ∷ scopes) noted =
+    by (is_outermost_kind one.kind && nat_eq one.parent.0 scope) (is_outermost_kind noted.kind && nat_eq noted.parent.0 scope) (blocks_more scope (suc n) scopes noted ∙ ap (λ (k : ℕ). cond (is_outermost_kind noted.kind && nat_eq noted.parent.0 scope) (later ++ record { 0 = k } ∷ []) later) place)
+  where
+    later : List ScopeId
+    later = blocks_from (suc n) scope scopes
+
+    place : suc n + length scopes ≡ n + length (one ∷ scopes)
+    place = omega arith
+
+    by : (p q : Bool) → blocks_from (suc n) scope (scopes ++ noted ∷ []) ≡ cond q (later ++ record { 0 = n + length (one ∷ scopes) } ∷ []) later
+        → cond p (record { 0 = n } ∷ blocks_from (suc n) scope (scopes ++ noted ∷ [])) (blocks_from (suc n) scope (scopes ++ noted ∷ [])) ≡ cond q (cond p (record { 0 = n } ∷ later) later ++ record { 0 = n + length (one ∷ scopes) } ∷ []) (cond p (record { 0 = n } ∷ later) later)
+    by true true ih = ap (λ ns. record { 0 = n } ∷ ns) ih
+    by true false ih = ap (λ ns. record { 0 = n } ∷ ns) ih
+    by false true ih = ih
+    by false false ih = ih
+
+module _ (old new : List (ScopeId × Vec ScopeId)) (scopes : List Noted) (kept : (scope : ScopeId) → row same_scope old scope ≡ blocks_from zero scope.0 scopes) where
+  abbrev of_scope : ℕ → List ScopeId
+  of_scope m = those_in (lookup (λ k. nat_eq m k.0) old)
+
+  one_block : (noted : Noted) (o : Bool) → is_outermost_kind noted.kind ≡ o → IsMoreBy same_scope old new (cond o (Some (noted.parent, record { 0 = length scopes })) None) → (scope : ScopeId) → row same_scope new scope ≡ blocks_from zero scope.0 (scopes ++ noted ∷ [])
+  one_block noted false o more scope = more scope ∙ kept scope ∙ sym (blocks_more scope.0 zero scopes noted ∙ ap (λ b. cond (b && nat_eq noted.parent.0 scope.0) (blocks_from zero scope.0 scopes ++ record { 0 = zero + length scopes } ∷ []) (blocks_from zero scope.0 scopes)) o)
+  one_block noted true o more scope =
+      more scope ∙ same (nat_eq noted.parent.0 scope.0) refl
+      ∙ ap (λ k. cond (nat_eq noted.parent.0 scope.0) (blocks_from zero scope.0 scopes ++ record { 0 = k } ∷ []) (blocks_from zero scope.0 scopes)) place
+      ∙ sym (blocks_more scope.0 zero scopes noted ∙ ap (λ b. cond (b && nat_eq noted.parent.0 scope.0) (blocks_from zero scope.0 scopes ++ record { 0 = zero + length scopes } ∷ []) (blocks_from zero scope.0 scopes)) o)
+    where
+      place : length scopes ≡ zero + length scopes
+      place = omega arith
+
+      same : (t : Bool) → nat_eq noted.parent.0 scope.0 ≡ t → cond t (row same_scope old noted.parent ++ record { 0 = length scopes } ∷ []) (row same_scope old scope) ≡ cond t (blocks_from zero scope.0 scopes ++ record { 0 = length scopes } ∷ []) (blocks_from zero scope.0 scopes)
+      same true e = ap (λ ns. ns ++ record { 0 = length scopes } ∷ []) (ap of_scope (eqb-true noted.parent.0 scope.0 e) ∙ kept scope)
+      same false e = kept scope
+
+  blocks_noted : (noted : Option Noted) → IsMoreBy same_scope old new (block_by (length scopes) noted) → (scope : ScopeId) → row same_scope new scope ≡ blocks_from zero scope.0 (scopes ++ option_to_list noted)
+  blocks_noted None more scope = more scope ∙ kept scope ∙ ap (blocks_from zero scope.0) (sym (append-nil scopes))
+  blocks_noted (Some noted) more scope = one_block noted (is_outermost_kind noted.kind) refl more scope
+
+counted_more : (p q : Bool) (n : ℕ) → counted p (counted q n) ≡ counted q (counted p n)
+counted_more true true n = refl
+counted_more true false n = refl
+counted_more false true n = refl
+counted_more false false n = refl
+
+count_more : (facts : List Fact) (fact : Fact) → enumerations (facts ++ fact ∷ []) ≡ counted (is_enumeration fact.what) (enumerations facts)
+count_more [] fact = refl
+count_more (one ∷ facts) fact = ap (counted (is_enumeration one.what)) (count_more facts fact) ∙ counted_more (is_enumeration one.what) (is_enumeration fact.what) (enumerations facts)
+
+-- 7.2: the values of one more fact
+abbrev value_for : ℕ → Option (EnumId × ℤ) → List ℤ
+value_for n None = []
+value_for n (Some one) = cond (nat_eq one.0.0 n) (one.1 ∷ []) []
+
+value_head : (types : List CxxType) (n : ℕ) (fact : Fact) (facts : List Fact) → values_in n (facts_at types (fact ∷ facts)) ≡ value_for n (value_by fact.what) ++ values_in n (facts_at types facts)
+value_head types n fact facts = by fact.what
+  where
+    one : (t : Bool) (value : ℤ) (vs : List ℤ) → cond t (value ∷ vs) vs ≡ cond t (value ∷ []) [] ++ vs
+    one true value vs = refl
+    one false value vs = refl
+
+    by : (what : Entity) → values_in n (fact_at types (record fact { what = what }) ∷ facts_at types facts) ≡ value_for n (value_by what) ++ values_in n (facts_at types facts)
+    by (entity.Enumerator number value) = one (nat_eq number.0 n) value (values_in n (facts_at types facts))
+    by _ = refl
+
+values_more : (types : List CxxType) (n : ℕ) (facts : List Fact) (fact : Fact) → values_in n (facts_at types (facts ++ fact ∷ [])) ≡ values_in n (facts_at types facts) ++ value_for n (value_by fact.what)
+values_more types n [] fact = value_head types n fact [] ∙ append-nil _
+values_more types n (one ∷ facts) fact =
+    value_head types n one (facts ++ fact ∷ [])
+    ∙ ap (λ vs. value_for n (value_by one.what) ++ vs) (values_more types n facts fact)
+    ∙ sym (append_assoc (value_for n (value_by one.what)) (values_in n (facts_at types facts)) (value_for n (value_by fact.what)))
+    ∙ ap (λ vs. vs ++ value_for n (value_by fact.what)) (sym (value_head types n one facts))
+
+module _ (types : List CxxType) (old new : List (EnumId × Vec ℤ)) (facts : List Fact) (kept : (number : EnumId) → row same_enumeration old number ≡ values_in number.0 (facts_at types facts)) where
+  abbrev of_number : ℕ → List ℤ
+  of_number m = those_in (lookup (λ k. nat_eq m k.0) old)
+
+  values_noted : (one : Option (EnumId × ℤ)) → IsMoreBy same_enumeration old new one → (number : EnumId) → row same_enumeration new number ≡ values_in number.0 (facts_at types facts) ++ value_for number.0 one
+  values_noted None more number = more number ∙ kept number ∙ sym (append-nil _)
+  values_noted (Some one) more number = more number ∙ same (nat_eq one.0.0 number.0) refl
+    where
+      same : (t : Bool) → nat_eq one.0.0 number.0 ≡ t → cond t (row same_enumeration old one.0 ++ one.1 ∷ []) (row same_enumeration old number) ≡ values_in number.0 (facts_at types facts) ++ cond t (one.1 ∷ []) []
+      same true e = ap (λ vs. vs ++ one.1 ∷ []) (ap of_number (eqb-true one.0.0 number.0 e) ∙ kept number)
+      same false e = kept number ∙ sym (append-nil _)
+
+keeps_more : (old new : Kept) (one : Entry) (facts : List Fact) (fact : Fact) → one.noted ≡ noted_by fact.scope fact.what → one.block ≡ block_by (length (scopes_of facts)) (noted_by fact.scope fact.what) → one.value ≡ value_by fact.what → one.is_enumeration ≡ is_enumeration fact.what
+    → Keeps old facts → HasKept old new one → Keeps new (facts ++ fact ∷ [])
+keeps_more old new one facts fact noted block value counts kept has = record {
+  scopes = has.scopes ∙ (ap (λ xs. xs ++ option_to_list one.noted) kept.scopes ∙ (ap (λ o. scopes_of facts ++ option_to_list o) noted ∙ sym (scopes_more facts fact)));
+  blocks = λ scope. blocks_noted old.blocks.rows.entries new.blocks.rows.entries (scopes_of facts) kept.blocks (noted_by fact.scope fact.what) (subst (λ o. IsMoreBy same_scope old.blocks.rows.entries new.blocks.rows.entries o) block has.blocks) scope ∙ ap (blocks_from zero scope.0) (sym (scopes_more facts fact));
+  enumerations = has.enumerations ∙ (ap (λ b. counted b old.enumerations) counts ∙ (ap (counted (is_enumeration fact.what)) kept.enumerations ∙ sym (count_more facts fact)));
+  values = λ number types. values_noted types old.values.rows.entries new.values.rows.entries facts (λ n. kept.values n types) (value_by fact.what) (subst (λ o. IsMoreBy same_enumeration old.values.rows.entries new.values.rows.entries o) value has.values) number ∙ sym (values_more types number.0 facts fact);
+}
+
+keeps_same : (old new : Kept) (facts : List Fact) → Keeps old facts → AreSameKept old new → Keeps new facts
+keeps_same old new facts kept same = record {
+  scopes = same.scopes ∙ kept.scopes;
+  blocks = λ scope. same.blocks scope ∙ kept.blocks scope;
+  enumerations = same.enumerations ∙ kept.enumerations;
+  values = λ number types. same.values number ∙ kept.values number types;
+}
+
+-- ---- spellings
+
+not_both : (a b : Bool) → a ≡ true → a ≡ false → b ≡ true
+not_both a b p q = absurd (cc)
+
+apart : (one two : List ℕ) (words : List (Bor (List ℕ))) → is_known words one ≡ true → is_known words two ≡ false → bytes_eq one two ≡ false
+apart one two words p q = by (bytes_eq one two) refl
+  where
+    by : (t : Bool) → bytes_eq one two ≡ t → t ≡ false
+    by true e = (let same : one ≡ two = (bytes_eq-Decides one two).0 e in let k : is_known words two ≡ true = subst (λ w. is_known words w ≡ true) same p in absurd (cc))
+    by false e = refl
+
+and_false : (a b : Bool) → b ≡ false → (a && b) ≡ false
+and_false true b e = e
+and_false false b e = refl
+
+sound_more : (old new : Words) (name : Option (Spelling × FactId)) → IsSound old → HasWord old new name → IsSound new
+sound_more old new None sound has key none = has.rows key ∙ sound key (has.knows key.word.now none)
+sound_more old new (Some name) sound has key none =
+    has.rows key
+    ∙ ap (λ t. cond t (row same_spelling old.rows.rows.entries name.0 ++ name.1 ∷ []) (row same_spelling old.rows.rows.entries key)) (and_false (nat_eq name.0.scope.0 key.scope.0) (bytes_eq name.0.word.now key.word.now) (apart name.0.word.now key.word.now new.spellings.keys has.known none))
+    ∙ sound key (has.knows key.word.now none)
+
+-- ---- all of it
+
+pub notes_more : (old new : Names) (one : Entry) (facts : List Fact) (fact : Fact) (word : Bor (List ℕ)) (number : FactId) (scopes : ℕ) → number.0 ≡ length facts → scopes ≡ length (scopes_of facts) → IsSpelledBy fact.name word.now
+    → one.name ≡ cond (declares_word fact) (Some (record { scope = fact.scope; word = word }, number)) None
+    → one.noted ≡ noted_by fact.scope fact.what → one.block ≡ block_by scopes (noted_by fact.scope fact.what) → one.value ≡ value_by fact.what → one.is_enumeration ≡ is_enumeration fact.what
+    → Notes old facts → HasNoted old new one → Notes new (facts ++ fact ∷ [])
+notes_more old new one facts fact word number scopes n m s name noted block value counts notes has = record {
+  sound = sound_more old.words new.words one.name notes.sound has.words;
+  words = λ key types. names_noted types old.words.rows.rows.entries new.words.rows.rows.entries facts fact word number n s (λ k. notes.words k types) (subst (λ o. IsMoreBy same_spelling old.words.rows.rows.entries new.words.rows.rows.entries o) name has.words.rows) key;
+  kept = keeps_more old.kept new.kept one facts fact noted (block ∙ ap (λ k. block_by k (noted_by fact.scope fact.what)) m) value counts notes.kept has.kept;
+}
+
+pub notes_same : (old new : Names) (facts : List Fact) → Notes old facts → AreSameNames old new → Notes new facts
+notes_same old new facts notes same = record {
+  sound = λ key none. same.words.rows key ∙ notes.sound key (same.words.knows key.word.now none);
+  words = λ key types. same.words.rows key ∙ notes.words key types;
+  kept = keeps_same old.kept new.kept facts notes.kept same.kept;
+}

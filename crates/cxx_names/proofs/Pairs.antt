@@ -1,0 +1,169 @@
+-- Two declarations of one name, of which the later one is no member of a class.
+use Rattle.std.proofs.Common.{◌≡◌, ℕ, Bool, true, false, cond, ◌&&◌, ◌||◌, List, Option, Some, None, refl, ap, ◌∙◌}
+use Rattle.std.specs.List.{slice_get}
+use Rattle.cxx_model.specs.declared.facts.Entity.{Entity}
+use Rattle.cxx_model.specs.declared.facts.Entity.TheVariants as entity
+use Rattle.cxx_model.specs.declared.facts.Fact.{Fact}
+use Rattle.cxx_model.specs.declared.facts.MemberKind.{MemberKind}
+use Rattle.cxx_model.specs.declared.facts.MemberKind.TheVariants as member
+use Rattle.cxx_model.specs.declared.facts.MemberKind.TheVariants.{Free}
+use Rattle.cxx_model.specs.declared.facts.Name.{Name}
+use Rattle.cxx_model.specs.declared.facts.Name.TheVariants as name
+use Rattle.cxx_model.specs.declared.types.TemplateId.{TemplateId}
+use Rattle.cxx_model.specs.declared.types.FactId.{FactId}
+use Rattle.cxx_model.specs.Types.Numbers.{type_at}
+use Rattle.cxx_model.specs.Facts.Conflicts.{a_function, a_hidden_name, a_name, an_enumerator, an_object, agree, declares_name, functions_agree, has_name, is_constructor, is_static, may_stand, objects_agree, of_one_name, same_member, same_name, same_parameters, standing, a_class_template, a_function_template, Standing}
+use Rattle.cxx_model.specs.Facts.Declarations as facts
+use Rattle.cxx_model.specs.Facts.Declarations.{CxxGraph, CxxPattern, declares_at, fact_at, name_at}
+use Rattle.cxx_model.specs.Facts.Entities.{of_type}
+use Rattle.cxx_model.specs.Types.Same.{same_type}
+use Rattle.cxx_model.specs.Types.Trees.{CxxType, enumeration}
+use Rattle.cxx_meaning.specs.Lookups.Wanted.{is_of_functions}
+use Rattle.cxx_names.specs.Clashes.{IsPlain, IsPlainEntity, IsPlainName, same_spelled}
+
+pub functions_free : (closed : Bool) (one : CxxType) (kind : MemberKind) (two : CxxType) → functions_agree closed one kind two Free ≡ cond (same_parameters (is_static kind) one two) (same_type one two && same_member kind Free) true
+functions_free true one member.Free two = ap (λ t. cond (same_parameters false one two) (same_type one two && t) true) refl
+functions_free true one member.Nonstatic two = refl
+functions_free true one member.Static two = refl
+functions_free true one member.Constructor two = refl
+functions_free true one member.Destructor two = refl
+functions_free true one member.Conversion two = refl
+functions_free false one member.Free two = refl
+functions_free false one member.Nonstatic two = refl
+functions_free false one member.Static two = refl
+functions_free false one member.Constructor two = refl
+functions_free false one member.Destructor two = refl
+functions_free false one member.Conversion two = refl
+
+pub objects_free : (closed : Bool) (one : CxxType) (kind : MemberKind) (two : CxxType) → objects_agree closed one kind two Free ≡ (agree one two && same_member kind Free)
+objects_free true one member.Free two = refl
+objects_free true one member.Nonstatic two = refl
+objects_free true one member.Static two = refl
+objects_free true one member.Constructor two = refl
+objects_free true one member.Destructor two = refl
+objects_free true one member.Conversion two = refl
+objects_free false one member.Free two = refl
+objects_free false one member.Nonstatic two = refl
+objects_free false one member.Static two = refl
+objects_free false one member.Constructor two = refl
+objects_free false one member.Destructor two = refl
+objects_free false one member.Conversion two = refl
+
+-- ---- templates
+
+abbrev standing_by : TemplateId → MemberKind → Option CxxPattern → Standing
+standing_by template kind None = a_class_template template
+standing_by template kind (Some pattern) = by pattern.of
+  where
+    by : Option CxxType → Standing
+    by None = a_class_template template
+    by (Some of) = a_function_template pattern.parameters of kind
+
+pub template_function : (closed : Bool) (graph : CxxGraph) (template : TemplateId) (kind : MemberKind) (defaults : ℕ) (is_explicit : Bool) (first : Option FactId) (of : CxxType) → may_stand closed (standing graph (facts.template template kind defaults is_explicit first)) (a_function of Free) ≡ is_of_functions (slice_get graph.patterns template.0)
+template_function closed graph template kind defaults is_explicit first of = by (slice_get graph.patterns template.0)
+  where
+    of_pattern : (pattern : CxxPattern) (o : Option CxxType) → may_stand closed (standing_by template kind (Some (record pattern { of = o }))) (a_function of Free) ≡ is_of_functions (Some (record pattern { of = o }))
+    of_pattern pattern None = refl
+    of_pattern pattern (Some t) = refl
+
+    by : (o : Option CxxPattern) → may_stand closed (standing_by template kind o) (a_function of Free) ≡ is_of_functions o
+    by None = refl
+    by (Some pattern) = of_pattern pattern pattern.of
+
+pub template_object : (closed : Bool) (graph : CxxGraph) (template : TemplateId) (kind : MemberKind) (defaults : ℕ) (is_explicit : Bool) (first : Option FactId) (of : CxxType) → may_stand closed (standing graph (facts.template template kind defaults is_explicit first)) (an_object of Free) ≡ false
+template_object closed graph template kind defaults is_explicit first of = by (slice_get graph.patterns template.0)
+  where
+    of_pattern : (pattern : CxxPattern) (o : Option CxxType) → may_stand closed (standing_by template kind (Some (record pattern { of = o }))) (an_object of Free) ≡ false
+    of_pattern pattern None = refl
+    of_pattern pattern (Some t) = refl
+
+    by : (o : Option CxxPattern) → may_stand closed (standing_by template kind o) (an_object of Free) ≡ false
+    by None = refl
+    by (Some pattern) = of_pattern pattern pattern.of
+
+pub template_enumerator : (closed : Bool) (graph : CxxGraph) (template : TemplateId) (kind : MemberKind) (defaults : ℕ) (is_explicit : Bool) (first : Option FactId) → may_stand closed (standing graph (facts.template template kind defaults is_explicit first)) an_enumerator ≡ false
+template_enumerator closed graph template kind defaults is_explicit first = by (slice_get graph.patterns template.0)
+  where
+    of_pattern : (pattern : CxxPattern) (o : Option CxxType) → may_stand closed (standing_by template kind (Some (record pattern { of = o }))) an_enumerator ≡ false
+    of_pattern pattern None = refl
+    of_pattern pattern (Some t) = refl
+
+    by : (o : Option CxxPattern) → may_stand closed (standing_by template kind o) an_enumerator ≡ false
+    by None = refl
+    by (Some pattern) = of_pattern pattern pattern.of
+
+pub template_enumeration : (closed : Bool) (graph : CxxGraph) (template : TemplateId) (kind : MemberKind) (defaults : ℕ) (is_explicit : Bool) (first : Option FactId) (number : ℕ) → may_stand closed (standing graph (facts.template template kind defaults is_explicit first)) (a_hidden_name (of_type (enumeration number)) None) ≡ is_of_functions (slice_get graph.patterns template.0)
+template_enumeration closed graph template kind defaults is_explicit first number = by (slice_get graph.patterns template.0)
+  where
+    of_pattern : (pattern : CxxPattern) (o : Option CxxType) → may_stand closed (standing_by template kind (Some (record pattern { of = o }))) (a_hidden_name (of_type (enumeration number)) None) ≡ is_of_functions (Some (record pattern { of = o }))
+    of_pattern pattern None = refl
+    of_pattern pattern (Some t) = refl
+
+    by : (o : Option CxxPattern) → may_stand closed (standing_by template kind o) (a_hidden_name (of_type (enumeration number)) None) ≡ is_of_functions o
+    by None = refl
+    by (Some pattern) = of_pattern pattern pattern.of
+
+pub template_name : (closed : Bool) (graph : CxxGraph) (template : TemplateId) (kind : MemberKind) (defaults : ℕ) (is_explicit : Bool) (first : Option FactId) (of : CxxType) → may_stand closed (standing graph (facts.template template kind defaults is_explicit first)) (a_name (of_type of)) ≡ false
+template_name closed graph template kind defaults is_explicit first of = by (slice_get graph.patterns template.0)
+  where
+    of_pattern : (pattern : CxxPattern) (o : Option CxxType) → may_stand closed (standing_by template kind (Some (record pattern { of = o }))) (a_name (of_type of)) ≡ false
+    of_pattern pattern None = refl
+    of_pattern pattern (Some t) = refl
+
+    by : (o : Option CxxPattern) → may_stand closed (standing_by template kind o) (a_name (of_type of)) ≡ false
+    by None = refl
+    by (Some pattern) = of_pattern pattern pattern.of
+
+-- ---- names
+
+spelled_alike : (types : List CxxType) (one two : Name) → IsPlainName two → (has_name (name_at types one) && same_name (name_at types one) (name_at types two)) ≡ same_spelled one two
+spelled_alike types name.Unnamed two plain = refl
+spelled_alike types (name.Spelled one) name.Unnamed plain = refl
+spelled_alike types (name.Spelled one) (name.Spelled two) plain = refl
+spelled_alike types (name.Spelled one) (name.Operator two) plain = refl
+spelled_alike types (name.Spelled one) (name.Conversion two) plain = refl
+spelled_alike types (name.Spelled one) name.Destructor plain = refl
+spelled_alike types (name.Operator one) name.Unnamed plain = refl
+spelled_alike types (name.Operator one) (name.Spelled two) plain = refl
+spelled_alike types (name.Operator one) (name.Operator two) plain = absurd plain
+spelled_alike types (name.Operator one) (name.Conversion two) plain = absurd plain
+spelled_alike types (name.Operator one) name.Destructor plain = absurd plain
+spelled_alike types (name.Conversion one) name.Unnamed plain = refl
+spelled_alike types (name.Conversion one) (name.Spelled two) plain = refl
+spelled_alike types (name.Conversion one) (name.Operator two) plain = absurd plain
+spelled_alike types (name.Conversion one) (name.Conversion two) plain = absurd plain
+spelled_alike types (name.Conversion one) name.Destructor plain = absurd plain
+spelled_alike types name.Destructor name.Unnamed plain = refl
+spelled_alike types name.Destructor (name.Spelled two) plain = refl
+spelled_alike types name.Destructor (name.Operator two) plain = absurd plain
+spelled_alike types name.Destructor (name.Conversion two) plain = absurd plain
+spelled_alike types name.Destructor name.Destructor plain = absurd plain
+
+plain_declares : (types : List CxxType) (what : Entity) → IsPlainEntity what → declares_name (declares_at types what) ≡ true
+plain_declares types (entity.Object of m is_mutable value first) plain = refl
+plain_declares types (entity.Function of m flags defaults first) plain = refl
+plain_declares types (entity.Enumeration number) plain = refl
+plain_declares types (entity.Enumerator number value) plain = refl
+plain_declares types (entity.Synonym of) plain = refl
+plain_declares types _ plain = absurd plain
+
+pub plain_free : (types : List CxxType) (what : Entity) → IsPlainEntity what → is_constructor (declares_at types what) ≡ false
+plain_free types (entity.Object of m is_mutable value first) plain = refl
+plain_free types (entity.Function of m flags defaults first) plain = (let f : MemberKind → Bool = λ k. is_constructor (facts.function (type_at types of.0) k flags defaults first) in ap f plain)
+plain_free types (entity.Enumeration number) plain = refl
+plain_free types (entity.Enumerator number value) plain = refl
+plain_free types (entity.Synonym of) plain = refl
+plain_free types _ plain = absurd plain
+
+shorter : (a b c : Bool) → ((a && true) && (b || (c && false))) ≡ (a && b)
+shorter true true c = refl
+shorter true false true = refl
+shorter true false false = refl
+shorter false b c = refl
+
+pub one_name : (types : List CxxType) (old new : Fact) → IsPlain new → of_one_name (fact_at types old) (fact_at types new) ≡ (declares_name (declares_at types old.what) && same_spelled old.name new.name)
+one_name types old new plain =
+    ap (λ t. (declares_name (declares_at types old.what) && t) && ((has_name (name_at types old.name) && same_name (name_at types old.name) (name_at types new.name)) || (is_constructor (declares_at types old.what) && is_constructor (declares_at types new.what)))) (plain_declares types new.what plain.what)
+    ∙ (ap (λ t. (declares_name (declares_at types old.what) && true) && ((has_name (name_at types old.name) && same_name (name_at types old.name) (name_at types new.name)) || (is_constructor (declares_at types old.what) && t))) (plain_free types new.what plain.what)
+    ∙ (shorter (declares_name (declares_at types old.what)) (has_name (name_at types old.name) && same_name (name_at types old.name) (name_at types new.name)) (is_constructor (declares_at types old.what))
+    ∙ ap (λ t. declares_name (declares_at types old.what) && t) (spelled_alike types old.name new.name plain.name)))

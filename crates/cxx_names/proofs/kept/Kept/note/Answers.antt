@@ -1,0 +1,10 @@
+use Rattle.std.proofs.Common.{refl}
+use Rattle.cxx_names.proofs.kept.Kept.note.Goals as goal
+
+pub returns-in-Err-add-clause-same : goal.returns-in-Err-add-clause-same
+returns-in-Err-add-clause-same c = record {
+  scopes = c.pop_some-in-Err-add.ensures c.args.self.now.scopes.items c.in_ok-push_some.ensures.more;
+  blocks = c.take_back.ensures c.args.self.now.blocks.rows.entries c.in_default.ensures.more;
+  enumerations = refl;
+  values = c.in-Err-add.ensures.same;
+}

@@ -1,0 +1,9 @@
+use Rattle.cxx_names.proofs.kept.Kept.take_back.Goals as goal
+
+pub returns : goal.returns
+returns c = λ before has. record {
+  scopes = c.pop_some.ensures before.scopes.items has.scopes;
+  blocks = c.take_back.ensures before.blocks.rows.entries has.blocks;
+  enumerations = c.one_less-self.ensures before.enumerations has.enumerations;
+  values = c.take_back-2.ensures before.values.rows.entries has.values;
+}

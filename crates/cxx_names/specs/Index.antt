@@ -1,0 +1,120 @@
+-- What is kept of the facts of a graph, and how it follows from them.
+use Rattle.std.specs.Prelude.{ℕ, zero, suc, ℤ, ◌≡◌, Bool, true, false, ◌&&◌, if◌then◌else◌, nat_eq, List, [], ◌∷◌, ◌++◌, map, Option, Some, None}
+use Rattle.std.specs.Option.{option_to_list}
+use Rattle.cxx_model.specs.declared.facts.Entity.{Entity}
+use Rattle.cxx_model.specs.declared.facts.Entity.TheVariants as entity
+use Rattle.cxx_model.specs.declared.facts.Fact.{Fact}
+use Rattle.cxx_model.specs.declared.facts.Name.{Name}
+use Rattle.cxx_model.specs.declared.facts.Name.TheVariants as name
+use Rattle.cxx_model.specs.declared.facts.ScopeKind.{ScopeKind}
+use Rattle.cxx_model.specs.declared.facts.ScopeKind.TheVariants as kind
+use Rattle.cxx_model.specs.declared.types.EnumId.{EnumId}
+use Rattle.cxx_model.specs.declared.types.FactId.{FactId}
+use Rattle.cxx_model.specs.declared.types.ScopeId.{ScopeId}
+use Rattle.cxx_model.specs.Facts.Conflicts.{declares_name}
+use Rattle.cxx_model.specs.Facts.Declarations.{declares_at, facts_at, spelled}
+use Rattle.cxx_model.specs.Facts.Graph.{counted, enumerations}
+use Rattle.cxx_model.specs.Types.Trees.{CxxType}
+use Rattle.cxx_meaning.specs.Conversions.Enumerations.{values_in}
+use Rattle.cxx_reading.specs.Seen.{Numbered, declared_from}
+use Rattle.cxx_names.specs.Filed.{row, AreSame, IsMoreBy}
+use Rattle.cxx_names.specs.Words.{AreSameWords, HasWord, IsSound, same_spelling}
+use Rattle.cxx_names.specs.declared.entry.Entry.{Entry}
+use Rattle.cxx_names.specs.declared.entry.Noted.{Noted}
+use Rattle.cxx_names.specs.declared.entry.Spelling.{Spelling}
+use Rattle.cxx_names.specs.declared.kept.Kept.{Kept}
+use Rattle.cxx_names.specs.declared.names.Names.{Names}
+
+-- ---- keys
+
+abbrev pub same_scope : ScopeId → ScopeId → Bool
+same_scope one two = nat_eq one.0 two.0
+
+abbrev pub same_enumeration : EnumId → EnumId → Bool
+same_enumeration one two = nat_eq one.0 two.0
+
+-- ---- what is kept of one fact
+
+-- a name is spelled by the word, if it is spelled at all
+abbrev pub IsSpelledBy : Name → List ℕ → Type 0
+IsSpelledBy (name.Spelled spelling) word = spelling ≡ word
+IsSpelledBy _ word = Unit {0}
+
+abbrev pub is_spelled : Name → Bool
+is_spelled (name.Spelled word) = true
+is_spelled _ = false
+
+-- whether a fact declares a name that is spelled
+abbrev pub declares_word : Fact → Bool
+declares_word fact = is_spelled fact.name && declares_name (declares_at [] fact.what)
+
+abbrev pub noted_by : ScopeId → Entity → Option Noted
+noted_by holder (entity.Scope parent kind) = Some (record { kind = kind; parent = holder })
+noted_by holder _ = None
+
+abbrev pub value_by : Entity → Option (EnumId × ℤ)
+value_by (entity.Enumerator number value) = Some (number, value)
+value_by _ = None
+
+abbrev pub is_outermost_kind : ScopeKind → Bool
+is_outermost_kind (kind.Block (Some function)) = true
+is_outermost_kind _ = false
+
+-- 3.3.2: the scope with a number, where it is the outermost block of a function, under the one that holds it
+abbrev pub block_by : ℕ → Option Noted → Option (ScopeId × ScopeId)
+block_by number None = None
+block_by number (Some noted) = if is_outermost_kind noted.kind then Some (noted.parent, record { 0 = number }) else None
+
+-- ---- what is kept of all facts
+
+abbrev pub scopes_of : List Fact → List Noted
+scopes_of [] = []
+scopes_of (fact ∷ facts) = option_to_list (noted_by fact.scope fact.what) ++ scopes_of facts
+
+-- 3.3.2: the outermost blocks of functions that a scope holds, where the first scope of a list has a number
+abbrev pub blocks_from : ℕ → ℕ → List Noted → List ScopeId
+blocks_from number scope [] = []
+blocks_from number scope (noted ∷ others) = if is_outermost_kind noted.kind && nat_eq noted.parent.0 scope then record { 0 = number } ∷ blocks_from (suc number) scope others else blocks_from (suc number) scope others
+
+abbrev pub number_of : Numbered → FactId
+number_of one = record { 0 = one.number }
+
+-- the numbers of some declarations
+abbrev pub numbers_in : List Numbered → List FactId
+numbers_in all = map number_of all
+
+-- What is kept of scopes and enumerations is that of exactly these facts.
+pub record Keeps (kept : Kept) (facts : List Fact) : Type 0 where
+  pub scopes : kept.scopes.items ≡ scopes_of facts
+  pub blocks : (scope : ScopeId) → row same_scope kept.blocks.rows.entries scope ≡ blocks_from zero scope.0 (scopes_of facts)
+  pub enumerations : kept.enumerations ≡ enumerations facts
+  pub values : (number : EnumId) (types : List CxxType) → row same_enumeration kept.values.rows.entries number ≡ values_in number.0 (facts_at types facts)
+
+-- Exactly these facts were noted.
+pub record Notes (names : Names) (facts : List Fact) : Type 0 where
+  pub sound : IsSound names.words
+  pub words : (key : Spelling) (types : List CxxType) → row same_spelling names.words.rows.rows.entries key ≡ numbers_in (declared_from key.scope.0 (spelled key.word.now) zero (facts_at types facts))
+  pub kept : Keeps names.kept facts
+
+-- ---- what one more fact changes
+
+pub record HasKept (old new : Kept) (one : Entry) : Type 0 where
+  pub scopes : new.scopes.items ≡ old.scopes.items ++ option_to_list one.noted
+  pub blocks : IsMoreBy same_scope old.blocks.rows.entries new.blocks.rows.entries one.block
+  pub enumerations : new.enumerations ≡ counted one.is_enumeration old.enumerations
+  pub values : IsMoreBy same_enumeration old.values.rows.entries new.values.rows.entries one.value
+
+-- The same is kept.
+pub record AreSameKept (old new : Kept) : Type 0 where
+  pub scopes : new.scopes.items ≡ old.scopes.items
+  pub blocks : AreSame same_scope old.blocks.rows.entries new.blocks.rows.entries
+  pub enumerations : new.enumerations ≡ old.enumerations
+  pub values : AreSame same_enumeration old.values.rows.entries new.values.rows.entries
+
+pub record HasNoted (old new : Names) (one : Entry) : Type 0 where
+  pub words : HasWord old.words new.words one.name
+  pub kept : HasKept old.kept new.kept one
+
+pub record AreSameNames (old new : Names) : Type 0 where
+  pub words : AreSameWords old.words new.words
+  pub kept : AreSameKept old.kept new.kept

@@ -1,0 +1,6 @@
+pub mod Clashes
+pub mod Filed
+pub mod Index
+pub mod Looked
+pub mod Meant
+pub mod Words

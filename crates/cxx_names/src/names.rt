@@ -1,0 +1,107 @@
+ghost use Rattle.std.specs.Prelude.{◌≡◌, ◌+◌, ◌<◌, ◌^◌, ◌↔◌, [], List, length, Err, IfOk, OnOk, OnErr};
+ghost use Rattle.cxx_model.specs.Facts.Declarations.{facts_at, graph_at};
+ghost use Rattle.cxx_model.specs.Facts.Graph.{InRange, appended};
+ghost use Rattle.cxx_model.specs.Types.Trees.{CxxType};
+ghost use Rattle.cxx_reading.specs.Declaring.{enumeration_count, scope_count};
+ghost use Rattle.cxx_names.specs.Index.{AreSameNames, HasNoted, IsSpelledBy, Notes};
+ghost use Rattle.cxx_names.specs.declared.names.Names.{Names as NamesBefore};
+
+use crate::entry::Entry;
+use crate::kept::Kept;
+use crate::words::Words;
+use cxx_graph::{AddFault, Graph};
+use cxx_hash::Key;
+use cxx_model::{EnumId, Fact, FactId, OutOfMemory, ScopeId};
+use std::alloc::Global;
+
+/// How many facts and reserved classes there may be together.
+const LIMIT: usize = 2_097_152;
+
+/// What is kept beside the facts of a graph, so that no question about names goes over them all.
+#[derive(Drop)]
+pub struct Names<'a> {
+    pub(crate) words: Words<'a>,
+    pub(crate) kept: Kept,
+}
+
+impl<'a> Names<'a> {
+    /// Of no facts. What is looked up is hashed by the key.
+    pub fn new(alloc: Global, key: Key) -> Names<'a>
+        ensures { Notes result [] }
+    {
+        Names {
+            words: Words::new(alloc, key),
+            kept: Kept::new(alloc, key),
+        }
+    }
+
+    // Keeps what is to be kept of one more fact. An `Err` changes nothing of what is kept.
+    fn note(&mut self, one: Entry<'a>) -> Result<(), OutOfMemory>
+        requires { self.old.kept.enumerations + 1 < 2 ^ 64 }
+        ensures noted { OnOk result (HasNoted self.old self.new one.entry) }
+        ensures same { OnErr result (AreSameNames self.old self.new) }
+    {
+        self.words.add(one.name)?;
+        if let Err(fault) = self.kept.note(one) {
+            self.words.take_back(one.name);
+            return Err(fault);
+        }
+        Ok(())
+    }
+
+    // Takes back what was kept of the last fact.
+    fn take_back(&mut self, one: Entry<'a>)
+        ensures { (before : NamesBefore) → HasNoted before self.old one.entry → AreSameNames before self.new }
+    {
+        self.words.take_back(one.name);
+        self.kept.take_back(one);
+    }
+
+    /// How many scopes there are: the number of the next one.
+    #[tactic(auto, using(crate::proofs::Counting::scopes_below, crate::proofs::Counting::scopes_counted))]
+    pub fn scopes(&self, graph: &Graph) -> ScopeId
+        requires { Notes self.now graph.now.facts }
+        ensures kept { result.0 ≡ length self.now.kept.scopes.items }
+        ensures is { (types : List CxxType) → result.0 ≡ scope_count (graph_at types graph.now) }
+    {
+        let _most = graph.length();
+        ScopeId(self.kept.scopes.len() as u32)
+    }
+
+    /// How many enumerations there are: the number of the next one.
+    #[tactic(auto, using(crate::proofs::Counting::enumerations_below, crate::proofs::Counting::enumerations_counted))]
+    pub fn enumerations(&self, graph: &Graph) -> EnumId
+        requires { Notes self.now graph.now.facts }
+        ensures { (types : List CxxType) → result.0 ≡ enumeration_count (facts_at types graph.now.facts) }
+    {
+        let _most = graph.length();
+        EnumId(self.kept.enumerations as u32)
+    }
+
+    /// Appends a fact to a graph, and keeps what is to be kept of it. The word is how its name is spelled, if it is. An
+    /// `Err` changes nothing.
+    pub fn add(&mut self, graph: &mut Graph, fact: Fact, word: &'a [u8]) -> Result<FactId, AddFault>
+        requires range { InRange (appended graph.old fact) }
+        requires spelled { IsSpelledBy fact.name word.now }
+        requires noted { Notes self.old graph.old.facts }
+        ensures number { IfOk result (λ number. number.0 ≡ length graph.old.facts) }
+        ensures appended { OnOk result (graph.new ≡ appended graph.old fact) }
+        ensures unchanged { OnErr result (graph.new ≡ graph.old) }
+        ensures noted { Notes self.new graph.new.facts }
+        ensures limit { (result ≡ Err AddFault.Limit) ↔ (length graph.old.facts + length graph.old.classes ≡ 2097152) }
+    {
+        let length = graph.length();
+        if (length as usize).saturating_add(graph.class_count()) == LIMIT {
+            return Err(AddFault::Limit);
+        }
+        let one = Entry::of(&fact, word, FactId(length), self.scopes(graph).0);
+        self.note(one)?;
+        match graph.add(fact) {
+            Ok(number) => Ok(number),
+            Err(fault) => {
+                self.take_back(one);
+                Err(fault)
+            }
+        }
+    }
+}
