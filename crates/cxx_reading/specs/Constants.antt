@@ -32,7 +32,7 @@ literal_operand of spelling = record { of = fundamental of; lvalue = false; cons
 abbrev pub literal_tree : Base → Ahead → CxxTree
 literal_tree of from = tree_of (record (label_from production.literal (word_ahead from) from (behind from)) { operand = Some (literal_operand of (word_ahead from)) }) []
 
-abbrev literal_by : {S : Type 0} → Option Base → Reads S CxxTree
+abbrev pub literal_by : {S : Type 0} → Option Base → Reads S CxxTree
 literal_by (Some of) state ahead = got (literal_tree of ahead) state (behind ahead)
 literal_by None state ahead = refused state ahead
 
@@ -40,7 +40,7 @@ unfoldable pub literal_at : {S : Type 0} → Reads S CxxTree
 literal_at state ahead = literal_by (literal_type (word_ahead ahead)) state ahead
 
 -- the value of a literal
-abbrev or_zero : Option ℤ → ℤ
+abbrev pub or_zero : Option ℤ → ℤ
 or_zero None = pos zero
 or_zero (Some value) = value
 
@@ -49,7 +49,7 @@ value_of_literal tree = or_zero (literal_value tree.label.spelling)
 
 -- ---- what is not read yet
 
-abbrev is_some_word : Option TypeWord → Bool
+abbrev pub is_some_word : Option TypeWord → Bool
 is_some_word None = false
 is_some_word (Some word) = true
 
@@ -64,14 +64,14 @@ abbrev pub begins_unary : ℕ → Bool
 begins_unary n =
     n == punct.LEFT_PARENTHESIS || (n == punct.SCOPE || (n == punct.PLUS || (n == punct.MINUS || (n == punct.STAR || (n == punct.AMPERSAND || (n == punct.EXCLAMATION || (n == punct.TILDE || (n == punct.INCREMENT || n == punct.DECREMENT))))))))
 
-abbrev keyword_refused : {S A : Type 0} → ℕ → Reads S A
+abbrev pub keyword_refused : {S A : Type 0} → ℕ → Reads S A
 keyword_refused n state ahead =
     if n == keyword.TYPEID then fault_at (place_ahead ahead) (says.LeftOut form.Typeid) state ahead else (
     if n == keyword.DYNAMIC_CAST then fault_at (place_ahead ahead) (says.LeftOut form.DynamicCast) state ahead else (
     if begins_operand n then not_built state ahead else
     refused state ahead))
 
-abbrev refused_by : {S A : Type 0} → TokenKind → Reads S A
+abbrev pub refused_by : {S A : Type 0} → TokenKind → Reads S A
 refused_by Name = not_built
 refused_by Text = not_built
 refused_by (Keyword n) = keyword_refused n
@@ -93,7 +93,7 @@ continues n =
 abbrev pub is_member_pointer : ℕ → Bool
 is_member_pointer n = n == punct.DOT_STAR || n == punct.ARROW_STAR
 
-abbrev ends_by : {S : Type 0} → TokenKind → CxxTree → Reads S CxxTree
+abbrev pub ends_by : {S : Type 0} → TokenKind → CxxTree → Reads S CxxTree
 ends_by (Punct n) tree = λ state ahead.
     if is_member_pointer n then fault_at (place_ahead ahead) (says.LeftOut form.PointerToMember) state ahead else (
     if continues n then not_built state ahead else

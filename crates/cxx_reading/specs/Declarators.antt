@@ -117,7 +117,7 @@ type_word n =
     if n == keyword.LONG then Some (of_size size.Long) else
     None))))))))))
 
-abbrev is_row : Option TypeWords → Option Base → Option TypeWords
+abbrev pub is_row : Option TypeWords → Option Base → Option TypeWords
 is_row words None = None
 is_row words (Some of) = words
 
@@ -149,7 +149,7 @@ pub record Specifiers : Type 0 where
 abbrev pub no_specifiers : Specifiers
 no_specifiers = record { storage = None; is_inline = false; cv = no_cv; words = no_words; named = None; is_enumeration = false; parts = [] }
 
-abbrev of_base : Option Base → Option CxxType
+abbrev pub of_base : Option Base → Option CxxType
 of_base None = None
 of_base (Some of) = Some (fundamental of)
 
@@ -230,7 +230,7 @@ refused_on (array_layer bound) of =
     None)
 refused_on (function_layer parameters ellipsis scope) of = None
 
-abbrev or_later : Option SubstitutionText → Option SubstitutionText → Option SubstitutionText
+abbrev pub or_later : Option SubstitutionText → Option SubstitutionText → Option SubstitutionText
 or_later (Some why) later = Some why
 or_later None later = later
 
@@ -263,7 +263,7 @@ is_named declarator = by declarator.name
     by None = false
     by (Some name) = true
 
-abbrev scope_in : Layer → Option ℕ
+abbrev pub scope_in : Layer → Option ℕ
 scope_in (function_layer parameters ellipsis scope) = Some scope
 scope_in _ = None
 

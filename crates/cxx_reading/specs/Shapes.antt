@@ -9,12 +9,12 @@ use Rattle.cxx_model.specs.declared.tree.Kind.TheVariants as kind
 use Rattle.cxx_model.specs.Stops.{Answer}
 use Rattle.cxx_reading.specs.Declarators.{type_word, TypeWord}
 use Rattle.cxx_reading.specs.Kinds.{Kinds, Readers}
-use Rattle.cxx_reading.specs.Reads.{Reads, Got, Ahead, Turn, More, Done, ◌>>=◌, got, give, ask, looked, taken, kind_ahead, count_ahead, behind, repeat}
+use Rattle.cxx_reading.specs.Reads.{Reads, Got, Ahead, Turn, More, Done, ◌>>=◌, got, give, ask, looked, taken, tokens, kind_ahead, count_ahead, behind, repeat}
 use Rattle.cxx_reading.specs.Specifiers.{storage_word, is_some_storage, is_of_members, begins_class}
 use Rattle.cxx_reading.specs.Tokens.{is_punct, is_keyword, is_name, is_end, is_qualified, path_ahead}
 
 -- What is read is not taken: the tokens stay ahead.
-abbrev returned : {S A : Type 0} → Ahead → Answer (Got S A) → Answer (Got S A)
+abbrev pub returned : {S A : Type 0} → Ahead → Answer (Got S A) → Answer (Got S A)
 returned ahead (Ok one) = got one.value one.state ahead
 returned ahead (Err why) = Err why
 
@@ -42,7 +42,7 @@ bracket_step count state ahead =
     if closes (kind_ahead ahead) then got (if count == 1 then Done tt else More (count - 1)) state (behind ahead) else
     got (More count) state (behind ahead)))
 
-abbrev give_nothing : {S A : Type 0} → A → Reads S (Unit {0})
+abbrev pub give_nothing : {S A : Type 0} → A → Reads S (Unit {0})
 give_nothing so_far = give tt
 
 -- from an opening bracket behind its end, or to the end of the unit
@@ -60,7 +60,7 @@ pub data Run : Type 0 where
 abbrev pub is_cv : ℕ → Bool
 is_cv n = n == keyword.CONST || n == keyword.VOLATILE
 
-abbrev is_some_word : Option TypeWord → Bool
+abbrev pub is_some_word : Option TypeWord → Bool
 is_some_word None = false
 is_some_word (Some word) = true
 
@@ -78,7 +78,7 @@ key_shape state ahead =
     then (if is_punct punct.LEFT_BRACE (kind_ahead (behind ahead)) then got (Done surely) state ahead else got (More true) state (behind ahead))
     else got (Done surely) state ahead
 
-abbrev kind_shape : {S : Type 0} → Kind → Reads S (Turn Bool Run)
+abbrev pub kind_shape : {S : Type 0} → Kind → Reads S (Turn Bool Run)
 kind_shape kind.OfType state ahead = got (More true) state (behind ahead)
 kind_shape _ state ahead = got (Done no_type) state ahead
 
@@ -86,7 +86,7 @@ unfoldable pub name_shape : {S : Type 0} → Kinds S → Bool → Reads S (Turn 
 name_shape asks true state ahead = got (Done a_type) state ahead
 name_shape asks false state ahead = if is_qualified ahead then got (Done surely) state ahead else (ask (asks.kind (path_ahead ahead)) >>= kind_shape) state ahead
 
-abbrev ended : Bool → Run
+abbrev pub ended : Bool → Run
 ended true = a_type
 ended false = no_type
 
@@ -97,7 +97,7 @@ keyword_shape n typed state ahead =
     if is_key n && not typed then key_shape state (behind ahead) else
     got (Done (ended typed)) state ahead))
 
-abbrev run_by : {S : Type 0} → Kinds S → TokenKind → Bool → Reads S (Turn Bool Run)
+abbrev pub run_by : {S : Type 0} → Kinds S → TokenKind → Bool → Reads S (Turn Bool Run)
 run_by asks (Keyword n) typed = keyword_shape n typed
 run_by asks Name typed = name_shape asks typed
 run_by asks (Punct n) typed = if n == punct.SCOPE then name_shape asks typed else give (Done (ended typed))
@@ -106,7 +106,7 @@ run_by asks _ typed = give (Done (ended typed))
 unfoldable pub run_step : {S : Type 0} → Kinds S → Bool → Reads S (Turn Bool Run)
 run_step asks typed state ahead = run_by asks (kind_ahead ahead) typed state ahead
 
-abbrev give_ended : {S : Type 0} → Bool → Reads S Run
+abbrev pub give_ended : {S : Type 0} → Bool → Reads S Run
 give_ended typed = give (ended typed)
 
 -- specifiers with one type
@@ -115,11 +115,11 @@ run_passed asks state ahead = repeat (run_step asks) give_ended (count_ahead ahe
 
 -- ---- where a type begins
 
-abbrev is_type_kind : {S : Type 0} → Kind → Reads S Bool
+abbrev pub is_type_kind : {S : Type 0} → Kind → Reads S Bool
 is_type_kind kind.OfType = give true
 is_type_kind _ = give false
 
-abbrev begins_by : {S : Type 0} → Kinds S → TokenKind → Reads S Bool
+abbrev pub begins_by : {S : Type 0} → Kinds S → TokenKind → Reads S Bool
 begins_by asks (Keyword n) state ahead = got (is_some_word (type_word n) || (is_cv n || is_key n)) state ahead
 begins_by asks (Punct n) state ahead = got (n == punct.SCOPE) state ahead
 begins_by asks Name state ahead = if is_qualified ahead then got true state ahead else (ask (asks.kind (path_ahead ahead)) >>= is_type_kind) state ahead
@@ -149,7 +149,7 @@ pub data Fits : Type 0 where
   -- a name with qualifiers is met when it is read
   fits_surely : Fits
 
-abbrev opened_by : {S : Type 0} → Bool → Outline → Reads S (Turn Outline (Outline × Bool))
+abbrev pub opened_by : {S : Type 0} → Bool → Outline → Reads S (Turn Outline (Outline × Bool))
 opened_by true outline state ahead = got (Done (outline, false)) state ahead
 opened_by false outline state ahead = got (More (record outline { brackets = suc outline.brackets })) state (behind ahead)
 
@@ -163,20 +163,20 @@ prefix_step asks outline state ahead =
     if is_name (kind_ahead ahead) then got (Done (record outline { is_named = true }, false)) state (behind ahead) else
     got (Done (outline, false)) state ahead)))
 
-abbrev give_unqualified : {S : Type 0} → Outline → Reads S (Outline × Bool)
+abbrev pub give_unqualified : {S : Type 0} → Outline → Reads S (Outline × Bool)
 give_unqualified outline = give (outline, false)
 
-abbrev no_outline : Outline
+abbrev pub no_outline : Outline
 no_outline = record { brackets = 0; is_named = false }
 
 unfoldable pub prefix_passed : {S : Type 0} → Kinds S → Reads S (Outline × Bool)
 prefix_passed asks state ahead = repeat (prefix_step asks) give_unqualified (count_ahead ahead) no_outline state ahead
 
-abbrev is_closed : Outline → Fits
+abbrev pub is_closed : Outline → Fits
 is_closed outline = if outline.brackets == 0 then fits else fits_not
 
-abbrev passed_by : {S : Type 0} → Bool → Outline → Reads S (Turn Outline Fits)
-passed_by true outline = brackets_passed >>= λ end. give (More outline)
+abbrev pub passed_by : {S : Type 0} → Bool → Outline → Reads S (Turn Outline Fits)
+passed_by true outline = tokens brackets_passed >>= λ end. give (More outline)
 passed_by false outline = give (Done fits_not)
 
 -- 8.2: parameters behind a name stand there whatever they are, and behind none they have to be such
@@ -194,10 +194,10 @@ suffix_step inner outline state ahead =
     if is_punct punct.RIGHT_PARENTHESIS (kind_ahead ahead) && not (outline.brackets == 0) then got (More (record outline { brackets = outline.brackets - 1 })) state (behind ahead) else
     got (Done (is_closed outline)) state ahead)))
 
-abbrev give_closed : {S : Type 0} → Outline → Reads S Fits
+abbrev pub give_closed : {S : Type 0} → Outline → Reads S Fits
 give_closed outline = give (is_closed outline)
 
-abbrev suffixes_by : {S : Type 0} → Readers S → Outline → Bool → Reads S Fits
+abbrev pub suffixes_by : {S : Type 0} → Readers S → Outline → Bool → Reads S Fits
 suffixes_by inner outline true state ahead = got fits_surely state ahead
 suffixes_by inner outline false state ahead = repeat (suffix_step inner) give_closed (count_ahead ahead) outline state ahead
 
@@ -222,17 +222,17 @@ unfoldable pub default_passed : {S : Type 0} → Reads S (Unit {0})
 default_passed state ahead =
     if is_punct punct.EQUALS (kind_ahead ahead) then repeat default_step give (count_ahead ahead) tt state (behind ahead) else got tt state ahead
 
-abbrev separated : {S : Type 0} → Reads S (Turn (Unit {0}) Bool)
+abbrev pub separated : {S : Type 0} → Reads S (Turn (Unit {0}) Bool)
 separated state ahead =
     if is_punct punct.COMMA (kind_ahead ahead) then got (More tt) state (behind ahead) else
     got (Done (is_punct punct.RIGHT_PARENTHESIS (kind_ahead ahead) || is_punct punct.ELLIPSIS (kind_ahead ahead))) state ahead
 
-abbrev parameter_by : {S : Type 0} → Fits → Reads S (Turn (Unit {0}) Bool)
-parameter_by fits = default_passed >>= λ passed. separated
+abbrev pub parameter_by : {S : Type 0} → Fits → Reads S (Turn (Unit {0}) Bool)
+parameter_by fits = tokens default_passed >>= λ passed. separated
 parameter_by fits_not = give (Done false)
 parameter_by fits_surely = give (Done true)
 
-abbrev piece_by : {S : Type 0} → Kinds S → Readers S → Run → Reads S (Turn (Unit {0}) Bool)
+abbrev pub piece_by : {S : Type 0} → Kinds S → Readers S → Run → Reads S (Turn (Unit {0}) Bool)
 piece_by asks inner no_type = give (Done false)
 piece_by asks inner a_type = declarator_passed asks inner >>= parameter_by
 piece_by asks inner surely = give (Done true)
@@ -242,7 +242,7 @@ unfoldable pub piece_step : {S : Type 0} → Kinds S → Readers S → Unit {0} 
 piece_step asks inner so_far state ahead =
     if is_punct punct.ELLIPSIS (kind_ahead ahead) then got (Done true) state ahead else (run_passed asks >>= piece_by asks inner) state ahead
 
-abbrev give_false : {S : Type 0} → Unit {0} → Reads S Bool
+abbrev pub give_false : {S : Type 0} → Unit {0} → Reads S Bool
 give_false so_far = give false
 
 -- 8.2: Behind a bracket: there is nothing, an ellipsis, or one parameter after another.

@@ -90,11 +90,11 @@ unfoldable pub volatile_step : {S : Type 0} → Specifiers → Reads S (Turn Spe
 volatile_step so_far state ahead =
     if so_far.cv.is_volatile then refused state ahead else went_on (record so_far { cv = with_volatile so_far.cv }) state ahead
 
-abbrev is_some_named : Option CxxType → Bool
+abbrev pub is_some_named : Option CxxType → Bool
 is_some_named None = false
 is_some_named (Some of) = true
 
-abbrev worded : {S : Type 0} → Option TypeWords → Specifiers → Reads S (Turn Specifiers Specifiers)
+abbrev pub worded : {S : Type 0} → Option TypeWords → Specifiers → Reads S (Turn Specifiers Specifiers)
 worded (Some words) so_far state ahead = went_on (record so_far { words = words }) state ahead
 worded None so_far state ahead = refused state ahead
 
@@ -104,7 +104,7 @@ word_step word so_far state ahead = if is_some_named so_far.named then refused s
 
 -- ---- names of types
 
-abbrev named_by : {S : Type 0} → Kinds S → CxxPath → Specifiers → Kind → Reads S (Turn Specifiers Specifiers)
+abbrev pub named_by : {S : Type 0} → Kinds S → CxxPath → Specifiers → Kind → Reads S (Turn Specifiers Specifiers)
 named_by asks path so_far kind.OfType = do
   of ← ask (asks.type_named path)
   place ← taken
@@ -193,11 +193,11 @@ other_step asks inner place n so_far state ahead =
     if is_of_members n then refused state ahead else
     got (Done so_far) state ahead)))))
 
-abbrev stored_by : {S : Type 0} → Option StorageWord → Reads S (Turn Specifiers Specifiers) → SpecifierPlace → Specifiers → Reads S (Turn Specifiers Specifiers)
+abbrev pub stored_by : {S : Type 0} → Option StorageWord → Reads S (Turn Specifiers Specifiers) → SpecifierPlace → Specifiers → Reads S (Turn Specifiers Specifiers)
 stored_by (Some word) others place so_far = storage_step place word so_far
 stored_by None others place so_far = others
 
-abbrev worded_by : {S : Type 0} → Option TypeWord → Reads S (Turn Specifiers Specifiers) → Specifiers → Reads S (Turn Specifiers Specifiers)
+abbrev pub worded_by : {S : Type 0} → Option TypeWord → Reads S (Turn Specifiers Specifiers) → Specifiers → Reads S (Turn Specifiers Specifiers)
 worded_by (Some word) others so_far = word_step word so_far
 worded_by None others so_far = others
 
@@ -205,7 +205,7 @@ unfoldable pub keyword_step : {S : Type 0} → Kinds S → Readers S → Specifi
 keyword_step asks inner place n so_far =
     stored_by (storage_word n) (worded_by (type_word n) (other_step asks inner place n so_far) so_far) place so_far
 
-abbrev step_by : {S : Type 0} → Kinds S → Readers S → SpecifierPlace → TokenKind → Specifiers → Reads S (Turn Specifiers Specifiers)
+abbrev pub step_by : {S : Type 0} → Kinds S → Readers S → SpecifierPlace → TokenKind → Specifiers → Reads S (Turn Specifiers Specifiers)
 step_by asks inner place (Keyword n) so_far = keyword_step asks inner place n so_far
 step_by asks inner place Name so_far = named_step asks so_far
 step_by asks inner place (Punct n) so_far = if n == punct.SCOPE then named_step asks so_far else give (Done so_far)

@@ -19,7 +19,7 @@ use Rattle.cxx_reading.specs.Declarators.{Specifiers, bare_type, type_of_specifi
 use Rattle.cxx_reading.specs.Kinds.{Kinds, Readers, too_deep}
 use Rattle.cxx_reading.specs.Labels.{label_from}
 use Rattle.cxx_reading.specs.Productions as production
-use Rattle.cxx_reading.specs.Reads.{Reads, Ahead, Turn, More, Done, ◌>>=◌, got, give, ask, limited, fault_at, looked, taken, kind_ahead, place_ahead, count_ahead, behind, repeat}
+use Rattle.cxx_reading.specs.Reads.{Reads, Ahead, Turn, More, Done, ◌>>=◌, got, give, ask, limited, fault_at, looked, taken, tokens, kind_ahead, place_ahead, count_ahead, behind, repeat}
 use Rattle.cxx_reading.specs.Shapes.{look, past, is_abstract_list, begins_type, parameters_shape}
 use Rattle.cxx_reading.specs.Specifiers.{specifiers_at, with_const, with_volatile, path_of_option, place_or}
 use Rattle.cxx_reading.specs.Tokens.{is_punct, is_keyword, is_name, is_qualified, token_taken, punct_taken, refused, not_built, no_declarator}
@@ -27,11 +27,11 @@ use Rattle.cxx_reading.specs.Trees.{CxxTree, tree_of}
 
 -- ---- declarators (8.3)
 
-abbrev is_required : Naming → Bool
+abbrev pub is_required : Naming → Bool
 is_required naming.Required = true
 is_required _ = false
 
-abbrev is_never : Naming → Bool
+abbrev pub is_never : Naming → Bool
 is_never naming.Never = true
 is_never _ = false
 
@@ -46,7 +46,7 @@ unfoldable pub cv_at : {S : Type 0} → Reads S Cv
 cv_at state ahead = repeat cv_step give (count_ahead ahead) no_cv state ahead
 
 -- 8.3.4: a bound below one is none
-abbrev bound_by : Option ℤ → CxxBound
+abbrev pub bound_by : Option ℤ → CxxBound
 bound_by None = unknown_bound
 bound_by (Some (pos n)) = number_bound n
 bound_by (Some (negsuc n)) = number_bound zero
@@ -56,7 +56,7 @@ pub record Suffixed : Type 0 where
   pub declarator : Declarator
   pub in_row : Bool
 
-abbrev suffixed : Bool → Declarator → Turn Suffixed Declarator
+abbrev pub suffixed : Bool → Declarator → Turn Suffixed Declarator
 suffixed in_row declarator = More (record { declarator = declarator; in_row = in_row })
 
 abbrev pub array_part : Option ℤ × List CxxTree → Declarator → Declarator
@@ -85,11 +85,11 @@ unfoldable pub function_suffix : {S : Type 0} → Readers S → Suffixed → Rea
 function_suffix inner so_far = do
   opened ← taken
   list ← inner.parameters
-  cv ← cv_at
-  exceptions ← exceptions_at
+  cv ← tokens cv_at
+  exceptions ← tokens exceptions_at
   give (suffixed false (function_part list so_far.declarator))
 
-abbrev function_by : {S : Type 0} → Readers S → Suffixed → Bool → Reads S (Turn Suffixed Declarator)
+abbrev pub function_by : {S : Type 0} → Readers S → Suffixed → Bool → Reads S (Turn Suffixed Declarator)
 function_by inner so_far true = function_suffix inner so_far
 function_by inner so_far false = give (Done so_far.declarator)
 
@@ -105,16 +105,16 @@ suffix_at inner so_far state ahead =
     if is_punct punct.LEFT_BRACKET (kind_ahead ahead) then array_suffix inner so_far state ahead else
     got (Done so_far.declarator) state ahead)
 
-abbrev give_declarator : {S : Type 0} → Suffixed → Reads S Declarator
+abbrev pub give_declarator : {S : Type 0} → Suffixed → Reads S Declarator
 give_declarator so_far = give so_far.declarator
 
 unfoldable pub suffixes_at : {S : Type 0} → Readers S → Declarator → Reads S Declarator
 suffixes_at inner declarator state ahead = repeat (suffix_at inner) give_declarator (count_ahead ahead) (record { declarator = declarator; in_row = false }) state ahead
 
-abbrev name_read : Lexeme → Declarator
+abbrev pub name_read : Lexeme → Declarator
 name_read token = record no_declarator_yet { name = Some token }
 
-abbrev named_declarator : {S : Type 0} → Readers S → Lexeme → Reads S Declarator
+abbrev pub named_declarator : {S : Type 0} → Readers S → Lexeme → Reads S Declarator
 named_declarator inner token = suffixes_at inner (name_read token)
 
 -- a name, or none where none has to stand
@@ -132,7 +132,7 @@ grouped_part inner naming = do
   inside ← inner.grouped naming
   suffixes_at inner inside
 
-abbrev grouped_by : {S : Type 0} → Readers S → Naming → Bool → Reads S Declarator
+abbrev pub grouped_by : {S : Type 0} → Readers S → Naming → Bool → Reads S Declarator
 grouped_by inner naming true = suffixes_at inner no_declarator_yet
 grouped_by inner naming false = grouped_part inner naming
 
@@ -163,7 +163,7 @@ declarator_at asks inner naming state ahead =
 -- 8.3.1: behind `*`
 unfoldable pub pointed_at : {S : Type 0} → Kinds S → Readers S → Naming → Reads S Declarator
 pointed_at asks inner naming = do
-  cv ← cv_at
+  cv ← tokens cv_at
   inside ← declarator_at asks inner naming
   give (outward (pointer_layer cv) [] inside)
 
@@ -177,7 +177,7 @@ referred_at asks inner naming = do
 unfoldable pub grouped_at : {S : Type 0} → Kinds S → Readers S → Naming → Reads S Declarator
 grouped_at asks inner naming = do
   inside ← declarator_at asks inner naming
-  closed ← punct_taken punct.RIGHT_PARENTHESIS
+  closed ← tokens (punct_taken punct.RIGHT_PARENTHESIS)
   give inside
 
 -- ---- bounds (8.3.4)
@@ -192,7 +192,7 @@ valued asks = do
 unfoldable pub bound_value : {S : Type 0} → Kinds S → Reads S (Option ℤ × List CxxTree)
 bound_value asks = do
   value ← valued asks
-  closed ← punct_taken punct.RIGHT_BRACKET
+  closed ← tokens (punct_taken punct.RIGHT_BRACKET)
   give value
 
 -- behind `[`
@@ -203,7 +203,7 @@ bound_at asks is_first state ahead =
 
 -- ---- parameters (8.3.5)
 
-abbrev some_or_void : Option CxxType → CxxType
+abbrev pub some_or_void : Option CxxType → CxxType
 some_or_void None = Rattle.cxx_model.specs.Types.Trees.fundamental Rattle.cxx_model.specs.declared.base.Base.TheVariants.Void
 some_or_void (Some of) = of
 
@@ -246,7 +246,7 @@ parameter_at asks inner so_far = do
 unfoldable pub list_ended : {S : Type 0} → ParameterTypes → Reads S (Turn ParameterTypes ParameterTypes)
 list_ended so_far = do
   ellipsis ← taken
-  closed ← punct_taken punct.RIGHT_PARENTHESIS
+  closed ← tokens (punct_taken punct.RIGHT_PARENTHESIS)
   give (Done (with_ellipsis so_far))
 
 -- behind a comma
@@ -266,7 +266,7 @@ parameter_ended so_far state ahead =
 unfoldable pub parameter_step : {S : Type 0} → Kinds S → Readers S → ParameterTypes → Reads S (Turn ParameterTypes ParameterTypes)
 parameter_step asks inner so_far = parameter_at asks inner so_far >>= parameter_ended
 
-abbrev past_most : {S A : Type 0} → Bool → Reads S A
+abbrev pub past_most : {S A : Type 0} → Bool → Reads S A
 past_most true = limited Arguments
 past_most false = refused
 
@@ -280,7 +280,7 @@ no_parameters scope = record { types = []; ellipsis = false; scope = scope; part
 unfoldable pub some_parameters : {S : Type 0} → Kinds S → Readers S → ℕ → Reads S ParameterTypes
 some_parameters asks inner scope = repeat (parameter_step asks inner) (parameters_over asks) limits.MOST_ARGUMENTS (no_parameters scope)
 
-abbrev turn_result : {S : Type 0} → Turn ParameterTypes ParameterTypes → Reads S ParameterTypes
+abbrev pub turn_result : {S : Type 0} → Turn ParameterTypes ParameterTypes → Reads S ParameterTypes
 turn_result (More so_far) = give so_far
 turn_result (Done so_far) = give so_far
 

@@ -47,7 +47,7 @@ is_plain_name ahead = is_name (kind_ahead ahead) && not (is_punct punct.SCOPE (k
 abbrev pub path_ahead : Ahead → CxxPath
 path_ahead ahead = record { global = false; parts = record { word = word_ahead ahead; place = place_ahead ahead; arguments = None } ∷ [] }
 
-abbrev token_in : List Lexeme → Lexeme
+abbrev pub token_in : List Lexeme → Lexeme
 token_in [] = record { kind = End; place = record { line = 0; column = 0 }; spelling = [] }
 token_in (token ∷ tokens) = token
 
@@ -73,14 +73,14 @@ punct_taken n state ahead = if is_punct n (kind_ahead ahead) then got tt state (
 abbrev pub begins_unbuilt : ℕ → Bool
 begins_unbuilt n = n == keyword.NAMESPACE || (n == keyword.USING || (n == keyword.TEMPLATE || (n == keyword.CLASS || (n == keyword.STRUCT || (n == keyword.UNION || (n == keyword.TYPENAME || n == keyword.OPERATOR))))))
 
-abbrev form_of_keyword : ℕ → FaultText
+abbrev pub form_of_keyword : ℕ → FaultText
 form_of_keyword n =
     if n == keyword.ASM then says.LeftOut form.Asm else (
     if n == keyword.EXPORT then says.LeftOut form.Export else (
     if begins_unbuilt n then says.NotBuilt else
     says.SyntaxError))
 
-abbrev form_of_kind : TokenKind → FaultText
+abbrev pub form_of_kind : TokenKind → FaultText
 form_of_kind (Keyword n) = form_of_keyword n
 form_of_kind kind = says.SyntaxError
 

@@ -1,0 +1,5 @@
+pub mod Reading
+pub mod Views
+pub mod Asking
+pub mod Knot
+pub mod Words
