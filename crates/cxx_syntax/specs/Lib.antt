@@ -3,3 +3,4 @@ pub mod Views
 pub mod Asking
 pub mod Knot
 pub mod Words
+pub mod Making

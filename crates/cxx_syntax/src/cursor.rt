@@ -1,16 +1,18 @@
 //! The tokens that are still to be read.
 
-ghost use Rattle.std.specs.Prelude.{◌≡◌, ◌-◌, take, drop, length, IfOk};
+ghost use Rattle.std.specs.Prelude.{◌≡◌, ◌<◌, ◌^◌, ◌-◌, take, drop, length, IfOk, OnOk};
 ghost use Rattle.cxx_model.specs.Text.Lexemes.{spelling_in as spelled_in, lexemes};
 ghost use Rattle.cxx_model.specs.Stops.{Faulty, fault};
 ghost use Rattle.cxx_model.specs.declared.fault.FaultText.TheVariants as says;
 ghost use Rattle.cxx_reading.specs.Reads.{kind_ahead, place_ahead, word_ahead, count_ahead, behind};
 ghost use Rattle.cxx_reading.specs.Tokens as definition;
-ghost use Rattle.cxx_reading.specs.Tokens.{token_in};
-ghost use Rattle.cxx_syntax.specs.Views.{lexeme_at};
+ghost use Rattle.cxx_reading.specs.Tokens.{path_ahead, token_in};
+ghost use Rattle.cxx_reading.specs.Specifiers.{path_of};
+ghost use Rattle.cxx_syntax.specs.Views.{lexeme_at, name_at};
 ghost use Rattle.cxx_syntax.specs.Reading.{Takes};
 
-use cxx_model::{Fault, FaultText, Listed, Place, Stop, Token, TokenKind, punct};
+use crate::name::NameToken;
+use cxx_model::{Fault, FaultText, Listed, Place, Stop, Token, TokenKind, Word, punct};
 use std::alloc::{AllocError, Global};
 use std::marker::Model;
 
@@ -24,12 +26,15 @@ pub struct Cursor<'a> {
 }
 
 impl<'a> Model for Cursor<'a> {
+    ghost use Rattle.std.specs.Prelude.{◌<◌, ◌^◌, length};
     ghost use Rattle.cxx_model.specs.Text.Lexemes.{lexemes};
     ghost use Rattle.cxx_reading.specs.Reads.{Ahead};
 
     ghost Value = { Ahead };
 
     ghost view = { λ cursor. record { last = cursor.last; tokens = lexemes cursor.bytes.now cursor.rest.now } };
+
+    ghost invariant = { λ cursor. length cursor.rest.now < 2 ^ 32 };
 }
 
 /// A token that was taken, with the bytes that spell it.
@@ -101,6 +106,7 @@ pub(crate) fn is_name(kind: TokenKind) -> bool
 impl<'a> Cursor<'a> {
     /// Before all tokens. A first place stands for that of a token before them.
     pub fn new(alloc: Global, bytes: &'a [u8], tokens: &'a [Token], last: Place) -> Cursor<'a>
+        requires { length tokens.now < 2 ^ 32 }
         ensures { result ≡ record { last = last; tokens = lexemes bytes.now tokens.now } }
     {
         Cursor {
@@ -165,10 +171,10 @@ impl<'a> Cursor<'a> {
     }
 
     /// How many tokens are left.
-    pub fn count(&self) -> usize
+    pub fn count(&self) -> u32
         ensures { result ≡ count_ahead self.now }
     {
-        self.rest.len()
+        self.rest.len() as u32
     }
 
     pub fn spelling(&self) -> &'a [u8]
@@ -205,6 +211,30 @@ impl<'a> Cursor<'a> {
         };
         self.advance();
         token
+    }
+
+    /// The name ahead, which is not taken.
+    pub(crate) fn name(&self) -> Spelled<'a>
+        ensures { path_of (lexeme_at result) ≡ path_ahead self.now }
+    {
+        Spelled {
+            kind: self.kind(),
+            place: self.place(),
+            spelling: self.spelling(),
+        }
+    }
+
+    /// The token ahead, taken and kept.
+    pub(crate) fn kept(&mut self) -> Result<NameToken, AllocError>
+        ensures token { IfOk result (λ token. name_at token ≡ token_in (self.old).tokens) }
+        ensures taken { OnOk result (self.new ≡ behind self.old) }
+    {
+        let token = self.token();
+        Ok(NameToken {
+            kind: token.kind,
+            place: token.place,
+            spelling: Word::from_slice(self.alloc, token.spelling)?,
+        })
     }
 
     // A fault at the token ahead.

@@ -6,6 +6,7 @@ mod cv;
 mod declarator;
 mod kinds;
 mod name;
+mod nodes;
 mod reader;
 mod specifiers;
 mod steps;
