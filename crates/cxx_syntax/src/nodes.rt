@@ -5,6 +5,7 @@ ghost use Rattle.cxx_reading.specs.Productions as production;
 ghost use Rattle.cxx_reading.specs.Reads.{count_ahead, place_ahead};
 ghost use Rattle.cxx_reading.specs.Specifiers as definition;
 ghost use Rattle.cxx_reading.specs.Specifiers.{path_of, place_or};
+ghost use Rattle.cxx_syntax.specs.Asking.{IsEnumeration};
 ghost use Rattle.cxx_syntax.specs.Making.{GrowsTree};
 ghost use Rattle.cxx_syntax.specs.Views.{AreTreesHeld, name_at, name_of_option, trees_held};
 ghost use Rattle.cxx_tree.specs.Arena.{AreTreesBelow, IsNodeBelow, tree_over, path_at};
@@ -124,5 +125,33 @@ pub(crate) fn elaborated_tree(
     node.place = name.place;
     node.path = Some(path);
     node.of = Some(of);
+    push(state, node)
+}
+
+/// An enumeration with its list (7.2).
+pub(crate) fn enumeration_tree(
+    alloc: Global,
+    state: &mut State,
+    name: &Option<NameToken>,
+    both: (EnumId, TypeId),
+    values: TreeIdList,
+    from: &Cursor<'_>,
+    to: &Cursor<'_>,
+) -> Result<TreeId, Stop>
+    requires known { IsEnumeration state.old both }
+    requires values { AreTreesHeld state.old values }
+    ensures { GrowsTree state.old state.new result (definition.enumeration_tree (name_of_option name.now) both.0.0 (trees_held state.old values) from.now to.now) }
+{
+    let path = path_to_option(alloc, name)?;
+    let mut node = node_from(
+        production::ENUMERATION_LIST,
+        Listed::new(alloc),
+        from,
+        to,
+        values,
+    );
+    node.place = place_of(from.place(), name);
+    node.path = path;
+    node.of = Some(both.1);
     push(state, node)
 }
