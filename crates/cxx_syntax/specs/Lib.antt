@@ -4,3 +4,5 @@ pub mod Asking
 pub mod Knot
 pub mod Words
 pub mod Making
+pub mod Looping
+pub mod Suffixes

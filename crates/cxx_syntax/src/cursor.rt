@@ -1,9 +1,10 @@
 //! The tokens that are still to be read.
 
-ghost use Rattle.std.specs.Prelude.{◌≡◌, ◌<◌, ◌^◌, ◌-◌, take, drop, length, IfOk, OnOk};
+ghost use Rattle.std.specs.Prelude.{if◌then◌else◌, ◌||◌, ◌≡◌, ◌<◌, ◌^◌, ◌-◌, take, drop, length, IfOk, OnOk};
 ghost use Rattle.cxx_model.specs.Text.Lexemes.{spelling_in as spelled_in, lexemes};
 ghost use Rattle.cxx_model.specs.Stops.{Faulty, fault};
 ghost use Rattle.cxx_model.specs.declared.fault.FaultText.TheVariants as says;
+ghost use Rattle.cxx_model.specs.declared.keyword.TheConstants as keyword;
 ghost use Rattle.cxx_reading.specs.Reads.{kind_ahead, place_ahead, word_ahead, count_ahead, behind};
 ghost use Rattle.cxx_reading.specs.Tokens as definition;
 ghost use Rattle.cxx_reading.specs.Tokens.{path_ahead, token_in};
@@ -12,7 +13,7 @@ ghost use Rattle.cxx_syntax.specs.Views.{lexeme_at, name_at};
 ghost use Rattle.cxx_syntax.specs.Reading.{Takes};
 
 use crate::name::NameToken;
-use cxx_model::{Fault, FaultText, Listed, Place, Stop, Token, TokenKind, Word, punct};
+use cxx_model::{Fault, FaultText, Listed, Place, Stop, Token, TokenKind, Word, keyword, punct};
 use std::alloc::{AllocError, Global};
 use std::marker::Model;
 
@@ -271,6 +272,17 @@ impl<'a> Cursor<'a> {
     {
         is_punct(punct::SCOPE, self.kind())
             || (is_name(self.kind()) && is_punct(punct::SCOPE, self.kind_behind()))
+    }
+
+    // No declarator begins there (8): a name with qualifiers or of an operator is not read yet.
+    pub(crate) fn no_declarator(&self) -> Result<Box<Fault>, AllocError>
+        ensures { IfOk result (λ at. Faulty at.value ≡ fault (place_ahead self.now) (if definition.is_qualified self.now || definition.is_keyword keyword.OPERATOR (kind_ahead self.now) then says.NotBuilt else says.SyntaxError)) }
+    {
+        if self.is_qualified() || is_keyword(keyword::OPERATOR, self.kind()) {
+            self.not_built()
+        } else {
+            self.refused()
+        }
     }
 
     // Takes a punctuator.

@@ -4,6 +4,7 @@
 mod cursor;
 mod cv;
 mod declarator;
+mod declarators;
 mod kinds;
 mod name;
 mod nodes;

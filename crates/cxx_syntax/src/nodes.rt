@@ -23,8 +23,11 @@ use std::alloc::{AllocError, Global};
 /// The numbers of the productions.
 pub(crate) mod production {
     pub const ELABORATED: u8 = 9;
+
     pub const ENUMERATION_LIST: u8 = 11;
+
     pub const LITERAL: u8 = 34;
+
     pub const PARAMETER: u8 = 54;
 }
 
