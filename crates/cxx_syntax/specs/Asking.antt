@@ -2,6 +2,7 @@
 use Rattle.std.specs.Prelude.{ℕ, ℤ, ◌≡◌, ◌<◌, length, Option, Some, None, Result, Ok, Err}
 use Rattle.cxx_model.specs.declared.stop.Stop.{Stop}
 use Rattle.cxx_model.specs.declared.types.EnumId.{EnumId}
+use Rattle.cxx_model.specs.declared.types.TreeId.{TreeId}
 use Rattle.cxx_model.specs.declared.types.TypeId.{TypeId}
 use Rattle.cxx_model.specs.Stops.{Answer, Stops}
 use Rattle.cxx_model.specs.Types.Trees.{enumeration}
@@ -9,7 +10,7 @@ use Rattle.cxx_model.specs.Types.Numbers.{type_at}
 use Rattle.cxx_reading.specs.State.{CxxState}
 use Rattle.cxx_model.specs.declared.types.ScopeId.{ScopeId}
 use Rattle.cxx_syntax.specs.Views.{IsConstant}
-use Rattle.cxx_tree.specs.Held.{Held, meaning}
+use Rattle.cxx_tree.specs.Held.{Held, meaning, trees}
 use Rattle.cxx_tree.specs.Later.{Later}
 
 abbrev pub Replies : {X A : Type 0} → (Held → X → A) → (Held → X → Type 0) → Held → Result X Stop → Answer (A × CxxState) → Type 0
@@ -46,3 +47,6 @@ scope_number held scope = scope.0
 
 abbrev pub IsConstantKnown : Held → ℤ → Type 0
 IsConstantKnown held value = IsConstant value
+
+abbrev pub IsTreeKnown : Held → TreeId → Type 0
+IsTreeKnown held number = number.0 < length (trees held)

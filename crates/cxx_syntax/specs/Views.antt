@@ -126,3 +126,9 @@ trees_held held numbers = trees_in (trees held) numbers
 
 abbrev pub AreTreesHeld : Held → List TreeId → Type 0
 AreTreesHeld held numbers = AreTreesBelow (length (trees held)) numbers
+
+abbrev pub trees_turn : Held → Turn (List TreeId) (List TreeId) → reads.Turn (List CxxTree) (List CxxTree)
+trees_turn held = turn_at (trees_held held) (trees_held held)
+
+abbrev pub IsTreesTurn : Held → Turn (List TreeId) (List TreeId) → Type 0
+IsTreesTurn held = IsTurn (AreTreesHeld held) (AreTreesHeld held)

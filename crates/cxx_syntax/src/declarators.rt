@@ -64,7 +64,7 @@ fn with_name(alloc: Global, name: Option<NameToken>) -> Declarator
 }
 
 // The trees of both.
-fn joined(one: TreeIdList, two: TreeIdList) -> Result<TreeIdList, AllocError>
+pub(crate) fn joined(one: TreeIdList, two: TreeIdList) -> Result<TreeIdList, AllocError>
     ensures { IfOk result (λ all. all ≡ one ++ two) }
 {
     let mut items = one.into_vec();

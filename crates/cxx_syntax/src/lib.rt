@@ -1,6 +1,7 @@
 //! Readers of declarations: specifiers and declarators, over any user that says what a name is.
 #![tactic(auto)]
 
+mod constants;
 mod cursor;
 mod cv;
 mod declarator;
