@@ -6,3 +6,4 @@ pub mod Words
 pub mod Making
 pub mod Looping
 pub mod Suffixes
+pub mod Outlines

@@ -104,6 +104,16 @@ pub(crate) fn is_name(kind: TokenKind) -> bool
     }
 }
 
+#[tactic(auto, unfolding(cxx_reading::specs::Tokens::is_end))]
+pub(crate) fn is_end(kind: TokenKind) -> bool
+    ensures { result ≡ definition.is_end kind }
+{
+    match kind {
+        TokenKind::End => true,
+        _ => false,
+    }
+}
+
 impl<'a> Cursor<'a> {
     /// Before all tokens. A first place stands for that of a token before them.
     pub fn new(alloc: Global, bytes: &'a [u8], tokens: &'a [Token], last: Place) -> Cursor<'a>

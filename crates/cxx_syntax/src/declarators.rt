@@ -126,13 +126,13 @@ fn with_function(list: ParameterTypes, inside: Declarator) -> Result<Declarator,
     outward(layer, parts, inside)
 }
 
-fn is_cv(number: u8) -> bool
+pub(crate) fn is_cv(number: u8) -> bool
     ensures { result ≡ shape.is_cv number }
 {
     number == keyword::CONST || number == keyword::VOLATILE
 }
 
-fn is_key(number: u8) -> bool
+pub(crate) fn is_key(number: u8) -> bool
     ensures { result ≡ shape.is_key number }
 {
     number == keyword::ENUM || begins_class(number)

@@ -10,6 +10,7 @@ mod kinds;
 mod name;
 mod nodes;
 mod reader;
+mod shapes;
 mod specifiers;
 mod steps;
 mod turn;

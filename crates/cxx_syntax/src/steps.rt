@@ -190,7 +190,7 @@ fn class_step(
     Err(Stop::Fault(cursor.not_built()?))
 }
 
-fn is_of_members(number: u8) -> bool
+pub(crate) fn is_of_members(number: u8) -> bool
     ensures { result ≡ definition.is_of_members number }
 {
     number == keyword::FRIEND

@@ -7,8 +7,8 @@ use Rattle.cxx_model.specs.declared.types.TreeId.{TreeId}
 use Rattle.cxx_model.specs.declared.types.TypeId.{TypeId}
 use Rattle.cxx_model.specs.Facts.Declarations.{CxxGraph, graph_at}
 use Rattle.cxx_model.specs.Facts.Fitted.{Fitted}
-use Rattle.cxx_model.specs.Facts.Graph.{Graph, IsTypeInRange, AreTypesInRange}
-use Rattle.cxx_model.specs.Types.Trees.{CxxType, fundamental, class_type, enumeration, pointer_to, reference_to, array_of, function_of, qualified, type_parameter, specialisation, nested_in, any_cv, merged, layered, with_cv, decayed, adjusted}
+use Rattle.cxx_model.specs.Facts.Graph.{Graph, IsTypeInRange, AreTypesInRange, IsBoundInRange}
+use Rattle.cxx_model.specs.Types.Trees.{CxxType, CxxBound, fundamental, class_type, enumeration, pointer_to, reference_to, array_of, function_of, qualified, type_parameter, specialisation, nested_in, any_cv, merged, layered, with_cv, decayed, adjusted}
 use Rattle.cxx_model.specs.Types.Numbers.{type_at, types_at, AreTypesBelow, Keeps}
 use Rattle.cxx_types.specs.Parameters.{adjusted_types}
 use Rattle.cxx_model.specs.declared.types.Cv.{Cv}
@@ -17,7 +17,7 @@ use Rattle.cxx_graph.proofs.Fitting.{graph-kept, fitted-table}
 use Rattle.cxx_types.specs.Makes as table
 use Rattle.cxx_reading.specs.State.{CxxPart, CxxState}
 use Rattle.cxx_reading.specs.Trees.{CxxTree}
-use Rattle.cxx_tree.specs.Arena.{AreNodesBelow, AreTreesBelow, IsNodeBelow, KeepsTrees, tree_in, trees_in, tree_over, trees_of}
+use Rattle.cxx_tree.specs.Arena.{bound_of, AreNodesBelow, AreTreesBelow, IsNodeBelow, KeepsTrees, tree_in, trees_in, tree_over, trees_of}
 use Rattle.cxx_tree.specs.Held.{ArePiecesBelow, Held, IsSound, calls_at, fallbacks_at, here_in, meaning, numbers_at, pieces_at, state_over, trees, uses_at}
 use Rattle.cxx_tree.specs.Later.{IsTree, IsType, Later, MakesTree, MakesType}
 use Rattle.cxx_tree.proofs.Arenas.{KeepsTrees_refl, KeepsTrees_trans, after_kept, after_more, keeps_more, last_tree, length_trees, nodes_later, nodes_more, pieces_kept, pieces_later}
@@ -168,3 +168,19 @@ type_made seen held new result t same sound makes = subst (λ (h : Held). MakesT
 -- a number that the state knows
 pub within : (seen held : Held) (n : ℕ) → held ≡ seen → n < length seen.types → n < length held.types
 within seen held n same below = subst (λ (h : Held). n < length h.types) (sym same) below
+
+pub all_within : (seen held : Held) (ns : List TypeId) → held ≡ seen → AreTypesBelow (length seen.types) ns → AreTypesBelow (length held.types) ns
+all_within seen held ns same below = subst (λ (h : Held). AreTypesBelow (length h.types) ns) (sym same) below
+
+bound_range : (graph : Graph) (bound : Option ℕ) → IsBoundInRange graph (bound_of bound)
+bound_range graph None = tt
+bound_range graph (Some n) = tt
+
+pub array_range : (held : Held) (n : ℕ) (bound : Option ℕ) → IsSound held → n < length held.types → IsTypeInRange held.graph (array_of (type_at held.types n) (bound_of bound))
+array_range held n bound sound below = (sound.fitted.names n below, bound_range held.graph bound)
+
+pub function_range : (held : Held) (n : ℕ) (ns : List TypeId) → IsSound held → n < length held.types → AreTypesBelow (length held.types) ns → IsTypeInRange held.graph (type_at held.types n) × AreTypesInRange held.graph (adjusted_types (types_at held.types ns))
+function_range held n ns sound below all = (sound.fitted.names n below, parameters_range held.graph held.types ns sound.fitted.names all)
+
+pub array_makes : (old new : List CxxType) (result : Result TypeId OutOfMemory) (of : CxxType) (one two : CxxBound) → one ≡ two → table.Makes old new result (array_of of one) → table.Makes old new result (array_of of two)
+array_makes old new result of one two same makes = subst (λ (b : CxxBound). table.Makes old new result (array_of of b)) same makes

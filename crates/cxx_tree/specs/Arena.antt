@@ -11,7 +11,7 @@ use Rattle.cxx_model.specs.declared.types.TypeId.{TypeId}
 use Rattle.cxx_model.specs.Facts.Declarations.{type_of_option}
 use Rattle.cxx_model.specs.Facts.Fitted.{IsTypeNumberBelow}
 use Rattle.cxx_model.specs.Text.Lexemes.{nowhere}
-use Rattle.cxx_model.specs.Types.Trees.{CxxType}
+use Rattle.cxx_model.specs.Types.Trees.{CxxType, CxxBound, unknown_bound, number_bound}
 use Rattle.cxx_model.specs.Types.Numbers.{type_at}
 use Rattle.cxx_meaning.specs.Conversions.Standard.{CxxOperand}
 use Rattle.cxx_reading.specs.Trees.{CxxPath, CxxPathPart, CxxTree, Label, tree_of}
@@ -111,3 +111,8 @@ AreNodesBelow count (node ∷ nodes) = IsNodeBelow count node × AreNodesBelow c
 pub record KeepsTrees (old new : List CxxTree) : Type 0 where
   pub grows : length old ≤ length new
   pub same : (i : ℕ) → i < length old → tree_in new i ≡ tree_in old i
+
+-- 8.3.4: a bound, where one is written
+abbrev pub bound_of : Option ℕ → CxxBound
+bound_of None = unknown_bound
+bound_of (Some n) = number_bound n
