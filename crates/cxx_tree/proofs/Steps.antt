@@ -1,12 +1,11 @@
 -- What a step does to the state of a reading.
-use Rattle.std.specs.Prelude.{ℕ, Bool, true, false, if◌then◌else◌, ◌≡◌, ◌<◌, ◌≤◌, ◌+◌, List, [], ◌∷◌, ◌++◌, length, Option, Some, None, Result, Ok, Err, refl, IfOk, OnOk, OnErr}
+use Rattle.std.specs.Prelude.{ℕ, Bool, true, false, if◌then◌else◌, ◌≡◌, ◌<◌, List, [], ◌∷◌, ◌++◌, length, Option, Some, None, Result, Ok, Err, refl, IfOk, OnOk, OnErr}
 use Rattle.std.proofs.Common.{ap, sym, subst, ◌∙◌, arith, length-append}
 use Rattle.cxx_model.specs.declared.memory.OutOfMemory.{OutOfMemory}
 use Rattle.cxx_model.specs.declared.tree.Node.{Node}
 use Rattle.cxx_model.specs.declared.types.TreeId.{TreeId}
 use Rattle.cxx_model.specs.declared.types.TypeId.{TypeId}
 use Rattle.cxx_model.specs.Facts.Declarations.{CxxGraph, graph_at}
-use Rattle.cxx_model.specs.Facts.Fitted.{Fitted}
 use Rattle.cxx_model.specs.Facts.Graph.{Graph, IsTypeInRange, AreTypesInRange, IsBoundInRange}
 use Rattle.cxx_model.specs.Types.Trees.{CxxType, CxxBound, fundamental, class_type, enumeration, pointer_to, reference_to, array_of, function_of, qualified, type_parameter, specialisation, nested_in, any_cv, merged, layered, with_cv, decayed, adjusted}
 use Rattle.cxx_model.specs.Types.Numbers.{type_at, types_at, AreTypesBelow, Keeps}
@@ -17,9 +16,9 @@ use Rattle.cxx_graph.proofs.Fitting.{graph-kept, fitted-table}
 use Rattle.cxx_types.specs.Makes as table
 use Rattle.cxx_reading.specs.State.{CxxPart, CxxState}
 use Rattle.cxx_reading.specs.Trees.{CxxTree}
-use Rattle.cxx_tree.specs.Arena.{bound_of, AreNodesBelow, AreTreesBelow, IsNodeBelow, KeepsTrees, tree_in, trees_in, tree_over, trees_of}
+use Rattle.cxx_tree.specs.Arena.{bound_of, IsNodeBelow, KeepsTrees, tree_in, tree_over}
 use Rattle.cxx_tree.specs.Held.{ArePiecesBelow, Held, IsSound, calls_at, fallbacks_at, here_in, meaning, numbers_at, pieces_at, state_over, trees, uses_at}
-use Rattle.cxx_tree.specs.Later.{IsTree, IsType, Later, MakesTree, MakesType}
+use Rattle.cxx_tree.specs.Later.{IsType, Later, MakesTree, MakesType}
 use Rattle.cxx_tree.proofs.Arenas.{KeepsTrees_refl, KeepsTrees_trans, after_kept, after_more, keeps_more, last_tree, length_trees, nodes_later, nodes_more, pieces_kept, pieces_later}
 
 pub Later_refl : (held : Held) → Later held held

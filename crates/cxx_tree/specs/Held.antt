@@ -1,6 +1,5 @@
 -- What the state of a reading holds, with the numbers by which its tables name types and trees; and what that means.
-use Rattle.std.specs.Prelude.{ℕ, ◌≡◌, ◌<◌, List, [], ◌∷◌, length, Option, Some, None}
-use Rattle.cxx_model.specs.declared.facts.Access.TheVariants.{Public}
+use Rattle.std.specs.Prelude.{ℕ, ◌<◌, List, [], ◌∷◌, length, Option, Some, None}
 use Rattle.cxx_model.specs.declared.tree.Node.{Node}
 use Rattle.cxx_model.specs.declared.types.EnumId.{EnumId}
 use Rattle.cxx_model.specs.declared.types.FactId.{FactId}
@@ -20,7 +19,7 @@ use Rattle.cxx_tree.specs.declared.kept.Binding.{Binding}
 use Rattle.cxx_tree.specs.declared.kept.Decided.{Decided}
 use Rattle.cxx_tree.specs.declared.kept.Fallback.{Fallback}
 use Rattle.cxx_tree.specs.declared.kept.Piece.{Piece}
-use Rattle.cxx_tree.specs.Arena.{AreNodesBelow, tree_in, trees_in, trees_of}
+use Rattle.cxx_tree.specs.Arena.{AreNodesBelow, tree_in, trees_of}
 
 pub record Held : Type 0 where
   pub graph : Graph

@@ -1,5 +1,5 @@
 -- What a step does to the state of a reading: whatever was given a number keeps it.
-use Rattle.std.specs.Prelude.{ℕ, ◌≡◌, ◌<◌, List, length, Result, Ok, Err}
+use Rattle.std.specs.Prelude.{◌≡◌, ◌<◌, length, Result, Ok, Err}
 use Rattle.cxx_model.specs.declared.memory.OutOfMemory.{OutOfMemory}
 use Rattle.cxx_model.specs.declared.types.TreeId.{TreeId}
 use Rattle.cxx_model.specs.declared.types.TypeId.{TypeId}

@@ -1,8 +1,5 @@
-use Rattle.std.specs.Prelude.{List, length}
-use Rattle.std.proofs.Common.{subst}
-use Rattle.cxx_model.specs.Types.Trees.{CxxBound, CxxType, array_of}
-use Rattle.cxx_model.specs.Types.Numbers.{bound_at, type_at}
-use Rattle.cxx_types.specs.Makes.{Makes}
+use Rattle.cxx_model.specs.Types.Trees.{array_of}
+use Rattle.cxx_model.specs.Types.Numbers.{type_at}
 use Rattle.cxx_tree.specs.Arena.{bound_of}
 use Rattle.cxx_tree.proofs.Steps.{array_makes, array_range, sound_type, type_made, within}
 use Rattle.cxx_tree.proofs.state.State.array_of.Goals as goal

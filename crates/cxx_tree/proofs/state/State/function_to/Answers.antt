@@ -1,5 +1,4 @@
-use Rattle.std.specs.Prelude.{List}
-use Rattle.cxx_model.specs.Types.Trees.{CxxType, function_of}
+use Rattle.cxx_model.specs.Types.Trees.{function_of}
 use Rattle.cxx_model.specs.Types.Numbers.{type_at, types_at}
 use Rattle.cxx_reading.specs.Declarators.{no_cv}
 use Rattle.cxx_types.specs.Parameters.{adjusted_types}
