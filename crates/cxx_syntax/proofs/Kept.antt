@@ -1,19 +1,19 @@
 -- What values stand for stays the same while the state grows.
 use Rattle.std.specs.Prelude.{ℕ, ◌≡◌, ◌<◌, ◌≤◌, List, [], ◌∷◌, ◌++◌, length, Option, Some, None, refl}
-use Rattle.std.proofs.Common.{ap, sym, subst, ◌∙◌, arith}
+use Rattle.std.proofs.Common.{ap, arith}
 use Rattle.cxx_model.specs.declared.types.TreeId.{TreeId}
 use Rattle.cxx_model.specs.declared.types.TypeId.{TypeId}
 use Rattle.cxx_model.specs.Facts.Declarations.{type_of_option}
 use Rattle.cxx_model.specs.Facts.Fitted.{IsTypeNumberBelow}
 use Rattle.cxx_model.specs.Types.Trees.{CxxType}
-use Rattle.cxx_model.specs.Types.Numbers.{type_at, AreTypesBelow, Keeps}
+use Rattle.cxx_model.specs.Types.Numbers.{type_at, AreTypesBelow}
 use Rattle.cxx_reading.specs.Declarators as definition
 use Rattle.cxx_reading.specs.Declarators.{function_layer, adjusted_types}
 use Rattle.cxx_reading.specs.Trees.{CxxTree}
 use Rattle.cxx_syntax.specs.declared.declarator.Layer.{Layer}
 use Rattle.cxx_syntax.specs.declared.declarator.Layer.TheVariants as layer
 use Rattle.cxx_syntax.specs.Views.{AreLayersBelow, IsLayerBelow, layer_in, layers_in, types_in}
-use Rattle.cxx_tree.specs.Arena.{AreTreesBelow, KeepsTrees, tree_in, trees_in}
+use Rattle.cxx_tree.specs.Arena.{AreTreesBelow, trees_in}
 use Rattle.cxx_tree.specs.Held.{Held, trees}
 use Rattle.cxx_tree.specs.Later.{Later}
 use Rattle.cxx_tree.proofs.Arenas as arena

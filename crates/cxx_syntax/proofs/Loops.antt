@@ -1,8 +1,7 @@
 -- One turn of a loop, as a loop of the code counts them.
 use Rattle.std.specs.Prelude.{ℕ, zero, suc, ◌≡◌, ◌<◌, ◌≤◌, ◌+◌, ◌-◌, refl}
-use Rattle.std.proofs.Common.{ap, sym, subst, ◌∙◌, arith}
-use Rattle.cxx_model.specs.Stops.{Answer}
-use Rattle.cxx_reading.specs.Reads.{Reads, Ahead, Got, Turn, go_on, repeat, ◌>>=◌}
+use Rattle.std.proofs.Common.{sym, subst, arith}
+use Rattle.cxx_reading.specs.Reads.{Reads, Ahead, Turn, go_on, repeat, ◌>>=◌}
 
 one_more : {S A B : Type 0} (step : A → Reads S (Turn A B)) (over : A → Reads S B) (n : ℕ) (a : A) (s : S) (x : Ahead) → repeat step over (suc n) a s x ≡ (step a >>= go_on (repeat step over n)) s x
 unfolding repeat

@@ -1,5 +1,5 @@
 -- What the user of the readers answers, in the terms of the definitions.
-use Rattle.std.specs.Prelude.{ℕ, ℤ, ◌≡◌, ◌<◌, length, Option, Some, None, Result, Ok, Err}
+use Rattle.std.specs.Prelude.{ℕ, ℤ, ◌≡◌, ◌<◌, length, Result, Ok, Err}
 use Rattle.cxx_model.specs.declared.stop.Stop.{Stop}
 use Rattle.cxx_model.specs.declared.types.EnumId.{EnumId}
 use Rattle.cxx_model.specs.declared.types.TreeId.{TreeId}

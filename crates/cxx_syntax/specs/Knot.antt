@@ -3,7 +3,6 @@ use Rattle.std.specs.Prelude.{ℕ, ℤ, ◌≡◌, Bool, false, List, [], Option
 use denote.Ref.{Bor, MutBor}
 use Rattle.std.specs.Fn.{Shared}
 use Rattle.cxx_model.specs.declared.stop.Stop.{Stop}
-use Rattle.cxx_model.specs.declared.types.TreeId.{TreeId}
 use Rattle.cxx_reading.specs.Declarators as definition
 use Rattle.cxx_reading.specs.Declarators.{no_declarator_yet}
 use Rattle.cxx_reading.specs.Kinds.{Kinds, Readers}

@@ -1,5 +1,5 @@
 -- Trees that a reader makes.
-use Rattle.std.specs.Prelude.{ℕ, ◌≡◌, ◌<◌, length, Result, Ok, Err}
+use Rattle.std.specs.Prelude.{◌≡◌, ◌<◌, length, Result, Ok, Err}
 use Rattle.cxx_model.specs.declared.stop.Stop.{Stop}
 use Rattle.cxx_model.specs.declared.stop.Stop.TheVariants as stop
 use Rattle.cxx_model.specs.declared.types.TreeId.{TreeId}

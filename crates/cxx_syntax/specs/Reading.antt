@@ -1,5 +1,5 @@
 -- What the readers of the code answer, in the terms of the definitions.
-use Rattle.std.specs.Prelude.{ℕ, ◌≡◌, Result, Ok, Err}
+use Rattle.std.specs.Prelude.{◌≡◌, Result, Ok, Err}
 use Rattle.cxx_model.specs.declared.stop.Stop.{Stop}
 use Rattle.cxx_model.specs.Stops.{Answer, Stops}
 use Rattle.cxx_reading.specs.Reads.{Ahead, Got, got}

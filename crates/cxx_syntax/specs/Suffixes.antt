@@ -1,5 +1,4 @@
 -- What was read of a declarator, as the code has it.
-use Rattle.std.specs.Prelude.{ℕ}
 use Rattle.cxx_reading.specs.Declarators as declarators
 use Rattle.cxx_reading.specs.Reads as reads
 use Rattle.cxx_reading.specs.Syntax as definition

@@ -1,6 +1,5 @@
 use Rattle.std.specs.Prelude.{◌≡◌, ◌-◌}
 use Rattle.cxx_reading.specs.Reads.{give, repeat}
-use Rattle.cxx_reading.specs.Declarators.{no_cv}
 use Rattle.cxx_reading.specs.Syntax.{cv_at, cv_step}
 use Rattle.cxx_syntax.proofs.cv.cv_at.Given as goal
 

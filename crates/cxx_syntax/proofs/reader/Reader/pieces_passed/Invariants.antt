@@ -1,9 +1,8 @@
-use Rattle.std.specs.Prelude.{◌≡◌, ◌≤◌, ◌+◌, ◌-◌, false}
-use Rattle.cxx_reading.specs.Reads.{count_ahead, give, repeat}
+use Rattle.std.specs.Prelude.{◌-◌}
+use Rattle.cxx_reading.specs.Reads.{count_ahead, repeat}
 use Rattle.cxx_reading.specs.Shapes as shape
 use Rattle.cxx_reading.specs.Syntax.{readers}
 use Rattle.cxx_syntax.specs.Looping.{IsTurning}
-use Rattle.cxx_syntax.specs.Outlines.{outline_of}
 use Rattle.cxx_tree.specs.Held.{meaning}
 use Rattle.cxx_syntax.proofs.reader.Reader.pieces_passed.Given as goal
 

@@ -1,5 +1,5 @@
-use Rattle.std.specs.Prelude.{◌≡◌, ◌≤◌, ◌+◌, ◌-◌, false}
-use Rattle.cxx_reading.specs.Reads.{count_ahead, give, repeat}
+use Rattle.std.specs.Prelude.{◌≤◌, ◌-◌}
+use Rattle.cxx_reading.specs.Reads.{repeat}
 use Rattle.cxx_reading.specs.Shapes as shape
 use Rattle.cxx_reading.specs.Syntax.{readers}
 use Rattle.cxx_syntax.specs.Looping.{IsTurning}
