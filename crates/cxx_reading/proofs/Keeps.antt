@@ -10,7 +10,7 @@ use Rattle.cxx_reading.specs.declared.specifier.Naming.{Naming}
 use Rattle.cxx_reading.specs.Kinds.{Kinds, Readers}
 use Rattle.cxx_reading.specs.Tokens.{token_taken, punct_taken}
 use Rattle.cxx_reading.specs.Trees.{CxxPath, CxxTree}
-use Rattle.cxx_reading.specs.Reads.{Ahead, Got, Reads, Asks, Turn, More, Done, then_read, got, give, answered, go_on, repeat, looked, taken}
+use Rattle.cxx_reading.specs.Reads.{Ahead, Got, Reads, Asks, Turn, More, Done, then_read, got, give, answered, go_on, repeat, looked, taken, beside, tokens}
 
 -- it holds of a state and itself, and from one to a third
 pub record IsKept {S : Type 0} (kept : S → S → Type 0) : Type 0 where
@@ -68,6 +68,14 @@ repeat_keeps is step over steps overs (suc n) so_far state ahead = then_in is (s
 
 pub same_in : {S A : Type 0} {kept : S → S → Type 0} → IsKept kept → (value : A) (state : S) (rest : Ahead) → KeptIn kept state (got value state rest)
 same_in is value state rest = keeps_read (record { value = value; state = state; rest = rest }) (is.same state)
+
+beside_in : {S A : Type 0} {kept : S → S → Type 0} → IsKept kept → (state : S) (r : Answer (Got (Unit {0}) A)) → KeptIn kept state (beside state r)
+beside_in is state (Ok one) = keeps_read (record { value = one.value; state = state; rest = one.rest }) (is.same state)
+beside_in is state (Err why) = keeps_stop why
+
+-- what is read without a state keeps it
+pub tokens_in : {S A : Type 0} {kept : S → S → Type 0} → IsKept kept → (read : Reads (Unit {0}) A) (state : S) (ahead : Ahead) → KeptIn kept state (tokens read state ahead)
+tokens_in is read state ahead = beside_in is state (read tt ahead)
 
 -- ---- what is asked
 

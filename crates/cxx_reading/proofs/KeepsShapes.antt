@@ -12,7 +12,7 @@ use Rattle.cxx_model.specs.Stops.{Answer}
 use Rattle.cxx_reading.specs.Kinds.{Kinds, Readers}
 use Rattle.cxx_reading.specs.Reads.{Ahead, Got, More, give, kind_ahead}
 use Rattle.cxx_reading.specs.Shapes.{opens, closes, is_specifier, is_some_word, is_key, ends_default, returned, bracket_step, give_nothing, brackets_passed, Run, no_type, a_type, surely, key_shape, kind_shape, name_shape, keyword_shape, run_by, run_step, give_ended, run_passed, is_type_kind, begins_by, begins_type, is_abstract_list, Outline, Fits, fits, fits_not, fits_surely, opened_by, prefix_step, give_unqualified, prefix_passed, passed_by, list_shape, suffix_step, give_closed, suffixes_by, declarator_passed, default_step, default_passed, separated, parameter_by, piece_by, piece_step, give_false, parameters_shape}
-use Rattle.cxx_reading.proofs.Keeps.{IsKept, Keeps, KeptIn, keeps_read, keeps_stop, KindsKeep, ReadersKeep, if_in, if_reads, then_in, ask_in, same_in, repeat_keeps, give_in}
+use Rattle.cxx_reading.proofs.Keeps.{IsKept, Keeps, KeptIn, keeps_read, keeps_stop, KindsKeep, ReadersKeep, if_in, if_reads, then_in, ask_in, same_in, repeat_keeps, give_in, tokens_in}
 
 pub returned_in : {S A : Type 0} {kept : S → S → Type 0} {state : S} {r : Answer (Got S A)} (ahead : Ahead) → KeptIn kept state r → KeptIn kept state (returned ahead r)
 returned_in ahead (keeps_read one h) = keeps_read (record { value = one.value; state = one.state; rest = ahead }) h
@@ -96,7 +96,7 @@ unfolding prefix_passed
 prefixes_keep is {asks = a} asks state ahead = repeat_keeps is (prefix_step a) give_unqualified (prefix_keeps is asks) (λ so_far state ahead. same_in is _ state _) _ _ state ahead
 
 passed_by_keeps : {S : Type 0} {kept : S → S → Type 0} → IsKept kept → (is_list : Bool) (outline : Outline) → Keeps kept (passed_by {S = S} is_list outline)
-passed_by_keeps is true outline state ahead = then_in is (brackets_keep is state ahead) (λ end. give_in is (More outline))
+passed_by_keeps is true outline state ahead = then_in is (tokens_in is brackets_passed state ahead) (λ end. give_in is (More outline))
 passed_by_keeps is false outline state ahead = same_in is _ state _
 
 pub list_shape_keeps : {S : Type 0} {kept : S → S → Type 0} → IsKept kept → {inner : Readers S} → ReadersKeep kept inner → (outline : Outline) → Keeps kept (list_shape inner outline)
@@ -127,7 +127,7 @@ separated_keeps : {S : Type 0} {kept : S → S → Type 0} → IsKept kept → K
 separated_keeps is state ahead = if_in _ (same_in is _ state _) (same_in is _ state _)
 
 parameter_by_keeps : {S : Type 0} {kept : S → S → Type 0} → IsKept kept → (one : Fits) → Keeps kept (parameter_by {S = S} one)
-parameter_by_keeps is fits state ahead = then_in is (default_keeps is state ahead) (λ passed. separated_keeps is)
+parameter_by_keeps is fits state ahead = then_in is (tokens_in is default_passed state ahead) (λ passed. separated_keeps is)
 parameter_by_keeps is fits_not state ahead = same_in is _ state _
 parameter_by_keeps is fits_surely state ahead = same_in is _ state _
 

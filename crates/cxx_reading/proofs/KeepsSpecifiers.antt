@@ -12,7 +12,7 @@ use Rattle.cxx_reading.specs.declared.specifier.TypeWords.{TypeWords}
 use Rattle.cxx_reading.specs.Declarators.{Specifiers, TypeWord, type_word, with_word}
 use Rattle.cxx_reading.specs.Kinds.{Kinds, Readers}
 use Rattle.cxx_reading.specs.Reads.{Ahead, Reads, More, kind_ahead}
-use Rattle.cxx_reading.specs.Specifiers.{elaborated_tree, enumeration_tree, storage_word, storage_step, inline_step, const_step, volatile_step, word_step, worded, named_step, named_by, elaborated_step, defined_step, list_step, key_named_step, key_step, enumeration_step, class_step, other_step, stored_by, worded_by, keyword_step, step_by, specifier_step, typed, specifiers_at}
+use Rattle.cxx_reading.specs.Specifiers.{elaborated_tree, enumeration_tree, storage_word, storage_step, inline_step, const_step, volatile_step, word_step, worded, named_step, named_by, elaborated_step, defined_step, enumeration_body, list_step, key_named_step, key_step, enumeration_step, class_step, other_step, stored_by, worded_by, keyword_step, step_by, specifier_step, typed, specifiers_at}
 use Rattle.cxx_reading.specs.Trees.{CxxPath}
 use Rattle.cxx_reading.proofs.Keeps.{IsKept, Keeps, KeptIn, keeps_stop, KindsKeep, ReadersKeep, if_in, if_reads, then_in, ask_in, same_in, repeat_keeps, taken_in, looked_in, token_in, give_in}
 
@@ -53,11 +53,15 @@ named_keeps is asks so_far state ahead = if_in _ (same_in is _ state _) (if_in _
 
 pub elaborated_keeps : {S : Type 0} {kept : S → S → Type 0} → IsKept kept → {asks : Kinds S} → KindsKeep kept asks → (from : Ahead) (name : Lexeme) (so_far : Specifiers) → Keeps kept (elaborated_step asks from name so_far)
 unfolding elaborated_step
-elaborated_keeps is asks from name so_far state ahead = then_in is (ask_in ahead (asks.elaborated _ state)) (λ of state ahead. then_in is (looked_in is state ahead) (λ to. give_in is (More (record so_far { named = Some of; is_enumeration = true; parts = so_far.parts ++ elaborated_tree name of from to ∷ [] }))))
+elaborated_keeps is asks from name so_far state ahead = then_in is (ask_in ahead (asks.elaborated _ state)) (λ of state ahead. then_in is (looked_in is state ahead) (λ to. give_in is (More (record so_far { named = Some of; parts = so_far.parts ++ elaborated_tree name of from to ∷ [] }))))
+
+pub body_keeps : {S : Type 0} {kept : S → S → Type 0} → IsKept kept → {asks : Kinds S} → KindsKeep kept asks → {inner : Readers S} → ReadersKeep kept inner → (number : ℕ) → Keeps kept (enumeration_body asks inner number)
+unfolding enumeration_body
+body_keeps is asks inner number state ahead = then_in is (taken_in is state ahead) (λ opened state ahead. then_in is (inner.enumerators number state ahead) (λ values state ahead. then_in is (ask_in ahead (asks.enumerated number state)) (λ ended. give_in is values)))
 
 pub defined_keeps : {S : Type 0} {kept : S → S → Type 0} → IsKept kept → {asks : Kinds S} → KindsKeep kept asks → {inner : Readers S} → ReadersKeep kept inner → (from : Ahead) (name : Option Lexeme) (so_far : Specifiers) → Keeps kept (defined_step asks inner from name so_far)
 unfolding defined_step
-defined_keeps is asks inner from name so_far state ahead = then_in is (ask_in ahead (asks.enumeration _ _ state)) (λ number state ahead. then_in is (taken_in is state ahead) (λ opened state ahead. then_in is (inner.enumerators number state ahead) (λ values state ahead. then_in is (ask_in ahead (asks.enumerated number state)) (λ ended state ahead. then_in is (looked_in is state ahead) (λ to. give_in is (More (record so_far { named = Some (enumeration number); is_enumeration = true; parts = so_far.parts ++ enumeration_tree name number values from to ∷ [] })))))))
+defined_keeps is asks inner from name so_far state ahead = then_in is (ask_in ahead (asks.enumeration _ _ state)) (λ number state ahead. then_in is (body_keeps is asks inner number state ahead) (λ values state ahead. then_in is (looked_in is state ahead) (λ to. give_in is (More (record so_far { named = Some (enumeration number); is_enumeration = true; parts = so_far.parts ++ enumeration_tree name number values from to ∷ [] })))))
 
 pub list_keeps : {S : Type 0} {kept : S → S → Type 0} → IsKept kept → {asks : Kinds S} → KindsKeep kept asks → {inner : Readers S} → ReadersKeep kept inner → (place : SpecifierPlace) (from : Ahead) (name : Option Lexeme) (so_far : Specifiers) → Keeps kept (list_step asks inner place from name so_far)
 unfolding list_step

@@ -1,5 +1,5 @@
 -- What the readers of declarators, parameters and enumerators keep of the state.
-use Rattle.std.specs.Prelude.{ℕ, zero, suc, Bool, true, false, not, ◌==◌, List, [], ◌∷◌, ◌++◌, Option, Some, None}
+use Rattle.std.specs.Prelude.{ℕ, zero, suc, Bool, true, false, not, ◌||◌, ◌==◌, List, [], ◌∷◌, ◌++◌, Option, Some, None}
 use Rattle.cxx_model.specs.declared.keyword.TheConstants as keyword
 use Rattle.cxx_model.specs.declared.limits.TheConstants as limits
 use Rattle.cxx_model.specs.declared.punct.TheConstants as punct
@@ -8,10 +8,10 @@ use Rattle.cxx_model.specs.Text.Lexemes.{Lexeme}
 use Rattle.cxx_reading.specs.declared.specifier.Naming.{Naming}
 use Rattle.cxx_reading.specs.declared.specifier.Naming.TheVariants as naming
 use Rattle.cxx_reading.specs.declared.specifier.SpecifierPlace.TheVariants as where_
-use Rattle.cxx_reading.specs.Constants.{constant_at, literal_tree, literal_by, literal_at, keyword_refused, refused_by, no_expression, begins_unary, is_member_pointer, continues, ends_by, literal_ended, begins_operand}
+use Rattle.cxx_reading.specs.Constants.{constant_at, literal_tree, literal_by, literal_at, no_expression, is_member_pointer, continues, ends_by, literal_ended}
 use Rattle.cxx_reading.specs.Declarators.{Specifiers, pointer_layer, reference_layer, Declarator, no_declarator_yet, outward, is_named, ParameterTypes, parameter_type}
 use Rattle.cxx_reading.specs.Specifiers.{with_const, with_volatile}
-use Rattle.cxx_reading.specs.Tokens.{is_punct, is_keyword, is_name, is_qualified, no_declarator, is_number}
+use Rattle.cxx_reading.specs.Tokens.{is_punct, is_keyword, is_name, is_qualified, no_declarator, is_number, punct_taken}
 use Rattle.cxx_reading.specs.Trees.{CxxTree}
 use Rattle.cxx_model.specs.declared.base.Base.{Base}
 use Rattle.cxx_model.specs.declared.token.TokenKind.{TokenKind}
@@ -20,7 +20,7 @@ use Rattle.cxx_model.specs.Text.Spelling.{literal_type}
 use Rattle.cxx_reading.specs.Syntax.{is_required, is_never, cv_step, cv_at, suffixed, array_part, function_part, array_suffix, exceptions_at, function_suffix, function_by, bracket_suffix, suffix_at, give_declarator, suffixes_at, name_read, name_part, grouped_part, grouped_by, bracket_part, star_part, ampersand_part, declarator_at, pointed_at, referred_at, grouped_at, valued, bound_value, bound_at, specified_type, place_of_declarator, is_refused_parameter, parameter_fits, parameter_tree, with_parameter, with_ellipsis, parameter_at, list_ended, comma_passed, parameter_ended, parameter_step, past_most, parameters_over, no_parameters, some_parameters, turn_result, is_void_list, list_at, parameters_at, no_value, value_at, enumerator_at, enumerator_ended, enumerator_step, enumerators_at, readers, Suffixed}
 use Rattle.cxx_reading.specs.Kinds.{Kinds, Readers}
 use Rattle.cxx_reading.specs.Reads.{Turn, More, Done, give, kind_ahead, word_ahead, behind}
-use Rattle.cxx_reading.proofs.Keeps.{IsKept, Keeps, keeps_stop, KindsKeep, ReadersKeep, if_in, then_in, ask_in, same_in, repeat_keeps, taken_in, looked_in, token_in, punct_in, give_in}
+use Rattle.cxx_reading.proofs.Keeps.{IsKept, Keeps, keeps_stop, KindsKeep, ReadersKeep, if_in, then_in, ask_in, same_in, repeat_keeps, taken_in, looked_in, token_in, punct_in, give_in, tokens_in}
 use Rattle.cxx_reading.proofs.KeepsShapes.{returned_in, begins_keeps, abstract_keeps, parameters_shape_keeps}
 use Rattle.cxx_reading.proofs.KeepsSpecifiers.{specifiers_keep}
 
@@ -36,22 +36,9 @@ pub literal_keeps : {S : Type 0} {kept : S → S → Type 0} → IsKept kept →
 unfolding literal_at
 literal_keeps is state ahead = literal_by_keeps is (literal_type (word_ahead ahead)) state ahead
 
-keyword_refused_keeps : {S : Type 0} {kept : S → S → Type 0} → IsKept kept → {A : Type 0} (n : ℕ) → Keeps kept (keyword_refused {S = S} {A = A} n)
-unfolding keyword_refused
-keyword_refused_keeps is n state ahead = if_in (n == keyword.TYPEID) (keeps_stop _) (if_in (n == keyword.DYNAMIC_CAST) (keeps_stop _) (if_in (begins_operand n) (keeps_stop _) (keeps_stop _)))
-
-refused_by_keeps : {S : Type 0} {kept : S → S → Type 0} → IsKept kept → {A : Type 0} (kind : TokenKind) → Keeps kept (refused_by {S = S} {A = A} kind)
-refused_by_keeps is Name state ahead = keeps_stop _
-refused_by_keeps is Text state ahead = keeps_stop _
-refused_by_keeps is (Keyword n) state ahead = keyword_refused_keeps is n state ahead
-refused_by_keeps is (Punct n) state ahead = if_in (begins_unary n) (keeps_stop _) (keeps_stop _)
-refused_by_keeps is Integer state ahead = keeps_stop _
-refused_by_keeps is Character state ahead = keeps_stop _
-refused_by_keeps is End state ahead = keeps_stop _
-
 pub no_expression_keeps : {S : Type 0} {kept : S → S → Type 0} → IsKept kept → {A : Type 0} → Keeps kept (no_expression {S = S} {A = A})
 unfolding no_expression
-no_expression_keeps is state ahead = refused_by_keeps is (kind_ahead ahead) state ahead
+no_expression_keeps is state ahead = keeps_stop _
 
 ends_by_keeps : {S : Type 0} {kept : S → S → Type 0} → IsKept kept → (kind : TokenKind) (tree : CxxTree) → Keeps kept (ends_by {S = S} kind tree)
 ends_by_keeps is (Punct n) tree state ahead = if_in (is_member_pointer n) (keeps_stop _) (if_in (continues n) (keeps_stop _) (same_in is tree state ahead))
@@ -88,7 +75,7 @@ exceptions_keep is state ahead = if_in (not (is_keyword keyword.THROW (kind_ahea
 
 pub function_keeps : {S : Type 0} {kept : S → S → Type 0} → IsKept kept → {inner : Readers S} → ReadersKeep kept inner → (so_far : Suffixed) → Keeps kept (function_suffix inner so_far)
 unfolding function_suffix
-function_keeps is inner so_far state ahead = then_in is (taken_in is state ahead) (λ opened state ahead. then_in is (inner.parameters state ahead) (λ list state ahead. then_in is (cv_keeps is state ahead) (λ cv state ahead. then_in is (exceptions_keep is state ahead) (λ exceptions. give_in is (suffixed false (function_part list so_far.declarator))))))
+function_keeps is inner so_far state ahead = then_in is (taken_in is state ahead) (λ opened state ahead. then_in is (inner.parameters state ahead) (λ list state ahead. then_in is (tokens_in is cv_at state ahead) (λ cv state ahead. then_in is (tokens_in is exceptions_at state ahead) (λ exceptions. give_in is (suffixed false (function_part list so_far.declarator))))))
 
 function_by_keeps : {S : Type 0} {kept : S → S → Type 0} → IsKept kept → {inner : Readers S} → ReadersKeep kept inner → (so_far : Suffixed) (is_list : Bool) → Keeps kept (function_by inner so_far is_list)
 function_by_keeps is inner so_far true state ahead = function_keeps is inner so_far state ahead
@@ -136,7 +123,7 @@ declarator_keeps is asks inner naming state ahead = if_in (is_punct punct.STAR (
 
 pub pointed_keeps : {S : Type 0} {kept : S → S → Type 0} → IsKept kept → {asks : Kinds S} → KindsKeep kept asks → {inner : Readers S} → ReadersKeep kept inner → (naming : Naming) → Keeps kept (pointed_at asks inner naming)
 unfolding pointed_at
-pointed_keeps is asks inner naming state ahead = then_in is (cv_keeps is state ahead) (λ cv state ahead. then_in is (declarator_keeps is asks inner naming state ahead) (λ inside. give_in is (outward (pointer_layer cv) [] inside)))
+pointed_keeps is asks inner naming state ahead = then_in is (tokens_in is cv_at state ahead) (λ cv state ahead. then_in is (declarator_keeps is asks inner naming state ahead) (λ inside. give_in is (outward (pointer_layer cv) [] inside)))
 
 pub referred_keeps : {S : Type 0} {kept : S → S → Type 0} → IsKept kept → {asks : Kinds S} → KindsKeep kept asks → {inner : Readers S} → ReadersKeep kept inner → (naming : Naming) → Keeps kept (referred_at asks inner naming)
 unfolding referred_at
@@ -144,7 +131,7 @@ referred_keeps is asks inner naming state ahead = then_in is (declarator_keeps i
 
 pub grouped_keeps : {S : Type 0} {kept : S → S → Type 0} → IsKept kept → {asks : Kinds S} → KindsKeep kept asks → {inner : Readers S} → ReadersKeep kept inner → (naming : Naming) → Keeps kept (grouped_at asks inner naming)
 unfolding grouped_at
-grouped_keeps is asks inner naming state ahead = then_in is (declarator_keeps is asks inner naming state ahead) (λ inside state ahead. then_in is (punct_in is punct.RIGHT_PARENTHESIS state ahead) (λ closed. give_in is inside))
+grouped_keeps is asks inner naming state ahead = then_in is (declarator_keeps is asks inner naming state ahead) (λ inside state ahead. then_in is (tokens_in is (punct_taken punct.RIGHT_PARENTHESIS) state ahead) (λ closed. give_in is inside))
 
 pub valued_keeps : {S : Type 0} {kept : S → S → Type 0} → IsKept kept → {asks : Kinds S} → KindsKeep kept asks → Keeps kept (valued asks)
 unfolding valued
@@ -152,7 +139,7 @@ valued_keeps is asks state ahead = then_in is (constant_keeps is state ahead) (�
 
 pub bound_value_keeps : {S : Type 0} {kept : S → S → Type 0} → IsKept kept → {asks : Kinds S} → KindsKeep kept asks → Keeps kept (bound_value asks)
 unfolding bound_value
-bound_value_keeps is asks state ahead = then_in is (valued_keeps is asks state ahead) (λ value state ahead. then_in is (punct_in is punct.RIGHT_BRACKET state ahead) (λ closed. give_in is value))
+bound_value_keeps is asks state ahead = then_in is (valued_keeps is asks state ahead) (λ value state ahead. then_in is (tokens_in is (punct_taken punct.RIGHT_BRACKET) state ahead) (λ closed. give_in is value))
 
 pub bound_keeps : {S : Type 0} {kept : S → S → Type 0} → IsKept kept → {asks : Kinds S} → KindsKeep kept asks → (is_first : Bool) → Keeps kept (bound_at asks is_first)
 unfolding bound_at
@@ -168,7 +155,7 @@ parameter_keeps is asks inner so_far state ahead = then_in is (looked_in is stat
 
 pub list_ended_keeps : {S : Type 0} {kept : S → S → Type 0} → IsKept kept → (so_far : ParameterTypes) → Keeps kept (list_ended {S = S} so_far)
 unfolding list_ended
-list_ended_keeps is so_far state ahead = then_in is (taken_in is state ahead) (λ ellipsis state ahead. then_in is (punct_in is punct.RIGHT_PARENTHESIS state ahead) (λ closed. give_in is (Done (with_ellipsis so_far))))
+list_ended_keeps is so_far state ahead = then_in is (taken_in is state ahead) (λ ellipsis state ahead. then_in is (tokens_in is (punct_taken punct.RIGHT_PARENTHESIS) state ahead) (λ closed. give_in is (Done (with_ellipsis so_far))))
 
 pub comma_keeps : {S : Type 0} {kept : S → S → Type 0} → IsKept kept → (so_far : ParameterTypes) → Keeps kept (comma_passed {S = S} so_far)
 unfolding comma_passed
@@ -188,7 +175,7 @@ past_most_keeps is false state ahead = keeps_stop _
 
 pub parameters_over_keeps : {S : Type 0} {kept : S → S → Type 0} → IsKept kept → {asks : Kinds S} → KindsKeep kept asks → {A : Type 0} (so_far : ParameterTypes) → Keeps kept (parameters_over {A = A} asks so_far)
 unfolding parameters_over
-parameters_over_keeps is asks so_far state ahead = then_in is (begins_keeps is asks state ahead) (past_most_keeps is)
+parameters_over_keeps is asks so_far state ahead = if_in (is_keyword keyword.AUTO (kind_ahead ahead) || is_keyword keyword.REGISTER (kind_ahead ahead)) (past_most_keeps is true state ahead) (then_in is (begins_keeps is asks state ahead) (past_most_keeps is))
 
 pub some_parameters_keep : {S : Type 0} {kept : S → S → Type 0} → IsKept kept → {asks : Kinds S} → KindsKeep kept asks → {inner : Readers S} → ReadersKeep kept inner → (scope : ℕ) → Keeps kept (some_parameters asks inner scope)
 unfolding some_parameters

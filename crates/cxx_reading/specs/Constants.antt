@@ -1,6 +1,7 @@
 -- Constant expressions where they are wanted (5.19): for now a literal alone.
 use Rattle.std.specs.Prelude.{ℕ, zero, ℤ, pos, Bool, true, false, ◌||◌, if◌then◌else◌, ◌==◌, List, [], Option, Some, None}
 use Rattle.cxx_model.specs.declared.base.Base.{Base}
+use Rattle.cxx_model.specs.declared.fault.FaultText.{FaultText}
 use Rattle.cxx_model.specs.declared.fault.FaultText.TheVariants as says
 use Rattle.cxx_model.specs.declared.fault.LeftOut.TheVariants as form
 use Rattle.cxx_model.specs.declared.keyword.TheConstants as keyword
@@ -64,23 +65,23 @@ abbrev pub begins_unary : ℕ → Bool
 begins_unary n =
     n == punct.LEFT_PARENTHESIS || (n == punct.SCOPE || (n == punct.PLUS || (n == punct.MINUS || (n == punct.STAR || (n == punct.AMPERSAND || (n == punct.EXCLAMATION || (n == punct.TILDE || (n == punct.INCREMENT || n == punct.DECREMENT))))))))
 
-abbrev pub keyword_refused : {S A : Type 0} → ℕ → Reads S A
-keyword_refused n state ahead =
-    if n == keyword.TYPEID then fault_at (place_ahead ahead) (says.LeftOut form.Typeid) state ahead else (
-    if n == keyword.DYNAMIC_CAST then fault_at (place_ahead ahead) (says.LeftOut form.DynamicCast) state ahead else (
-    if begins_operand n then not_built state ahead else
-    refused state ahead))
+abbrev pub keyword_text : ℕ → FaultText
+keyword_text n =
+    if n == keyword.TYPEID then says.LeftOut form.Typeid else (
+    if n == keyword.DYNAMIC_CAST then says.LeftOut form.DynamicCast else (
+    if begins_operand n then says.NotBuilt else
+    says.SyntaxError))
 
-abbrev pub refused_by : {S A : Type 0} → TokenKind → Reads S A
-refused_by Name = not_built
-refused_by Text = not_built
-refused_by (Keyword n) = keyword_refused n
-refused_by (Punct n) = λ state ahead. if begins_unary n then not_built state ahead else refused state ahead
-refused_by _ = refused
+abbrev pub expression_text : TokenKind → FaultText
+expression_text Name = says.NotBuilt
+expression_text Text = says.NotBuilt
+expression_text (Keyword n) = keyword_text n
+expression_text (Punct n) = if begins_unary n then says.NotBuilt else says.SyntaxError
+expression_text _ = says.SyntaxError
 
 -- what stands where an expression would begin
 unfoldable pub no_expression : {S A : Type 0} → Reads S A
-no_expression state ahead = refused_by (kind_ahead ahead) state ahead
+no_expression state ahead = fault_at (place_ahead ahead) (expression_text (kind_ahead ahead)) state ahead
 
 -- 5.2, 5.6 to 5.16: what goes on with an operand in a constant expression
 abbrev pub continues : ℕ → Bool

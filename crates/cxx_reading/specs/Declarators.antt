@@ -141,7 +141,7 @@ pub record Specifiers : Type 0 where
   pub words : TypeWords
   -- a type that a name or an enumeration gives
   pub named : Option CxxType
-  -- 7.1.5.3: whether an enumeration was defined or named behind its key
+  -- 7.2: whether an enumeration is defined among them
   pub is_enumeration : Bool
   pub parts : List CxxTree
 

@@ -89,6 +89,16 @@ looked state ahead = got ahead state ahead
 abbrev pub taken : {S : Type 0} → Reads S Place
 taken state ahead = got (place_ahead ahead) state (behind ahead)
 
+-- ---- readers of tokens alone
+
+abbrev pub beside : {S T A : Type 0} → S → Answer (Got T A) → Answer (Got S A)
+beside state (Ok one) = got one.value state one.rest
+beside state (Err why) = Err why
+
+-- what is read without a state
+abbrev pub tokens : {S A : Type 0} → Reads (Unit {0}) A → Reads S A
+tokens read state ahead = beside state (read tt ahead)
+
 -- ---- loops
 
 -- what a turn of a loop leads to

@@ -9,7 +9,7 @@ use Rattle.cxx_model.specs.declared.tree.Kind.TheVariants as kind
 use Rattle.cxx_model.specs.Stops.{Answer}
 use Rattle.cxx_reading.specs.Declarators.{type_word, TypeWord}
 use Rattle.cxx_reading.specs.Kinds.{Kinds, Readers}
-use Rattle.cxx_reading.specs.Reads.{Reads, Got, Ahead, Turn, More, Done, ◌>>=◌, got, give, ask, kind_ahead, count_ahead, behind, repeat}
+use Rattle.cxx_reading.specs.Reads.{Reads, Got, Ahead, Turn, More, Done, ◌>>=◌, got, give, ask, looked, taken, tokens, kind_ahead, count_ahead, behind, repeat}
 use Rattle.cxx_reading.specs.Specifiers.{storage_word, is_some_storage, is_of_members, begins_class}
 use Rattle.cxx_reading.specs.Tokens.{is_punct, is_keyword, is_name, is_end, is_qualified, path_ahead}
 
@@ -176,7 +176,7 @@ abbrev pub is_closed : Outline → Fits
 is_closed outline = if outline.brackets == 0 then fits else fits_not
 
 abbrev pub passed_by : {S : Type 0} → Bool → Outline → Reads S (Turn Outline Fits)
-passed_by true outline = brackets_passed >>= λ end. give (More outline)
+passed_by true outline = tokens brackets_passed >>= λ end. give (More outline)
 passed_by false outline = give (Done fits_not)
 
 -- 8.2: parameters behind a name stand there whatever they are, and behind none they have to be such
@@ -228,7 +228,7 @@ separated state ahead =
     got (Done (is_punct punct.RIGHT_PARENTHESIS (kind_ahead ahead) || is_punct punct.ELLIPSIS (kind_ahead ahead))) state ahead
 
 abbrev pub parameter_by : {S : Type 0} → Fits → Reads S (Turn (Unit {0}) Bool)
-parameter_by fits = default_passed >>= λ passed. separated
+parameter_by fits = tokens default_passed >>= λ passed. separated
 parameter_by fits_not = give (Done false)
 parameter_by fits_surely = give (Done true)
 

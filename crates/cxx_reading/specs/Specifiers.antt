@@ -139,18 +139,24 @@ unfoldable pub elaborated_step : {S : Type 0} → Kinds S → Ahead → Lexeme �
 elaborated_step asks from name so_far = do
   of ← ask (asks.elaborated (path_of name))
   to ← looked
-  give (More (record so_far { named = Some of; is_enumeration = true; parts = so_far.parts ++ elaborated_tree name of from to ∷ [] }))
+  give (More (record so_far { named = Some of; parts = so_far.parts ++ elaborated_tree name of from to ∷ [] }))
 
 abbrev pub enumeration_tree : Option Lexeme → ℕ → List CxxTree → Ahead → Ahead → CxxTree
 enumeration_tree name number values from to = tree_of (record (label_from production.enumeration_list [] from to) { place = place_or (place_ahead from) name; path = path_of_option name; of = Some (enumeration number) }) values
+
+-- 7.2: the list of an enumeration, with its end
+unfoldable pub enumeration_body : {S : Type 0} → Kinds S → Readers S → ℕ → Reads S (List CxxTree)
+enumeration_body asks inner number = do
+  opened ← taken
+  values ← inner.enumerators number
+  ended ← ask (asks.enumerated number)
+  give values
 
 -- 7.2: an enumeration is declared before its list is read
 unfoldable pub defined_step : {S : Type 0} → Kinds S → Readers S → Ahead → Option Lexeme → Specifiers → Reads S (Turn Specifiers Specifiers)
 defined_step asks inner from name so_far = do
   number ← ask (asks.enumeration name (place_or (place_ahead from) name))
-  opened ← taken
-  values ← inner.enumerators number
-  ended ← ask (asks.enumerated number)
+  values ← enumeration_body asks inner number
   to ← looked
   give (More (record so_far { named = Some (enumeration number); is_enumeration = true; parts = so_far.parts ++ enumeration_tree name number values from to ∷ [] }))
 

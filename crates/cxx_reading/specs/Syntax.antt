@@ -18,7 +18,7 @@ use Rattle.cxx_reading.specs.Declarators.{Specifiers, type_of_specifiers, Layer,
 use Rattle.cxx_reading.specs.Kinds.{Kinds, Readers, too_deep}
 use Rattle.cxx_reading.specs.Labels.{label_from}
 use Rattle.cxx_reading.specs.Productions as production
-use Rattle.cxx_reading.specs.Reads.{Reads, Ahead, Turn, More, Done, ◌>>=◌, got, give, ask, limited, fault_at, looked, taken, kind_ahead, place_ahead, count_ahead, behind, repeat}
+use Rattle.cxx_reading.specs.Reads.{Reads, Ahead, Turn, More, Done, ◌>>=◌, got, give, ask, limited, fault_at, looked, taken, tokens, kind_ahead, place_ahead, count_ahead, behind, repeat}
 use Rattle.cxx_reading.specs.Shapes.{look, past, is_abstract_list, begins_type, parameters_shape}
 use Rattle.cxx_reading.specs.Specifiers.{specifiers_at, with_const, with_volatile, path_of_option, place_or}
 use Rattle.cxx_reading.specs.Tokens.{is_punct, is_keyword, is_name, is_qualified, token_taken, punct_taken, refused, not_built, no_declarator}
@@ -84,8 +84,8 @@ unfoldable pub function_suffix : {S : Type 0} → Readers S → Suffixed → Rea
 function_suffix inner so_far = do
   opened ← taken
   list ← inner.parameters
-  cv ← cv_at
-  exceptions ← exceptions_at
+  cv ← tokens cv_at
+  exceptions ← tokens exceptions_at
   give (suffixed false (function_part list so_far.declarator))
 
 abbrev pub function_by : {S : Type 0} → Readers S → Suffixed → Bool → Reads S (Turn Suffixed Declarator)
@@ -162,7 +162,7 @@ declarator_at asks inner naming state ahead =
 -- 8.3.1: behind `*`
 unfoldable pub pointed_at : {S : Type 0} → Kinds S → Readers S → Naming → Reads S Declarator
 pointed_at asks inner naming = do
-  cv ← cv_at
+  cv ← tokens cv_at
   inside ← declarator_at asks inner naming
   give (outward (pointer_layer cv) [] inside)
 
@@ -176,7 +176,7 @@ referred_at asks inner naming = do
 unfoldable pub grouped_at : {S : Type 0} → Kinds S → Readers S → Naming → Reads S Declarator
 grouped_at asks inner naming = do
   inside ← declarator_at asks inner naming
-  closed ← punct_taken punct.RIGHT_PARENTHESIS
+  closed ← tokens (punct_taken punct.RIGHT_PARENTHESIS)
   give inside
 
 -- ---- bounds (8.3.4)
@@ -191,7 +191,7 @@ valued asks = do
 unfoldable pub bound_value : {S : Type 0} → Kinds S → Reads S (Option ℤ × List CxxTree)
 bound_value asks = do
   value ← valued asks
-  closed ← punct_taken punct.RIGHT_BRACKET
+  closed ← tokens (punct_taken punct.RIGHT_BRACKET)
   give value
 
 -- behind `[`
@@ -245,7 +245,7 @@ parameter_at asks inner so_far = do
 unfoldable pub list_ended : {S : Type 0} → ParameterTypes → Reads S (Turn ParameterTypes ParameterTypes)
 list_ended so_far = do
   ellipsis ← taken
-  closed ← punct_taken punct.RIGHT_PARENTHESIS
+  closed ← tokens (punct_taken punct.RIGHT_PARENTHESIS)
   give (Done (with_ellipsis so_far))
 
 -- behind a comma
@@ -269,9 +269,11 @@ abbrev pub past_most : {S A : Type 0} → Bool → Reads S A
 past_most true = limited Arguments
 past_most false = refused
 
--- a parameter more than there may be
+-- a parameter more than there may be: `auto` and `register` begin one too (7.1.1)
 unfoldable pub parameters_over : {S A : Type 0} → Kinds S → ParameterTypes → Reads S A
-parameters_over asks so_far = begins_type asks >>= past_most
+parameters_over asks so_far state ahead =
+    if is_keyword keyword.AUTO (kind_ahead ahead) || is_keyword keyword.REGISTER (kind_ahead ahead) then past_most true state ahead else
+    (begins_type asks >>= past_most) state ahead
 
 abbrev pub no_parameters : ℕ → ParameterTypes
 no_parameters scope = record { types = []; ellipsis = false; scope = scope; parts = [] }

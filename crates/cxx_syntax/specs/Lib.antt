@@ -1,0 +1,9 @@
+pub mod Reading
+pub mod Views
+pub mod Asking
+pub mod Knot
+pub mod Words
+pub mod Making
+pub mod Looping
+pub mod Suffixes
+pub mod Outlines

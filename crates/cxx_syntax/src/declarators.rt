@@ -1,0 +1,456 @@
+//! How declarators are read (8.3).
+
+ghost use Rattle.std.specs.Prelude.{◌≡◌, ◌++◌, [], ◌∷◌, Some, None, IfOk, IfErr};
+ghost use Rattle.cxx_model.specs.declared.stop.Stop.TheVariants as stop;
+ghost use Rattle.cxx_reading.specs.Shapes as shape;
+ghost use Rattle.cxx_syntax.specs.declared.declarator.Layer.TheVariants as layer;
+ghost use Rattle.cxx_reading.specs.Syntax as definition;
+ghost use Rattle.cxx_reading.specs.Syntax.{readers};
+ghost use Rattle.cxx_syntax.specs.Asking.{AnyKnown, itself};
+ghost use Rattle.cxx_syntax.specs.Knot.{Nests};
+ghost use Rattle.cxx_syntax.specs.Reading.{IsRead};
+ghost use Rattle.cxx_syntax.specs.Suffixes.{IsSuffixed, IsSuffixedTurn, suffixed_of, suffixed_turn};
+ghost use Rattle.cxx_syntax.specs.Views.{IsConstantOption, IsDeclarator, bound_of, declarator_of};
+ghost use Rattle.cxx_tree.specs.Held.{meaning};
+
+use crate::cursor::{Cursor, is_keyword, is_name, is_punct};
+use crate::cv::{cv_at, exceptions_at};
+use crate::declarator::{Declarator, Layer, ParameterTypes};
+use crate::kinds::Kinds;
+use crate::name::NameToken;
+use crate::reader::{Entry, Reader, What};
+use crate::steps::begins_class;
+use crate::turn::Turn;
+use crate::words::type_word;
+use cxx_model::{Kind, Listed, Stop, TokenKind, TreeIdList, keyword, punct};
+use cxx_reading::Naming;
+use cxx_tree::State;
+use std::alloc::{AllocError, Global};
+
+/// What was read of a declarator, and whether it ends in a bound.
+#[derive(Drop)]
+pub(crate) struct Suffixed {
+    pub declarator: Declarator,
+    pub in_row: bool,
+}
+
+fn is_required(naming: Naming) -> bool
+    ensures { result ≡ definition.is_required naming }
+{
+    match naming {
+        Naming::Required => true,
+        _ => false,
+    }
+}
+
+fn is_never(naming: Naming) -> bool
+    ensures { result ≡ definition.is_never naming }
+{
+    match naming {
+        Naming::Never => true,
+        _ => false,
+    }
+}
+
+// Nothing was read of a declarator but, maybe, its name.
+fn with_name(alloc: Global, name: Option<NameToken>) -> Declarator
+    ensures { result ≡ record { name = name; layers = []; parts = [] } }
+{
+    Declarator {
+        name,
+        layers: Listed::new(alloc),
+        parts: Listed::new(alloc),
+    }
+}
+
+// The trees of both.
+pub(crate) fn joined(one: TreeIdList, two: TreeIdList) -> Result<TreeIdList, AllocError>
+    ensures { IfOk result (λ all. all ≡ one ++ two) }
+{
+    let mut items = one.into_vec();
+    items.extend_from_slice(two.as_slice())?;
+    Ok(Listed::from_vec(items))
+}
+
+// A part of a declarator that stands outside of what was read of it.
+fn outward(layer: Layer, parts: TreeIdList, inside: Declarator) -> Result<Declarator, Stop>
+    ensures is { IfOk result (λ declarator. declarator ≡ record inside { layers = inside.layers ++ layer ∷ []; parts = inside.parts ++ parts }) }
+    ensures memory { IfErr result (λ why. why ≡ stop.OutOfMemory) }
+{
+    let Declarator {
+        name,
+        mut layers,
+        parts: before,
+    } = inside;
+    layers.push(layer)?;
+    Ok(Declarator {
+        name,
+        layers,
+        parts: joined(before, parts)?,
+    })
+}
+
+// A bound below one is none (8.3.4).
+fn bound_by(value: Option<i128>) -> Option<u64>
+    requires { IsConstantOption value }
+    ensures { bound_of result ≡ definition.bound_by value }
+{
+    match value {
+        None => None,
+        Some(value) => {
+            if value < 0 {
+                Some(0)
+            } else {
+                Some(value as u64)
+            }
+        }
+    }
+}
+
+// A function, with its parameters.
+fn with_function(list: ParameterTypes, inside: Declarator) -> Result<Declarator, Stop>
+    ensures is { IfOk result (λ declarator. declarator ≡ record inside { layers = inside.layers ++ layer.Function list.types list.ellipsis list.scope ∷ []; parts = inside.parts ++ list.parts }) }
+    ensures memory { IfErr result (λ why. why ≡ stop.OutOfMemory) }
+{
+    let ParameterTypes {
+        types,
+        ellipsis,
+        scope,
+        parts,
+    } = list;
+    let layer = Layer::Function {
+        parameters: types,
+        ellipsis,
+        scope,
+    };
+    outward(layer, parts, inside)
+}
+
+pub(crate) fn is_cv(number: u8) -> bool
+    ensures { result ≡ shape.is_cv number }
+{
+    number == keyword::CONST || number == keyword::VOLATILE
+}
+
+pub(crate) fn is_key(number: u8) -> bool
+    ensures { result ≡ shape.is_key number }
+{
+    number == keyword::ENUM || begins_class(number)
+}
+
+impl<K: Kinds, F: Fn(&K, &mut State, &mut Cursor<'_>, What, u32) -> Result<Entry, Stop>> Reader<
+    '_,
+    K,
+    F,
+> {
+    // Whether a type begins ahead.
+    #[tactic(auto, unfolding(cxx_reading::specs::Shapes::begins_type))]
+    pub fn begins_type(&self, state: &mut State, cursor: &Cursor<'_>) -> Result<bool, Stop>
+        requires nests { Nests K.asks K.is_ready F.Fn self.now.kinds.now self.now.room self.now.read }
+        ensures { IsRead itself AnyKnown state.old state.new cursor.now result (shape.begins_type (K.asks self.now.kinds.now self.now.room) (meaning state.old) cursor.now) }
+    {
+        match cursor.kind() {
+            TokenKind::Keyword(number) => {
+                Ok(type_word(number).is_some() || (is_cv(number) || is_key(number)))
+            }
+            TokenKind::Punct(number) => Ok(number == punct::SCOPE),
+            TokenKind::Name => {
+                if cursor.is_qualified() {
+                    return Ok(true);
+                }
+                match self.kinds.kind(state, cursor.name(), self.room)? {
+                    Kind::OfType => Ok(true),
+                    _ => Ok(false),
+                }
+            }
+            _ => Ok(false),
+        }
+    }
+
+    // Whether a bracket, which stands ahead where no name was read, holds parameters (8.2).
+    #[tactic(auto, unfolding(cxx_reading::specs::Shapes::is_abstract_list))]
+    pub fn is_abstract_list(&self, state: &mut State, cursor: &Cursor<'_>) -> Result<bool, Stop>
+        requires nests { Nests K.asks K.is_ready F.Fn self.now.kinds.now self.now.room self.now.read }
+        ensures { IsRead itself AnyKnown state.old state.new cursor.now result (shape.is_abstract_list (K.asks self.now.kinds.now self.now.room) (meaning state.old) cursor.now) }
+    {
+        let behind = cursor.kind_behind();
+        if is_punct(punct::RIGHT_PARENTHESIS, behind) || is_punct(punct::ELLIPSIS, behind) {
+            return Ok(true);
+        }
+        let mut ahead = cursor.mark();
+        ahead.advance();
+        self.begins_type(state, &ahead)
+    }
+
+    // Only the first bound of a row may be left out (8.3.4).
+    #[tactic(auto, using(crate::proofs::Kept::trees_kept, crate::proofs::Kept::trees_later, crate::proofs::Kept::trees_append, crate::proofs::Kept::trees_below_append, crate::proofs::Kept::layers_kept, crate::proofs::Kept::layers_later, crate::proofs::Kept::layers_append, crate::proofs::Kept::layers_below_append, crate::proofs::Kept::later_trans, crate::proofs::Kept::later_refl), unfolding(cxx_reading::specs::Syntax::array_suffix))]
+    fn array_suffix(
+        &self,
+        state: &mut State,
+        cursor: &mut Cursor<'_>,
+        so_far: Suffixed,
+    ) -> Result<Turn<Suffixed, Declarator>, Stop>
+        requires known { IsSuffixed state.old so_far }
+        requires nests { Nests K.asks K.is_ready F.Fn self.now.kinds.now self.now.room self.now.read }
+        ensures { IsRead suffixed_turn IsSuffixedTurn state.old state.new cursor.new result (definition.array_suffix (readers (K.asks self.now.kinds.now) self.now.room) (suffixed_of state.old so_far) (meaning state.old) cursor.old) }
+    {
+        cursor.advance();
+        let (value, parts) = self.bound(state, cursor, !so_far.in_row)?;
+        let declarator = outward(Layer::Array(bound_by(value)), parts, so_far.declarator)?;
+        Ok(Turn::More(Suffixed {
+            declarator,
+            in_row: true,
+        }))
+    }
+
+    // The words behind the parameters are read and say nothing (8.3.5).
+    #[tactic(auto, using(crate::proofs::Kept::trees_kept, crate::proofs::Kept::trees_later, crate::proofs::Kept::trees_append, crate::proofs::Kept::trees_below_append, crate::proofs::Kept::layers_kept, crate::proofs::Kept::layers_later, crate::proofs::Kept::layers_append, crate::proofs::Kept::layers_below_append, crate::proofs::Kept::later_trans, crate::proofs::Kept::later_refl), unfolding(cxx_reading::specs::Syntax::function_suffix))]
+    fn function_suffix(
+        &self,
+        state: &mut State,
+        cursor: &mut Cursor<'_>,
+        so_far: Suffixed,
+    ) -> Result<Turn<Suffixed, Declarator>, Stop>
+        requires known { IsSuffixed state.old so_far }
+        requires nests { Nests K.asks K.is_ready F.Fn self.now.kinds.now self.now.room self.now.read }
+        ensures { IsRead suffixed_turn IsSuffixedTurn state.old state.new cursor.new result (definition.function_suffix (readers (K.asks self.now.kinds.now) self.now.room) (suffixed_of state.old so_far) (meaning state.old) cursor.old) }
+    {
+        cursor.advance();
+        let list = self.parameters(state, cursor)?;
+        cv_at(cursor)?;
+        exceptions_at(cursor)?;
+        let declarator = with_function(list, so_far.declarator)?;
+        Ok(Turn::More(Suffixed {
+            declarator,
+            in_row: false,
+        }))
+    }
+
+    // Behind a name a bracket holds parameters by its shape, and else an initializer (8.2).
+    #[tactic(auto, using(crate::proofs::Kept::trees_kept, crate::proofs::Kept::trees_later, crate::proofs::Kept::trees_append, crate::proofs::Kept::trees_below_append, crate::proofs::Kept::layers_kept, crate::proofs::Kept::layers_later, crate::proofs::Kept::layers_append, crate::proofs::Kept::layers_below_append, crate::proofs::Kept::later_trans, crate::proofs::Kept::later_refl), unfolding(cxx_reading::specs::Syntax::bracket_suffix))]
+    fn bracket_suffix(
+        &self,
+        state: &mut State,
+        cursor: &mut Cursor<'_>,
+        so_far: Suffixed,
+    ) -> Result<Turn<Suffixed, Declarator>, Stop>
+        requires known { IsSuffixed state.old so_far }
+        requires nests { Nests K.asks K.is_ready F.Fn self.now.kinds.now self.now.room self.now.read }
+        ensures { IsRead suffixed_turn IsSuffixedTurn state.old state.new cursor.new result (definition.bracket_suffix (readers (K.asks self.now.kinds.now) self.now.room) (suffixed_of state.old so_far) (meaning state.old) cursor.old) }
+    {
+        if so_far.declarator.name.is_some() {
+            let mut ahead = cursor.mark();
+            ahead.advance();
+            if !self.holds_parameters(state, &mut ahead)? {
+                return Ok(Turn::Done(so_far.declarator));
+            }
+        }
+        self.function_suffix(state, cursor, so_far)
+    }
+
+    // One part behind a name.
+    #[tactic(auto, unfolding(cxx_reading::specs::Syntax::suffix_at))]
+    fn suffix_at(
+        &self,
+        state: &mut State,
+        cursor: &mut Cursor<'_>,
+        so_far: Suffixed,
+    ) -> Result<Turn<Suffixed, Declarator>, Stop>
+        requires known { IsSuffixed state.old so_far }
+        requires nests { Nests K.asks K.is_ready F.Fn self.now.kinds.now self.now.room self.now.read }
+        ensures { IsRead suffixed_turn IsSuffixedTurn state.old state.new cursor.new result (definition.suffix_at (readers (K.asks self.now.kinds.now) self.now.room) (suffixed_of state.old so_far) (meaning state.old) cursor.old) }
+    {
+        if is_punct(punct::LEFT_PARENTHESIS, cursor.kind()) {
+            return self.bracket_suffix(state, cursor, so_far);
+        }
+        if is_punct(punct::LEFT_BRACKET, cursor.kind()) {
+            return self.array_suffix(state, cursor, so_far);
+        }
+        Ok(Turn::Done(so_far.declarator))
+    }
+
+    // All parts behind a name.
+    #[tactic(auto, using(crate::proofs::Loops::turn, crate::proofs::Loops::no_turn, crate::proofs::Kept::later_trans, crate::proofs::Kept::later_refl), unfolding(cxx_reading::specs::Syntax::suffixes_at))]
+    fn suffixes_at(
+        &self,
+        state: &mut State,
+        cursor: &mut Cursor<'_>,
+        declarator: Declarator,
+    ) -> Result<Declarator, Stop>
+        requires known { IsDeclarator state.old declarator }
+        requires nests { Nests K.asks K.is_ready F.Fn self.now.kinds.now self.now.room self.now.read }
+        ensures { IsRead declarator_of IsDeclarator state.old state.new cursor.new result (definition.suffixes_at (readers (K.asks self.now.kinds.now) self.now.room) (declarator_of state.old declarator) (meaning state.old) cursor.old) }
+    {
+        let mut so_far = Suffixed {
+            declarator,
+            in_row: false,
+        };
+        for _turn in 0..cursor.count() {
+            match self.suffix_at(state, cursor, so_far)? {
+                Turn::More(next) => so_far = next,
+                Turn::Done(all) => return Ok(all),
+            }
+        }
+        Ok(so_far.declarator)
+    }
+
+    // A name, or none where none has to stand.
+    #[tactic(auto, using(crate::proofs::Kept::trees_kept, crate::proofs::Kept::trees_later, crate::proofs::Kept::trees_append, crate::proofs::Kept::trees_below_append, crate::proofs::Kept::layers_kept, crate::proofs::Kept::layers_later, crate::proofs::Kept::layers_append, crate::proofs::Kept::layers_below_append, crate::proofs::Kept::later_trans, crate::proofs::Kept::later_refl), unfolding(cxx_reading::specs::Syntax::name_part, cxx_reading::specs::Tokens::no_declarator))]
+    fn name_part(
+        &self,
+        state: &mut State,
+        cursor: &mut Cursor<'_>,
+        naming: Naming,
+    ) -> Result<Declarator, Stop>
+        requires nests { Nests K.asks K.is_ready F.Fn self.now.kinds.now self.now.room self.now.read }
+        ensures { IsRead declarator_of IsDeclarator state.old state.new cursor.new result (definition.name_part (readers (K.asks self.now.kinds.now) self.now.room) naming (meaning state.old) cursor.old) }
+    {
+        if is_never(naming) {
+            return self.suffixes_at(state, cursor, with_name(cursor.alloc(), None));
+        }
+        if cursor.is_qualified() {
+            return Err(Stop::Fault(cursor.not_built()?));
+        }
+        if is_name(cursor.kind()) {
+            let name = cursor.kept()?;
+            return self.suffixes_at(state, cursor, with_name(cursor.alloc(), Some(name)));
+        }
+        if is_required(naming) {
+            return Err(Stop::Fault(cursor.no_declarator()?));
+        }
+        self.suffixes_at(state, cursor, with_name(cursor.alloc(), None))
+    }
+
+    // A declarator in brackets.
+    #[tactic(auto, using(crate::proofs::Kept::trees_kept, crate::proofs::Kept::trees_later, crate::proofs::Kept::trees_append, crate::proofs::Kept::trees_below_append, crate::proofs::Kept::layers_kept, crate::proofs::Kept::layers_later, crate::proofs::Kept::layers_append, crate::proofs::Kept::layers_below_append, crate::proofs::Kept::later_trans, crate::proofs::Kept::later_refl), unfolding(cxx_reading::specs::Syntax::grouped_part))]
+    fn grouped_part(
+        &self,
+        state: &mut State,
+        cursor: &mut Cursor<'_>,
+        naming: Naming,
+    ) -> Result<Declarator, Stop>
+        requires nests { Nests K.asks K.is_ready F.Fn self.now.kinds.now self.now.room self.now.read }
+        ensures { IsRead declarator_of IsDeclarator state.old state.new cursor.new result (definition.grouped_part (readers (K.asks self.now.kinds.now) self.now.room) naming (meaning state.old) cursor.old) }
+    {
+        cursor.advance();
+        let inside = self.grouped(state, cursor, naming)?;
+        self.suffixes_at(state, cursor, inside)
+    }
+
+    // Where no name has to stand, a bracket before a type holds parameters (8.2).
+    #[tactic(auto, using(crate::proofs::Kept::trees_kept, crate::proofs::Kept::trees_later, crate::proofs::Kept::trees_append, crate::proofs::Kept::trees_below_append, crate::proofs::Kept::layers_kept, crate::proofs::Kept::layers_later, crate::proofs::Kept::layers_append, crate::proofs::Kept::layers_below_append, crate::proofs::Kept::later_trans, crate::proofs::Kept::later_refl), unfolding(cxx_reading::specs::Syntax::bracket_part))]
+    fn bracket_part(
+        &self,
+        state: &mut State,
+        cursor: &mut Cursor<'_>,
+        naming: Naming,
+    ) -> Result<Declarator, Stop>
+        requires nests { Nests K.asks K.is_ready F.Fn self.now.kinds.now self.now.room self.now.read }
+        ensures { IsRead declarator_of IsDeclarator state.old state.new cursor.new result (definition.bracket_part (K.asks self.now.kinds.now self.now.room) (readers (K.asks self.now.kinds.now) self.now.room) naming (meaning state.old) cursor.old) }
+    {
+        if !is_required(naming) && self.is_abstract_list(state, cursor)? {
+            return self.suffixes_at(state, cursor, with_name(cursor.alloc(), None));
+        }
+        self.grouped_part(state, cursor, naming)
+    }
+
+    // A pointer (8.3.1).
+    #[tactic(auto, using(crate::proofs::Kept::trees_kept, crate::proofs::Kept::trees_later, crate::proofs::Kept::trees_append, crate::proofs::Kept::trees_below_append, crate::proofs::Kept::layers_kept, crate::proofs::Kept::layers_later, crate::proofs::Kept::layers_append, crate::proofs::Kept::layers_below_append, crate::proofs::Kept::later_trans, crate::proofs::Kept::later_refl), unfolding(cxx_reading::specs::Syntax::star_part))]
+    fn star_part(
+        &self,
+        state: &mut State,
+        cursor: &mut Cursor<'_>,
+        naming: Naming,
+    ) -> Result<Declarator, Stop>
+        requires nests { Nests K.asks K.is_ready F.Fn self.now.kinds.now self.now.room self.now.read }
+        ensures { IsRead declarator_of IsDeclarator state.old state.new cursor.new result (definition.star_part (readers (K.asks self.now.kinds.now) self.now.room) naming (meaning state.old) cursor.old) }
+    {
+        cursor.advance();
+        self.pointed(state, cursor, naming)
+    }
+
+    // A reference (8.3.2).
+    #[tactic(auto, using(crate::proofs::Kept::trees_kept, crate::proofs::Kept::trees_later, crate::proofs::Kept::trees_append, crate::proofs::Kept::trees_below_append, crate::proofs::Kept::layers_kept, crate::proofs::Kept::layers_later, crate::proofs::Kept::layers_append, crate::proofs::Kept::layers_below_append, crate::proofs::Kept::later_trans, crate::proofs::Kept::later_refl), unfolding(cxx_reading::specs::Syntax::ampersand_part))]
+    fn ampersand_part(
+        &self,
+        state: &mut State,
+        cursor: &mut Cursor<'_>,
+        naming: Naming,
+    ) -> Result<Declarator, Stop>
+        requires nests { Nests K.asks K.is_ready F.Fn self.now.kinds.now self.now.room self.now.read }
+        ensures { IsRead declarator_of IsDeclarator state.old state.new cursor.new result (definition.ampersand_part (readers (K.asks self.now.kinds.now) self.now.room) naming (meaning state.old) cursor.old) }
+    {
+        cursor.advance();
+        self.referred(state, cursor, naming)
+    }
+
+    // A declarator (8).
+    #[tactic(auto, using(crate::proofs::Kept::trees_kept, crate::proofs::Kept::trees_later, crate::proofs::Kept::trees_append, crate::proofs::Kept::trees_below_append, crate::proofs::Kept::layers_kept, crate::proofs::Kept::layers_later, crate::proofs::Kept::layers_append, crate::proofs::Kept::layers_below_append, crate::proofs::Kept::later_trans, crate::proofs::Kept::later_refl), unfolding(cxx_reading::specs::Syntax::declarator_at))]
+    pub fn declarator_at(
+        &self,
+        state: &mut State,
+        cursor: &mut Cursor<'_>,
+        naming: Naming,
+    ) -> Result<Declarator, Stop>
+        requires nests { Nests K.asks K.is_ready F.Fn self.now.kinds.now self.now.room self.now.read }
+        ensures { IsRead declarator_of IsDeclarator state.old state.new cursor.new result (definition.declarator_at (K.asks self.now.kinds.now self.now.room) (readers (K.asks self.now.kinds.now) self.now.room) naming (meaning state.old) cursor.old) }
+    {
+        if is_punct(punct::STAR, cursor.kind()) {
+            return self.star_part(state, cursor, naming);
+        }
+        if is_punct(punct::AMPERSAND, cursor.kind()) {
+            return self.ampersand_part(state, cursor, naming);
+        }
+        if is_punct(punct::LEFT_PARENTHESIS, cursor.kind()) {
+            return self.bracket_part(state, cursor, naming);
+        }
+        self.name_part(state, cursor, naming)
+    }
+
+    // Behind `*` (8.3.1).
+    #[tactic(auto, using(crate::proofs::Kept::trees_kept, crate::proofs::Kept::trees_later, crate::proofs::Kept::trees_append, crate::proofs::Kept::trees_below_append, crate::proofs::Kept::layers_kept, crate::proofs::Kept::layers_later, crate::proofs::Kept::layers_append, crate::proofs::Kept::layers_below_append, crate::proofs::Kept::later_trans, crate::proofs::Kept::later_refl), unfolding(cxx_reading::specs::Syntax::pointed_at))]
+    pub fn pointed_at(
+        &self,
+        state: &mut State,
+        cursor: &mut Cursor<'_>,
+        naming: Naming,
+    ) -> Result<Declarator, Stop>
+        requires nests { Nests K.asks K.is_ready F.Fn self.now.kinds.now self.now.room self.now.read }
+        ensures { IsRead declarator_of IsDeclarator state.old state.new cursor.new result (definition.pointed_at (K.asks self.now.kinds.now self.now.room) (readers (K.asks self.now.kinds.now) self.now.room) naming (meaning state.old) cursor.old) }
+    {
+        let cv = cv_at(cursor)?;
+        let inside = self.declarator_at(state, cursor, naming)?;
+        outward(Layer::Pointer(cv), Listed::new(cursor.alloc()), inside)
+    }
+
+    // Behind `&` (8.3.2).
+    #[tactic(auto, using(crate::proofs::Kept::trees_kept, crate::proofs::Kept::trees_later, crate::proofs::Kept::trees_append, crate::proofs::Kept::trees_below_append, crate::proofs::Kept::layers_kept, crate::proofs::Kept::layers_later, crate::proofs::Kept::layers_append, crate::proofs::Kept::layers_below_append, crate::proofs::Kept::later_trans, crate::proofs::Kept::later_refl), unfolding(cxx_reading::specs::Syntax::referred_at))]
+    pub fn referred_at(
+        &self,
+        state: &mut State,
+        cursor: &mut Cursor<'_>,
+        naming: Naming,
+    ) -> Result<Declarator, Stop>
+        requires nests { Nests K.asks K.is_ready F.Fn self.now.kinds.now self.now.room self.now.read }
+        ensures { IsRead declarator_of IsDeclarator state.old state.new cursor.new result (definition.referred_at (K.asks self.now.kinds.now self.now.room) (readers (K.asks self.now.kinds.now) self.now.room) naming (meaning state.old) cursor.old) }
+    {
+        let inside = self.declarator_at(state, cursor, naming)?;
+        outward(Layer::Reference, Listed::new(cursor.alloc()), inside)
+    }
+
+    // Behind `(` (8).
+    #[tactic(auto, using(crate::proofs::Kept::trees_kept, crate::proofs::Kept::trees_later, crate::proofs::Kept::trees_append, crate::proofs::Kept::trees_below_append, crate::proofs::Kept::layers_kept, crate::proofs::Kept::layers_later, crate::proofs::Kept::layers_append, crate::proofs::Kept::layers_below_append, crate::proofs::Kept::later_trans, crate::proofs::Kept::later_refl), unfolding(cxx_reading::specs::Syntax::grouped_at))]
+    pub fn grouped_at(
+        &self,
+        state: &mut State,
+        cursor: &mut Cursor<'_>,
+        naming: Naming,
+    ) -> Result<Declarator, Stop>
+        requires nests { Nests K.asks K.is_ready F.Fn self.now.kinds.now self.now.room self.now.read }
+        ensures { IsRead declarator_of IsDeclarator state.old state.new cursor.new result (definition.grouped_at (K.asks self.now.kinds.now self.now.room) (readers (K.asks self.now.kinds.now) self.now.room) naming (meaning state.old) cursor.old) }
+    {
+        let inside = self.declarator_at(state, cursor, naming)?;
+        cursor.punct(punct::RIGHT_PARENTHESIS)?;
+        Ok(inside)
+    }
+}

@@ -1,0 +1,23 @@
+//! Readers of declarations: specifiers and declarators, over any user that says what a name is.
+#![tactic(auto)]
+
+mod constants;
+mod cursor;
+mod cv;
+mod declarator;
+mod declarators;
+mod kinds;
+mod name;
+mod nodes;
+mod reader;
+mod shapes;
+mod specifiers;
+mod steps;
+mod turn;
+mod words;
+
+pub use cursor::{Cursor, Spelled};
+pub use declarator::{Declarator, Layer, LayerList, ParameterTypes};
+pub use kinds::Kinds;
+pub use name::NameToken;
+pub use specifiers::Specifiers;

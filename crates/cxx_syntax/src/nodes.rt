@@ -1,0 +1,160 @@
+//! The trees of what is read.
+
+ghost use Rattle.std.specs.Prelude.{◌≡◌, ◌<◌, [], length, None, IfOk, codes};
+ghost use Rattle.cxx_reading.specs.Productions as production;
+ghost use Rattle.cxx_reading.specs.Reads.{count_ahead, place_ahead};
+ghost use Rattle.cxx_reading.specs.Specifiers as definition;
+ghost use Rattle.cxx_reading.specs.Specifiers.{path_of, place_or};
+ghost use Rattle.cxx_syntax.specs.Asking.{IsEnumeration};
+ghost use Rattle.cxx_syntax.specs.Making.{GrowsTree};
+ghost use Rattle.cxx_syntax.specs.Views.{AreTreesHeld, name_at, name_of_option, trees_held};
+ghost use Rattle.cxx_tree.specs.Arena.{AreTreesBelow, IsNodeBelow, tree_over, path_at};
+ghost use Rattle.cxx_tree.specs.Arena as arena;
+ghost use Rattle.cxx_tree.specs.Held.{trees, type_of};
+
+use crate::cursor::Cursor;
+use crate::name::NameToken;
+use cxx_model::{
+    EnumId, Listed, Node, Path, PathPart, Place, Stop, Text, TreeId, TreeIdList, TypeId, Word,
+};
+use cxx_tree::State;
+use std::alloc::{AllocError, Global};
+
+/// The numbers of the productions.
+pub(crate) mod production {
+    pub const ELABORATED: u8 = 9;
+
+    pub const ENUMERATION_LIST: u8 = 11;
+
+    pub const LITERAL: u8 = 34;
+
+    pub const PARAMETER: u8 = 54;
+}
+
+/// A node that covers what was read from one place up to another, and says nothing else yet.
+pub(crate) fn node_from(
+    production: u8,
+    spelling: Text,
+    from: &Cursor<'_>,
+    to: &Cursor<'_>,
+    children: TreeIdList,
+) -> Node
+    ensures { result ≡ record { production = production; children = children; first = count_ahead from.now; last = count_ahead to.now; start = place_ahead from.now; place = place_ahead from.now; path = None; operand = None; of = None; target = None; call = None; spelling = spelling } }
+{
+    Node {
+        production,
+        children,
+        first: from.count(),
+        last: to.count(),
+        start: from.place(),
+        place: from.place(),
+        path: None,
+        operand: None,
+        of: None,
+        target: None,
+        call: None,
+        spelling,
+    }
+}
+
+// A name without qualifiers.
+fn path_to(alloc: Global, name: &NameToken) -> Result<Path, AllocError>
+    ensures { IfOk result (λ path. path_at path ≡ path_of (name_at name.now)) }
+{
+    let mut parts = Listed::new(alloc);
+    parts.push(PathPart {
+        word: Word::from_slice(alloc, name.spelling.as_slice())?,
+        place: name.place,
+        arguments: None,
+    })?;
+    Ok(Path {
+        global: false,
+        parts,
+    })
+}
+
+fn path_to_option(alloc: Global, name: &Option<NameToken>) -> Result<Option<Path>, AllocError>
+    ensures { IfOk result (λ path. arena.path_of_option path ≡ definition.path_of_option (name_of_option name.now)) }
+{
+    match name {
+        None => Ok(None),
+        Some(name) => Ok(Some(path_to(alloc, name)?)),
+    }
+}
+
+/// The place of a name, or another where there is none.
+pub(crate) fn place_of(place: Place, name: &Option<NameToken>) -> Place
+    ensures { result ≡ place_or place (name_of_option name.now) }
+{
+    match name {
+        None => place,
+        Some(name) => name.place,
+    }
+}
+
+/// Adds a node.
+pub(crate) fn push(state: &mut State, node: Node) -> Result<TreeId, Stop>
+    requires below { IsNodeBelow (length (state.old).types) node }
+    requires children { AreTreesBelow (length (trees state.old)) node.children }
+    ensures { GrowsTree state.old state.new result (tree_over (state.old).types (trees state.old) node) }
+{
+    match state.push(node) {
+        Ok(number) => Ok(number),
+        Err(_) => Err(Stop::OutOfMemory),
+    }
+}
+
+/// `enum` and a name (7.1.5.3).
+pub(crate) fn elaborated_tree(
+    alloc: Global,
+    state: &mut State,
+    name: &NameToken,
+    of: TypeId,
+    from: &Cursor<'_>,
+    to: &Cursor<'_>,
+) -> Result<TreeId, Stop>
+    requires { of.0 < length (state.old).types }
+    ensures { GrowsTree state.old state.new result (definition.elaborated_tree (name_at name.now) (type_of state.old of) from.now to.now) }
+{
+    let path = path_to(alloc, name)?;
+    let spelling = Text::from_slice(alloc, b"enum")?;
+    let mut node = node_from(
+        production::ELABORATED,
+        spelling,
+        from,
+        to,
+        Listed::new(alloc),
+    );
+    node.place = name.place;
+    node.path = Some(path);
+    node.of = Some(of);
+    push(state, node)
+}
+
+/// An enumeration with its list (7.2).
+pub(crate) fn enumeration_tree(
+    alloc: Global,
+    state: &mut State,
+    name: &Option<NameToken>,
+    both: (EnumId, TypeId),
+    values: TreeIdList,
+    from: &Cursor<'_>,
+    to: &Cursor<'_>,
+) -> Result<TreeId, Stop>
+    requires known { IsEnumeration state.old both }
+    requires values { AreTreesHeld state.old values }
+    ensures { GrowsTree state.old state.new result (definition.enumeration_tree (name_of_option name.now) both.0.0 (trees_held state.old values) from.now to.now) }
+{
+    let path = path_to_option(alloc, name)?;
+    let mut node = node_from(
+        production::ENUMERATION_LIST,
+        Listed::new(alloc),
+        from,
+        to,
+        values,
+    );
+    node.place = place_of(from.place(), name);
+    node.path = path;
+    node.of = Some(both.1);
+    push(state, node)
+}

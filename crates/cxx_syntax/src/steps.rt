@@ -1,0 +1,571 @@
+ghost use Rattle.std.specs.Prelude.{◌≡◌, ◌++◌, [], ◌∷◌, None, Some, false, true, IfOk, IfErr};
+ghost use Rattle.cxx_model.specs.declared.stop.Stop.TheVariants as stop;
+ghost use Rattle.cxx_reading.specs.Declarators.{has_type as has_type_in, no_cv, no_specifiers, no_words};
+ghost use Rattle.cxx_reading.specs.Reads.{count_ahead, give, repeat};
+ghost use Rattle.cxx_reading.specs.Specifiers as definition;
+ghost use Rattle.cxx_reading.specs.Syntax.{readers};
+ghost use Rattle.cxx_syntax.specs.Knot.{Nests};
+ghost use Rattle.cxx_syntax.specs.Reading.{IsRead};
+ghost use Rattle.cxx_syntax.specs.Words.{word_of};
+ghost use Rattle.cxx_syntax.specs.Views.{AreSpecifiers, AreTreesHeld, IsSpecifiersTurn, name_at, name_of_option, specifiers_of, specifiers_turn, trees_held};
+ghost use Rattle.cxx_tree.specs.Held.{meaning};
+
+use crate::cursor::{Cursor, is_keyword, is_name, is_punct};
+use crate::kinds::Kinds;
+use crate::name::NameToken;
+use crate::nodes::{elaborated_tree, enumeration_tree, place_of};
+use crate::reader::{Entry, Reader, What};
+use crate::specifiers::Specifiers;
+use crate::turn::Turn;
+use crate::words::{TypeWord, base_of_words, storage_word, type_word, with_word};
+use cxx_model::{
+    Cv, EnumId, Kind, Listed, Stop, TokenKind, TreeId, TreeIdList, TypeId, keyword, punct,
+};
+use cxx_reading::{SpecifierPlace, StorageWord, TypeWords};
+use cxx_tree::State;
+use std::alloc::Global;
+
+// Which storage words may stand there (7.1.1).
+fn may_store(place: SpecifierPlace, word: StorageWord) -> bool
+    ensures { result ≡ definition.may_store place word }
+{
+    match place {
+        SpecifierPlace::Declaration => match word {
+            StorageWord::Extern => true,
+            StorageWord::Static => true,
+            StorageWord::Typedef => true,
+            _ => false,
+        },
+        SpecifierPlace::Parameter => match word {
+            StorageWord::Auto => true,
+            StorageWord::Register => true,
+            _ => false,
+        },
+        SpecifierPlace::TypeId => false,
+    }
+}
+
+#[tactic(auto, unfolding(cxx_reading::specs::Specifiers::storage_step))]
+fn storage_step(
+    state: &State,
+    cursor: &mut Cursor<'_>,
+    place: SpecifierPlace,
+    word: StorageWord,
+    so_far: Specifiers,
+) -> Result<Turn<Specifiers, Specifiers>, Stop>
+    requires { AreSpecifiers state.now so_far }
+    ensures { IsRead specifiers_turn IsSpecifiersTurn state.now state.now cursor.new result (definition.storage_step place word (specifiers_of state.now so_far) (meaning state.now) cursor.old) }
+{
+    if !may_store(place, word) || so_far.storage.is_some() {
+        return Err(Stop::Fault(cursor.refused()?));
+    }
+    cursor.advance();
+    let mut so_far = so_far;
+    so_far.storage = Some(word);
+    Ok(Turn::More(so_far))
+}
+
+fn is_declaration(place: SpecifierPlace) -> bool
+    ensures { result ≡ definition.is_declaration place }
+{
+    match place {
+        SpecifierPlace::Declaration => true,
+        _ => false,
+    }
+}
+
+// `inline`, once, in a declaration (7.1.2).
+#[tactic(auto, unfolding(cxx_reading::specs::Specifiers::inline_step))]
+fn inline_step(
+    state: &State,
+    cursor: &mut Cursor<'_>,
+    place: SpecifierPlace,
+    so_far: Specifiers,
+) -> Result<Turn<Specifiers, Specifiers>, Stop>
+    requires { AreSpecifiers state.now so_far }
+    ensures { IsRead specifiers_turn IsSpecifiersTurn state.now state.now cursor.new result (definition.inline_step place (specifiers_of state.now so_far) (meaning state.now) cursor.old) }
+{
+    if !is_declaration(place) || so_far.is_inline {
+        return Err(Stop::Fault(cursor.refused()?));
+    }
+    cursor.advance();
+    let mut so_far = so_far;
+    so_far.is_inline = true;
+    Ok(Turn::More(so_far))
+}
+
+// `const`, once (7.1.5.1).
+#[tactic(auto, unfolding(cxx_reading::specs::Specifiers::const_step))]
+fn const_step(
+    state: &State,
+    cursor: &mut Cursor<'_>,
+    so_far: Specifiers,
+) -> Result<Turn<Specifiers, Specifiers>, Stop>
+    requires { AreSpecifiers state.now so_far }
+    ensures { IsRead specifiers_turn IsSpecifiersTurn state.now state.now cursor.new result (definition.const_step (specifiers_of state.now so_far) (meaning state.now) cursor.old) }
+{
+    if so_far.cv.is_const {
+        return Err(Stop::Fault(cursor.refused()?));
+    }
+    cursor.advance();
+    let mut so_far = so_far;
+    so_far.cv = Cv {
+        is_const: true,
+        is_volatile: so_far.cv.is_volatile,
+    };
+    Ok(Turn::More(so_far))
+}
+
+// `volatile`, once (7.1.5.1).
+#[tactic(auto, unfolding(cxx_reading::specs::Specifiers::volatile_step))]
+fn volatile_step(
+    state: &State,
+    cursor: &mut Cursor<'_>,
+    so_far: Specifiers,
+) -> Result<Turn<Specifiers, Specifiers>, Stop>
+    requires { AreSpecifiers state.now so_far }
+    ensures { IsRead specifiers_turn IsSpecifiersTurn state.now state.now cursor.new result (definition.volatile_step (specifiers_of state.now so_far) (meaning state.now) cursor.old) }
+{
+    if so_far.cv.is_volatile {
+        return Err(Stop::Fault(cursor.refused()?));
+    }
+    cursor.advance();
+    let mut so_far = so_far;
+    so_far.cv = Cv {
+        is_const: so_far.cv.is_const,
+        is_volatile: true,
+    };
+    Ok(Turn::More(so_far))
+}
+
+// A word of a fundamental type, where the words before it go with it (7.1.5.2).
+#[tactic(auto, unfolding(cxx_reading::specs::Specifiers::word_step))]
+fn word_step(
+    state: &State,
+    cursor: &mut Cursor<'_>,
+    word: TypeWord,
+    so_far: Specifiers,
+) -> Result<Turn<Specifiers, Specifiers>, Stop>
+    requires { AreSpecifiers state.now so_far }
+    ensures { IsRead specifiers_turn IsSpecifiersTurn state.now state.now cursor.new result (definition.word_step (word_of word) (specifiers_of state.now so_far) (meaning state.now) cursor.old) }
+{
+    if so_far.named.is_some() {
+        return Err(Stop::Fault(cursor.refused()?));
+    }
+    match with_word(word, so_far.words) {
+        Some(words) => {
+            cursor.advance();
+            let mut so_far = so_far;
+            so_far.words = words;
+            Ok(Turn::More(so_far))
+        }
+        None => Err(Stop::Fault(cursor.refused()?)),
+    }
+}
+
+/// Whether a type stands among the specifiers.
+pub(crate) fn has_type(state: &State, so_far: &Specifiers) -> bool
+    ensures { result ≡ has_type_in (specifiers_of state.now so_far.now) }
+{
+    let _ = state;
+    match so_far.named {
+        Some(_) => true,
+        None => base_of_words(so_far.words).is_some(),
+    }
+}
+
+// A class is not read yet (7.1.5.3, 14.6).
+#[tactic(auto, unfolding(cxx_reading::specs::Specifiers::class_step))]
+fn class_step(
+    state: &State,
+    cursor: &mut Cursor<'_>,
+    so_far: Specifiers,
+) -> Result<Turn<Specifiers, Specifiers>, Stop>
+    requires { AreSpecifiers state.now so_far }
+    ensures { IsRead specifiers_turn IsSpecifiersTurn state.now state.now cursor.new result (definition.class_step (specifiers_of state.now so_far) (meaning state.now) cursor.old) }
+{
+    if has_type(state, &so_far) {
+        return Err(Stop::Fault(cursor.refused()?));
+    }
+    Err(Stop::Fault(cursor.not_built()?))
+}
+
+pub(crate) fn is_of_members(number: u8) -> bool
+    ensures { result ≡ definition.is_of_members number }
+{
+    number == keyword::FRIEND
+        || (number == keyword::VIRTUAL
+            || (number == keyword::EXPLICIT || number == keyword::MUTABLE))
+}
+
+pub(crate) fn begins_class(number: u8) -> bool
+    ensures { result ≡ definition.begins_class number }
+{
+    number == keyword::CLASS
+        || (number == keyword::STRUCT || (number == keyword::UNION || number == keyword::TYPENAME))
+}
+
+// The specifiers with a type that a name or an enumeration gives.
+#[tactic(auto, using(crate::proofs::Kept::trees_kept, crate::proofs::Kept::trees_later))]
+fn with_named(so_far: Specifiers, of: TypeId) -> Specifiers
+    ensures { result ≡ record so_far { named = Some of } }
+{
+    let mut so_far = so_far;
+    so_far.named = Some(of);
+    so_far
+}
+
+// The same, with the tree that names an enumeration.
+fn with_tree(so_far: Specifiers, of: TypeId, tree: TreeId) -> Result<Specifiers, Stop>
+    ensures is { IfOk result (λ specifiers. specifiers ≡ record so_far { named = Some of; parts = so_far.parts ++ tree ∷ [] }) }
+    ensures memory { IfErr result (λ why. why ≡ stop.OutOfMemory) }
+{
+    let mut so_far = so_far;
+    so_far.named = Some(of);
+    so_far.parts.push(tree)?;
+    Ok(so_far)
+}
+
+// The same, with the tree that defines an enumeration.
+fn with_enumeration(so_far: Specifiers, of: TypeId, tree: TreeId) -> Result<Specifiers, Stop>
+    ensures is { IfOk result (λ specifiers. specifiers ≡ record so_far { named = Some of; is_enumeration = true; parts = so_far.parts ++ tree ∷ [] }) }
+    ensures memory { IfErr result (λ why. why ≡ stop.OutOfMemory) }
+{
+    let mut so_far = so_far;
+    so_far.named = Some(of);
+    so_far.is_enumeration = true;
+    so_far.parts.push(tree)?;
+    Ok(so_far)
+}
+
+// No specifier was read yet.
+fn no_specifiers_yet(alloc: Global) -> Specifiers
+    ensures { result ≡ record { storage = None; is_inline = false; cv = no_cv; words = no_words; named = None; is_enumeration = false; parts = [] } }
+{
+    Specifiers {
+        storage: None,
+        is_inline: false,
+        cv: Cv {
+            is_const: false,
+            is_volatile: false,
+        },
+        words: TypeWords {
+            core: None,
+            sign: None,
+            size: None,
+        },
+        named: None,
+        is_enumeration: false,
+        parts: Listed::new(alloc),
+    }
+}
+
+impl<K: Kinds, F: Fn(&K, &mut State, &mut Cursor<'_>, What, u32) -> Result<Entry, Stop>> Reader<
+    '_,
+    K,
+    F,
+> {
+    // A name of a type, where no type is there yet; behind one it is the name of the declarator (7.1.5.2).
+    #[tactic(auto, using(crate::proofs::Kept::trees_kept, crate::proofs::Kept::trees_later, crate::proofs::Kept::named_kept, crate::proofs::Kept::named_later, crate::proofs::Kept::later_trans, crate::proofs::Kept::later_refl), unfolding(cxx_reading::specs::Specifiers::named_step))]
+    fn named_step(
+        &self,
+        state: &mut State,
+        cursor: &mut Cursor<'_>,
+        so_far: Specifiers,
+    ) -> Result<Turn<Specifiers, Specifiers>, Stop>
+        requires known { AreSpecifiers state.old so_far }
+        requires nests { Nests K.asks K.is_ready F.Fn self.now.kinds.now self.now.room self.now.read }
+        ensures { IsRead specifiers_turn IsSpecifiersTurn state.old state.new cursor.new result (definition.named_step (K.asks self.now.kinds.now self.now.room) (specifiers_of state.old so_far) (meaning state.old) cursor.old) }
+    {
+        if has_type(state, &so_far) {
+            return Ok(Turn::Done(so_far));
+        }
+        if cursor.is_qualified() {
+            return Err(Stop::Fault(cursor.not_built()?));
+        }
+        let name = cursor.name();
+        match self.kinds.kind(state, name, self.room)? {
+            Kind::OfType => {
+                let of = self.kinds.type_named(state, name, self.room)?;
+                cursor.advance();
+                Ok(Turn::More(with_named(so_far, of)))
+            }
+            _ => Ok(Turn::Done(so_far)),
+        }
+    }
+
+    // `enum` and a name (7.1.5.3).
+    #[tactic(auto, using(crate::proofs::Kept::trees_kept, crate::proofs::Kept::trees_later, crate::proofs::Kept::trees_append, crate::proofs::Kept::trees_below_append, crate::proofs::Kept::named_kept, crate::proofs::Kept::named_later, crate::proofs::Kept::type_kept, crate::proofs::Kept::type_later, crate::proofs::Kept::later_trans, crate::proofs::Kept::later_refl), unfolding(cxx_reading::specs::Specifiers::elaborated_step))]
+    fn elaborated_step(
+        &self,
+        state: &mut State,
+        cursor: &mut Cursor<'_>,
+        from: &Cursor<'_>,
+        name: &NameToken,
+        so_far: Specifiers,
+    ) -> Result<Turn<Specifiers, Specifiers>, Stop>
+        requires known { AreSpecifiers state.old so_far }
+        requires nests { Nests K.asks K.is_ready F.Fn self.now.kinds.now self.now.room self.now.read }
+        ensures { IsRead specifiers_turn IsSpecifiersTurn state.old state.new cursor.new result (definition.elaborated_step (K.asks self.now.kinds.now self.now.room) from.now (name_at name.now) (specifiers_of state.old so_far) (meaning state.old) cursor.old) }
+    {
+        let of = self.kinds.elaborated(state, name, self.room)?;
+        let tree = elaborated_tree(cursor.alloc(), state, name, of, from, cursor)?;
+        Ok(Turn::More(with_tree(so_far, of, tree)?))
+    }
+
+    // The list of an enumeration, with its end (7.2).
+    #[tactic(auto, using(crate::proofs::Kept::later_trans, crate::proofs::Kept::later_refl, crate::proofs::Kept::trees_kept, crate::proofs::Kept::trees_later), unfolding(cxx_reading::specs::Specifiers::enumeration_body))]
+    fn enumeration_body(
+        &self,
+        state: &mut State,
+        cursor: &mut Cursor<'_>,
+        number: EnumId,
+    ) -> Result<TreeIdList, Stop>
+        requires { Nests K.asks K.is_ready F.Fn self.now.kinds.now self.now.room self.now.read }
+        ensures { IsRead trees_held AreTreesHeld state.old state.new cursor.new result (definition.enumeration_body (K.asks self.now.kinds.now self.now.room) (readers (K.asks self.now.kinds.now) self.now.room) number.0 (meaning state.old) cursor.old) }
+    {
+        cursor.advance();
+        let values = self.enumerators(state, cursor, number)?;
+        self.kinds.enumerated(state, number, self.room)?;
+        Ok(values)
+    }
+
+    // An enumeration is declared before its list is read (7.2).
+    #[tactic(auto, using(crate::proofs::Kept::trees_kept, crate::proofs::Kept::trees_later, crate::proofs::Kept::trees_append, crate::proofs::Kept::trees_below_append, crate::proofs::Kept::named_kept, crate::proofs::Kept::named_later, crate::proofs::Kept::type_kept, crate::proofs::Kept::type_later, crate::proofs::Kept::later_trans, crate::proofs::Kept::later_refl), unfolding(cxx_reading::specs::Specifiers::defined_step))]
+    fn defined_step(
+        &self,
+        state: &mut State,
+        cursor: &mut Cursor<'_>,
+        from: &Cursor<'_>,
+        name: &Option<NameToken>,
+        so_far: Specifiers,
+    ) -> Result<Turn<Specifiers, Specifiers>, Stop>
+        requires known { AreSpecifiers state.old so_far }
+        requires nests { Nests K.asks K.is_ready F.Fn self.now.kinds.now self.now.room self.now.read }
+        ensures { IsRead specifiers_turn IsSpecifiersTurn state.old state.new cursor.new result (definition.defined_step (K.asks self.now.kinds.now self.now.room) (readers (K.asks self.now.kinds.now) self.now.room) from.now (name_of_option name.now) (specifiers_of state.old so_far) (meaning state.old) cursor.old) }
+    {
+        let place = place_of(from.place(), name);
+        let both = self.kinds.enumeration(state, name, place, self.room)?;
+        let values = self.enumeration_body(state, cursor, both.0)?;
+        let tree = enumeration_tree(cursor.alloc(), state, name, both, values, from, cursor)?;
+        Ok(Turn::More(with_enumeration(so_far, both.1, tree)?))
+    }
+
+    // No enumeration is defined among parameters and in a type that is named (8.3.5, 5.3.3).
+    #[tactic(auto, using(crate::proofs::Kept::trees_kept, crate::proofs::Kept::trees_later, crate::proofs::Kept::trees_append, crate::proofs::Kept::trees_below_append, crate::proofs::Kept::named_kept, crate::proofs::Kept::named_later, crate::proofs::Kept::type_kept, crate::proofs::Kept::type_later, crate::proofs::Kept::later_trans, crate::proofs::Kept::later_refl), unfolding(cxx_reading::specs::Specifiers::list_step))]
+    fn list_step(
+        &self,
+        state: &mut State,
+        cursor: &mut Cursor<'_>,
+        place: SpecifierPlace,
+        from: &Cursor<'_>,
+        name: &Option<NameToken>,
+        so_far: Specifiers,
+    ) -> Result<Turn<Specifiers, Specifiers>, Stop>
+        requires known { AreSpecifiers state.old so_far }
+        requires nests { Nests K.asks K.is_ready F.Fn self.now.kinds.now self.now.room self.now.read }
+        ensures { IsRead specifiers_turn IsSpecifiersTurn state.old state.new cursor.new result (definition.list_step (K.asks self.now.kinds.now self.now.room) (readers (K.asks self.now.kinds.now) self.now.room) place from.now (name_of_option name.now) (specifiers_of state.old so_far) (meaning state.old) cursor.old) }
+    {
+        if !is_declaration(place) {
+            return Err(Stop::Fault(cursor.refused()?));
+        }
+        self.defined_step(state, cursor, from, name, so_far)
+    }
+
+    // Behind `enum` and a name.
+    #[tactic(auto, using(crate::proofs::Kept::trees_kept, crate::proofs::Kept::trees_later, crate::proofs::Kept::trees_append, crate::proofs::Kept::trees_below_append, crate::proofs::Kept::named_kept, crate::proofs::Kept::named_later, crate::proofs::Kept::type_kept, crate::proofs::Kept::type_later, crate::proofs::Kept::later_trans, crate::proofs::Kept::later_refl), unfolding(cxx_reading::specs::Specifiers::key_named_step))]
+    fn key_named_step(
+        &self,
+        state: &mut State,
+        cursor: &mut Cursor<'_>,
+        place: SpecifierPlace,
+        from: &Cursor<'_>,
+        so_far: Specifiers,
+        name: NameToken,
+    ) -> Result<Turn<Specifiers, Specifiers>, Stop>
+        requires known { AreSpecifiers state.old so_far }
+        requires nests { Nests K.asks K.is_ready F.Fn self.now.kinds.now self.now.room self.now.read }
+        ensures { IsRead specifiers_turn IsSpecifiersTurn state.old state.new cursor.new result (definition.key_named_step (K.asks self.now.kinds.now self.now.room) (readers (K.asks self.now.kinds.now) self.now.room) place from.now (specifiers_of state.old so_far) (name_at name) (meaning state.old) cursor.old) }
+    {
+        if is_punct(punct::LEFT_BRACE, cursor.kind()) {
+            let name = Some(name);
+            return self.list_step(state, cursor, place, from, &name, so_far);
+        }
+        self.elaborated_step(state, cursor, from, &name, so_far)
+    }
+
+    // Behind `enum`.
+    #[tactic(auto, using(crate::proofs::Kept::trees_kept, crate::proofs::Kept::trees_later, crate::proofs::Kept::trees_append, crate::proofs::Kept::trees_below_append, crate::proofs::Kept::named_kept, crate::proofs::Kept::named_later, crate::proofs::Kept::type_kept, crate::proofs::Kept::type_later, crate::proofs::Kept::later_trans, crate::proofs::Kept::later_refl), unfolding(cxx_reading::specs::Specifiers::key_step))]
+    fn key_step(
+        &self,
+        state: &mut State,
+        cursor: &mut Cursor<'_>,
+        place: SpecifierPlace,
+        from: &Cursor<'_>,
+        so_far: Specifiers,
+    ) -> Result<Turn<Specifiers, Specifiers>, Stop>
+        requires known { AreSpecifiers state.old so_far }
+        requires nests { Nests K.asks K.is_ready F.Fn self.now.kinds.now self.now.room self.now.read }
+        ensures { IsRead specifiers_turn IsSpecifiersTurn state.old state.new cursor.new result (definition.key_step (K.asks self.now.kinds.now self.now.room) (readers (K.asks self.now.kinds.now) self.now.room) place from.now (specifiers_of state.old so_far) (meaning state.old) cursor.old) }
+    {
+        if is_punct(punct::LEFT_BRACE, cursor.kind()) {
+            return self.list_step(state, cursor, place, from, &None, so_far);
+        }
+        if cursor.is_qualified() {
+            return Err(Stop::Fault(cursor.not_built()?));
+        }
+        if !is_name(cursor.kind()) {
+            return Err(Stop::Fault(cursor.refused()?));
+        }
+        let name = cursor.kept()?;
+        self.key_named_step(state, cursor, place, from, so_far, name)
+    }
+
+    // A type that begins with `enum` (7.1.5.3, 7.2).
+    #[tactic(auto, using(crate::proofs::Kept::trees_kept, crate::proofs::Kept::trees_later, crate::proofs::Kept::trees_append, crate::proofs::Kept::trees_below_append, crate::proofs::Kept::named_kept, crate::proofs::Kept::named_later, crate::proofs::Kept::type_kept, crate::proofs::Kept::type_later, crate::proofs::Kept::later_trans, crate::proofs::Kept::later_refl), unfolding(cxx_reading::specs::Specifiers::enumeration_step))]
+    fn enumeration_step(
+        &self,
+        state: &mut State,
+        cursor: &mut Cursor<'_>,
+        place: SpecifierPlace,
+        so_far: Specifiers,
+    ) -> Result<Turn<Specifiers, Specifiers>, Stop>
+        requires known { AreSpecifiers state.old so_far }
+        requires nests { Nests K.asks K.is_ready F.Fn self.now.kinds.now self.now.room self.now.read }
+        ensures { IsRead specifiers_turn IsSpecifiersTurn state.old state.new cursor.new result (definition.enumeration_step (K.asks self.now.kinds.now self.now.room) (readers (K.asks self.now.kinds.now) self.now.room) place (specifiers_of state.old so_far) (meaning state.old) cursor.old) }
+    {
+        if has_type(state, &so_far) {
+            return Err(Stop::Fault(cursor.refused()?));
+        }
+        let from = cursor.mark();
+        cursor.advance();
+        self.key_step(state, cursor, place, &from, so_far)
+    }
+
+    // A keyword that is no storage word and no word of a type.
+    #[tactic(auto, using(crate::proofs::Kept::trees_kept, crate::proofs::Kept::trees_later, crate::proofs::Kept::trees_append, crate::proofs::Kept::trees_below_append, crate::proofs::Kept::named_kept, crate::proofs::Kept::named_later, crate::proofs::Kept::type_kept, crate::proofs::Kept::type_later, crate::proofs::Kept::later_trans, crate::proofs::Kept::later_refl), unfolding(cxx_reading::specs::Specifiers::other_step))]
+    fn other_step(
+        &self,
+        state: &mut State,
+        cursor: &mut Cursor<'_>,
+        place: SpecifierPlace,
+        number: u8,
+        so_far: Specifiers,
+    ) -> Result<Turn<Specifiers, Specifiers>, Stop>
+        requires known { AreSpecifiers state.old so_far }
+        requires nests { Nests K.asks K.is_ready F.Fn self.now.kinds.now self.now.room self.now.read }
+        ensures { IsRead specifiers_turn IsSpecifiersTurn state.old state.new cursor.new result (definition.other_step (K.asks self.now.kinds.now self.now.room) (readers (K.asks self.now.kinds.now) self.now.room) place number (specifiers_of state.old so_far) (meaning state.old) cursor.old) }
+    {
+        if number == keyword::CONST {
+            return const_step(state, cursor, so_far);
+        }
+        if number == keyword::VOLATILE {
+            return volatile_step(state, cursor, so_far);
+        }
+        if number == keyword::INLINE {
+            return inline_step(state, cursor, place, so_far);
+        }
+        if number == keyword::ENUM {
+            return self.enumeration_step(state, cursor, place, so_far);
+        }
+        if begins_class(number) {
+            return class_step(state, cursor, so_far);
+        }
+        if is_of_members(number) {
+            return Err(Stop::Fault(cursor.refused()?));
+        }
+        Ok(Turn::Done(so_far))
+    }
+
+    // A keyword among the specifiers.
+    #[tactic(auto, using(crate::proofs::Kept::trees_kept, crate::proofs::Kept::trees_later, crate::proofs::Kept::trees_append, crate::proofs::Kept::trees_below_append, crate::proofs::Kept::named_kept, crate::proofs::Kept::named_later, crate::proofs::Kept::type_kept, crate::proofs::Kept::type_later, crate::proofs::Kept::later_trans, crate::proofs::Kept::later_refl), unfolding(cxx_reading::specs::Specifiers::keyword_step))]
+    fn keyword_step(
+        &self,
+        state: &mut State,
+        cursor: &mut Cursor<'_>,
+        place: SpecifierPlace,
+        number: u8,
+        so_far: Specifiers,
+    ) -> Result<Turn<Specifiers, Specifiers>, Stop>
+        requires known { AreSpecifiers state.old so_far }
+        requires nests { Nests K.asks K.is_ready F.Fn self.now.kinds.now self.now.room self.now.read }
+        ensures { IsRead specifiers_turn IsSpecifiersTurn state.old state.new cursor.new result (definition.keyword_step (K.asks self.now.kinds.now self.now.room) (readers (K.asks self.now.kinds.now) self.now.room) place number (specifiers_of state.old so_far) (meaning state.old) cursor.old) }
+    {
+        match storage_word(number) {
+            Some(word) => storage_step(state, cursor, place, word, so_far),
+            None => match type_word(number) {
+                Some(word) => word_step(state, cursor, word, so_far),
+                None => self.other_step(state, cursor, place, number, so_far),
+            },
+        }
+    }
+
+    // One specifier.
+    #[tactic(auto, using(crate::proofs::Kept::trees_kept, crate::proofs::Kept::trees_later, crate::proofs::Kept::trees_append, crate::proofs::Kept::trees_below_append, crate::proofs::Kept::named_kept, crate::proofs::Kept::named_later, crate::proofs::Kept::type_kept, crate::proofs::Kept::type_later, crate::proofs::Kept::later_trans, crate::proofs::Kept::later_refl), unfolding(cxx_reading::specs::Specifiers::specifier_step))]
+    fn specifier_step(
+        &self,
+        state: &mut State,
+        cursor: &mut Cursor<'_>,
+        place: SpecifierPlace,
+        so_far: Specifiers,
+    ) -> Result<Turn<Specifiers, Specifiers>, Stop>
+        requires known { AreSpecifiers state.old so_far }
+        requires nests { Nests K.asks K.is_ready F.Fn self.now.kinds.now self.now.room self.now.read }
+        ensures { IsRead specifiers_turn IsSpecifiersTurn state.old state.new cursor.new result (definition.specifier_step (K.asks self.now.kinds.now self.now.room) (readers (K.asks self.now.kinds.now) self.now.room) place (specifiers_of state.old so_far) (meaning state.old) cursor.old) }
+    {
+        match cursor.kind() {
+            TokenKind::Keyword(number) => self.keyword_step(state, cursor, place, number, so_far),
+            TokenKind::Name => self.named_step(state, cursor, so_far),
+            TokenKind::Punct(number) => {
+                if number == punct::SCOPE {
+                    self.named_step(state, cursor, so_far)
+                } else {
+                    Ok(Turn::Done(so_far))
+                }
+            }
+            _ => Ok(Turn::Done(so_far)),
+        }
+    }
+
+    // All specifiers (7.1).
+    #[tactic(auto, using(crate::proofs::Loops::turn, crate::proofs::Loops::no_turn, crate::proofs::Kept::later_trans, crate::proofs::Kept::later_refl), unfolding(cxx_reading::specs::Specifiers::specifiers_at, cxx_reading::specs::Specifiers::typed))]
+    pub fn specifiers_run(
+        &self,
+        state: &mut State,
+        cursor: &mut Cursor<'_>,
+        place: SpecifierPlace,
+    ) -> Result<Specifiers, Stop>
+        requires { Nests K.asks K.is_ready F.Fn self.now.kinds.now self.now.room self.now.read }
+        ensures { IsRead specifiers_of AreSpecifiers state.old state.new cursor.new result (repeat (definition.specifier_step (K.asks self.now.kinds.now self.now.room) (readers (K.asks self.now.kinds.now) self.now.room) place) give (count_ahead cursor.old) no_specifiers (meaning state.old) cursor.old) }
+    {
+        let mut so_far = no_specifiers_yet(cursor.alloc());
+        for _turn in 0..cursor.count() {
+            match self.specifier_step(state, cursor, place, so_far)? {
+                Turn::More(next) => so_far = next,
+                Turn::Done(all) => return Ok(all),
+            }
+        }
+        Ok(so_far)
+    }
+
+    // All specifiers, with a type among them (7.1.5).
+    #[tactic(auto, using(crate::proofs::Kept::later_trans, crate::proofs::Kept::later_refl), unfolding(cxx_reading::specs::Specifiers::specifiers_at, cxx_reading::specs::Specifiers::typed))]
+    pub fn specifiers_at(
+        &self,
+        state: &mut State,
+        cursor: &mut Cursor<'_>,
+        place: SpecifierPlace,
+    ) -> Result<Specifiers, Stop>
+        requires { Nests K.asks K.is_ready F.Fn self.now.kinds.now self.now.room self.now.read }
+        ensures { IsRead specifiers_of AreSpecifiers state.old state.new cursor.new result (definition.specifiers_at (K.asks self.now.kinds.now self.now.room) (readers (K.asks self.now.kinds.now) self.now.room) place (meaning state.old) cursor.old) }
+    {
+        let specifiers = self.specifiers_run(state, cursor, place)?;
+        if has_type(state, &specifiers) {
+            return Ok(specifiers);
+        }
+        if is_declaration(place) && is_keyword(keyword::OPERATOR, cursor.kind()) {
+            return Err(Stop::Fault(cursor.not_built()?));
+        }
+        Err(Stop::Fault(cursor.refused()?))
+    }
+}

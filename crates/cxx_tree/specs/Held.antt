@@ -1,0 +1,154 @@
+-- What the state of a reading holds, with the numbers by which its tables name types and trees; and what that means.
+use Rattle.std.specs.Prelude.{ℕ, ◌<◌, List, [], ◌∷◌, length, Option, Some, None}
+use Rattle.cxx_model.specs.declared.sequence.Operand.{Operand}
+use Rattle.cxx_model.specs.declared.sequence.StandardSequence.{StandardSequence}
+use Rattle.cxx_model.specs.declared.tree.Node.{Node}
+use Rattle.cxx_model.specs.declared.types.EnumId.{EnumId}
+use Rattle.cxx_model.specs.declared.types.FactId.{FactId}
+use Rattle.cxx_model.specs.declared.types.ScopeId.{ScopeId}
+use Rattle.cxx_model.specs.declared.types.TypeId.{TypeId}
+use Rattle.cxx_model.specs.declared.types.TreeId.{TreeId}
+use Rattle.cxx_model.specs.Facts.Conflicts.{Given}
+use Rattle.cxx_model.specs.Facts.Declarations.{graph_at}
+use Rattle.cxx_model.specs.Facts.Fitted.{Fitted}
+use Rattle.cxx_model.specs.Facts.Graph.{Graph}
+use Rattle.cxx_model.specs.Facts.Here.{CxxHere}
+use Rattle.cxx_model.specs.Types.Trees.{CxxType}
+use Rattle.cxx_model.specs.Types.Numbers.{AreTypesBelow, type_at}
+use Rattle.cxx_meaning.specs.Conversions.Standard.{CxxOperand, CxxStandard}
+use Rattle.cxx_standard.specs.Views.{IsSequenceBelow, operand_at, sequence_at}
+use Rattle.cxx_reading.specs.State.{CxxCall, CxxRow, CxxPart, CxxState, CxxUse, at_unit}
+use Rattle.cxx_reading.specs.Trees.{CxxTree}
+use Rattle.cxx_tree.specs.declared.kept.Binding.{Binding}
+use Rattle.cxx_tree.specs.declared.kept.Contending.{Contending}
+use Rattle.cxx_tree.specs.declared.kept.Decided.{Decided}
+use Rattle.cxx_tree.specs.declared.kept.Fallback.{Fallback}
+use Rattle.cxx_tree.specs.declared.kept.Piece.{Piece}
+use Rattle.cxx_tree.specs.Arena.{AreNodesBelow, tree_in, trees_of}
+
+pub record Held : Type 0 where
+  pub graph : Graph
+  pub types : List CxxType
+  pub nodes : List Node
+  pub scope : ScopeId
+  pub enumeration : Option EnumId
+  pub defined : List FactId
+  pub fallbacks : List Fallback
+  pub calls : List Decided
+  pub pieces : List Piece
+  pub uses : List Binding
+
+-- ---- what it means
+
+abbrev pub numbers_at : List FactId → List ℕ
+numbers_at [] = []
+numbers_at (n ∷ others) = n.0 ∷ numbers_at others
+
+abbrev pub fallback_at : Fallback → Given
+fallback_at fallback = record { declaration = fallback.declaration.0; index = fallback.index }
+
+abbrev pub fallbacks_at : List Fallback → List Given
+fallbacks_at [] = []
+fallbacks_at (fallback ∷ others) = fallback_at fallback ∷ fallbacks_at others
+
+abbrev pub operands_at : List CxxType → List Operand → List CxxOperand
+operands_at types [] = []
+operands_at types (operand ∷ others) = operand_at types operand ∷ operands_at types others
+
+abbrev pub parameters_at : List CxxType → List TypeId → List CxxType
+parameters_at types [] = []
+parameters_at types (of ∷ others) = type_at types of.0 ∷ parameters_at types others
+
+abbrev pub sequences_at : List CxxType → List StandardSequence → List CxxStandard
+sequences_at types [] = []
+sequences_at types (sequence ∷ others) = sequence_at types sequence ∷ sequences_at types others
+
+abbrev pub row_at : List CxxType → Contending → CxxRow
+row_at types row = record { position = row.position; parameters = parameters_at types row.parameters; sequences = sequences_at types row.sequences }
+
+abbrev pub rows_at : List CxxType → List Contending → List CxxRow
+rows_at types [] = []
+rows_at types (row ∷ others) = row_at types row ∷ rows_at types others
+
+abbrev pub call_at : List CxxType → Decided → CxxCall
+call_at types call = record { place = call.place; operands = operands_at types call.operands; candidates = numbers_at call.candidates; outcomes = call.outcomes; rows = rows_at types call.rows; chosen = call.chosen }
+
+abbrev pub calls_at : List CxxType → List Decided → List CxxCall
+calls_at types [] = []
+calls_at types (call ∷ others) = call_at types call ∷ calls_at types others
+
+abbrev pub use_at : Binding → CxxUse
+use_at binding = record { scope = binding.scope.0; place = binding.place; target = binding.target.0 }
+
+abbrev pub uses_at : List Binding → List CxxUse
+uses_at [] = []
+uses_at (binding ∷ others) = use_at binding ∷ uses_at others
+
+abbrev pub piece_at : List CxxTree → Piece → CxxPart
+piece_at trees piece = record { tree = tree_in trees piece.tree.0; scope = piece.scope.0; uses = uses_at piece.uses }
+
+abbrev pub pieces_at : List CxxTree → List Piece → List CxxPart
+pieces_at trees [] = []
+pieces_at trees (piece ∷ others) = piece_at trees piece ∷ pieces_at trees others
+
+abbrev pub enumeration_of_option : Option EnumId → Option ℕ
+enumeration_of_option None = None
+enumeration_of_option (Some number) = Some number.0
+
+abbrev pub trees : Held → List CxxTree
+trees held = trees_of held.types held.nodes
+
+abbrev pub here_in : ScopeId → Option EnumId → CxxHere
+here_in scope enumeration = record at_unit { scope = scope.0; enumeration = enumeration_of_option enumeration }
+
+abbrev pub state_over : List CxxType → List CxxTree → Held → CxxState
+state_over types all held = record {
+  graph = graph_at types held.graph;
+  here = here_in held.scope held.enumeration;
+  defined = numbers_at held.defined;
+  given = fallbacks_at held.fallbacks;
+  calls = calls_at types held.calls;
+  parts = pieces_at all held.pieces;
+  uses = uses_at held.uses;
+}
+
+unfoldable pub meaning : Held → CxxState
+meaning held = state_over held.types (trees held) held
+
+-- the type with a number
+abbrev pub type_of : Held → TypeId → CxxType
+type_of held number = type_at held.types number.0
+
+-- the tree with a number
+abbrev pub tree : Held → TreeId → CxxTree
+tree held number = tree_in (trees held) number.0
+
+-- ---- what holds of it
+
+abbrev pub ArePiecesBelow : ℕ → List Piece → Type 0
+ArePiecesBelow count [] = Unit {0}
+ArePiecesBelow count (piece ∷ others) = (piece.tree.0 < count) × ArePiecesBelow count others
+
+abbrev pub AreOperandsBelow : ℕ → List Operand → Type 0
+AreOperandsBelow count [] = Unit {0}
+AreOperandsBelow count (operand ∷ others) = (operand.of.0 < count) × AreOperandsBelow count others
+
+abbrev pub AreSequencesBelow : ℕ → List StandardSequence → Type 0
+AreSequencesBelow count [] = Unit {0}
+AreSequencesBelow count (sequence ∷ others) = IsSequenceBelow count sequence × AreSequencesBelow count others
+
+abbrev pub AreRowsBelow : ℕ → List Contending → Type 0
+AreRowsBelow count [] = Unit {0}
+AreRowsBelow count (row ∷ others) = (AreTypesBelow count row.parameters × AreSequencesBelow count row.sequences) × AreRowsBelow count others
+
+-- the types that calls keep are there
+abbrev pub AreCallsBelow : ℕ → List Decided → Type 0
+AreCallsBelow count [] = Unit {0}
+AreCallsBelow count (call ∷ others) = (AreOperandsBelow count call.operands × AreRowsBelow count call.rows) × AreCallsBelow count others
+
+-- Each number in it is that of something which is there.
+pub record IsSound (held : Held) : Type 0 where
+  pub fitted : Fitted held.graph held.types
+  pub nodes : AreNodesBelow (length held.types) held.nodes
+  pub pieces : ArePiecesBelow (length held.nodes) held.pieces
+  pub calls : AreCallsBelow (length held.types) held.calls

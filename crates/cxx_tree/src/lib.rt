@@ -1,0 +1,15 @@
+//! The trees of a reading, and its state.
+//!
+//! A node counts the tokens that are left before its first token and behind its last one, so no reader keeps a
+//! position.
+#![tactic(auto)]
+
+mod kept;
+mod state;
+mod trees;
+
+pub use kept::{
+    Binding, BindingList, Decided, DecidedList, Fallback, FallbackList, Piece, PieceList,
+};
+pub use state::State;
+pub use trees::Trees;
