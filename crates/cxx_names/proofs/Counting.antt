@@ -6,7 +6,7 @@ use Rattle.cxx_model.specs.declared.facts.Entity.TheVariants as entity
 use Rattle.cxx_model.specs.declared.facts.Fact.{Fact}
 use Rattle.cxx_model.specs.Facts.Declarations.{fact_at, facts_at}
 use Rattle.cxx_model.specs.Facts.Entities.{scope_kinds}
-use Rattle.cxx_model.specs.Facts.Graph.{counted, enumerations, is_enumeration}
+use Rattle.cxx_model.specs.Facts.Graph.{counted, enumerations, is_enumeration, scopes}
 use Rattle.cxx_model.specs.Types.Trees.{CxxType}
 use Rattle.cxx_reading.specs.Declaring.{enumeration_count}
 use Rattle.cxx_names.specs.declared.entry.Noted.{Noted}
@@ -42,4 +42,12 @@ enumerations_counted types (fact ∷ facts) = by fact.what (enumerations_counted
   where
     by : (what : Entity) → enumerations facts ≡ enumeration_count (facts_at types facts) → counted (is_enumeration what) (enumerations facts) ≡ enumeration_count (fact_at types (record fact { what = what }) ∷ facts_at types facts)
     by (entity.Enumeration number) e = let k : enumerations facts + 1 ≡ suc (enumerations facts) = omega arith in k ∙ ap suc e
+    by _ e = e
+
+pub scopes_are : (facts : List Fact) → length (scopes_of facts) ≡ scopes facts
+scopes_are [] = refl
+scopes_are (fact ∷ facts) = by fact.what (scopes_are facts)
+  where
+    by : (what : Entity) → length (scopes_of facts) ≡ scopes facts → length (option_to_list (noted_by fact.scope what) ++ scopes_of facts) ≡ scopes (record fact { what = what } ∷ facts)
+    by (entity.Scope parent kind) e = omega (arith, e)
     by _ e = e

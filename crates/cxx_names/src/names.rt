@@ -1,6 +1,6 @@
 ghost use Rattle.std.specs.Prelude.{◌≡◌, ◌+◌, ◌<◌, ◌^◌, ◌↔◌, [], List, length, Err, IfOk, OnOk, OnErr};
 ghost use Rattle.cxx_model.specs.Facts.Declarations.{facts_at, graph_at};
-ghost use Rattle.cxx_model.specs.Facts.Graph.{InRange, appended};
+ghost use Rattle.cxx_model.specs.Facts.Graph.{InRange, appended, enumerations as enumerations_in, scopes as scopes_in};
 ghost use Rattle.cxx_model.specs.Types.Trees.{CxxType};
 ghost use Rattle.cxx_reading.specs.Declaring.{enumeration_count, scope_count};
 ghost use Rattle.cxx_names.specs.Index.{AreSameNames, HasNoted, IsSpelledBy, Notes};
@@ -58,10 +58,11 @@ impl<'a> Names<'a> {
     }
 
     /// How many scopes there are: the number of the next one.
-    #[tactic(auto, using(crate::proofs::Counting::scopes_below, crate::proofs::Counting::scopes_counted))]
+    #[tactic(auto, using(crate::proofs::Counting::scopes_below, crate::proofs::Counting::scopes_counted, crate::proofs::Counting::scopes_are))]
     pub fn scopes(&self, graph: &Graph) -> ScopeId
         requires { Notes self.now graph.now.facts }
         ensures kept { result.0 ≡ length self.now.kept.scopes.items }
+        ensures counted { result.0 ≡ scopes_in graph.now.facts }
         ensures is { (types : List CxxType) → result.0 ≡ scope_count (graph_at types graph.now) }
     {
         let _most = graph.length();
@@ -72,7 +73,8 @@ impl<'a> Names<'a> {
     #[tactic(auto, using(crate::proofs::Counting::enumerations_below, crate::proofs::Counting::enumerations_counted))]
     pub fn enumerations(&self, graph: &Graph) -> EnumId
         requires { Notes self.now graph.now.facts }
-        ensures { (types : List CxxType) → result.0 ≡ enumeration_count (facts_at types graph.now.facts) }
+        ensures counted { result.0 ≡ enumerations_in graph.now.facts }
+        ensures is { (types : List CxxType) → result.0 ≡ enumeration_count (facts_at types graph.now.facts) }
     {
         let _most = graph.length();
         EnumId(self.kept.enumerations as u32)
