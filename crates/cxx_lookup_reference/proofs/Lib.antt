@@ -1,0 +1,4 @@
+pub mod Scopes
+pub mod Patterns
+pub mod Meaning
+pub mod Nodes

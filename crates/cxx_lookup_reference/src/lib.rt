@@ -1,0 +1,12 @@
+//! What names mean, by the definitions alone: each lookup walks all facts, and lists all paths and all that is reached.
+//! Nothing is kept between two lookups. It serves to compare with lookups that keep an index.
+#![tactic(auto)]
+
+mod entities;
+mod lists;
+mod looking;
+mod sightings;
+mod wanted;
+
+pub use cxx_model::{Found, Hit, MemberFound};
+pub use wanted::Wanted;
