@@ -2,3 +2,4 @@ pub mod Scopes
 pub mod Patterns
 pub mod Meaning
 pub mod Nodes
+pub mod Spreading

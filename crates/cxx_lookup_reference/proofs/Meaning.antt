@@ -29,10 +29,16 @@ pub below_both : (count : ℕ) (ones others : List Sighting) → AreBelow count 
 below_both count [] others one other = other
 below_both count (x ∷ ones) others one other = (one.0, below_both count ones others one.1 other)
 
-pub both : (types : List CxxType) (ones others all : List Sighting) (meant more : List SightingMeant) → Means types ones meant → Means types others more → all ≡ ones ++ others → Means types all (meant ++ more)
-both types ones others all meant more one other e = record {
-  is = ap (map (sighting_at types)) e ∙ (map-append (sighting_at types) ones others ∙ (ap (λ xs. xs ++ map (sighting_at types) others) one.is ∙ ap (λ xs. meant ++ xs) other.is));
-  below = subst (AreBelow (length types)) (sym e) (below_both (length types) ones others one.below other.below);
+pub both : (types : List CxxType) (ones others all : List Sighting) → AreBelow (length types) ones → AreBelow (length types) others → all ≡ ones ++ others → Means types all (map (sighting_at types) ones ++ map (sighting_at types) others)
+both types ones others all one other e = record {
+  is = ap (map (sighting_at types)) e ∙ map-append (sighting_at types) ones others;
+  below = subst (AreBelow (length types)) (sym e) (below_both (length types) ones others one other);
+}
+
+pub first_both : (types : List CxxType) (ones others all : List Sighting) (meant more : List SightingMeant) → Means types ones meant → Means types others more → Means types all (map (sighting_at types) ones ++ map (sighting_at types) others) → Means types all (meant ++ more)
+first_both types ones others all meant more one other both = record {
+  is = both.is ∙ (ap (λ xs. xs ++ map (sighting_at types) others) one.is ∙ ap (λ xs. meant ++ xs) other.is);
+  below = both.below;
 }
 
 -- ---- declarations that pass a test

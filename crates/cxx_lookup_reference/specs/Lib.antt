@@ -2,3 +2,4 @@ pub mod Answers
 pub mod Views
 pub mod Means
 pub mod Meanings
+pub mod Shows

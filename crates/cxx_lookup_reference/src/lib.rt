@@ -6,6 +6,7 @@ mod entities;
 mod lists;
 mod looking;
 mod sightings;
+mod spaces;
 mod wanted;
 
 pub use cxx_model::{Found, Hit, MemberFound};

@@ -13,7 +13,7 @@ ghost use Rattle.cxx_lookup_reference.specs.Views.{IsLooking, graph_of, facts_of
 use crate::looking::Looking;
 use crate::wanted::Wanted;
 use cxx_model::{Entity, Fact, FactId, Name, ScopeId};
-use std::alloc::AllocError;
+use std::alloc::{AllocError, Global};
 
 /// A declaration of a name: its scope, the fact itself, and the fact for which it stands (7.3.3).
 #[derive(Clone, Copy)]
@@ -37,6 +37,19 @@ pub(crate) struct Sought<'a> {
     pub wanted: Wanted,
     pub name: &'a Name,
     pub cut: u32,
+}
+
+fn appended(
+    alloc: Global,
+    ones: &[Sighting],
+    others: &[Sighting],
+) -> Result<Vec<Sighting>, AllocError>
+    ensures { IfOk result (λ all. all.items ≡ ones.now ++ others.now) }
+{
+    let mut all = Vec::new(alloc);
+    all.extend_from_slice(ones)?;
+    all.extend_from_slice(others)?;
+    Ok(all)
 }
 
 impl Looking<'_> {
@@ -65,11 +78,11 @@ impl Looking<'_> {
         ones: &[Sighting],
         others: &[Sighting],
     ) -> Result<Vec<Sighting>, AllocError>
-        ensures { IfOk result (λ all. all.items ≡ ones.now ++ others.now) }
+        requires ones { AreBelow (length self.now.types.now) ones.now }
+        requires others { AreBelow (length self.now.types.now) others.now }
+        ensures { IfOk result (λ all. Means self.now.types.now all.items (map (sighting_at self.now.types.now) ones.now ++ map (sighting_at self.now.types.now) others.now)) }
     {
-        let mut all = Vec::new(self.alloc);
-        all.extend_from_slice(ones)?;
-        all.extend_from_slice(others)?;
+        let all = appended(self.alloc, ones, others)?;
         Ok(all)
     }
 
