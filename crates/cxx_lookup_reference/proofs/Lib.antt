@@ -3,3 +3,4 @@ pub mod Patterns
 pub mod Meaning
 pub mod Nodes
 pub mod Spreading
+pub mod Functions

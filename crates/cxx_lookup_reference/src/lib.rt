@@ -5,6 +5,7 @@
 mod entities;
 mod lists;
 mod looking;
+mod members;
 mod sightings;
 mod spaces;
 mod wanted;
