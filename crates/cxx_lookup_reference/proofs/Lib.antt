@@ -4,3 +4,4 @@ pub mod Meaning
 pub mod Nodes
 pub mod Spreading
 pub mod Functions
+pub mod Paths

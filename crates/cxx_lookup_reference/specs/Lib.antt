@@ -3,3 +3,4 @@ pub mod Views
 pub mod Means
 pub mod Meanings
 pub mod Shows
+pub mod Ways

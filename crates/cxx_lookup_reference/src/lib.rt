@@ -9,6 +9,7 @@ mod members;
 mod sightings;
 mod spaces;
 mod wanted;
+mod ways;
 
 pub use cxx_model::{Found, Hit, MemberFound};
 pub use wanted::Wanted;
