@@ -5,3 +5,5 @@ pub mod Nodes
 pub mod Spreading
 pub mod Functions
 pub mod Paths
+pub mod Finding
+pub mod Outward

@@ -16,9 +16,7 @@ use crate::lists::{before_facts, with_facts};
 use crate::looking::Looking;
 use crate::sightings::Sighting;
 use crate::wanted::is_hideable;
-use cxx_model::{
-    ClassId, Entity, EnumId, FactId, FactList, Found, ScopeId, TypeId, TypeNode,
-};
+use cxx_model::{ClassId, Entity, EnumId, FactId, FactList, Found, ScopeId, TypeId, TypeNode};
 use std::alloc::AllocError;
 
 /// What a declaration is of: a fact, a type or a namespace.
@@ -265,10 +263,7 @@ impl Looking<'_> {
         self.is_function_at(one) && self.is_function_at(two)
     }
 
-    fn odd_one(
-        &self,
-        one: FactId,
-        others: &[FactId]    ) -> Option<FactId>
+    fn odd_one(&self, one: FactId, others: &[FactId]) -> Option<FactId>
         requires { IsLooking self.now }
         ensures { result ≡ find (λ two. not (are_both_functions (graph_of self.now) one two)) others.now }
     {
@@ -286,9 +281,7 @@ impl Looking<'_> {
 
     // The least of some facts, and the least other one that is no overload of it.
     #[tactic(auto, unfolding(cxx_meaning::specs::Lookups::Sightings::odd_pair))]
-    fn odd_pair(
-        &self,
-        facts: &[FactId]    ) -> Option<(FactId, FactId)>
+    fn odd_pair(&self, facts: &[FactId]) -> Option<(FactId, FactId)>
         requires { IsLooking self.now }
         ensures { result ≡ odd_pair_of (graph_of self.now) facts.now }
     {
@@ -317,9 +310,7 @@ impl Looking<'_> {
     }
 
     /// What a lookup finds in the declarations that it sees.
-    pub fn looked_up(
-        &self,
-        sightings: &[Sighting]    ) -> Result<Found, AllocError>
+    pub fn looked_up(&self, sightings: &[Sighting]) -> Result<Found, AllocError>
         requires looking { IsLooking self.now }
         requires below { AreBelow (length self.now.types.now) sightings.now }
         ensures { IfOk result (λ found. found ≡ looked_up_in (graph_of self.now) (map (sighting_at self.now.types.now) sightings.now)) }

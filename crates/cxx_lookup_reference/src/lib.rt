@@ -2,9 +2,12 @@
 //! Nothing is kept between two lookups. It serves to compare with lookups that keep an index.
 #![tactic(auto)]
 
+mod chains;
+mod classes;
 mod entities;
 mod lists;
 mod looking;
+mod lookups;
 mod members;
 mod sightings;
 mod spaces;
@@ -12,4 +15,5 @@ mod wanted;
 mod ways;
 
 pub use cxx_model::{Found, Hit, MemberFound};
+pub use lookups::{brought, member, ordinary, qualified};
 pub use wanted::Wanted;

@@ -140,11 +140,7 @@ impl Looking<'_> {
     }
 
     // Some namespaces, each with the one in which it shows from a scope that has a chain.
-    fn shown_each(
-        &self,
-        chain: &[ScopeId],
-        spaces: &[ScopeId],
-    ) -> Result<Vec<Shown>, AllocError>
+    fn shown_each(&self, chain: &[ScopeId], spaces: &[ScopeId]) -> Result<Vec<Shown>, AllocError>
         ensures { IfOk result (λ shown. map shown_of shown.items ≡ map (shown_from (facts_of self.now) chain.now) spaces.now) }
     {
         match spaces {
@@ -254,11 +250,7 @@ impl Looking<'_> {
 
     // The declarations in some namespaces.
     #[tactic(auto, using(crate::proofs::Meaning::none, crate::proofs::Meaning::first_both), unfolding(cxx_meaning::specs::Lookups::Qualified::standing_in))]
-    fn standing_in(
-        &self,
-        sought: &Sought,
-        spaces: &[ScopeId],
-    ) -> Result<Vec<Sighting>, AllocError>
+    fn standing_in(&self, sought: &Sought, spaces: &[ScopeId]) -> Result<Vec<Sighting>, AllocError>
         requires looking { IsLooking self.now }
         requires name { IsNameBelow (length self.now.types.now) sought.now.name.now }
         ensures { IfOk result (λ found. Means self.now.types.now found.items (standing_each (graph_of self.now) sought.now.cut (wanted_at sought.now.wanted) (name_at self.now.types.now sought.now.name.now) spaces.now)) }
@@ -284,7 +276,7 @@ impl Looking<'_> {
     }
 
     /// What a qualified lookup finds in a namespace.
-    
+
     pub fn qualified(&self, sought: &Sought, space: ScopeId) -> Result<Found, AllocError>
         requires looking { IsLooking self.now }
         requires name { IsNameBelow (length self.now.types.now) sought.now.name.now }
@@ -308,7 +300,7 @@ impl Looking<'_> {
     }
 
     /// What a using-declaration brings from a namespace.
-    
+
     pub fn brought(&self, sought: &Sought, space: ScopeId) -> Result<Found, AllocError>
         requires looking { IsLooking self.now }
         requires name { IsNameBelow (length self.now.types.now) sought.now.name.now }
