@@ -7,3 +7,5 @@ pub mod Functions
 pub mod Paths
 pub mod Finding
 pub mod Outward
+pub mod Following
+pub mod Reserved

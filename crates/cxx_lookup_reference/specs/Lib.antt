@@ -4,3 +4,4 @@ pub mod Means
 pub mod Meanings
 pub mod Shows
 pub mod Ways
+pub mod Parts

@@ -9,6 +9,7 @@ mod lists;
 mod looking;
 mod lookups;
 mod members;
+mod parts;
 mod sightings;
 mod spaces;
 mod wanted;
