@@ -1,9 +1,15 @@
 -- What follows from a list of parts, one turn after another.
 use Rattle.std.proofs.Common.{◌≡◌, ℕ, zero, suc, ◌+◌, ◌-◌, Bool, true, false, List, [], ◌∷◌, ◌++◌, length, map, Option, Some, None, option_map, refl, ap, sym, ◌∙◌, subst, arith}
+use Rattle.std.specs.Prelude.{Result, find}
 use Rattle.std.specs.List.{slice_get}
+use Rattle.cxx_model.specs.declared.lookup.Associated.{Associated}
+use Rattle.cxx_model.specs.declared.stop.Wait.{Wait}
+use Rattle.cxx_model.specs.Facts.Declarations.{CxxGraph}
+use Rattle.cxx_model.specs.Facts.Pending.{is_pending}
+use Rattle.cxx_lookup_reference.specs.Answers.{Answers}
 use Rattle.std.proofs.lemmas.List.{map-append}
 use Rattle.cxx_model.specs.Types.Trees.{CxxType}
-use Rattle.cxx_meaning.specs.Lookups.Associated.{Part as PartMeant, followed, holds_part, with_part, with_parts}
+use Rattle.cxx_meaning.specs.Lookups.Associated.{Part as PartMeant, followed, holds_part, own_classes, sets_of, unless_pending, with_part, with_parts}
 use Rattle.cxx_lookup_reference.specs.declared.parts.Part.{Part}
 use Rattle.cxx_lookup_reference.specs.Parts.{AreParts, ArePartsBelow, IsPartBelow, part_at}
 
@@ -89,3 +95,6 @@ turns types next room place found more all part some at grown rest = record {
   is = rest.is ∙ (ap (followed next (room - 1) (place + 1)) grown.is ∙ sym (one_turn next room place (map (part_at types) found) (part_at types part) some (at_is types found place ∙ ap (option_map (part_at types)) (sym at))));
   below = rest.below;
 }
+
+pub answers_at : (graph : CxxGraph) (types : List CxxType) (found : List Part) (meant : List PartMeant) (answer : Result Associated Wait) → AreParts types found meant → Answers answer (unless_pending (find (is_pending graph) (own_classes (map (part_at types) found))) (sets_of graph (map (part_at types) found))) → Answers answer (unless_pending (find (is_pending graph) (own_classes meant)) (sets_of graph meant))
+answers_at graph types found meant answer are is = subst (λ ps. Answers answer (unless_pending (find (is_pending graph) (own_classes ps)) (sets_of graph ps))) are.is is

@@ -9,3 +9,4 @@ pub mod Finding
 pub mod Outward
 pub mod Following
 pub mod Reserved
+pub mod Containing

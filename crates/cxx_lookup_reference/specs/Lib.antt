@@ -5,3 +5,5 @@ pub mod Meanings
 pub mod Shows
 pub mod Ways
 pub mod Parts
+pub mod Reserved
+pub mod Named

@@ -220,7 +220,7 @@ impl Looking<'_> {
     }
 
     // Whether a class has to be complete before it is asked.
-    fn is_pending(&self, class: ClassId) -> bool
+    pub fn is_pending(&self, class: ClassId) -> bool
         ensures { result ≡ is_one_pending (graph_of self.now) class.0 }
     {
         self.graph.pending(class)

@@ -5,11 +5,14 @@
 mod chains;
 mod classes;
 mod entities;
+mod everything;
+mod found;
 mod lists;
 mod looking;
 mod lookups;
 mod members;
 mod parts;
+mod sets;
 mod sightings;
 mod spaces;
 mod wanted;
