@@ -87,7 +87,7 @@ classes_more types classes (suc n) before here all some one two is =
     record {
       is = is.is ∙ (ap (λ xs. xs ++ map (part_at types) here) one.is ∙ (ap (λ xs. types_of_classes (classes_at types (take (suc n - 1) classes)) ++ xs) two.is ∙ (ap (λ k. types_of_classes (classes_at types (take k classes)) ++ types_of_one (slice_get (classes_at types classes) k)) e ∙ sym (classes_step types classes n))));
       below = is.below;
-      }
+    }
 
 pub one_longer : (rows all : List (List Part)) (row : List Part) (count : ℕ) → (count ≡ 0 → ⊥) → length rows ≡ count - 1 → all ≡ rows ++ row ∷ [] → length all ≡ count
 one_longer rows all row zero some long e = absurd (some refl)

@@ -305,10 +305,7 @@ impl Looking<'_> {
     }
 }
 
-fn with_row(
-    mut rows: Vec<Listed<Part>>,
-    row: Vec<Part>,
-) -> Result<Vec<Listed<Part>>, AllocError>
+fn with_row(mut rows: Vec<Listed<Part>>, row: Vec<Part>) -> Result<Vec<Listed<Part>>, AllocError>
     ensures { IfOk result (λ all. all.items ≡ rows.items ++ row.items ∷ []) }
 {
     rows.push(Listed::from_vec(row))?;

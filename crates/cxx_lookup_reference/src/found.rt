@@ -66,13 +66,7 @@ impl Looking<'_> {
 
     // A declaration of the name by a friend declaration of one of some classes.
     #[tactic(auto, unfolding(cxx_meaning::specs::Lookups::Associated::befriended))]
-    fn befriended(
-        &self,
-        name: &Name,
-        classes: &[u32],
-        number: u32,
-        fact: &Fact,
-    ) -> Option<Sighting>
+    fn befriended(&self, name: &Name, classes: &[u32], number: u32, fact: &Fact) -> Option<Sighting>
         requires looking { IsLooking self.now }
         requires name { IsNameBelow (length self.now.types.now) name.now }
         ensures is { option_map (sighting_at self.now.types.now) result ≡ is_befriended (graph_of self.now) (name_at self.now.types.now name.now) classes.now number (fact_at self.now.types.now fact.now) }
@@ -121,11 +115,7 @@ impl Looking<'_> {
 
     // The declarations of a name in some namespaces.
     #[tactic(auto, using(crate::proofs::Meaning::none, crate::proofs::Meaning::first_both), unfolding(cxx_meaning::specs::Lookups::Associated::standing_in_each))]
-    fn standing_in_each(
-        &self,
-        sought: &Sought,
-        spaces: &[u32],
-    ) -> Result<Vec<Sighting>, AllocError>
+    fn standing_in_each(&self, sought: &Sought, spaces: &[u32]) -> Result<Vec<Sighting>, AllocError>
         requires looking { IsLooking self.now }
         requires name { IsNameBelow (length self.now.types.now) sought.now.name.now }
         requires any { wanted_at sought.now.wanted ≡ any_name }
@@ -172,11 +162,7 @@ impl Looking<'_> {
 
     // What is seen in the associated namespaces, and what the associated classes declare as friends.
     #[tactic(auto, using(crate::proofs::Meaning::first_both))]
-    fn seen(
-        &self,
-        sought: &Sought,
-        sets: &Associated,
-    ) -> Result<Vec<Sighting>, AllocError>
+    fn seen(&self, sought: &Sought, sets: &Associated) -> Result<Vec<Sighting>, AllocError>
         requires looking { IsLooking self.now }
         requires name { IsNameBelow (length self.now.types.now) sought.now.name.now }
         requires any { wanted_at sought.now.wanted ≡ any_name }

@@ -19,5 +19,5 @@ mod wanted;
 mod ways;
 
 pub use cxx_model::{Found, Hit, MemberFound};
-pub use lookups::{brought, member, ordinary, qualified};
+pub use lookups::{adl_set, associated, brought, member, ordinary, qualified};
 pub use wanted::Wanted;

@@ -1,19 +1,24 @@
 //! The public lookups.
 
-ghost use Rattle.std.specs.Prelude.{◌≡◌, ◌<◌, length};
+ghost use Rattle.std.specs.Prelude.{◌≡◌, ◌<◌, length, Ok};
 ghost use Rattle.cxx_model.specs.Facts.Declarations.{graph_at, name_at};
 ghost use Rattle.cxx_model.specs.Facts.Fitted.{Fitted, IsNameBelow};
+ghost use Rattle.cxx_model.specs.Types.Numbers.{AreTypesBelow};
+ghost use Rattle.cxx_meaning.specs.Lookups.Associated.{adl as adl_of, associated as associated_with};
 ghost use Rattle.cxx_meaning.specs.Lookups.Member.{member as member_of};
 ghost use Rattle.cxx_meaning.specs.Lookups.Ordinary.{ordinary as ordinary_of};
 ghost use Rattle.cxx_meaning.specs.Lookups.Qualified.{qualified as qualified_of, brought as brought_of};
 ghost use Rattle.cxx_lookup_reference.specs.Answers.{Answers};
+ghost use Rattle.cxx_lookup_reference.specs.Parts.{given};
 ghost use Rattle.cxx_lookup_reference.specs.Views.{wanted_at};
 
 use crate::looking::Looking;
 use crate::sightings::Sought;
 use crate::wanted::Wanted;
 use cxx_graph::Graph;
-use cxx_model::{ClassId, FactId, Found, MemberFound, Name, ScopeId, Wait};
+use cxx_model::{
+    Associated, ClassId, FactId, FactList, Found, MemberFound, Name, ScopeId, TypeIdList, Wait,
+};
 use cxx_types::TypeTable;
 use std::alloc::Global;
 
@@ -122,4 +127,50 @@ pub fn member(
         cut: graph.length(),
     };
     looking.member(&sought, class)
+}
+
+/// The associated classes and namespaces of the types of some arguments (3.4.2), ascending.
+///
+/// # Errors
+///
+/// The least of the classes that is pending has to be complete first (14.7.1).
+pub fn associated(
+    alloc: Global,
+    graph: &Graph,
+    types: &TypeTable,
+    of: &TypeIdList,
+) -> Result<Associated, Wait>
+    requires fitted { Fitted graph.now types.now }
+    requires of_below { AreTypesBelow (length types.now) of.now }
+    ensures { Answers result (associated_with (graph_at types.now graph.now) (given types.now of.now)) }
+{
+    let looking = Looking {
+        alloc,
+        graph,
+        types,
+    };
+    looking.associated(of.as_slice())
+}
+
+/// The functions and function templates of a name that are seen at a cut in the associated namespaces, without their
+/// directives, and those that the associated classes declare as friends (3.4.2). Each is named by its first fact; they
+/// ascend. No class is needed for it.
+pub fn adl_set(
+    alloc: Global,
+    graph: &Graph,
+    types: &TypeTable,
+    sets: &Associated,
+    name: &Name,
+    cut: FactId,
+) -> Result<FactList, Wait>
+    requires fitted { Fitted graph.now types.now }
+    requires name { IsNameBelow (length types.now) name.now }
+    ensures { Answers result (Ok (adl_of (graph_at types.now graph.now) sets.now (name_at types.now name.now) cut.0)) }
+{
+    let looking = Looking {
+        alloc,
+        graph,
+        types,
+    };
+    Ok(FactList::from_vec(looking.adl(sets, name, cut.0)?))
 }

@@ -15,8 +15,8 @@ ghost use Rattle.cxx_lookup_reference.specs.Views.{IsLooking, graph_of, facts_of
 use crate::looking::Looking;
 use crate::parts::Part;
 use cxx_model::{
-    Associated, ClassId, Entity, EnumId, Fact, NumberList, ScopeId, TemplateId, TypeId,
-    TypeNode, Wait,
+    Associated, ClassId, Entity, EnumId, Fact, NumberList, ScopeId, TemplateId, TypeId, TypeNode,
+    Wait,
 };
 use std::alloc::{AllocError, Global};
 
