@@ -6,7 +6,7 @@ use Rattle.cxx_model.specs.declared.types.TypeId.{TypeId}
 use Rattle.cxx_model.specs.declared.facts.Specialisation.{Specialisation}
 use Rattle.cxx_model.specs.Types.Trees.{CxxType, fundamental, class_type, enumeration, pointer_to, reference_to, array_of, function_of, qualified, type_parameter, specialisation, nested_in}
 use Rattle.cxx_model.specs.Types.Numbers.{arguments_at, type_at}
-use Rattle.cxx_model.specs.Facts.Declarations.{CxxGraph, CxxSpecialisation, class_at, classes_at}
+use Rattle.cxx_model.specs.Facts.Declarations.{CxxGraph, class_at, classes_at}
 use Rattle.cxx_meaning.specs.Lookups.Associated.{Part as PartMeant, everything, followed, leads_to, of_type, parts, with_parts, types_in, types_in_arguments, types_of_class, types_of_classes}
 use Rattle.cxx_lookup_reference.specs.declared.parts.Part.{Part}
 use Rattle.cxx_lookup_reference.specs.Parts.{AreParts, AreRows, given, inside, part_at, specialisation_in}

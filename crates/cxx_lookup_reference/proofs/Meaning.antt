@@ -1,5 +1,5 @@
 -- Lists of sightings.
-use Rattle.std.proofs.Common.{◌≡◌, ℕ, List, [], ◌∷◌, ◌++◌, length, map, Option, Some, None, option_map, refl, ap, sym, ◌∙◌, subst, Bool, true, false, cond}
+use Rattle.std.proofs.Common.{◌≡◌, ℕ, List, [], ◌∷◌, ◌++◌, length, map, Option, option_map, refl, ap, sym, ◌∙◌, subst, Bool, true, false, cond}
 use Rattle.std.specs.List.{filter}
 use Rattle.std.proofs.lemmas.List.{map-append}
 use Rattle.cxx_model.specs.Types.Trees.{CxxType}
@@ -7,7 +7,7 @@ use Rattle.cxx_model.specs.Facts.Fitted.{IsEntityBelow}
 use Rattle.cxx_meaning.specs.Lookups.Gathered.{before}
 use Rattle.cxx_meaning.specs.Lookups.Sightings.{Sighting as SightingMeant}
 use Rattle.cxx_lookup_reference.specs.declared.sightings.Sighting.{Sighting}
-use Rattle.cxx_lookup_reference.specs.Means.{AreBelow, IsOneBelow, Means, sighting_at}
+use Rattle.cxx_lookup_reference.specs.Means.{AreBelow, Means, sighting_at}
 
 pub none : (types : List CxxType) → Means types [] []
 none types = record { is = refl; below = tt }

@@ -4,7 +4,7 @@ use Rattle.std.specs.List.{slice_get}
 use Rattle.cxx_model.specs.declared.types.ScopeId.{ScopeId}
 use Rattle.cxx_model.specs.declared.facts.Fact.{Fact}
 use Rattle.cxx_model.specs.Types.Trees.{CxxType}
-use Rattle.cxx_model.specs.Facts.Declarations.{CxxFact, CxxGraph, CxxName, facts_at}
+use Rattle.cxx_model.specs.Facts.Declarations.{CxxGraph, CxxName, facts_at}
 use Rattle.cxx_meaning.specs.Lookups.Directives.{nominated}
 use Rattle.cxx_meaning.specs.Lookups.Gathered.{before, spread, with_scopes}
 use Rattle.cxx_meaning.specs.Lookups.Qualified.{leads_to}
