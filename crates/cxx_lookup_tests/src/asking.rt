@@ -6,6 +6,7 @@ ghost use Rattle.cxx_lookup_tests.specs.Units.{IsUnit};
 
 use crate::answers::{push_facts, push_found, push_member, push_needed, push_sets};
 use crate::fits::is_type;
+use crate::reference::by_reference;
 use crate::rows::{Item, item_of, name};
 use crate::stopped::Stopped;
 use crate::unit::Unit;
@@ -25,7 +26,7 @@ fn wanted(number: u32) -> Wanted {
 }
 
 // The cut with a number, and that behind all facts for 0.
-fn cut(unit: &Unit, number: u32) -> FactId {
+pub(crate) fn cut(unit: &Unit, number: u32) -> FactId {
     if number == 0 {
         FactId(unit.graph.length())
     } else {
@@ -33,7 +34,7 @@ fn cut(unit: &Unit, number: u32) -> FactId {
     }
 }
 
-fn found(alloc: Global, answer: Result<Found, Wait>) -> Result<String, Stopped> {
+pub(crate) fn found(alloc: Global, answer: Result<Found, Wait>) -> Result<String, Stopped> {
     let mut text = String::new(alloc);
     match answer {
         Ok(found) => push_found(alloc, &mut text, &found)?,
@@ -43,7 +44,7 @@ fn found(alloc: Global, answer: Result<Found, Wait>) -> Result<String, Stopped> 
     Ok(text)
 }
 
-fn member(alloc: Global, answer: Result<MemberFound, Wait>) -> Result<String, Stopped> {
+pub(crate) fn member(alloc: Global, answer: Result<MemberFound, Wait>) -> Result<String, Stopped> {
     let mut text = String::new(alloc);
     match answer {
         Ok(found) => push_member(alloc, &mut text, &found)?,
@@ -149,11 +150,13 @@ fn halves(bytes: &[u8]) -> (&[u8], &[u8]) {
     (bytes, &[])
 }
 
-/// Whether a lookup finds what is written behind `=`; else what it finds is added to a text.
+/// Whether a lookup finds what is written behind `=`, and the reference too where it is asked; else what they find is added
+/// to a text.
 pub(crate) fn check<L: Ledger>(
     alloc: Global,
     unit: &Unit,
     query: &[u8],
+    with_reference: bool,
     report: &mut String,
     blank: Blank,
 ) -> Result<bool, Stopped>
@@ -164,11 +167,21 @@ pub(crate) fn check<L: Ledger>(
 {
     let mut steps = Steps::<L>::new(blank);
     let (asked, expected) = halves(query);
-    let text = answer(alloc, unit, item_of(asked), &mut steps)?;
-    if text.as_bytes() == expected {
+    let item = item_of(asked);
+    let text = answer(alloc, unit, item, &mut steps)?;
+    let other = if with_reference {
+        by_reference(alloc, unit, item)?
+    } else {
+        String::from_str(alloc, text.as_str())?
+    };
+    if text.as_bytes() == expected && other.as_bytes() == expected {
         return Ok(true);
     }
     report.push(' ')?;
     report.push_str(text.as_str())?;
+    if text.as_bytes() != other.as_bytes() {
+        report.push_str(" and by the reference ")?;
+        report.push_str(other.as_str())?;
+    }
     Ok(false)
 }

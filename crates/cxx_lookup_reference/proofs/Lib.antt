@@ -1,0 +1,12 @@
+pub mod Scopes
+pub mod Patterns
+pub mod Meaning
+pub mod Nodes
+pub mod Spreading
+pub mod Functions
+pub mod Paths
+pub mod Finding
+pub mod Outward
+pub mod Following
+pub mod Reserved
+pub mod Containing
