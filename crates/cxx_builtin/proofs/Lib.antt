@@ -1,2 +1,2 @@
 pub mod Drawing
-pub mod Usual
+pub mod UsualTurned

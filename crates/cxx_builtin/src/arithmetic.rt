@@ -29,14 +29,16 @@ fn if_integral(of: Option<Base>) -> Option<Base>
     }
 }
 
-pub(crate) fn integer_of(graph: &Graph, types: &TypeTable, kind: TypeKind) -> Option<Base>
+/// The integral type of a value, where it has one; a value of an enumeration has the type to which it is promoted.
+pub fn integer_of(graph: &Graph, types: &TypeTable, kind: TypeKind) -> Option<Base>
     requires { IsKindInRange graph.now (kind_at types.now kind) }
     ensures { result ≡ definition.integer_of (graph_at types.now graph.now) (kind_at types.now kind) }
 {
     if_integral(number_of(graph, types, kind))
 }
 
-pub(crate) fn integral_promoted(of: Base) -> Base
+/// The type to which the integral promotions alone convert a value (4.5).
+pub fn integral_promoted(of: Base) -> Base
     ensures { result ≡ definition.integral_promoted of }
 {
     if is_floating(of) {
@@ -68,7 +70,7 @@ fn usual_of_promoted(one: Base, two: Base) -> Base
 
 /// The type to which the usual arithmetic conversions convert values of two types.
 #[tactic(auto, unfolding(cxx_meaning::specs::Conversions::Arithmetic::usual))]
-pub(crate) fn usual(one: Base, two: Base) -> Base
+pub fn usual(one: Base, two: Base) -> Base
     ensures { result ≡ definition.usual one two }
 {
     if is_either(Base::LongDouble, one, two) {

@@ -15,6 +15,7 @@ mod result;
 mod unary;
 
 pub use answer::{ResultFault, built_in_result, conditional_result};
+pub use arithmetic::{integer_of, integral_promoted, usual};
 pub use cxx_model::BuiltIn;
 pub use making::leveled;
 pub use operand::operand_kind;

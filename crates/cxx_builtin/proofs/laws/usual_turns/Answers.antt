@@ -1,4 +1,4 @@
-use Rattle.cxx_builtin.proofs.Usual.{usual_turned}
+use Rattle.cxx_builtin.proofs.UsualTurned.{usual_turned}
 use Rattle.cxx_builtin.proofs.laws.usual_turns.Goals as goal
 
 pub returns : goal.returns

@@ -1,0 +1,9 @@
+use Rattle.std.proofs.Common.{◌≡◌, take, length, filter, false, not}
+use Rattle.cxx_model.specs.Facts.Declarations.{graph_at, facts_at}
+use Rattle.cxx_candidates.specs.Shapes.{conversion_at, conversions_at, AreConversionsKnown}
+use Rattle.cxx_candidates.specs.Sources as definition
+use Rattle.std.specs.List.{filter_map, list_any}
+use Rattle.cxx_candidates.proofs.conversions.is_hidden.Given as goal
+
+abbrev pub invariant-loop-other : goal.invariant-loop-other
+invariant-loop-other l = list_any (definition.is_hidden_by (graph_at l.types l.graph) (conversion_at l.types l.one)) (conversions_at l.types (take l.other-index l.all)) ≡ false

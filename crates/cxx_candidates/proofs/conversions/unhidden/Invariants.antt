@@ -1,0 +1,9 @@
+use Rattle.std.proofs.Common.{◌≡◌, take, length, filter, false, not}
+use Rattle.cxx_model.specs.Facts.Declarations.{graph_at, facts_at}
+use Rattle.cxx_candidates.specs.Shapes.{conversion_at, conversions_at, AreConversionsKnown}
+use Rattle.cxx_candidates.specs.Sources as definition
+use Rattle.std.specs.List.{filter_map, list_any}
+use Rattle.cxx_candidates.proofs.conversions.unhidden.Given as goal
+
+abbrev pub invariant-loop-one : goal.invariant-loop-one
+invariant-loop-one l = record { is : conversions_at l.types l.list.items ≡ filter (λ one. not (definition.is_hidden (graph_at l.types l.graph) (conversions_at l.types l.all) one)) (conversions_at l.types (take l.one-index l.all)); known : AreConversionsKnown l.graph (length l.types) l.list.items }

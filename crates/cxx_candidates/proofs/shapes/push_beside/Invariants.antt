@@ -1,0 +1,7 @@
+use Rattle.std.proofs.Common.{◌≡◌, ◌++◌, take, map}
+use Rattle.std.specs.List.{flat_map}
+use Rattle.cxx_candidates.specs.Rows as rows
+use Rattle.cxx_candidates.proofs.shapes.push_beside.Given as goal
+
+abbrev pub invariant-loop-other : goal.invariant-loop-other
+invariant-loop-other l = l.list.items ≡ l.initial.list.items ++ rows.beside (take l.other-index l.others) l.first

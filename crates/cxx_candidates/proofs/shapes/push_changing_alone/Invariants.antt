@@ -1,0 +1,7 @@
+use Rattle.std.proofs.Common.{◌≡◌, ◌++◌, take, map}
+use Rattle.std.specs.List.{flat_map}
+use Rattle.cxx_candidates.specs.Rows as rows
+use Rattle.cxx_candidates.proofs.shapes.push_changing_alone.Given as goal
+
+abbrev pub invariant-loop-first : goal.invariant-loop-first
+invariant-loop-first l = l.list.items ≡ l.initial.list.items ++ flat_map (rows.changing l.second) (take l.first-index l.firsts)

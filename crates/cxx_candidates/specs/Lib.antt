@@ -1,0 +1,4 @@
+pub mod Candidates
+pub mod Rows
+pub mod Shapes
+pub mod Sources

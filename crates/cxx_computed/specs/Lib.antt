@@ -1,0 +1,4 @@
+pub mod Computes
+pub mod Formulas
+pub mod Laws
+pub mod Values
