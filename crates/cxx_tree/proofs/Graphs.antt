@@ -15,8 +15,9 @@ use Rattle.cxx_model.specs.Facts.Graph.{EachMayFollow, Graph, InRange, IsEntityI
 use Rattle.cxx_model.specs.declared.facts.Specialisation.{Specialisation}
 use Rattle.cxx_model.specs.Types.Trees.{CxxType}
 use Rattle.cxx_model.specs.Types.Numbers.{type_at}
-use Rattle.cxx_reading.specs.Declaring.{place_in, place_of_scope}
-use Rattle.cxx_reading.specs.Seen.{Numbered, any_declaration, declared_from, declared_in, declares_in, found, found_from, kept, or_next, or_outside, parent_of, scope_of_option, type_in, type_named_by}
+use Rattle.cxx_meaning.specs.Lookups.Wanted.{names_type}
+use Rattle.cxx_reading.specs.Declaring.{enumeration_in, place_in, place_of_scope}
+use Rattle.cxx_reading.specs.Seen.{Numbered, any_declaration, declared_from, declared_in, declares_in, found, found_from, found_types, kept, or_next, or_outside, parent_of, scope_of_option, type_in, type_named_by}
 use Rattle.cxx_tree.specs.Whole.{place_by, scope_places}
 
 -- ---- one more fact
@@ -291,6 +292,34 @@ type_in_range graph (one ∷ others) ok = named_range graph one.fact.what (type_
 pub found_range : (graph : Graph) (types : List CxxType) (scope : ℕ) (name : CxxName) → Fitted graph types → InRange graph → IsTypeInRange graph (type_in (found (graph_at types graph) scope name))
 unfolding found
 found_range graph types scope name fitted ok = type_in_range graph (found (graph_at types graph) scope name) (found_named graph types any_declaration name scope scope fitted (are_there graph ok))
+
+enumeration_there : (graph : Graph) (all : List Numbered) (n : ℕ) → AreNamed graph all → enumeration_in all ≡ Some n → n < enumerations graph.facts
+enumeration_there graph [] n ok is = absurd (cc)
+enumeration_there graph (one ∷ others) n ok is = by one.fact.what ok.0 is (λ later. enumeration_there graph others n ok.1 later)
+  where
+    by : (what : Declares) → IsNamed graph what → enumeration_in (record { number = one.number; fact = record one.fact { what = what } } ∷ others) ≡ Some n → (enumeration_in others ≡ Some n → n < enumerations graph.facts) → n < enumerations graph.facts
+    by (facts.enumeration m) ok is later = (let same : m ≡ n = cc in subst (λ k. k < enumerations graph.facts) same ok)
+    by (facts.scope parent kind) ok is later = later is
+    by (facts.object of member is_mutable value first) ok is later = later is
+    by (facts.function of member flags defaults first) ok is later = later is
+    by (facts.template template member defaults is_explicit first) ok is later = later is
+    by (facts.value_parameter depth index of) ok is later = later is
+    by (facts.injected class) ok is later = later is
+    by (facts.class class is_union) ok is later = later is
+    by (facts.complete class) ok is later = later is
+    by (facts.passed class) ok is later = later is
+    by (facts.ancestor class parent index access) ok is later = later is
+    by (facts.enumerator m value) ok is later = later is
+    by (facts.synonym of) ok is later = later is
+    by (facts.namespace inner) ok is later = later is
+    by (facts.directive nominated) ok is later = later is
+    by (facts.using target) ok is later = later is
+    by (facts.friend class target) ok is later = later is
+
+-- 3.4.4: an enumeration that a name means is there
+pub enumeration_found : (graph : Graph) (types : List CxxType) (scope : ℕ) (name : CxxName) (n : ℕ) → Fitted graph types → InRange graph → enumeration_in (found_types (graph_at types graph) scope name) ≡ Some n → n < enumerations graph.facts
+unfolding found_types
+enumeration_found graph types scope name n fitted ok is = enumeration_there graph (found_types (graph_at types graph) scope name) n (found_named graph types (names_type (graph_at types graph)) name scope scope fitted (are_there graph ok)) is
 
 -- ---- a place by the places of scopes
 

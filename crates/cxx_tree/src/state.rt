@@ -217,7 +217,8 @@ impl State {
 
     /// Where the reader stands (3.3).
     pub fn scope(&self) -> ScopeId
-        ensures { result ≡ (self.now).scope }
+        ensures is { result ≡ (self.now).scope }
+        ensures there { result.0 < scopes (self.now).graph.facts }
     {
         self.scope
     }
