@@ -1,0 +1,5 @@
+pub mod Asking
+pub mod Defining
+pub mod Holding
+pub mod Listing
+pub mod Making

@@ -1,0 +1,98 @@
+-- Declarations that are made, in the terms of the definitions.
+use Rattle.std.specs.Prelude.{ℕ, ℤ, ◌≡◌, ◌<◌, ◌++◌, List, [], ◌∷◌, length, Option, Some, None, Result, Ok, Err}
+use Rattle.cxx_model.specs.declared.evidence.Evidence.TheVariants.{Found}
+use Rattle.cxx_model.specs.declared.fault.FaultText.TheVariants as says
+use Rattle.cxx_model.specs.declared.facts.Access.TheVariants.{Public}
+use Rattle.cxx_model.specs.declared.facts.Entity.{Entity}
+use Rattle.cxx_model.specs.declared.facts.Fact.{Fact}
+use Rattle.cxx_model.specs.declared.facts.Name.{Name}
+use Rattle.cxx_model.specs.declared.facts.Name.TheVariants as name
+use Rattle.cxx_model.specs.declared.place.Place.{Place}
+use Rattle.cxx_model.specs.declared.token.TokenKind.{TokenKind}
+use Rattle.cxx_model.specs.declared.types.FactId.{FactId}
+use Rattle.cxx_model.specs.declared.types.EnumId.{EnumId}
+use Rattle.cxx_model.specs.declared.types.ScopeId.{ScopeId}
+use Rattle.cxx_model.specs.declared.types.TypeId.{TypeId}
+use Rattle.cxx_model.specs.Facts.Fitted.{IsFactBelow}
+use Rattle.cxx_model.specs.Facts.Graph.{MayFollow, enumerations}
+use Rattle.cxx_model.specs.Text.Lexemes.{Lexeme, nowhere}
+use Rattle.cxx_names.specs.Clashes.{IsPlain}
+use Rattle.cxx_model.specs.Facts.Declarations.{CxxFact, CxxGraph}
+use Rattle.cxx_model.specs.Stops.{Answer, Faulty, undeclared_at, ◌>>=◌}
+use Rattle.cxx_meaning.specs.Conversions.Enumerations.{values_in}
+use Rattle.cxx_model.specs.Types.Integral.{one_holds}
+use Rattle.cxx_reading.specs.Declaring as declaring
+use Rattle.cxx_reading.specs.Declaring.{added, defined_as, free, place_of_fact, undefined}
+use Rattle.cxx_reading.specs.State.{CxxState}
+use Rattle.cxx_tree.specs.Held.{Held}
+
+-- the bytes of a name
+abbrev pub word_in : Name → List ℕ
+word_in (name.Spelled word) = word
+word_in _ = []
+
+-- a token that is a name
+abbrev pub token : TokenKind → Place → List ℕ → Lexeme
+token kind place word = record { kind = kind; place = place; spelling = word }
+
+-- a name is that of a token, where there is one
+abbrev pub IsNameOf : Option Lexeme → Name → Type 0
+IsNameOf None name.Unnamed = Unit {0}
+IsNameOf (Some one) (name.Spelled word) = one.spelling ≡ word
+IsNameOf _ _ = ⊥
+
+-- A declaration that may be added to a state.
+pub record IsReady (held : Held) (fact : Fact) : Type 0 where
+  pub follows : MayFollow held.graph fact
+  pub below : IsFactBelow (length held.types) fact
+  pub plain : IsPlain fact
+
+abbrev pub place_held : Option Fact → Place
+place_held None = nowhere
+place_held (Some fact) = fact.place
+
+-- a declaration outside classes
+abbrev pub made : ScopeId → Place → Name → Entity → Fact
+made scope place name what = record { place = place; scope = scope; name = name; access = Public; what = what }
+
+-- what was declared has an answer that is not asked
+abbrev pub unit_of : {X E : Type 0} → Result X E → Result (Unit {0}) E
+unit_of (Ok x) = Ok tt
+unit_of (Err e) = Err e
+
+-- 3.2, 3.3: nothing stands in the way of a definition
+abbrev pub definable_by : CxxState → Place → List ℕ → CxxFact → Answer (Unit {0})
+definable_by state place word fact = free state fact word >>= λ is_free. undefined state place word (length state.graph.facts) fact.what
+
+-- a fact is added and noted as a definition
+abbrev pub added_defined : CxxFact → CxxState → Answer (ℕ × CxxState)
+added_defined fact state = added fact state >>= λ answer. Ok (defined_as answer)
+
+abbrev pub defined_by : Place → List ℕ → CxxFact → CxxState → Answer (ℕ × CxxState)
+defined_by place word fact state = definable_by state place word fact >>= λ is_first. added_defined fact state
+
+-- ---- enumerations
+
+abbrev pub enumeration_number : Held → EnumId → ℕ
+enumeration_number held number = number.0
+
+abbrev pub IsEnumerationThere : Held → EnumId → Type 0
+IsEnumerationThere held number = number.0 < enumerations held.graph.facts
+
+-- 7.2: the conflict, then one type for all values
+abbrev pub value_checked : CxxState → CxxFact → List ℕ → ℕ → ℤ → Answer (Unit {0})
+value_checked state fact word number value = free state fact word >>= λ is_free. declaring.held fact.place (one_holds (values_in number state.graph.facts ++ value ∷ []))
+
+-- a fact is added, and its number is not asked
+abbrev pub told_added : CxxFact → CxxState → Answer (Unit {0} × CxxState)
+told_added fact state = added fact state >>= λ answer. Ok (tt, answer.1)
+
+-- ---- types
+
+abbrev pub IsTypeThere : Held → TypeId → Type 0
+IsTypeThere held number = number.0 < length held.types
+
+-- 7.1.5.3: a name of no enumeration, given the first declaration of a type that it names
+abbrev pub no_type_by : CxxGraph → Place → List ℕ → Option FactId → Answer (Unit {0})
+no_type_by graph place word None = Err (undeclared_at place word)
+no_type_by graph place word (Some number) = Err (Faulty (record { place = place; text = says.WrongKindOfName word; evidence = Found (place_of_fact graph number.0) ∷ [] }))

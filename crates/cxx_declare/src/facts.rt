@@ -1,0 +1,126 @@
+//! Declarations that are made for the scope where the reader stands (3.3.1).
+
+ghost use Rattle.std.specs.Prelude.{◌≡◌, ◌<◌, ◌++◌, ◌∷◌, [], length, IfOk, OnOk, Some};
+ghost use Rattle.std.specs.List.{slice_get};
+ghost use Rattle.cxx_model.specs.declared.facts.Name.TheVariants.{Spelled};
+ghost use Rattle.cxx_model.specs.Facts.Declarations.{fact_at, spelled as spelled_name};
+ghost use Rattle.cxx_model.specs.Facts.Graph.{appended, scopes};
+ghost use Rattle.cxx_defined.specs.Defined.{IsOwnEntity};
+ghost use Rattle.cxx_names.specs.Clashes.{IsPlainName};
+ghost use Rattle.cxx_reading.specs.Declaring as declaring;
+ghost use Rattle.cxx_reading.specs.Declaring.{fact_here, function_here, object_here, parameter_object};
+ghost use Rattle.cxx_declare.specs.Made.{IsReady, made, word_in};
+ghost use Rattle.cxx_tree.specs.Answered.{IsAnswered, IsFactKnown, fact_number};
+ghost use Rattle.cxx_tree.specs.Held.{meaning, type_of};
+
+use crate::conflict::free;
+use crate::parts::spelled;
+use cxx_model::{
+    Access, Entity, Fact, FactId, FunctionFlags, MemberKind, Name, Place, ScopeId, Stop, TypeId,
+};
+use cxx_tree::State;
+use std::alloc::AllocError;
+
+/// A fact in a scope.
+pub(crate) fn fact_in(scope: ScopeId, place: Place, name: Name, what: Entity) -> Fact
+    ensures { result ≡ made scope place name what }
+{
+    Fact {
+        place,
+        scope,
+        name,
+        access: Access::Public,
+        what,
+    }
+}
+
+/// A name is declared (3.3.1): what conflicts with it comes before the limit.
+pub(crate) fn declare(state: &mut State, fact: Fact) -> Result<FactId, Stop>
+    requires { IsReady state.old fact }
+    ensures answered { IsAnswered fact_number IsFactKnown state.old state.new result (declaring.declare (fact_at (state.old).types fact) (word_in fact.name) (meaning state.old)) }
+    ensures at { IfOk result (λ number. slice_get (state.new).graph.facts number.0 ≡ Some fact) }
+    ensures held { OnOk result (state.new ≡ record state.old { graph = appended (state.old).graph fact }) }
+{
+    free(state, &fact)?;
+    state.add(fact)
+}
+
+/// The declaration of an object (3.1).
+pub(crate) fn object_fact(
+    state: &State,
+    place: Place,
+    word: &[u8],
+    of: TypeId,
+) -> Result<Fact, AllocError>
+    requires { of.0 < length (state.now).types }
+    ensures is { IfOk result (λ fact. fact_at (state.now).types fact ≡ fact_here (meaning state.now) (spelled_name word.now) place (object_here (meaning state.now) (spelled_name word.now) (type_of state.now of))) }
+    ensures ready { IfOk result (IsReady state.now) }
+    ensures own { IfOk result (λ fact. IsOwnEntity fact.what) }
+    ensures named { IfOk result (λ fact. fact.name ≡ Spelled word.now) }
+{
+    let scope = state.scope();
+    let first = state.names().first_object(state.graph(), scope, word);
+    let name = spelled(state.alloc(), word)?;
+    Ok(fact_in(
+        scope,
+        place,
+        name,
+        Entity::Object {
+            of,
+            member: MemberKind::Free,
+            is_mutable: false,
+            value: None,
+            first,
+        },
+    ))
+}
+
+/// The declaration of a function (8.3.5).
+pub(crate) fn function_fact(
+    state: &State,
+    place: Place,
+    word: &[u8],
+    of: TypeId,
+) -> Result<Fact, AllocError>
+    requires { of.0 < length (state.now).types }
+    ensures is { IfOk result (λ fact. fact_at (state.now).types fact ≡ fact_here (meaning state.now) (spelled_name word.now) place (function_here (meaning state.now) (spelled_name word.now) (type_of state.now of))) }
+    ensures ready { IfOk result (IsReady state.now) }
+    ensures named { IfOk result (λ fact. fact.name ≡ Spelled word.now) }
+{
+    let scope = state.scope();
+    let first = state
+        .names()
+        .first_function(state.graph(), state.types(), of, scope, word);
+    let name = spelled(state.alloc(), word)?;
+    Ok(fact_in(
+        scope,
+        place,
+        name,
+        Entity::Function {
+            of,
+            member: MemberKind::Free,
+            flags: FunctionFlags {
+                is_virtual: false,
+                is_pure: false,
+                is_explicit: false,
+                is_implicit: false,
+            },
+            defaults: 0,
+            first,
+        },
+    ))
+}
+
+/// A declaration of another kind, for the scope where the reader stands.
+pub(crate) fn word_fact(
+    state: &State,
+    place: Place,
+    word: &[u8],
+    what: Entity,
+) -> Result<Fact, AllocError>
+    ensures is { IfOk result (λ fact. fact ≡ made (state.now).scope place (Spelled word.now) what) }
+    ensures there { OnOk result ((state.now).scope.0 < scopes (state.now).graph.facts) }
+{
+    let name = spelled(state.alloc(), word)?;
+    Ok(fact_in(state.scope(), place, name, what))
+}

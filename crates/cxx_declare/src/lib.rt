@@ -1,0 +1,17 @@
+//! How names are declared in the state of a reading, and what is asked of its declarations (3.3, 3.4, 3.5, 7.2, 8.3).
+#![tactic(auto)]
+
+mod asks;
+mod conflict;
+mod enumerations;
+mod facts;
+mod objects;
+mod parts;
+mod values;
+
+pub use asks::{elaborated, kind, type_named};
+pub use enumerations::{declare_enumeration, declare_enumerator, end_enumeration};
+pub use objects::{
+    declare_function, declare_object, declare_parameter, declare_synonym, define_declared,
+    define_object,
+};
