@@ -1,0 +1,5 @@
+pub mod Gathering
+pub mod Lined
+pub mod Numbers
+pub mod Rowed
+pub mod Slotted

@@ -1,0 +1,7 @@
+-- What the code of the plain form holds, and what that stands for.
+pub mod Giving
+pub mod Lines
+pub mod Numbered
+pub mod Rows
+pub mod Slots
+pub mod Sources

@@ -1,0 +1,8 @@
+//! The plain form of a reading.
+#![tactic(auto)]
+
+mod lines;
+mod numbering;
+mod rows;
+mod slots;
+mod source;
