@@ -1,10 +1,11 @@
 -- What is gathered from one more declaration.
-use Rattle.std.proofs.Common.{◌≡◌, ℕ, zero, suc, ◌+◌, ◌<◌, ◌≤◌, List, [], ◌∷◌, ◌++◌, length, drop, get_or, map, Option, Some, None, option_map, refl, ap, sym, ◌∙◌, append_assoc, add-one}
+use Rattle.std.proofs.Common.{◌≡◌, ℕ, zero, suc, ◌+◌, ◌<◌, ◌≤◌, List, [], ◌∷◌, ◌++◌, length, drop, get_or, map, Option, Some, None, option_map, refl, ap, sym, subst, ◌∙◌, append_assoc, add-one, arith}
 use Rattle.std.specs.List.{slice_get}
 use Rattle.std.proofs.lemmas.List.{at_drop_all, append-nil}
 use Rattle.std.proofs.lemmas.Option.{slice_get-get_or}
 use Rattle.cxx_model.specs.declared.facts.Fact.{Fact}
 use Rattle.cxx_model.specs.Types.Trees.{CxxType}
+use Rattle.cxx_model.specs.Facts.Fitted.{AreFactsBelow, IsFactBelow}
 use Rattle.cxx_model.specs.Facts.Declarations.{CxxFact, fact_at, facts_at}
 use Rattle.cxx_meaning.specs.Lookups.Gathered.{before, gathered}
 use Rattle.cxx_form.specs.Giving.{given_at}
@@ -17,6 +18,18 @@ fact_is types (fact ∷ facts) (suc n) = fact_is types facts n
 
 pub fact_read : (types : List CxxType) (facts : List Fact) (n : ℕ) (fact : Fact) → n < length facts → fact ≡ get_or facts n fact → slice_get (facts_at types facts) n ≡ Some (fact_at types fact)
 fact_read types facts n fact within is = fact_is types facts n ∙ ap (option_map (fact_at types)) (slice_get-get_or facts n fact within ∙ ap (λ (f : Fact). Some f) (sym is))
+
+pub fact_there : (types : List CxxType) (seen facts : List Fact) (n : ℕ) (fact : Fact) → seen ≡ facts → n < length facts → fact ≡ get_or seen n fact → slice_get (facts_at types facts) n ≡ Some (fact_at types fact)
+fact_there types seen facts n fact same within is = fact_read types facts n fact within (is ∙ ap (λ (xs : List Fact). get_or xs n fact) same)
+
+-- what a declaration names is of the table of types
+pub fact_below : (count : ℕ) (facts : List Fact) (n : ℕ) (fact : Fact) → AreFactsBelow count facts → n < length facts → fact ≡ get_or facts n fact → IsFactBelow count fact
+fact_below count [] n fact all within is = absurd (omega arith)
+fact_below count (first ∷ facts) zero fact all within is = subst (λ (f : Fact). IsFactBelow count f) (sym is) all.0
+fact_below count (first ∷ facts) (suc n) fact all within is = fact_below count facts n fact all.1 (omega arith) is
+
+pub fact_fits : (count : ℕ) (seen facts : List Fact) (n : ℕ) (fact : Fact) → AreFactsBelow count facts → seen ≡ facts → n < length facts → fact ≡ get_or seen n fact → IsFactBelow count fact
+fact_fits count seen facts n fact all same within is = fact_below count facts n fact all within (is ∙ ap (λ (xs : List Fact). get_or xs n fact) same)
 
 -- past the last fact
 pub gathered_all : {A : Type 0} (give : ℕ → CxxFact → Option A) (types : List CxxType) (facts : List Fact) (number : ℕ) (found : List A) → length facts ≤ number → found ++ gathered give number (facts_at types (drop number facts)) ≡ found
@@ -37,6 +50,3 @@ pub given_more : {A : Type 0} (give : ℕ → CxxFact → Option A) (types : Lis
 given_more give types facts number old new e =
     let step = given_first give types facts number number ∙ ap (λ m. given_at give number (slice_get (facts_at types facts) number) ++ gathered give (number + 1) (facts_at types (drop m facts))) (sym (add-one number)) in
     ap (λ xs. old ++ xs) step ∙ (sym (append_assoc old (given_at give number (slice_get (facts_at types facts) number)) (gathered give (number + 1) (facts_at types (drop (number + 1) facts)))) ∙ ap (λ xs. xs ++ gathered give (number + 1) (facts_at types (drop (number + 1) facts))) (sym e))
-
-pub is_there : (seen facts : List Fact) (n : ℕ) (fact : Fact) → seen ≡ facts → fact ≡ get_or seen n fact → fact ≡ get_or facts n fact
-is_there seen facts n fact same is = is ∙ ap (λ (xs : List Fact). get_or xs n fact) same

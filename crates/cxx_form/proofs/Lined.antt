@@ -13,7 +13,6 @@ use Rattle.cxx_reading.specs.Trees.{CxxTree}
 use Rattle.cxx_form.specs.declared.lines.Line.{Line}
 use Rattle.cxx_form.specs.Giving.{enumeration_by, enumeration_given, function_by, function_given, given_at}
 use Rattle.cxx_form.specs.Lines.{line_at, lines_at}
-use Rattle.cxx_form.proofs.Gathering.{fact_read}
 
 -- ---- a line that is added
 
@@ -24,14 +23,9 @@ line_added trees old new o line is more =
 pub no_line_added : (trees : List CxxTree) (old : List Line) (o : Option Line) → o ≡ None → lines_at trees old ≡ lines_at trees old ++ before (option_map (line_at trees) o) []
 no_line_added trees old o is = sym (append-nil (lines_at trees old)) ∙ ap (λ (one : Option Line). lines_at trees old ++ before (option_map (line_at trees) one) []) (sym is)
 
-given : (give : ℕ → CxxFact → Option text.Line) (types : List CxxType) (trees : List CxxTree) (all : List Fact) (number : ℕ) (fact : Fact) (o : Option Line) → number < length all → fact ≡ get_or all number fact → option_map (line_at trees) o ≡ give number (fact_at types fact) → before (option_map (line_at trees) o) [] ≡ given_at give number (slice_get (facts_at types all) number)
-given give types trees all number fact o within is gives = ap (λ (one : Option text.Line). before one []) gives ∙ ap (given_at give number) (sym (fact_read types all number fact within is))
-
-pub enumeration_added : (types : List CxxType) (trees : List CxxTree) (all : List Fact) (number : ℕ) (fact : Fact) (old new : List text.Line) (o : Option Line) → number < length all → fact ≡ get_or all number fact → option_map (line_at trees) o ≡ enumeration_by number (declares_at types fact.what) → new ≡ old ++ before (option_map (line_at trees) o) [] → new ≡ old ++ given_at enumeration_given number (slice_get (facts_at types all) number)
-enumeration_added types trees all number fact old new o within is gives more = more ∙ ap (λ (xs : List text.Line). old ++ xs) (given enumeration_given types trees all number fact o within is gives)
-
-pub function_added : (types : List CxxType) (trees : List CxxTree) (all : List Fact) (number : ℕ) (fact : Fact) (old new : List text.Line) (o : Option Line) → number < length all → fact ≡ get_or all number fact → option_map (line_at trees) o ≡ function_by number (declares_at types fact.what) → new ≡ old ++ before (option_map (line_at trees) o) [] → new ≡ old ++ given_at function_given number (slice_get (facts_at types all) number)
-function_added types trees all number fact old new o within is gives more = more ∙ ap (λ (xs : List text.Line). old ++ xs) (given function_given types trees all number fact o within is gives)
+pub line_given : (give : ℕ → CxxFact → Option text.Line) (types : List CxxType) (trees : List CxxTree) (all : List CxxFact) (number : ℕ) (fact : Fact) (old new : List Line) (o : Option Line) → slice_get all number ≡ Some (fact_at types fact) → option_map (line_at trees) o ≡ give number (fact_at types fact) → lines_at trees new ≡ lines_at trees old ++ before (option_map (line_at trees) o) [] → lines_at trees new ≡ lines_at trees old ++ given_at give number (slice_get all number)
+line_given give types trees all number fact old new o is gives more =
+    more ∙ ap (λ (one : Option text.Line). lines_at trees old ++ before one []) gives ∙ ap (λ (one : Option CxxFact). lines_at trees old ++ given_at give number one) (sym is)
 
 -- ---- the lines of enumerations, and of functions
 

@@ -1,5 +1,5 @@
 -- What each declaration gives to the plain form.
-use Rattle.std.specs.Prelude.{ℕ, zero, suc, ◌+◌, ◌≡◌, ◌∷◌, List, [], ◌++◌, Bool, Option, Some, None, nat_eq, if◌then◌else◌}
+use Rattle.std.specs.Prelude.{ℕ, zero, suc, ◌+◌, ◌≡◌, ◌∷◌, List, [], ◌++◌, length, Bool, Option, Some, None, nat_eq, if◌then◌else◌}
 use Rattle.cxx_model.specs.declared.types.FactId.{FactId}
 use Rattle.cxx_model.specs.declared.facts.Fact.{Fact}
 use Rattle.cxx_model.specs.Facts.Declarations as facts
@@ -56,19 +56,31 @@ enumerator_given n number fact = if_held n number (holder_by fact.what)
 abbrev pub AreEnumerators : List CxxFact → List (List FactId) → Type 0
 AreEnumerators all rows = (n : ℕ) → row_at rows n ≡ gathered (enumerator_given n) 0 all
 
--- rows with one declaration more
-abbrev pub HasEnumerator : List (List FactId) → List (List FactId) → ℕ → CxxFact → Type 0
-HasEnumerator old new number fact = (n : ℕ) → row_at new n ≡ row_at old n ++ before (enumerator_given n number fact) []
+-- rows with one enumerator more, where there is one
+abbrev pub HasEnumerator : List (List FactId) → List (List FactId) → ℕ → Option ℕ → Type 0
+HasEnumerator old new number holder = (n : ℕ) → row_at new n ≡ row_at old n ++ before (if_held n number holder) []
+
+-- rows with what the declaration with a number gives
+abbrev pub HasGiven : List (List FactId) → List (List FactId) → ℕ → Option CxxFact → Type 0
+HasGiven old new number fact = (n : ℕ) → row_at new n ≡ row_at old n ++ given_at (enumerator_given n) number fact
 
 -- a number that was set to one more than where an enumeration is declared, or else what follows
 abbrev pub declared_or : ℕ → ℕ → ℕ
 declared_or zero later = later
 declared_or (suc number) later = number
 
--- numbers that say where each enumeration is declared
-abbrev pub AreDeclared : List CxxFact → List ℕ → ℕ → Type 0
-AreDeclared all slots count = (n : ℕ) → declared_or (slot_at slots n) count ≡ number_of_enumeration n 0 all
+abbrev pub named_or : ℕ → ℕ → Option ℕ → ℕ → ℕ
+named_or n number None later = later
+named_or n number (Some m) later = if nat_eq m n then number else later
 
--- numbers with one declaration more
-abbrev pub HasDeclared : List ℕ → List ℕ → ℕ → CxxFact → Type 0
-HasDeclared old new number fact = (n : ℕ) (others : List CxxFact) → declared_or (slot_at new n) (number_of_enumeration n (number + 1) others) ≡ declared_or (slot_at old n) (number_of_enumeration n number (fact ∷ others))
+-- numbers that say where each enumeration is declared
+abbrev pub AreDeclared : List CxxFact → List ℕ → Type 0
+AreDeclared all slots = (n : ℕ) → declared_or (slot_at slots n) (length all) ≡ number_of_enumeration n 0 all
+
+-- numbers with one enumeration more, where there is one
+abbrev pub HasNamed : List ℕ → List ℕ → ℕ → Option ℕ → Type 0
+HasNamed old new number named = (n later : ℕ) → declared_or (slot_at new n) later ≡ declared_or (slot_at old n) (named_or n number named later)
+
+-- numbers once the declaration with a number was looked at: before it these are left, and behind it those
+abbrev pub HasDeclared : List ℕ → List ℕ → ℕ → List CxxFact → List CxxFact → Type 0
+HasDeclared old new number before behind = (n : ℕ) → declared_or (slot_at new n) (number_of_enumeration n (number + 1) behind) ≡ declared_or (slot_at old n) (number_of_enumeration n number before)

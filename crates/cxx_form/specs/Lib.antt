@@ -4,4 +4,4 @@ pub mod Lines
 pub mod Numbered
 pub mod Rows
 pub mod Slots
-pub mod Sources
+pub mod Views

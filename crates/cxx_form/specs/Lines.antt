@@ -1,5 +1,6 @@
 -- The lines of a plain form, as the code names them.
 use Rattle.std.specs.Prelude.{ℕ, List, map}
+use Rattle.cxx_model.specs.declared.types.EnumId.{EnumId}
 use Rattle.cxx_model.specs.declared.types.FactId.{FactId}
 use Rattle.cxx_reading.specs.TextOrder as text
 use Rattle.cxx_reading.specs.Trees.{CxxTree}
@@ -20,3 +21,6 @@ number_in number = number.0
 
 abbrev pub numbers_in : List FactId → List ℕ
 numbers_in numbers = map number_in numbers
+
+abbrev pub enumeration_in : EnumId → ℕ
+enumeration_in n = n.0

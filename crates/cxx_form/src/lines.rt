@@ -1,4 +1,4 @@
-//! The lines of a plain form, in order.
+//! The lines of enumerations and of functions.
 ghost use Rattle.std.specs.Prelude.{◌≡◌, ◌<◌, ◌++◌, [], List, length, option_map, OnOk};
 ghost use Rattle.std.specs.List.{slice_get};
 ghost use Rattle.cxx_model.specs.Facts.Declarations.{declares_at};
@@ -6,12 +6,14 @@ ghost use Rattle.cxx_model.specs.Types.Trees.{CxxType};
 ghost use Rattle.cxx_meaning.specs.Lookups.Gathered.{before};
 ghost use Rattle.cxx_reading.specs.TextOrder.{enumeration_lines, function_lines};
 ghost use Rattle.cxx_reading.specs.Trees.{CxxTree};
+ghost use Rattle.cxx_tree.specs.Held.{trees};
 ghost use Rattle.cxx_form.specs.Giving.{enumeration_by, enumeration_given, function_by, function_given, given_at};
 ghost use Rattle.cxx_form.specs.Lines.{line_at, lines_at};
-ghost use Rattle.cxx_form.specs.Sources.{facts_in, trees_in};
+ghost use Rattle.cxx_form.specs.Views.{facts_in};
 
-use crate::source::Source;
+use crate::facts::fact;
 use cxx_model::{Entity, EnumId, FactId, TreeId};
+use cxx_tree::State;
 use std::alloc::AllocError;
 
 /// A line of a plain form.
@@ -43,9 +45,9 @@ fn function_line(number: FactId, what: Entity) -> Option<Line>
     }
 }
 
-// Adds a line, where there is one.
+/// Adds a line, where there is one.
 #[tactic(auto, using(crate::proofs::Lined::line_added, crate::proofs::Lined::no_line_added))]
-fn add(lines: &mut Vec<Line>, line: Option<Line>) -> Result<(), AllocError>
+pub(crate) fn add(lines: &mut Vec<Line>, line: Option<Line>) -> Result<(), AllocError>
     ensures { (trees : List CxxTree) → OnOk result (lines_at trees lines.new.items ≡ lines_at trees lines.old.items ++ before (option_map (line_at trees) line) []) }
 {
     if let Some(line) = line {
@@ -54,44 +56,42 @@ fn add(lines: &mut Vec<Line>, line: Option<Line>) -> Result<(), AllocError>
     Ok(())
 }
 
-impl Source<'_> {
-    fn add_enumeration(&self, number: u32, lines: &mut Vec<Line>) -> Result<(), AllocError>
-        requires { number < length self.now.graph.now.facts }
-        ensures { OnOk result (lines_at (trees_in self.now) lines.new.items ≡ lines_at (trees_in self.now) lines.old.items ++ given_at enumeration_given number (slice_get (facts_in self.now) number)) }
-    {
-        let fact = &self.graph.facts()[number as usize];
-        add(lines, enumeration_line(FactId(number), fact.what))?;
-        Ok(())
-    }
+fn add_enumeration(state: &State, number: u32, lines: &mut Vec<Line>) -> Result<(), AllocError>
+    requires { number < length (state.now).graph.facts }
+    ensures { OnOk result (lines_at (trees state.now) lines.new.items ≡ lines_at (trees state.now) lines.old.items ++ given_at enumeration_given number (slice_get (facts_in state.now) number)) }
+{
+    let fact = fact(state, FactId(number));
+    add(lines, enumeration_line(FactId(number), fact.what))?;
+    Ok(())
+}
 
-    fn add_function(&self, number: u32, lines: &mut Vec<Line>) -> Result<(), AllocError>
-        requires { number < length self.now.graph.now.facts }
-        ensures { OnOk result (lines_at (trees_in self.now) lines.new.items ≡ lines_at (trees_in self.now) lines.old.items ++ given_at function_given number (slice_get (facts_in self.now) number)) }
-    {
-        let fact = &self.graph.facts()[number as usize];
-        add(lines, function_line(FactId(number), fact.what))?;
-        Ok(())
-    }
+fn add_function(state: &State, number: u32, lines: &mut Vec<Line>) -> Result<(), AllocError>
+    requires { number < length (state.now).graph.facts }
+    ensures { OnOk result (lines_at (trees state.now) lines.new.items ≡ lines_at (trees state.now) lines.old.items ++ given_at function_given number (slice_get (facts_in state.now) number)) }
+{
+    let fact = fact(state, FactId(number));
+    add(lines, function_line(FactId(number), fact.what))?;
+    Ok(())
+}
 
-    /// Adds a line for each enumeration.
-    #[tactic(auto, using(crate::proofs::Gathering::given_more, crate::proofs::Gathering::gathered_all, crate::proofs::Lined::enumerations_gathered))]
-    pub fn add_enumerations(&self, lines: &mut Vec<Line>) -> Result<(), AllocError>
-        ensures { OnOk result (lines_at (trees_in self.now) lines.new.items ≡ lines_at (trees_in self.now) lines.old.items ++ enumeration_lines 0 (facts_in self.now)) }
-    {
-        for number in 0..self.graph.length() {
-            self.add_enumeration(number, lines)?;
-        }
-        Ok(())
+/// Adds a line for each enumeration.
+#[tactic(auto, using(crate::proofs::Gathering::given_more, crate::proofs::Gathering::gathered_all, crate::proofs::Lined::enumerations_gathered))]
+pub(crate) fn add_enumerations(state: &State, lines: &mut Vec<Line>) -> Result<(), AllocError>
+    ensures { OnOk result (lines_at (trees state.now) lines.new.items ≡ lines_at (trees state.now) lines.old.items ++ enumeration_lines 0 (facts_in state.now)) }
+{
+    for number in 0..state.graph().length() {
+        add_enumeration(state, number, lines)?;
     }
+    Ok(())
+}
 
-    /// Adds a line for each function.
-    #[tactic(auto, using(crate::proofs::Gathering::given_more, crate::proofs::Gathering::gathered_all, crate::proofs::Lined::functions_gathered))]
-    pub fn add_functions(&self, lines: &mut Vec<Line>) -> Result<(), AllocError>
-        ensures { OnOk result (lines_at (trees_in self.now) lines.new.items ≡ lines_at (trees_in self.now) lines.old.items ++ function_lines 0 (facts_in self.now)) }
-    {
-        for number in 0..self.graph.length() {
-            self.add_function(number, lines)?;
-        }
-        Ok(())
+/// Adds a line for each function.
+#[tactic(auto, using(crate::proofs::Gathering::given_more, crate::proofs::Gathering::gathered_all, crate::proofs::Lined::functions_gathered))]
+pub(crate) fn add_functions(state: &State, lines: &mut Vec<Line>) -> Result<(), AllocError>
+    ensures { OnOk result (lines_at (trees state.now) lines.new.items ≡ lines_at (trees state.now) lines.old.items ++ function_lines 0 (facts_in state.now)) }
+{
+    for number in 0..state.graph().length() {
+        add_function(state, number, lines)?;
     }
+    Ok(())
 }
