@@ -1,3 +1,4 @@
+pub mod InTrees
 pub mod Enumerated
 pub mod Gathering
 pub mod Lined

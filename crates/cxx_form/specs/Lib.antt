@@ -1,4 +1,5 @@
 -- What the code of the plain form holds, and what that stands for.
+pub mod Found
 pub mod Giving
 pub mod Lines
 pub mod Numbered
