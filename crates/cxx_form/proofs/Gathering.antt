@@ -45,6 +45,9 @@ given_first give types [] k (suc n) = refl
 given_first give types (fact ∷ facts) k zero = before_first (give k (fact_at types fact)) (gathered give (k + 1) (facts_at types facts))
 given_first give types (fact ∷ facts) k (suc n) = given_first give types facts k n
 
+pub given_cut : {A : Type 0} (give : ℕ → CxxFact → Option A) (types : List CxxType) (facts : List Fact) (number : ℕ) → gathered give number (facts_at types (drop number facts)) ≡ given_at give number (slice_get (facts_at types facts) number) ++ gathered give (number + 1) (facts_at types (drop (number + 1) facts))
+given_cut give types facts number = given_first give types facts number number ∙ ap (λ m. given_at give number (slice_get (facts_at types facts) number) ++ gathered give (number + 1) (facts_at types (drop m facts))) (sym (add-one number))
+
 -- one fact more was looked at
 pub given_more : {A : Type 0} (give : ℕ → CxxFact → Option A) (types : List CxxType) (facts : List Fact) (number : ℕ) (old new : List A) → new ≡ old ++ given_at give number (slice_get (facts_at types facts) number) → old ++ gathered give number (facts_at types (drop number facts)) ≡ new ++ gathered give (number + 1) (facts_at types (drop (number + 1) facts))
 given_more give types facts number old new e =
