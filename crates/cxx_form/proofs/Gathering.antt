@@ -22,6 +22,9 @@ fact_read types facts n fact within is = fact_is types facts n ∙ ap (option_ma
 pub fact_there : (types : List CxxType) (seen facts : List Fact) (n : ℕ) (fact : Fact) → seen ≡ facts → n < length facts → fact ≡ get_or seen n fact → slice_get (facts_at types facts) n ≡ Some (fact_at types fact)
 fact_there types seen facts n fact same within is = fact_read types facts n fact within (is ∙ ap (λ (xs : List Fact). get_or xs n fact) same)
 
+pub fact_held : (seen facts : List Fact) (n : ℕ) (fact : Fact) → seen ≡ facts → n < length facts → fact ≡ get_or seen n fact → slice_get facts n ≡ Some fact
+fact_held seen facts n fact same within is = slice_get-get_or facts n fact within ∙ ap (λ (f : Fact). Some f) (sym (is ∙ ap (λ (xs : List Fact). get_or xs n fact) same))
+
 -- what a declaration names is of the table of types
 pub fact_below : (count : ℕ) (facts : List Fact) (n : ℕ) (fact : Fact) → AreFactsBelow count facts → n < length facts → fact ≡ get_or facts n fact → IsFactBelow count fact
 fact_below count [] n fact all within is = absurd (omega arith)

@@ -2,6 +2,7 @@
 pub mod Found
 pub mod Giving
 pub mod Lines
+pub mod Names
 pub mod Numbered
 pub mod Rows
 pub mod Slots
