@@ -89,13 +89,13 @@ named_at types all number fact old new named within at is has n =
     first_is types (f ∷ fs) zero fact at = (let same : fact_at types f ≡ fact_at types fact = cc in ap (λ (x : CxxFact). x ∷ facts_at types fs) same)
     first_is types (f ∷ fs) (suc number) fact at = first_is types fs number fact at
 
+pub length_facts : (types : List CxxType) (all : List Fact) → length (facts_at types all) ≡ length all
+length_facts types [] = refl
+length_facts types (f ∷ fs) = ap (λ n. suc n) (length_facts types fs)
+
 pub all_named : (types : List CxxType) (all : List Fact) (number : ℕ) (slots : List ℕ) → length all ≡ number → ((n : ℕ) → declared_or (slot_at slots n) (number_of_enumeration n number (facts_at types (drop number all))) ≡ number_of_enumeration n 0 (facts_at types all)) → AreDeclared (facts_at types all) slots
 all_named types all number slots past are n =
     ap (declared_or (slot_at slots n)) (length_facts types all ∙ past ∙ sym (at_drop_all (λ fs. number_of_enumeration n number (facts_at types fs)) all number (omega arith))) ∙ are n
-  where
-    length_facts : (types : List CxxType) (all : List Fact) → length (facts_at types all) ≡ length all
-    length_facts types [] = refl
-    length_facts types (f ∷ fs) = ap (λ n. suc n) (length_facts types fs)
 
 -- ---- enumerators
 

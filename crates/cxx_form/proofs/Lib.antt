@@ -2,7 +2,10 @@ pub mod InTrees
 pub mod Enumerated
 pub mod Gathering
 pub mod Lined
+pub mod Listing
 pub mod Numbers
 pub mod Ordered
 pub mod Rowed
 pub mod Slotted
+pub mod Tagged
+pub mod Typed

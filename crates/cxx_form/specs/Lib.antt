@@ -1,7 +1,9 @@
 -- What the code of the plain form holds, and what that stands for.
+pub mod Books
 pub mod Found
 pub mod Giving
 pub mod Lines
+pub mod Listed
 pub mod Names
 pub mod Numbered
 pub mod Rows

@@ -1,6 +1,7 @@
 //! The plain form of a reading.
 #![tactic(auto)]
 
+mod book;
 mod declarators;
 mod enumerations;
 mod facts;
@@ -11,3 +12,4 @@ mod order;
 mod production;
 mod rows;
 mod slots;
+mod words;

@@ -13,7 +13,7 @@ ghost use Rattle.cxx_form.specs.Numbered.{IsNumbering};
 ghost use Rattle.cxx_form.specs.Views.{facts_in};
 
 use crate::enumerations::declaration;
-use crate::facts::find;
+use crate::facts::{fact, find};
 use crate::numbering::Numbering;
 use crate::slots::Slots;
 use cxx_model::{Entity, EnumId, FactId, Listed, Name, Text};
@@ -90,10 +90,11 @@ fn count(state: &State) -> u32
 {
     let mut total = 0;
     for number in 0..state.graph().length() {
-        let fact = &state.graph().facts()[number as usize];
-        if is_enumeration(fact.what) {
-            total += 1;
+        let fact = fact(state, FactId(number));
+        if !is_enumeration(fact.what) {
+            continue;
         }
+        total += 1;
     }
     total
 }
