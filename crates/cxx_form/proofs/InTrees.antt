@@ -61,7 +61,7 @@ child_more trees first now new children i d all within so added =
       below = λ below. added.below (so.below below);
     }
 
-not_it : (n m : ℕ) → (n ≡ m → ⊥) → eqb n m ≡ false
+pub not_it : (n m : ℕ) → (n ≡ m → ⊥) → eqb n m ≡ false
 not_it n m other = by (eqb n m) refl
   where
     by : (t : Bool) → eqb n m ≡ t → eqb n m ≡ false

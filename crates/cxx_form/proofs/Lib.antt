@@ -1,5 +1,6 @@
 pub mod InTrees
 pub mod Enumerated
+pub mod Expressing
 pub mod Gathering
 pub mod Lined
 pub mod Listing

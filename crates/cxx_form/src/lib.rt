@@ -4,6 +4,7 @@
 mod book;
 mod declarators;
 mod enumerations;
+mod expressions;
 mod facts;
 mod lines;
 mod names;
