@@ -27,7 +27,7 @@ converted : (names : NamesOfText) (of : CxxType) (inner : List Word) → cast_wo
 unfolding cast_front cast_opened cast_between cast_parts
 converted names of inner = ap (λ (ws : List Word). cast_opened ++ ws) (sym (append_assoc (declared names.tags no_cv of []) cast_between (inner ++ close_word ∷ [])))
 
-each_is : (book : Book) (children : List TreeId) → expressions (names_of book) (in_turn (trees_in (trees_of book) children)) ≡ map (tree_words book) children
+pub each_is : (book : Book) (children : List TreeId) → expressions (names_of book) (in_turn (trees_in (trees_of book) children)) ≡ map (tree_words book) children
 unfolding tree_words
 each_is book [] = refl
 each_is book (child ∷ children) = ap (λ (ws : List (List Word)). expression_words (names_of book) (tree_in (trees_of book) child.0) ∷ ws) (each_is book children)

@@ -2,7 +2,9 @@ pub mod InTrees
 pub mod Enumerated
 pub mod Expressing
 pub mod Gathering
+pub mod Initial
 pub mod Lined
+pub mod Lining
 pub mod Listing
 pub mod Numbers
 pub mod Ordered
@@ -10,3 +12,5 @@ pub mod Rowed
 pub mod Slotted
 pub mod Tagged
 pub mod Typed
+pub mod Valued
+pub mod Whole

@@ -2,11 +2,14 @@
 pub mod Books
 pub mod Expressed
 pub mod Found
+pub mod Functions
 pub mod Giving
 pub mod Lines
 pub mod Listed
 pub mod Names
 pub mod Numbered
+pub mod Parts
 pub mod Rows
 pub mod Slots
+pub mod Trees
 pub mod Views

@@ -1,0 +1,59 @@
+//! The plain form of a reading.
+ghost use Rattle.std.specs.Prelude.{◌≡◌, ◌<◌, ◌≤◌, length, IfOk};
+ghost use Rattle.cxx_model.specs.declared.limits.TheConstants.{MOST_OUTPUT};
+ghost use Rattle.cxx_model.specs.declared.options.Options.{Options};
+ghost use Rattle.cxx_page.specs.Sheets.{text_of_lines};
+ghost use Rattle.cxx_reading.specs.Plain.{plain_text};
+ghost use Rattle.std.specs.Prelude.{map};
+ghost use Rattle.cxx_tree.specs.Held.{meaning};
+ghost use Rattle.cxx_form.specs.Books.{trees_of, IsBook};
+ghost use Rattle.cxx_form.specs.Lines.{AreLinesBelow};
+ghost use Rattle.cxx_form.specs.Parts.{line_written};
+
+use crate::book::Book;
+use crate::enumerations::{declared, enumerators};
+use crate::lines::{Line, lines};
+use crate::names::tags;
+use crate::order::numbering;
+use crate::text::write_lines;
+use cxx_model::Listed;
+use cxx_page::{Page, PlainFault, Tags};
+use cxx_tree::State;
+use std::alloc::Global;
+
+// The text of lines.
+fn text_of(alloc: Global, book: &Book<'_>, lines: &[Line]) -> Result<Vec<u8>, PlainFault>
+    requires book { IsBook book.now }
+    requires below { AreLinesBelow (length (trees_of book.now)) lines.now }
+    ensures text { IfOk result (λ text. text.items ≡ text_of_lines (map (line_written book.now) lines.now)) }
+    ensures within { IfOk result (λ text. length text.items ≤ MOST_OUTPUT) }
+    ensures full { result ≡ Err PlainFault.Limit → MOST_OUTPUT < length (text_of_lines (map (line_written book.now) lines.now)) }
+{
+    let mut page = Page::new(alloc);
+    write_lines(book, &mut page, lines)?;
+    Ok(page.into_bytes())
+}
+
+/// The plain form of the reading whose state this is: a line for each enumeration, each function and each declaration
+/// of an object, each name with a number and each conversion as a cast.
+pub fn plain(alloc: Global, state: &State) -> Result<Vec<u8>, PlainFault>
+    ensures text { (options : Options) → IfOk result (λ text. text.items ≡ plain_text (record { options = options; state = meaning state.now })) }
+    ensures within { IfOk result (λ text. length text.items ≤ MOST_OUTPUT) }
+    ensures full { (options : Options) → result ≡ Err PlainFault.Limit → MOST_OUTPUT < length (plain_text (record { options = options; state = meaning state.now })) }
+{
+    let found = lines(state, alloc)?;
+    let rows = enumerators(state, alloc)?;
+    let places = declared(state, alloc)?;
+    let numbers = numbering(state, &rows, found.as_slice(), alloc)?;
+    let names = Tags {
+        classes: Listed::new(alloc),
+        enumerations: tags(state, &places, &numbers, alloc)?,
+    };
+    let book = Book {
+        state,
+        numbering: &numbers,
+        tags: &names,
+        enumerators: &rows,
+    };
+    text_of(alloc, &book, found.as_slice())
+}
