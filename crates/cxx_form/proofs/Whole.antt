@@ -1,10 +1,12 @@
 -- The plain form is the text of its lines.
-use Rattle.std.proofs.Common.{◌≡◌, ℕ, ◌≤◌, ◌<◌, List, [], ◌∷◌, ◌++◌, length, map, Option, Some, None, refl, ap, sym, subst, ◌∙◌}
+use Rattle.std.proofs.Common.{◌≡◌, ℕ, ◌≤◌, ◌<◌, List, [], ◌∷◌, ◌++◌, length, map, Option, Some, None, Err, refl, ap, sym, subst, ◌∙◌}
 use Rattle.std.specs.Prelude.{flat_map, nat_lt, Bool, true, false}
 use Rattle.std.proofs.lemmas.Bool.{ltb-true, ltb-false}
 use Rattle.cxx_model.specs.declared.limits.TheConstants as limits
 use Rattle.cxx_model.specs.declared.options.Options.{Options}
-use Rattle.cxx_page.specs.Sheets.{blank, held, put_lines, text_of_lines, Sheet}
+use Rattle.cxx_page.specs.declared.fault.PlainFault.{PlainFault}
+use Rattle.cxx_page.specs.declared.fault.PlainFault.TheVariants as fault
+use Rattle.cxx_page.specs.Sheets.{blank, held, put_lines, text_of_lines, Sheet, Writes}
 use Rattle.cxx_page.proofs.Held.{held_fits, held_not}
 use Rattle.cxx_page.proofs.Texts.{has_lines}
 use Rattle.cxx_reading.specs.declared.role.Role.TheVariants as role
@@ -59,3 +61,12 @@ by_lines options held = refl
 pub whole : (options : Options) (book : Book) (found : List Line) → lines_at (trees_of book) found ≡ lines (meaning book.state.now) → text_of_lines (map (line_written book) found) ≡ plain_text (record { options = options; state = meaning book.state.now })
 whole options book found are =
     each_line book found ∙ ap (flat_map (λ one. line_text (line_words (names_of book) (facts_of book) one))) are ∙ by_lines options book.state.now
+
+-- what does not fit is too long
+pub over : (options : Options) (book : Book) (found : List Line) (e : PlainFault) (page new : Sheet) → lines_at (trees_of book) found ≡ lines (meaning book.state.now) → page ≡ blank → Writes (Err e) new (put_lines (map (line_written book) found) page) → e ≡ fault.Limit → limits.MOST_OUTPUT < length (plain_text (record { options = options; state = meaning book.state.now }))
+over options book found fault.Limit page new are is written limit =
+    subst (λ (text : List ℕ). limits.MOST_OUTPUT < length text) (whole options book found are) (too_long (map (line_written book) found) (sym (ap (put_lines (map (line_written book) found)) is) ∙ written))
+over options book found fault.OutOfMemory page new are is written limit = absurd (other limit)
+  where
+    other : fault.OutOfMemory ≡ fault.Limit → ⊥
+    other same = cc
