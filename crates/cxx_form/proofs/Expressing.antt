@@ -1,21 +1,18 @@
 -- The words of expressions, by the nodes of their trees.
-use Rattle.std.proofs.Common.{◌≡◌, ℕ, ◌<◌, Bool, true, false, eqb, List, [], ◌∷◌, ◌++◌, length, map, Some, refl, ap, sym, ◌∙◌, append_assoc, arith}
-use Rattle.std.specs.Prelude.{codes}
+use Rattle.std.proofs.Common.{◌≡◌, ℕ, ◌<◌, true, false, eqb, List, [], ◌∷◌, ◌++◌, length, map, Some, refl, ap, sym, ◌∙◌, append_assoc, arith}
 use Rattle.cxx_model.specs.declared.tree.Node.{Node}
 use Rattle.cxx_model.specs.declared.types.TreeId.{TreeId}
 use Rattle.cxx_model.specs.Types.Trees.{CxxType}
-use Rattle.cxx_model.specs.Facts.Declarations.{type_of_option}
 use Rattle.cxx_page.specs.Sheets.{put, Sheet}
 use Rattle.cxx_page.proofs.Put.{put_none}
 use Rattle.cxx_reading.specs.Declarators.{no_cv}
-use Rattle.cxx_reading.specs.Plain.{call_words, cast_words, expression_by, expressions, first_words, target_or, type_or_void, NamesOfText}
-use Rattle.cxx_reading.specs.Trees.{in_turn, CxxTree}
-use Rattle.cxx_reading.specs.Words.{close_word, declared, keyword_word, separated, Word}
+use Rattle.cxx_reading.specs.Plain.{call_words, cast_words, expression_by, expressions, first_words, target_or, NamesOfText}
+use Rattle.cxx_reading.specs.Trees.{in_turn}
+use Rattle.cxx_reading.specs.Words.{close_word, declared, keyword_word, Word}
 use Rattle.cxx_tree.specs.Arena.{label_at, number_of_option, tree_in, tree_over, trees_in}
 use Rattle.cxx_form.specs.declared.book.Book.{Book}
 use Rattle.cxx_form.specs.Books.{names_of, trees_of, type_for}
 use Rattle.cxx_form.specs.Expressed.{call_front, call_parts, cast_between, cast_front, cast_opened, cast_parts, expression_words, tree_words}
-use Rattle.cxx_form.specs.Listed.{listed_words}
 use Rattle.cxx_form.proofs.InTrees.{not_it}
 use Rattle.cxx_form.proofs.Listing.{all_listed}
 

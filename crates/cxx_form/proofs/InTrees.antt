@@ -1,6 +1,6 @@
 -- The declarators in a tree, one child after another.
-use Rattle.std.proofs.Common.{◌≡◌, ℕ, zero, suc, ◌+◌, ◌<◌, ◌≤◌, Bool, true, false, cond, eqb, List, [], ◌∷◌, ◌++◌, length, drop, get_or, map, Option, Some, None, refl, ap, sym, subst, ◌∙◌, append-nil, append_assoc, arith}
-use Rattle.std.specs.Prelude.{flat_map, nat_eq, if◌then◌else◌}
+use Rattle.std.proofs.Common.{◌≡◌, ℕ, zero, suc, ◌+◌, ◌<◌, ◌≤◌, Bool, true, false, eqb, List, [], ◌∷◌, ◌++◌, length, drop, get_or, map, refl, ap, sym, subst, ◌∙◌, append-nil, append_assoc, arith}
+use Rattle.std.specs.Prelude.{nat_eq, if◌then◌else◌}
 use Rattle.std.proofs.lemmas.Bool.{eqb-true}
 use Rattle.std.proofs.lemmas.List.{at_drop_more, at_drop_all}
 use Rattle.cxx_model.specs.declared.tree.Node.{Node}
@@ -8,7 +8,7 @@ use Rattle.cxx_model.specs.declared.types.TreeId.{TreeId}
 use Rattle.cxx_model.specs.Types.Trees.{CxxType}
 use Rattle.cxx_reading.specs.Productions as production
 use Rattle.cxx_reading.specs.TextOrder.{declarators_in, declarators_of, part_tree}
-use Rattle.cxx_reading.specs.Trees.{CxxTree, CxxTrees, Label, in_turn, no_trees, tree_then, tree_of}
+use Rattle.cxx_reading.specs.Trees.{CxxTree, CxxTrees, Label, in_turn, tree_of}
 use Rattle.cxx_tree.specs.Arena.{label_at, tree_in, tree_over, trees_in, AreTreesBelow}
 use Rattle.cxx_tree.specs.declared.kept.Piece.{Piece}
 use Rattle.cxx_tree.specs.Held.{pieces_at, ArePiecesBelow}
@@ -105,6 +105,6 @@ piece_within count pieces i piece is all within = subst (λ (p : Piece). p.tree.
 
 pub pieces_added : (trees : List CxxTree) (now : List TreeId) (pieces : List Piece) (i : ℕ) (all : List CxxTree) → length pieces ≤ i → SoFar trees [] now (map part_tree (pieces_at trees (drop i pieces))) all → (trees_in trees now ≡ each_declarators all) × AreTreesBelow (length trees) now
 pieces_added trees now pieces i all past so = (
-    sym (append-nil (trees_in trees now)) ∙ ap (λ (ts : List CxxTree). trees_in trees now ++ each_declarators ts) (sym (at_drop_all (λ (ps : List Piece). map part_tree (pieces_at trees ps)) pieces i past)) ∙ so.is,
-    so.below tt,
-  )
+  sym (append-nil (trees_in trees now)) ∙ ap (λ (ts : List CxxTree). trees_in trees now ++ each_declarators ts) (sym (at_drop_all (λ (ps : List Piece). map part_tree (pieces_at trees ps)) pieces i past)) ∙ so.is,
+  so.below tt,
+)

@@ -1,6 +1,6 @@
 -- The initializer of a declarator, and the words of its line.
-use Rattle.std.proofs.Common.{◌≡◌, ℕ, zero, suc, ◌+◌, ◌<◌, ◌≤◌, Bool, true, false, cond, eqb, List, [], ◌∷◌, ◌++◌, length, drop, get_or, map, Option, Some, None, option_map, refl, ap, sym, subst, ◌∙◌, arith}
-use Rattle.std.specs.Prelude.{nat_eq, if◌then◌else◌, codes}
+use Rattle.std.proofs.Common.{◌≡◌, ℕ, ◌+◌, ◌<◌, ◌≤◌, Bool, true, false, eqb, List, [], ◌∷◌, length, drop, get_or, map, Option, Some, None, refl, ap, sym, ◌∙◌, arith}
+use Rattle.std.specs.Prelude.{if◌then◌else◌}
 use Rattle.std.proofs.lemmas.List.{at_drop_more, at_drop_all}
 use Rattle.cxx_model.specs.declared.tree.Node.{Node}
 use Rattle.cxx_model.specs.declared.types.TreeId.{TreeId}
@@ -8,9 +8,8 @@ use Rattle.cxx_model.specs.Types.Trees.{CxxType}
 use Rattle.cxx_page.specs.Sheets.{put, Sheet}
 use Rattle.cxx_page.proofs.Put.{put_none}
 use Rattle.cxx_reading.specs.Plain.{expressions, first_words, initializer_words, initializers_in, object_words}
-use Rattle.cxx_reading.specs.Productions as production
 use Rattle.cxx_reading.specs.Trees.{in_turn, CxxTree, CxxTrees}
-use Rattle.cxx_reading.specs.Words.{keyword_word, Word}
+use Rattle.cxx_reading.specs.Words.{Word}
 use Rattle.cxx_tree.specs.Arena.{tree_in, tree_over, trees_in, AreTreesBelow}
 use Rattle.cxx_tree.proofs.Arenas.{below_later}
 use Rattle.cxx_form.specs.declared.book.Book.{Book}

@@ -1,5 +1,5 @@
 -- The lines of a plain form, one declaration after another.
-use Rattle.std.proofs.Common.{◌≡◌, ℕ, zero, suc, ◌+◌, ◌<◌, ◌≤◌, List, [], ◌∷◌, ◌++◌, length, drop, get_or, map, Option, Some, None, option_map, refl, ap, sym, subst, ◌∙◌, append-nil, append_assoc, add-one}
+use Rattle.std.proofs.Common.{◌≡◌, ℕ, suc, ◌+◌, ◌<◌, ◌≤◌, List, [], ◌∷◌, ◌++◌, length, drop, get_or, map, Option, Some, None, option_map, refl, ap, sym, subst, ◌∙◌, append-nil, append_assoc, add-one}
 use Rattle.std.specs.List.{slice_get}
 use Rattle.std.proofs.lemmas.List.{at_drop_more, at_drop_all, map-append}
 use Rattle.cxx_model.specs.declared.facts.Access.{Access}
@@ -124,11 +124,11 @@ objects_all trees facts declarators i first now all past so = at_last trees firs
 
 pub all_lines : (trees : List CxxTree) (found : List TreeId) (facts : List CxxFact) (declarators : List CxxTree) (none one two three : List Line) → none ≡ [] → trees_in trees found ≡ declarators → AddsLines trees none one (enumeration_lines 0 facts) → AddsLines trees one two (function_lines 0 facts) → AddsLines trees two three (object_lines facts (trees_in trees found)) → (lines_at trees three ≡ enumeration_lines 0 facts ++ (function_lines 0 facts ++ object_lines facts declarators)) × AreLinesBelow (length trees) three
 all_lines trees found facts declarators none one two three empty are first second third = (
-    third.is ∙ ap (λ (xs : List text.Line). xs ++ object_lines facts (trees_in trees found)) (second.is ∙ ap (λ (xs : List text.Line). xs ++ function_lines 0 facts) (first.is ∙ ap (λ (xs : List Line). lines_at trees xs ++ enumeration_lines 0 facts) empty))
-    ∙ append_assoc (enumeration_lines 0 facts) (function_lines 0 facts) (object_lines facts (trees_in trees found))
-    ∙ ap (λ (ts : List CxxTree). enumeration_lines 0 facts ++ (function_lines 0 facts ++ object_lines facts ts)) are,
-    third.below (second.below (first.below (subst (λ (xs : List Line). AreLinesBelow (length trees) xs) (sym empty) tt))),
-  )
+  third.is ∙ ap (λ (xs : List text.Line). xs ++ object_lines facts (trees_in trees found)) (second.is ∙ ap (λ (xs : List text.Line). xs ++ function_lines 0 facts) (first.is ∙ ap (λ (xs : List Line). lines_at trees xs ++ enumeration_lines 0 facts) empty))
+      ∙ append_assoc (enumeration_lines 0 facts) (function_lines 0 facts) (object_lines facts (trees_in trees found))
+      ∙ ap (λ (ts : List CxxTree). enumeration_lines 0 facts ++ (function_lines 0 facts ++ object_lines facts ts)) are,
+  third.below (second.below (first.below (subst (λ (xs : List Line). AreLinesBelow (length trees) xs) (sym empty) tt))),
+)
 
 pub lines_are : (held : Held) (found : List Line) → lines_at (trees held) found ≡ enumeration_lines 0 (facts_in held) ++ (function_lines 0 (facts_in held) ++ object_lines (facts_in held) (each_declarators (map part_tree (pieces_at (trees held) held.pieces)))) → lines_at (trees held) found ≡ lines (meaning held)
 unfolding meaning lines

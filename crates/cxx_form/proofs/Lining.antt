@@ -1,5 +1,5 @@
 -- The lines of a plain form, one after another.
-use Rattle.std.proofs.Common.{◌≡◌, ℕ, zero, suc, ◌+◌, ◌<◌, ◌≤◌, List, [], ◌∷◌, ◌++◌, length, drop, get_or, map, Option, Some, None, option_map, refl, ap, sym, subst, ◌∙◌, arith}
+use Rattle.std.proofs.Common.{◌≡◌, ℕ, zero, suc, ◌<◌, List, [], ◌∷◌, length, get_or, map, Some, None, option_map, refl, ap, sym, ◌∙◌, arith}
 use Rattle.std.specs.List.{slice_get}
 use Rattle.cxx_model.specs.declared.base.Base.TheVariants.{Void}
 use Rattle.cxx_model.specs.declared.facts.Access.{Access}
@@ -7,12 +7,12 @@ use Rattle.cxx_model.specs.declared.facts.Fact.{Fact}
 use Rattle.cxx_model.specs.declared.place.Place.{Place}
 use Rattle.cxx_model.specs.Facts.Declarations as facts
 use Rattle.cxx_model.specs.Facts.Declarations.{declares_at, fact_at, CxxFact, CxxName, Declares}
-use Rattle.cxx_model.specs.Types.Trees.{fundamental, CxxType}
+use Rattle.cxx_model.specs.Types.Trees.{fundamental}
 use Rattle.cxx_reading.specs.Plain.{type_of_function}
 use Rattle.cxx_tree.specs.Held.{Held}
 use Rattle.cxx_form.specs.declared.lines.Line.{Line}
 use Rattle.cxx_form.specs.Functions.{function_type_by}
-use Rattle.cxx_form.specs.Lines.{lines_at, line_at, AreLinesBelow, IsLineBelow}
+use Rattle.cxx_form.specs.Lines.{AreLinesBelow, IsLineBelow}
 use Rattle.cxx_form.specs.Views.{facts_in}
 use Rattle.cxx_form.proofs.Gathering.{fact_is}
 

@@ -1,5 +1,5 @@
 -- What lines declare, one line after another.
-use Rattle.std.proofs.Common.{◌≡◌, ℕ, ◌+◌, ◌<◌, ◌≤◌, List, [], ◌∷◌, ◌++◌, length, drop, take, get_or, map, refl, ap, sym, subst, ◌∙◌, append-nil, append_assoc}
+use Rattle.std.proofs.Common.{◌≡◌, ℕ, ◌+◌, ◌<◌, ◌≤◌, List, [], ◌∷◌, ◌++◌, length, drop, take, get_or, refl, ap, sym, subst, ◌∙◌, append-nil, append_assoc}
 use Rattle.std.specs.Prelude.{flat_map}
 use Rattle.std.proofs.lemmas.List.{at_drop_more, at_drop_all, map-append, take_all, take_more}
 use Rattle.cxx_model.specs.declared.types.EnumId.{EnumId}
@@ -9,7 +9,6 @@ use Rattle.cxx_reading.specs.TextOrder.{declared_on, enumerators_of, lines, text
 use Rattle.cxx_reading.specs.Trees.{CxxTree}
 use Rattle.cxx_tree.specs.Held.{meaning, trees, Held}
 use Rattle.cxx_form.specs.declared.lines.Line.{Line}
-use Rattle.cxx_form.specs.declared.lines.Line.TheVariants as line
 use Rattle.cxx_form.specs.Giving.{AreEnumerators}
 use Rattle.cxx_form.specs.Lines.{line_at, lines_at, number_in, numbers_in}
 use Rattle.cxx_form.specs.Numbered.{IsNumbering}
@@ -44,7 +43,7 @@ each_more order (one ∷ ones) n = each_more (with_new order one) ones n
 pub numbered_more : (numbers : List FactId) (i : ℕ) (d : FactId) (count : ℕ) (slots : List ℕ) → i < length numbers → IsNumbering (with_new (with_each_new [] (numbers_in (take i numbers))) (get_or numbers i d).0) count slots → IsNumbering (with_each_new [] (numbers_in (take (i + 1) numbers))) count slots
 numbered_more numbers i d count slots within is =
     let same : with_each_new [] (numbers_in (take (i + 1) numbers)) ≡ with_new (with_each_new [] (numbers_in (take i numbers))) (get_or numbers i d).0 =
-      ap (λ (ns : List FactId). with_each_new [] (numbers_in ns)) (take_more numbers i d within) ∙ ap (with_each_new []) (map-append number_in (take i numbers) (get_or numbers i d ∷ [])) ∙ each_more [] (numbers_in (take i numbers)) (get_or numbers i d).0 in
+    ap (λ (ns : List FactId). with_each_new [] (numbers_in ns)) (take_more numbers i d within) ∙ ap (with_each_new []) (map-append number_in (take i numbers) (get_or numbers i d ∷ [])) ∙ each_more [] (numbers_in (take i numbers)) (get_or numbers i d).0 in
     subst (λ (order : List ℕ). IsNumbering order count slots) (sym same) is
 
 pub numbered_all : (numbers : List FactId) (i : ℕ) (count : ℕ) (slots : List ℕ) → length numbers ≤ i → IsNumbering (with_each_new [] (numbers_in (take i numbers))) count slots → IsNumbering (with_each_new [] (numbers_in numbers)) count slots

@@ -1,6 +1,6 @@
 -- The words of enumerations, by the declarations of their enumerators.
-use Rattle.std.proofs.Common.{◌≡◌, ℕ, zero, suc, ◌+◌, Bool, true, false, eqb, cond, List, [], ◌∷◌, ◌++◌, map, Option, Some, None, option_map, refl, ap, sym, ◌∙◌, add-one, arith}
-use Rattle.std.specs.Prelude.{ℤ, pos, nat_eq, if◌then◌else◌, codes}
+use Rattle.std.proofs.Common.{◌≡◌, ℕ, suc, ◌+◌, Bool, true, false, eqb, cond, List, [], ◌∷◌, ◌++◌, map, Option, Some, None, option_map, refl, ap, sym, ◌∙◌, add-one, arith}
+use Rattle.std.specs.Prelude.{ℤ, pos}
 use Rattle.std.specs.List.{slice_get}
 use Rattle.cxx_model.specs.declared.facts.Access.{Access}
 use Rattle.cxx_model.specs.declared.facts.Fact.{Fact}
@@ -10,7 +10,7 @@ use Rattle.cxx_model.specs.Facts.Declarations as facts
 use Rattle.cxx_model.specs.Facts.Declarations.{declares_at, fact_at, CxxFact, CxxName, Declares}
 use Rattle.cxx_meaning.specs.Lookups.Gathered.{before, gathered}
 use Rattle.cxx_reading.specs.Plain.{enumeration_words, enumerator_words, value_in, values_from}
-use Rattle.cxx_reading.specs.Words.{keyword_word, name_word, separated, semicolon_word, Word}
+use Rattle.cxx_reading.specs.Words.{Word}
 use Rattle.cxx_tree.specs.Held.{Held}
 use Rattle.cxx_form.specs.declared.book.Book.{Book}
 use Rattle.cxx_form.specs.Books.{facts_of, names_of, IsBook}

@@ -1,5 +1,5 @@
 -- The plain form is the text of its lines.
-use Rattle.std.proofs.Common.{◌≡◌, ℕ, ◌≤◌, ◌<◌, List, [], ◌∷◌, ◌++◌, length, map, Option, Some, None, Err, refl, ap, sym, subst, ◌∙◌}
+use Rattle.std.proofs.Common.{◌≡◌, ℕ, ◌<◌, List, [], ◌∷◌, ◌++◌, length, map, Some, None, Err, refl, ap, sym, subst, ◌∙◌}
 use Rattle.std.specs.Prelude.{flat_map, nat_lt, Bool, true, false}
 use Rattle.std.proofs.lemmas.Bool.{ltb-true, ltb-false}
 use Rattle.cxx_model.specs.declared.limits.TheConstants as limits
@@ -13,7 +13,7 @@ use Rattle.cxx_reading.specs.declared.role.Role.TheVariants as role
 use Rattle.cxx_reading.specs.Plain.{line_words, names_of_text, plain_text}
 use Rattle.cxx_reading.specs.TextOrder.{lines}
 use Rattle.cxx_reading.specs.Words.{line_text, Word}
-use Rattle.cxx_tree.specs.Held.{meaning, trees, Held}
+use Rattle.cxx_tree.specs.Held.{meaning, Held}
 use Rattle.cxx_form.specs.declared.book.Book.{Book}
 use Rattle.cxx_form.specs.declared.lines.Line.{Line}
 use Rattle.cxx_form.specs.Books.{facts_of, names_of, trees_of}

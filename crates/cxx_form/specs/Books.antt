@@ -1,5 +1,5 @@
 -- From what a plain form is written: a state, and the tables that were made of it.
-use Rattle.std.specs.Prelude.{◌≡◌, List, [], Option, Some, None}
+use Rattle.std.specs.Prelude.{◌≡◌, List, [], Option}
 use Rattle.cxx_model.specs.declared.types.TypeId.{TypeId}
 use Rattle.cxx_model.specs.Facts.Declarations.{type_of_option, CxxFact}
 use Rattle.cxx_model.specs.Facts.Fitted.{Fitted}

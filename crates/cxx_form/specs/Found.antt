@@ -1,5 +1,5 @@
 -- The declarators of declarations, and what they declare.
-use Rattle.std.specs.Prelude.{ℕ, ◌≡◌, List, [], ◌∷◌, ◌++◌, flat_map, length, Option, Some, None}
+use Rattle.std.specs.Prelude.{◌≡◌, List, ◌++◌, flat_map, length}
 use Rattle.cxx_model.specs.declared.types.TreeId.{TreeId}
 use Rattle.cxx_reading.specs.TextOrder.{declarators_of}
 use Rattle.cxx_reading.specs.Trees.{CxxTree}

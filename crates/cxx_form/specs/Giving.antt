@@ -1,10 +1,8 @@
 -- What each declaration gives to the plain form.
-use Rattle.std.specs.Prelude.{ℕ, zero, suc, ◌+◌, ◌≡◌, ◌∷◌, List, [], ◌++◌, length, Bool, Option, Some, None, nat_eq, if◌then◌else◌}
+use Rattle.std.specs.Prelude.{ℕ, zero, suc, ◌+◌, ◌≡◌, List, [], ◌++◌, length, Option, Some, None, nat_eq, if◌then◌else◌}
 use Rattle.cxx_model.specs.declared.types.FactId.{FactId}
-use Rattle.cxx_model.specs.declared.facts.Fact.{Fact}
 use Rattle.cxx_model.specs.Facts.Declarations as facts
 use Rattle.cxx_model.specs.Facts.Declarations.{CxxFact, Declares, fact_at, facts_at}
-use Rattle.cxx_model.specs.Types.Trees.{CxxType}
 use Rattle.cxx_meaning.specs.Lookups.Gathered.{before, gathered}
 use Rattle.cxx_reading.specs.Plain.{number_of_enumeration}
 use Rattle.cxx_reading.specs.TextOrder.{Line, enumeration_line, function_line}

@@ -1,5 +1,5 @@
 -- The lines of a plain form, part by part, as they are written.
-use Rattle.std.specs.Prelude.{ℕ, zero, ℤ, pos, true, Bool, if◌then◌else◌, List, [], ◌∷◌, ◌++◌, map, codes, Option, Some, None}
+use Rattle.std.specs.Prelude.{ℕ, zero, ℤ, pos, true, if◌then◌else◌, List, [], ◌∷◌, ◌++◌, map, codes, Option, Some, None}
 use Rattle.std.specs.List.{slice_get}
 use Rattle.cxx_model.specs.declared.tree.Node.{Node}
 use Rattle.cxx_model.specs.declared.types.FactId.{FactId}

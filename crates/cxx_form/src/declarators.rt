@@ -21,11 +21,7 @@ fn add(state: &State, number: TreeId, found: &mut Vec<TreeId>) -> Result<(), All
 }
 
 // Adds the declarators in a tree, in order. Those in a declarator itself are none of a declaration.
-fn add_declarators(
-    state: &State,
-    number: TreeId,
-    found: &mut Vec<TreeId>,
-) -> Result<(), AllocError>
+fn add_declarators(state: &State, number: TreeId, found: &mut Vec<TreeId>) -> Result<(), AllocError>
     requires { number.0 < length (trees state.now) }
     ensures { OnOk result (AddsTrees (trees state.now) found.old.items found.new.items (declarators_of (tree state.now number))) }
 {

@@ -107,5 +107,9 @@ pub(crate) fn declaration(slots: &Slots, named: EnumId, count: u32) -> FactId
     ensures { result.0 ≡ declared_or (slot_at slots.now named.0) count }
 {
     let slot = slots.at(named.0);
-    if slot == 0 { FactId(count) } else { FactId(slot - 1) }
+    if slot == 0 {
+        FactId(count)
+    } else {
+        FactId(slot - 1)
+    }
 }

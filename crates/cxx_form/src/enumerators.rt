@@ -51,11 +51,7 @@ fn write_equals(page: &mut Page, value: i128) -> Result<(), PlainFault>
 }
 
 // Writes `=` and the value of an enumerator.
-fn write_its_value(
-    book: &Book<'_>,
-    page: &mut Page,
-    number: FactId,
-) -> Result<(), PlainFault>
+fn write_its_value(book: &Book<'_>, page: &mut Page, number: FactId) -> Result<(), PlainFault>
     ensures { Writes result page.new (put (keyword_word (codes "=") ∷ value_words (value_found (slice_get (facts_of book.now) number.0))) page.old) }
 {
     write_equals(page, value_at(book.state, number))
@@ -63,11 +59,7 @@ fn write_its_value(
 
 // Writes an enumerator with its value.
 #[tactic(auto, using(cxx_page::proofs::Put::put_more), unfolding(crate::specs::Parts::enumerator_at))]
-fn write_enumerator(
-    book: &Book<'_>,
-    page: &mut Page,
-    number: FactId,
-) -> Result<(), PlainFault>
+fn write_enumerator(book: &Book<'_>, page: &mut Page, number: FactId) -> Result<(), PlainFault>
     requires { IsBook book.now }
     ensures { Writes result page.new (put (enumerator_at book.now number) page.old) }
 {
@@ -91,11 +83,7 @@ fn write_next(
 }
 
 // Writes enumerators with commas between them.
-fn write_enumerators(
-    book: &Book<'_>,
-    page: &mut Page,
-    numbers: &[FactId],
-) -> Result<(), PlainFault>
+fn write_enumerators(book: &Book<'_>, page: &mut Page, numbers: &[FactId]) -> Result<(), PlainFault>
     requires { IsBook book.now }
     ensures { Writes result page.new (put (listed_words true (map (enumerator_at book.now) numbers.now)) page.old) }
 {
@@ -108,11 +96,7 @@ fn write_enumerators(
 }
 
 #[tactic(auto, using(cxx_page::proofs::Put::put_more))]
-fn write_opened(
-    book: &Book<'_>,
-    page: &mut Page,
-    number: FactId,
-) -> Result<(), PlainFault>
+fn write_opened(book: &Book<'_>, page: &mut Page, number: FactId) -> Result<(), PlainFault>
     requires { IsBook book.now }
     ensures { Writes result page.new (put (name_word ((names_of book.now).name_of number.0) ∷ keyword_word (codes "{") ∷ []) page.old) }
 {
@@ -122,11 +106,7 @@ fn write_opened(
 
 // Writes what stands before the enumerators.
 #[tactic(auto, using(cxx_page::proofs::Put::put_more), unfolding(crate::specs::Parts::enumeration_front))]
-fn write_front(
-    book: &Book<'_>,
-    page: &mut Page,
-    number: FactId,
-) -> Result<(), PlainFault>
+fn write_front(book: &Book<'_>, page: &mut Page, number: FactId) -> Result<(), PlainFault>
     requires { IsBook book.now }
     ensures { Writes result page.new (put (enumeration_front (names_of book.now) number.0) page.old) }
 {
@@ -144,11 +124,7 @@ fn write_end(page: &mut Page) -> Result<(), PlainFault>
 }
 
 #[tactic(auto, using(cxx_page::proofs::Put::put_append))]
-fn write_closed(
-    book: &Book<'_>,
-    page: &mut Page,
-    numbers: &[FactId],
-) -> Result<(), PlainFault>
+fn write_closed(book: &Book<'_>, page: &mut Page, numbers: &[FactId]) -> Result<(), PlainFault>
     requires { IsBook book.now }
     ensures { Writes result page.new (put (listed_words true (map (enumerator_at book.now) numbers.now) ++ enumeration_end) page.old) }
 {

@@ -40,11 +40,7 @@ pub(crate) fn write_comma_unless(page: &mut Page, is_first: bool) -> Result<(), 
 
 // Writes the name of a function and the bracket behind it.
 #[tactic(auto, using(cxx_page::proofs::Put::put_more), unfolding(crate::specs::Expressed::call_front))]
-fn write_call_front(
-    book: &Book<'_>,
-    page: &mut Page,
-    number: FactId,
-) -> Result<(), PlainFault>
+fn write_call_front(book: &Book<'_>, page: &mut Page, number: FactId) -> Result<(), PlainFault>
     requires { IsBook book.now }
     ensures { Writes result page.new (put (call_front (names_of book.now) number.0) page.old) }
 {
@@ -70,11 +66,7 @@ fn write_cast_between(page: &mut Page) -> Result<(), PlainFault>
 
 // Writes the type of a cast, up to the bracket behind it.
 #[tactic(auto, using(cxx_page::proofs::Put::put_append))]
-fn write_cast_type(
-    book: &Book<'_>,
-    page: &mut Page,
-    of: Option<TypeId>,
-) -> Result<(), PlainFault>
+fn write_cast_type(book: &Book<'_>, page: &mut Page, of: Option<TypeId>) -> Result<(), PlainFault>
     requires book { IsBook book.now }
     requires below { IsTypeNumberBelow (length (book.now.state.now).types) of }
     ensures { Writes result page.new (put (declared (names_of book.now).tags no_cv (type_for book.now of) [] ++ cast_between) page.old) }
@@ -85,11 +77,7 @@ fn write_cast_type(
 
 // Writes what stands before the operand of a cast (5.2.9).
 #[tactic(auto, using(cxx_page::proofs::Put::put_append), unfolding(crate::specs::Expressed::cast_front))]
-fn write_cast_front(
-    book: &Book<'_>,
-    page: &mut Page,
-    of: Option<TypeId>,
-) -> Result<(), PlainFault>
+fn write_cast_front(book: &Book<'_>, page: &mut Page, of: Option<TypeId>) -> Result<(), PlainFault>
     requires book { IsBook book.now }
     requires below { IsTypeNumberBelow (length (book.now.state.now).types) of }
     ensures { Writes result page.new (put (cast_front (names_of book.now) (type_for book.now of)) page.old) }
@@ -233,11 +221,7 @@ pub(crate) fn write_first(
 
 /// Writes an expression.
 #[cycle(words)]
-fn write_expression(
-    book: &Book<'_>,
-    page: &mut Page,
-    number: TreeId,
-) -> Result<(), PlainFault>
+fn write_expression(book: &Book<'_>, page: &mut Page, number: TreeId) -> Result<(), PlainFault>
     requires book { IsBook book.now }
     requires known { number.0 < length (trees_of book.now) }
     ensures { Writes result page.new (put (tree_words book.now number) page.old) }

@@ -106,7 +106,8 @@ fn object_first(number: FactId, what: Entity) -> Option<FactId>
 {
     match what {
         Entity::Object {
-            first: Some(first), ..
+            first: Some(first),
+            ..
         } => Some(first),
         Entity::Object { first: None, .. } => Some(number),
         _ => None,

@@ -37,11 +37,7 @@ fn initializer(state: &State, parts: &[TreeId]) -> Option<TreeId>
 
 // Writes `=` and what stands behind it.
 #[tactic(auto, using(cxx_page::proofs::Put::put_more))]
-fn write_initial(
-    book: &Book<'_>,
-    page: &mut Page,
-    number: TreeId,
-) -> Result<(), PlainFault>
+fn write_initial(book: &Book<'_>, page: &mut Page, number: TreeId) -> Result<(), PlainFault>
     requires book { IsBook book.now }
     requires known { number.0 < length (trees_of book.now) }
     ensures { Writes result page.new (put (initial_words (names_of book.now) (tree_in (trees_of book.now) number.0).children) page.old) }
@@ -52,11 +48,7 @@ fn write_initial(
 }
 
 // Writes the initializer among the parts of a declarator, where there is one (8.5).
-fn write_initializer(
-    book: &Book<'_>,
-    page: &mut Page,
-    parts: &[TreeId],
-) -> Result<(), PlainFault>
+fn write_initializer(book: &Book<'_>, page: &mut Page, parts: &[TreeId]) -> Result<(), PlainFault>
     requires book { IsBook book.now }
     requires below { AreTreesBelow (length (trees_of book.now)) parts.now }
     ensures { Writes result page.new (put (initializer_among book.now parts.now) page.old) }

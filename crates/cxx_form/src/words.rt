@@ -27,11 +27,7 @@ fn no_cv() -> Cv
 }
 
 /// Writes the printed name of a declaration.
-pub(crate) fn write_name(
-    book: &Book<'_>,
-    page: &mut Page,
-    number: FactId,
-) -> Result<(), PlainFault>
+pub(crate) fn write_name(book: &Book<'_>, page: &mut Page, number: FactId) -> Result<(), PlainFault>
     requires { IsBook book.now }
     ensures { Writes result page.new (put (name_word ((names_of book.now).name_of number.0) ∷ []) page.old) }
 {
@@ -44,11 +40,7 @@ pub(crate) fn write_name(
 }
 
 // Writes what stands before the name of what has a type; without one it is `void`.
-fn write_front(
-    book: &Book<'_>,
-    page: &mut Page,
-    of: Option<TypeId>,
-) -> Result<(), PlainFault>
+fn write_front(book: &Book<'_>, page: &mut Page, of: Option<TypeId>) -> Result<(), PlainFault>
     requires { IsTypeNumberBelow (length (book.now.state.now).types) of }
     ensures { Writes result page.new (put (front (tags_of book.now.tags.now) no_cv_of (type_for book.now of)) page.old) }
 {

@@ -1,4 +1,4 @@
-use Rattle.std.proofs.Common.{◌≡◌, ◌∙◌, ap, arith, length, sym}
+use Rattle.std.proofs.Common.{◌≡◌, ◌∙◌, ap, arith, length}
 use Rattle.cxx_model.specs.Facts.Graph.{Graph}
 use Rattle.cxx_form.proofs.Enumerated.{all_named}
 use Rattle.cxx_form.proofs.enumerations.declared.Goals as goal

@@ -2,8 +2,6 @@ use Rattle.std.proofs.Common.{rules, ap, sym, ◌∙◌, length, get_or, Option,
 use Rattle.cxx_model.specs.declared.types.TreeId.{TreeId}
 use Rattle.cxx_page.specs.Sheets.{put, Sheet, Writes}
 use Rattle.cxx_page.specs.Sides.{comma_unless}
-use Rattle.cxx_page.proofs.Put.{put_none}
-use Rattle.cxx_reading.specs.Plain.{first_words}
 use Rattle.cxx_reading.specs.Words.{keyword_word, Word}
 use Rattle.cxx_form.specs.Books.{trees_of}
 use Rattle.cxx_form.specs.Expressed.{tree_words}

@@ -1,5 +1,4 @@
-use Rattle.std.proofs.Common.{◌≡◌, ◌∙◌, ap, List}
-use Rattle.cxx_model.specs.declared.facts.Fact.{Fact}
+use Rattle.std.proofs.Common.{◌≡◌, ◌∙◌, ap}
 use Rattle.cxx_model.specs.Facts.Graph.{Graph}
 use Rattle.cxx_form.proofs.Gathering.{fact_fits, fact_held, fact_there}
 use Rattle.cxx_form.proofs.facts.fact.Goals as goal

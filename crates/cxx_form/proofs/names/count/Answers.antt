@@ -1,7 +1,7 @@
 use Rattle.std.proofs.Common.{◌≡◌, ◌≤◌, ◌+◌, ◌∙◌, ap, arith, drop, length, sym, true, false, List}
 use Rattle.std.proofs.lemmas.List.{at_drop_all}
 use Rattle.cxx_model.specs.declared.facts.Fact.{Fact}
-use Rattle.cxx_model.specs.Facts.Graph.{counted, enumerations, Graph}
+use Rattle.cxx_model.specs.Facts.Graph.{enumerations, Graph}
 use Rattle.cxx_form.proofs.Tagged.{count_at}
 use Rattle.cxx_form.proofs.names.count.Goals as goal
 

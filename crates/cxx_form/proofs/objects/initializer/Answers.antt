@@ -1,7 +1,6 @@
 use Rattle.std.proofs.Common.{length}
 use Rattle.cxx_tree.specs.Held.{trees}
 use Rattle.cxx_form.proofs.InTrees.{child_below}
-use Rattle.cxx_form.proofs.Initial.{found_first, none_left, passed}
 use Rattle.cxx_form.proofs.objects.initializer.Goals as goal
 
 pub node-requires : goal.node-requires

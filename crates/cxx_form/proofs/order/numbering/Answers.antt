@@ -1,8 +1,5 @@
-use Rattle.std.proofs.Common.{[], ap, ◌∙◌, subst, List}
-use Rattle.cxx_model.specs.declared.types.FactId.{FactId}
-use Rattle.cxx_reading.specs.TextOrder.{with_each_new}
+use Rattle.std.proofs.Common.{ap, ◌∙◌}
 use Rattle.cxx_form.specs.Lines.{numbers_in}
-use Rattle.cxx_form.specs.Numbered.{IsNumbering}
 use Rattle.cxx_form.proofs.Ordered.{in_order}
 use Rattle.cxx_form.proofs.order.numbering.Goals as goal
 

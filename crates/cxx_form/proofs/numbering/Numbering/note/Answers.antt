@@ -1,4 +1,4 @@
-use Rattle.std.proofs.Common.{◌≡◌, ◌∙◌, sym, arith}
+use Rattle.std.proofs.Common.{◌≡◌, ◌∙◌, sym}
 use Rattle.cxx_form.specs.Slots.{slot_at}
 use Rattle.cxx_form.proofs.Numbers.{one_numbered}
 use Rattle.cxx_form.proofs.numbering.Numbering.note.Goals as goal
