@@ -1,3 +1,4 @@
+pub mod Calling
 pub mod InTrees
 pub mod Enumerated
 pub mod Expressing

@@ -1,5 +1,6 @@
 -- What the code of the plain form holds, and what that stands for.
 pub mod Books
+pub mod Calls
 pub mod Expressed
 pub mod Found
 pub mod Functions

@@ -18,7 +18,7 @@ use cxx_model::{FactId, TreeId, TypeId};
 use cxx_page::{Page, PlainFault};
 use cxx_reading::Role;
 
-fn target_or(target: Option<FactId>) -> FactId
+pub(crate) fn target_or(target: Option<FactId>) -> FactId
     ensures { result.0 ≡ target_or_of (number_of_option target) }
 {
     match target {

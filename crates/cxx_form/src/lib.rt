@@ -2,6 +2,7 @@
 #![tactic(auto)]
 
 mod book;
+mod calls;
 mod declarators;
 mod enumerations;
 mod enumerators;
@@ -19,5 +20,6 @@ mod slots;
 mod text;
 mod words;
 
+pub use calls::functions;
 pub use cxx_page::PlainFault;
 pub use form::plain;
