@@ -1,5 +1,5 @@
 -- The functions that printed calls name.
-use Rattle.std.specs.Prelude.{ℕ, List, [], ◌∷◌, ◌++◌, map}
+use Rattle.std.specs.Prelude.{List, ◌++◌, map}
 use Rattle.cxx_model.specs.declared.types.FactId.{FactId}
 use Rattle.cxx_reading.specs.Plain.{call_of_label, calls_in, named_function, names_of_text, NamedFunction}
 use Rattle.cxx_reading.specs.State.{CxxState}
