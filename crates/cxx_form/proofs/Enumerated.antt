@@ -1,0 +1,161 @@
+-- Enumerations by their numbers, one declaration after another.
+use Rattle.std.proofs.Common.{◌≡◌, ℕ, zero, suc, ◌+◌, ◌<◌, ◌≤◌, Bool, true, false, cond, eqb, List, [], ◌∷◌, ◌++◌, length, drop, Option, Some, None, refl, ap, sym, ◌∙◌, add-one, append-nil, arith}
+use Rattle.std.specs.Prelude.{nat_eq, if◌then◌else◌}
+use Rattle.std.specs.List.{slice_get}
+use Rattle.std.proofs.lemmas.Bool.{eqb-true, eq-eqb}
+use Rattle.std.proofs.lemmas.List.{at_drop_all}
+use Rattle.cxx_model.specs.declared.facts.Access.{Access}
+use Rattle.cxx_model.specs.declared.facts.Fact.{Fact}
+use Rattle.cxx_model.specs.declared.place.Place.{Place}
+use Rattle.cxx_model.specs.declared.types.FactId.{FactId}
+use Rattle.cxx_model.specs.Types.Trees.{CxxType}
+use Rattle.cxx_model.specs.Facts.Declarations as facts
+use Rattle.cxx_model.specs.Facts.Declarations.{CxxFact, CxxName, Declares, fact_at, facts_at}
+use Rattle.cxx_meaning.specs.Lookups.Gathered.{before, gathered}
+use Rattle.cxx_reading.specs.Plain.{number_of_enumeration}
+use Rattle.cxx_reading.specs.TextOrder.{enumerators_of, is_enumerator_of}
+use Rattle.cxx_form.specs.Giving.{declared_or, enumerator_given, given_at, holder_by, if_held, named_by, named_or, AreDeclared, AreEnumerators, HasDeclared, HasEnumerator, HasGiven, HasNamed}
+use Rattle.cxx_form.specs.Lines.{number_in, numbers_in}
+use Rattle.cxx_form.specs.Rows.{row_at, IsRowMore}
+use Rattle.cxx_form.specs.Slots.{slot_at, IsSlotSet}
+use Rattle.cxx_form.proofs.Gathering.{gathered_all, given_more}
+
+apart : (k n : ℕ) → (k ≡ n → ⊥) → eqb k n ≡ false
+apart k n other = by (eqb k n) refl
+  where
+    by : (t : Bool) → eqb k n ≡ t → eqb k n ≡ false
+    by true e = absurd (other (eqb-true k n e))
+    by false e = e
+
+-- ---- where enumerations are declared
+
+next_by : (n number : ℕ) (place : Place) (scope : ℕ) (name : CxxName) (rights : Access) (what : Declares) (others : List CxxFact) → number_of_enumeration n number (record { place = place; scope = scope; name = name; access = rights; what = what } ∷ others) ≡ named_or n number (named_by what) (number_of_enumeration n (suc number) others)
+next_by n number place scope name rights (facts.scope parent kind) others = refl
+next_by n number place scope name rights (facts.object of member is_mutable value first) others = refl
+next_by n number place scope name rights (facts.function of member flags defaults first) others = refl
+next_by n number place scope name rights (facts.template template member defaults is_explicit first) others = refl
+next_by n number place scope name rights (facts.value_parameter depth index of) others = refl
+next_by n number place scope name rights (facts.injected class) others = refl
+next_by n number place scope name rights (facts.class class is_union) others = refl
+next_by n number place scope name rights (facts.complete class) others = refl
+next_by n number place scope name rights (facts.passed class) others = refl
+next_by n number place scope name rights (facts.ancestor class parent index access) others = refl
+next_by n number place scope name rights (facts.enumeration m) others = refl
+next_by n number place scope name rights (facts.enumerator m value) others = refl
+next_by n number place scope name rights (facts.synonym of) others = refl
+next_by n number place scope name rights (facts.namespace inner) others = refl
+next_by n number place scope name rights (facts.directive nominated) others = refl
+next_by n number place scope name rights (facts.using target) others = refl
+next_by n number place scope name rights (facts.friend class target) others = refl
+
+next_named : (n number : ℕ) (fact : CxxFact) (others : List CxxFact) → number_of_enumeration n number (fact ∷ others) ≡ named_or n number (named_by fact.what) (number_of_enumeration n (number + 1) others)
+next_named n number fact others = next_by n number fact.place fact.scope fact.name fact.access fact.what others ∙ ap (λ m. named_or n number (named_by fact.what) (number_of_enumeration n m others)) (sym (add-one number))
+
+pub none_named : (slots : List ℕ) (number : ℕ) → HasNamed slots slots number None
+none_named slots number n later = refl
+
+pub named_before : (slots : List ℕ) (number m : ℕ) → (slot_at slots m ≡ 0 → ⊥) → HasNamed slots slots number (Some m)
+named_before slots number m some n later = by (eqb m n) refl
+  where
+    set : (slot one two : ℕ) → (slot ≡ 0 → ⊥) → declared_or slot one ≡ declared_or slot two
+    set zero one two not = absurd (not refl)
+    set (suc k) one two not = refl
+
+    by : (t : Bool) → eqb m n ≡ t → declared_or (slot_at slots n) later ≡ declared_or (slot_at slots n) (if nat_eq m n then number else later)
+    by true e = set (slot_at slots n) later (if nat_eq m n then number else later) (λ none. some (ap (slot_at slots) (eqb-true m n e) ∙ none))
+    by false e = rw e refl
+
+pub one_named : (old new : List ℕ) (number m : ℕ) → slot_at old m ≡ 0 → IsSlotSet old new m (number + 1) → HasNamed old new number (Some m)
+one_named old new number m none set n later = by (eqb m n) refl
+  where
+    by : (t : Bool) → eqb m n ≡ t → declared_or (slot_at new n) later ≡ declared_or (slot_at old n) (if nat_eq m n then number else later)
+    by true e =
+        let same : n ≡ m = sym (eqb-true m n e) in
+        let is : slot_at new n ≡ suc number = ap (slot_at new) same ∙ set.here ∙ add-one number in
+        let was : slot_at old n ≡ 0 = ap (slot_at old) same ∙ none in
+        rw is (rw was (rw e refl))
+    by false e =
+        let other : n ≡ m → ⊥ = λ same. (let wrong : true ≡ false = sym (eq-eqb m n (sym same)) ∙ e in cc) in
+        rw (set.others n other) (rw e refl)
+
+pub named_at : (types : List CxxType) (all : List Fact) (number : ℕ) (fact : Fact) (old new : List ℕ) (named : Option ℕ) → number < length all → slice_get (facts_at types all) number ≡ Some (fact_at types fact) → named ≡ named_by (fact_at types fact).what → HasNamed old new number named → HasDeclared old new number (facts_at types (drop number all)) (facts_at types (drop (number + 1) all))
+named_at types all number fact old new named within at is has n =
+    let rest : ℕ = number_of_enumeration n (number + 1) (facts_at types (drop (number + 1) all)) in
+    let first : number_of_enumeration n number (facts_at types (drop number all)) ≡ named_or n number (named_by (fact_at types fact).what) rest = ap (number_of_enumeration n number) (first_is types all number fact at ∙ ap (λ m. fact_at types fact ∷ facts_at types (drop m all)) (sym (add-one number))) ∙ next_named n number (fact_at types fact) (facts_at types (drop (number + 1) all)) in
+    has n rest ∙ ap (λ o. declared_or (slot_at old n) (named_or n number o rest)) is ∙ ap (declared_or (slot_at old n)) (sym first)
+  where
+    first_is : (types : List CxxType) (all : List Fact) (number : ℕ) (fact : Fact) → slice_get (facts_at types all) number ≡ Some (fact_at types fact) → facts_at types (drop number all) ≡ fact_at types fact ∷ facts_at types (drop (suc number) all)
+    first_is types [] number fact at = cc
+    first_is types (f ∷ fs) zero fact at = (let same : fact_at types f ≡ fact_at types fact = cc in ap (λ (x : CxxFact). x ∷ facts_at types fs) same)
+    first_is types (f ∷ fs) (suc number) fact at = first_is types fs number fact at
+
+pub length_facts : (types : List CxxType) (all : List Fact) → length (facts_at types all) ≡ length all
+length_facts types [] = refl
+length_facts types (f ∷ fs) = ap (λ n. suc n) (length_facts types fs)
+
+pub all_named : (types : List CxxType) (all : List Fact) (number : ℕ) (slots : List ℕ) → length all ≡ number → ((n : ℕ) → declared_or (slot_at slots n) (number_of_enumeration n number (facts_at types (drop number all))) ≡ number_of_enumeration n 0 (facts_at types all)) → AreDeclared (facts_at types all) slots
+all_named types all number slots past are n =
+    ap (declared_or (slot_at slots n)) (length_facts types all ∙ past ∙ sym (at_drop_all (λ fs. number_of_enumeration n number (facts_at types fs)) all number (omega arith))) ∙ are n
+
+-- ---- enumerators
+
+pub none_held : (rows : List (List FactId)) (number : ℕ) → HasEnumerator rows rows number None
+none_held rows number n = sym (append-nil (row_at rows n))
+
+pub one_held : (old new : List (List FactId)) (number m : ℕ) → IsRowMore old new m (record { 0 = number }) → HasEnumerator old new number (Some m)
+one_held old new number m more n = by (eqb m n) refl
+  where
+    by : (t : Bool) → eqb m n ≡ t → row_at new n ≡ row_at old n ++ before (if_held n number (Some m)) []
+    by true e =
+        let same : n ≡ m = sym (eqb-true m n e) in
+        rw e (ap (row_at new) same ∙ more.here ∙ ap (λ k. row_at old k ++ record { 0 = number } ∷ []) (sym same))
+    by false e =
+        let other : n ≡ m → ⊥ = λ same. (let wrong : true ≡ false = sym (eq-eqb m n (sym same)) ∙ e in cc) in
+        rw e (more.others n other ∙ sym (append-nil (row_at old n)))
+
+pub held_at : (types : List CxxType) (all : List CxxFact) (number : ℕ) (fact : Fact) (old new : List (List FactId)) (holder : Option ℕ) → slice_get all number ≡ Some (fact_at types fact) → holder ≡ holder_by (fact_at types fact).what → HasEnumerator old new number holder → HasGiven old new number (slice_get all number)
+held_at types all number fact old new holder at is has n =
+    has n ∙ ap (λ o. row_at old n ++ before (if_held n number o) []) is ∙ ap (λ (o : Option CxxFact). row_at old n ++ given_at (enumerator_given n) number o) (sym at)
+
+pub held_more : (types : List CxxType) (all : List Fact) (number : ℕ) (old new : List (List FactId)) → HasGiven old new number (slice_get (facts_at types all) number) → ((n : ℕ) → row_at old n ++ gathered (enumerator_given n) number (facts_at types (drop number all)) ≡ gathered (enumerator_given n) 0 (facts_at types all)) → (n : ℕ) → row_at new n ++ gathered (enumerator_given n) (number + 1) (facts_at types (drop (number + 1) all)) ≡ gathered (enumerator_given n) 0 (facts_at types all)
+held_more types all number old new has are n = sym (given_more (enumerator_given n) types all number (row_at old n) (row_at new n) (has n)) ∙ are n
+
+pub all_held : (types : List CxxType) (all : List Fact) (number : ℕ) (rows : List (List FactId)) → length all ≤ number → ((n : ℕ) → row_at rows n ++ gathered (enumerator_given n) number (facts_at types (drop number all)) ≡ gathered (enumerator_given n) 0 (facts_at types all)) → AreEnumerators (facts_at types all) rows
+all_held types all number rows past are n = sym (gathered_all (enumerator_given n) types all number (row_at rows n) past) ∙ are n
+
+if_same : (t : Bool) (x : FactId) → cond t (x ∷ []) [] ≡ before (cond t (Some x) None) []
+if_same true x = refl
+if_same false x = refl
+
+held_by : (n number : ℕ) (what : Declares) → cond (is_enumerator_of n what) (record { 0 = number } ∷ []) [] ≡ before (if_held n number (holder_by what)) []
+held_by n number (facts.scope parent kind) = refl
+held_by n number (facts.object of member is_mutable value first) = refl
+held_by n number (facts.function of member flags defaults first) = refl
+held_by n number (facts.template template member defaults is_explicit first) = refl
+held_by n number (facts.value_parameter depth index of) = refl
+held_by n number (facts.injected class) = refl
+held_by n number (facts.class class is_union) = refl
+held_by n number (facts.complete class) = refl
+held_by n number (facts.passed class) = refl
+held_by n number (facts.ancestor class parent index access) = refl
+held_by n number (facts.enumeration m) = refl
+held_by n number (facts.enumerator m value) = if_same (eqb m n) (record { 0 = number })
+held_by n number (facts.synonym of) = refl
+held_by n number (facts.namespace inner) = refl
+held_by n number (facts.directive nominated) = refl
+held_by n number (facts.using target) = refl
+held_by n number (facts.friend class target) = refl
+
+filled : (x : FactId) → x ∷ [] ≡ [] → ⊥
+filled x e = cc
+
+-- the enumerators of an enumeration are those that are gathered
+pub enumerators_gathered : (n number : ℕ) (all : List CxxFact) → enumerators_of n number all ≡ numbers_in (gathered (enumerator_given n) number all)
+enumerators_gathered n number [] = refl
+enumerators_gathered n number (fact ∷ others) = by (if_held n number (holder_by fact.what)) (is_enumerator_of n fact.what) (held_by n number fact.what) (enumerators_gathered n (suc number) others ∙ ap (λ m. numbers_in (gathered (enumerator_given n) m others)) (sym (add-one number)))
+  where
+    by : (o : Option FactId) (t : Bool) → cond t (record { 0 = number } ∷ []) [] ≡ before o [] → enumerators_of n (suc number) others ≡ numbers_in (gathered (enumerator_given n) (number + 1) others) → cond t (number ∷ enumerators_of n (suc number) others) (enumerators_of n (suc number) others) ≡ numbers_in (before o (gathered (enumerator_given n) (number + 1) others))
+    by None true e rest = absurd (filled (record { 0 = number }) e)
+    by None false e rest = rest
+    by (Some x) true e rest = (let same : record { 0 = number } ≡ x = cc in ap (λ (y : FactId). number_in y ∷ enumerators_of n (suc number) others) same ∙ ap (λ (ns : List ℕ). number_in x ∷ ns) rest)
+    by (Some x) false e rest = absurd (filled x (sym e))

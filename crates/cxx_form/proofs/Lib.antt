@@ -1,0 +1,17 @@
+pub mod Calling
+pub mod InTrees
+pub mod Enumerated
+pub mod Expressing
+pub mod Gathering
+pub mod Initial
+pub mod Lined
+pub mod Lining
+pub mod Listing
+pub mod Numbers
+pub mod Ordered
+pub mod Rowed
+pub mod Slotted
+pub mod Tagged
+pub mod Typed
+pub mod Valued
+pub mod Whole

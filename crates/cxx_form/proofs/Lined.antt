@@ -1,0 +1,189 @@
+-- The lines of a plain form, one declaration after another.
+use Rattle.std.proofs.Common.{◌≡◌, ℕ, suc, ◌+◌, ◌<◌, ◌≤◌, List, [], ◌∷◌, ◌++◌, length, drop, get_or, map, Option, Some, None, option_map, refl, ap, sym, subst, ◌∙◌, append-nil, append_assoc, add-one}
+use Rattle.std.specs.List.{slice_get}
+use Rattle.std.proofs.lemmas.List.{at_drop_more, at_drop_all, map-append}
+use Rattle.cxx_model.specs.declared.facts.Access.{Access}
+use Rattle.cxx_model.specs.declared.facts.Fact.{Fact}
+use Rattle.cxx_model.specs.declared.place.Place.{Place}
+use Rattle.cxx_model.specs.declared.tree.Node.{Node}
+use Rattle.cxx_model.specs.declared.types.FactId.{FactId}
+use Rattle.cxx_model.specs.declared.types.TreeId.{TreeId}
+use Rattle.cxx_model.specs.Types.Trees.{CxxType}
+use Rattle.cxx_model.specs.Facts.Declarations as facts
+use Rattle.cxx_model.specs.Facts.Declarations.{CxxFact, CxxName, Declares, declares_at, fact_at, facts_at}
+use Rattle.cxx_meaning.specs.Lookups.Gathered.{before, gathered}
+use Rattle.cxx_reading.specs.TextOrder as text
+use Rattle.cxx_reading.specs.TextOrder.{enumeration_of, enumeration_lines, function_of_fact, function_lines, lines, object_by, object_lines, object_of_fact, part_tree}
+use Rattle.cxx_reading.specs.Trees.{CxxTree}
+use Rattle.cxx_tree.specs.Arena.{number_of_option, tree_in, tree_over, trees_in}
+use Rattle.cxx_tree.specs.Held.{meaning, pieces_at, trees, Held}
+use Rattle.cxx_form.specs.declared.lines.Line.{Line}
+use Rattle.cxx_form.specs.Found.{each_declarators}
+use Rattle.cxx_form.specs.Giving.{enumeration_by, enumeration_given, function_by, function_given, given_at}
+use Rattle.cxx_form.specs.Lines.{line_at, lines_at, object_first_by, object_line_by, AddsLines, AreLinesBelow, IsLineBelow}
+use Rattle.cxx_form.specs.Views.{facts_in}
+use Rattle.cxx_form.proofs.Gathering.{fact_is, given_cut}
+
+-- ---- a line that is added
+
+lines_below : (count : ℕ) (ones twos : List Line) → AreLinesBelow count ones → AreLinesBelow count twos → AreLinesBelow count (ones ++ twos)
+lines_below count [] twos first second = second
+lines_below count (one ∷ ones) twos first second = (first.0, lines_below count ones twos first.1 second)
+
+pub line_added : (trees : List CxxTree) (old new : List Line) (line : Line) → new ≡ old ++ line ∷ [] → IsLineBelow (length trees) line → AddsLines trees old new (line_at trees line ∷ [])
+line_added trees old new line more within = record {
+  is = ap (lines_at trees) more ∙ map-append (line_at trees) old (line ∷ []);
+  below = λ all. subst (λ (xs : List Line). AreLinesBelow (length trees) xs) (sym more) (lines_below (length trees) old (line ∷ []) all (within, tt));
+}
+
+pub no_line_added : (trees : List CxxTree) (old : List Line) → AddsLines trees old old []
+no_line_added trees old = record { is = sym (append-nil (lines_at trees old)); below = λ all. all }
+
+pub adds_same : (trees : List CxxTree) (old new : List Line) (one two : List text.Line) → one ≡ two → AddsLines trees old new one → AddsLines trees old new two
+adds_same trees old new one two same adds = subst (λ (xs : List text.Line). AddsLines trees old new xs) same adds
+
+pub line_given : (give : ℕ → CxxFact → Option text.Line) (types : List CxxType) (trees : List CxxTree) (all : List CxxFact) (number : ℕ) (fact : Fact) (old new : List Line) (o : Option Line) → slice_get all number ≡ Some (fact_at types fact) → option_map (line_at trees) o ≡ give number (fact_at types fact) → AddsLines trees old new (before (option_map (line_at trees) o) []) → AddsLines trees old new (given_at give number (slice_get all number))
+line_given give types trees all number fact old new o is gives added =
+    adds_same trees old new (before (option_map (line_at trees) o) []) (given_at give number (slice_get all number)) (ap (λ (one : Option text.Line). before one []) gives ∙ ap (λ (one : Option CxxFact). given_at give number one) (sym is)) added
+
+-- Those of some declarations or declarators were added, from the first list of lines on.
+pub record SoFar (trees : List CxxTree) (first now : List Line) (left all : List text.Line) : Type 0 where
+  pub is : lines_at trees now ++ left ≡ lines_at trees first ++ all
+  pub below : AreLinesBelow (length trees) first → AreLinesBelow (length trees) now
+
+pub at_first : (trees : List CxxTree) (first : List Line) (all : List text.Line) → SoFar trees first first all all
+at_first trees first all = record { is = refl; below = λ below. below }
+
+pub at_last : (trees : List CxxTree) (first now : List Line) (left all : List text.Line) → left ≡ [] → SoFar trees first now left all → AddsLines trees first now all
+at_last trees first now left all none so = record {
+  is = sym (append-nil (lines_at trees now)) ∙ ap (λ (xs : List text.Line). lines_at trees now ++ xs) (sym none) ∙ so.is;
+  below = so.below;
+}
+
+pub goes_on : (trees : List CxxTree) (first now new : List Line) (one rest left all : List text.Line) → left ≡ one ++ rest → SoFar trees first now left all → AddsLines trees now new one → SoFar trees first new rest all
+goes_on trees first now new one rest left all cut so added = record {
+  is = ap (λ (xs : List text.Line). xs ++ rest) added.is ∙ append_assoc (lines_at trees now) one rest ∙ ap (λ (xs : List text.Line). lines_at trees now ++ xs) (sym cut) ∙ so.is;
+  below = λ below. added.below (so.below below);
+}
+
+pub given_on : (give : ℕ → CxxFact → Option text.Line) (types : List CxxType) (trees : List CxxTree) (facts : List Fact) (number : ℕ) (first now new : List Line) (all : List text.Line) → SoFar trees first now (gathered give number (facts_at types (drop number facts))) all → AddsLines trees now new (given_at give number (slice_get (facts_at types facts) number)) → SoFar trees first new (gathered give (number + 1) (facts_at types (drop (number + 1) facts))) all
+given_on give types trees facts number first now new all so added =
+    goes_on trees first now new (given_at give number (slice_get (facts_at types facts) number)) (gathered give (number + 1) (facts_at types (drop (number + 1) facts))) (gathered give number (facts_at types (drop number facts))) all (given_cut give types facts number) so added
+
+pub given_all : (give : ℕ → CxxFact → Option text.Line) (types : List CxxType) (trees : List CxxTree) (facts : List Fact) (number : ℕ) (first now : List Line) (all wanted : List text.Line) → length facts ≤ number → wanted ≡ all → SoFar trees first now (gathered give number (facts_at types (drop number facts))) all → AddsLines trees first now wanted
+given_all give types trees facts number first now all wanted past same so =
+    adds_same trees first now all wanted (sym same) (at_last trees first now (gathered give number (facts_at types (drop number facts))) all (at_drop_all (λ fs. gathered give number (facts_at types fs)) facts number past) so)
+
+-- ---- the lines of objects
+
+object_read : (tree : CxxTree) (number : ℕ) (place : Place) (scope : ℕ) (name : CxxName) (rights : Access) (what : Declares) → object_of_fact tree number (Some (record { place = place; scope = scope; name = name; access = rights; what = what })) ≡ object_line_by tree (object_first_by number what)
+object_read tree number place scope name rights (facts.scope parent kind) = refl
+object_read tree number place scope name rights (facts.object of member is_mutable value first) = refl
+object_read tree number place scope name rights (facts.template template member defaults is_explicit first) = refl
+object_read tree number place scope name rights (facts.value_parameter depth index of) = refl
+object_read tree number place scope name rights (facts.injected class) = refl
+object_read tree number place scope name rights (facts.class class is_union) = refl
+object_read tree number place scope name rights (facts.complete class) = refl
+object_read tree number place scope name rights (facts.passed class) = refl
+object_read tree number place scope name rights (facts.ancestor class parent index access) = refl
+object_read tree number place scope name rights (facts.synonym of) = refl
+object_read tree number place scope name rights (facts.namespace inner) = refl
+object_read tree number place scope name rights (facts.directive nominated) = refl
+object_read tree number place scope name rights (facts.using target) = refl
+object_read tree number place scope name rights (facts.friend class target) = refl
+object_read tree number place scope name rights (facts.enumeration n) = refl
+object_read tree number place scope name rights (facts.enumerator n value) = refl
+object_read tree number place scope name rights (facts.function of member flags defaults first) = refl
+
+object_of : (tree : CxxTree) (number : ℕ) (fact : CxxFact) → object_of_fact tree number (Some fact) ≡ object_line_by tree (object_first_by number fact.what)
+object_of tree number fact = object_read tree number fact.place fact.scope fact.name fact.access fact.what
+
+target_is : (types : List CxxType) (trees : List CxxTree) (node : Node) (tree : CxxTree) → tree ≡ tree_over types trees node → tree.label.target ≡ number_of_option node.target
+target_is types trees node tree is = ap (λ (t : CxxTree). t.label.target) is
+
+pub no_target : (types : List CxxType) (trees : List CxxTree) (all : List CxxFact) (node : Node) (tree : CxxTree) → tree ≡ tree_over types trees node → node.target ≡ None → [] ≡ object_by all tree tree.label.target
+no_target types trees all node tree is none = sym (ap (object_by all tree) (target_is types trees node tree is ∙ ap number_of_option none))
+
+pub no_fact : (types : List CxxType) (trees : List CxxTree) (facts : List Fact) (node : Node) (tree : CxxTree) (number : FactId) → tree ≡ tree_over types trees node → node.target ≡ Some number → slice_get facts number.0 ≡ None → [] ≡ object_by (facts_at types facts) tree tree.label.target
+no_fact types trees facts node tree number is target none =
+    sym (ap (object_by (facts_at types facts) tree) (target_is types trees node tree is ∙ ap number_of_option target) ∙ ap (object_of_fact tree number.0) (fact_is types facts number.0 ∙ ap (option_map (fact_at types)) none))
+
+pub an_object : (types : List CxxType) (trees : List CxxTree) (facts : List Fact) (node : Node) (tree : CxxTree) (number : FactId) (fact : Fact) (o : Option ℕ) → tree ≡ tree_over types trees node → node.target ≡ Some number → slice_get facts number.0 ≡ Some fact → o ≡ object_first_by number.0 (declares_at types fact.what) → object_line_by tree o ≡ object_by (facts_at types facts) tree tree.label.target
+an_object types trees facts node tree number fact o is target found first =
+    ap (object_line_by tree) first ∙ sym (object_of tree number.0 (fact_at types fact)) ∙ sym (ap (object_by (facts_at types facts) tree) (target_is types trees node tree is ∙ ap number_of_option target) ∙ ap (object_of_fact tree number.0) (fact_is types facts number.0 ∙ ap (option_map (fact_at types)) found))
+
+pub object_on : (trees : List CxxTree) (facts : List CxxFact) (declarators : List TreeId) (i : ℕ) (d : TreeId) (first now new : List Line) (all : List text.Line) → i < length declarators → SoFar trees first now (object_lines facts (trees_in trees (drop i declarators))) all → AddsLines trees now new (object_by facts (tree_in trees (get_or declarators i d).0) (tree_in trees (get_or declarators i d).0).label.target) → SoFar trees first new (object_lines facts (trees_in trees (drop (i + 1) declarators))) all
+object_on trees facts declarators i d first now new all within so added =
+    goes_on trees first now new (object_by facts (tree_in trees (get_or declarators i d).0) (tree_in trees (get_or declarators i d).0).label.target) (object_lines facts (trees_in trees (drop (i + 1) declarators))) (object_lines facts (trees_in trees (drop i declarators))) all
+    (at_drop_more (λ (ns : List TreeId). object_lines facts (trees_in trees ns)) declarators i d within) so added
+
+pub objects_all : (trees : List CxxTree) (facts : List CxxFact) (declarators : List TreeId) (i : ℕ) (first now : List Line) (all : List text.Line) → length declarators ≤ i → SoFar trees first now (object_lines facts (trees_in trees (drop i declarators))) all → AddsLines trees first now all
+objects_all trees facts declarators i first now all past so = at_last trees first now (object_lines facts (trees_in trees (drop i declarators))) all (at_drop_all (λ (ns : List TreeId). object_lines facts (trees_in trees ns)) declarators i past) so
+
+-- ---- all lines
+
+pub all_lines : (trees : List CxxTree) (found : List TreeId) (facts : List CxxFact) (declarators : List CxxTree) (none one two three : List Line) → none ≡ [] → trees_in trees found ≡ declarators → AddsLines trees none one (enumeration_lines 0 facts) → AddsLines trees one two (function_lines 0 facts) → AddsLines trees two three (object_lines facts (trees_in trees found)) → (lines_at trees three ≡ enumeration_lines 0 facts ++ (function_lines 0 facts ++ object_lines facts declarators)) × AreLinesBelow (length trees) three
+all_lines trees found facts declarators none one two three empty are first second third = (
+  third.is ∙ ap (λ (xs : List text.Line). xs ++ object_lines facts (trees_in trees found)) (second.is ∙ ap (λ (xs : List text.Line). xs ++ function_lines 0 facts) (first.is ∙ ap (λ (xs : List Line). lines_at trees xs ++ enumeration_lines 0 facts) empty))
+      ∙ append_assoc (enumeration_lines 0 facts) (function_lines 0 facts) (object_lines facts (trees_in trees found))
+      ∙ ap (λ (ts : List CxxTree). enumeration_lines 0 facts ++ (function_lines 0 facts ++ object_lines facts ts)) are,
+  third.below (second.below (first.below (subst (λ (xs : List Line). AreLinesBelow (length trees) xs) (sym empty) tt))),
+)
+
+pub lines_are : (held : Held) (found : List Line) → lines_at (trees held) found ≡ enumeration_lines 0 (facts_in held) ++ (function_lines 0 (facts_in held) ++ object_lines (facts_in held) (each_declarators (map part_tree (pieces_at (trees held) held.pieces)))) → lines_at (trees held) found ≡ lines (meaning held)
+unfolding meaning lines
+lines_are held found is = is
+
+-- ---- the lines of enumerations, and of functions
+
+enumeration_first : (number : ℕ) (what : Declares) (others : List text.Line) → enumeration_of number what ++ others ≡ before (enumeration_by number what) others
+enumeration_first number (facts.scope parent kind) others = refl
+enumeration_first number (facts.object of member is_mutable value first) others = refl
+enumeration_first number (facts.template template member defaults is_explicit first) others = refl
+enumeration_first number (facts.value_parameter depth index of) others = refl
+enumeration_first number (facts.injected class) others = refl
+enumeration_first number (facts.class class is_union) others = refl
+enumeration_first number (facts.complete class) others = refl
+enumeration_first number (facts.passed class) others = refl
+enumeration_first number (facts.ancestor class parent index access) others = refl
+enumeration_first number (facts.synonym of) others = refl
+enumeration_first number (facts.namespace inner) others = refl
+enumeration_first number (facts.directive nominated) others = refl
+enumeration_first number (facts.using target) others = refl
+enumeration_first number (facts.friend class target) others = refl
+enumeration_first number (facts.enumeration n) others = refl
+enumeration_first number (facts.enumerator n value) others = refl
+enumeration_first number (facts.function of member flags defaults None) others = refl
+enumeration_first number (facts.function of member flags defaults (Some first)) others = refl
+
+pub enumerations_gathered : (number : ℕ) (all : List CxxFact) → enumeration_lines number all ≡ gathered enumeration_given number all
+enumerations_gathered number [] = refl
+enumerations_gathered number (fact ∷ others) =
+    ap (λ (xs : List text.Line). enumeration_of number fact.what ++ xs) (enumerations_gathered (suc number) others ∙ ap (λ m. gathered enumeration_given m others) (sym (add-one number)))
+    ∙ enumeration_first number fact.what (gathered enumeration_given (number + 1) others)
+
+function_first : (number : ℕ) (what : Declares) (others : List text.Line) → function_of_fact number what ++ others ≡ before (function_by number what) others
+function_first number (facts.scope parent kind) others = refl
+function_first number (facts.object of member is_mutable value first) others = refl
+function_first number (facts.template template member defaults is_explicit first) others = refl
+function_first number (facts.value_parameter depth index of) others = refl
+function_first number (facts.injected class) others = refl
+function_first number (facts.class class is_union) others = refl
+function_first number (facts.complete class) others = refl
+function_first number (facts.passed class) others = refl
+function_first number (facts.ancestor class parent index access) others = refl
+function_first number (facts.synonym of) others = refl
+function_first number (facts.namespace inner) others = refl
+function_first number (facts.directive nominated) others = refl
+function_first number (facts.using target) others = refl
+function_first number (facts.friend class target) others = refl
+function_first number (facts.enumeration n) others = refl
+function_first number (facts.enumerator n value) others = refl
+function_first number (facts.function of member flags defaults None) others = refl
+function_first number (facts.function of member flags defaults (Some first)) others = refl
+
+pub functions_gathered : (number : ℕ) (all : List CxxFact) → function_lines number all ≡ gathered function_given number all
+functions_gathered number [] = refl
+functions_gathered number (fact ∷ others) =
+    ap (λ (xs : List text.Line). function_of_fact number fact.what ++ xs) (functions_gathered (suc number) others ∙ ap (λ m. gathered function_given m others) (sym (add-one number)))
+    ∙ function_first number fact.what (gathered function_given (number + 1) others)

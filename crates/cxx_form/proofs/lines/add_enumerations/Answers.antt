@@ -1,0 +1,21 @@
+use Rattle.std.proofs.Common.{◌≡◌, ◌≤◌, ◌∙◌, ap, arith, length}
+use Rattle.cxx_model.specs.Facts.Graph.{Graph}
+use Rattle.cxx_meaning.specs.Lookups.Gathered.{gathered}
+use Rattle.cxx_reading.specs.TextOrder.{enumeration_lines}
+use Rattle.cxx_tree.specs.Held.{trees}
+use Rattle.cxx_form.specs.Giving.{enumeration_given}
+use Rattle.cxx_form.specs.Views.{facts_in}
+use Rattle.cxx_form.proofs.Lined.{enumerations_gathered, given_all, given_on}
+use Rattle.cxx_form.proofs.lines.add_enumerations.Goals as goal
+
+pub loop-number-preserved : goal.loop-number-preserved
+loop-number-preserved c =
+    let held = c.args.state.now in
+    given_on enumeration_given held.types (trees held) held.graph.facts c.loop-number.number c.args.lines.now.items c.loop-number.lines.items c.add_enumeration.new.lines.items (gathered enumeration_given 0 (facts_in held)) c.loop-number.invariant c.in_ok-add_enumeration.ensures
+
+pub returns : goal.returns
+returns c =
+    let held = c.args.state.now in
+    let count : c.length-number-end.result ≡ length held.graph.facts = c.length-number-end.ensures.count ∙ ap (λ (graph : Graph). length graph.facts) c.graph.ensures.is in
+    let past : length held.graph.facts ≤ c.loop-number.number = omega (arith, c.loop-number-test.false) in
+    given_all enumeration_given held.types (trees held) held.graph.facts c.loop-number.number c.args.lines.now.items c.loop-number.lines.items (gathered enumeration_given 0 (facts_in held)) (enumeration_lines 0 (facts_in held)) past (enumerations_gathered 0 (facts_in held)) c.loop-number.invariant

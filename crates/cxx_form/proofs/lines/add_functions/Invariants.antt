@@ -1,0 +1,9 @@
+use Rattle.cxx_meaning.specs.Lookups.Gathered.{gathered}
+use Rattle.cxx_tree.specs.Held.{trees}
+use Rattle.cxx_form.specs.Giving.{function_given}
+use Rattle.cxx_form.specs.Views.{facts_from, facts_in}
+use Rattle.cxx_form.proofs.Lined.{SoFar}
+use Rattle.cxx_form.proofs.lines.add_functions.Given as goal
+
+abbrev pub invariant-loop-number : goal.invariant-loop-number
+invariant-loop-number l = SoFar (trees l.state) l.fn.lines.items l.lines.items (gathered function_given l.number (facts_from l.state l.number)) (gathered function_given 0 (facts_in l.state))

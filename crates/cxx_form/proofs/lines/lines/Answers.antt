@@ -1,0 +1,16 @@
+use Rattle.std.proofs.Common.{ap, ◌∙◌}
+use Rattle.cxx_reading.specs.TextOrder.{part_tree}
+use Rattle.cxx_tree.specs.Arena.{trees_in}
+use Rattle.cxx_tree.specs.Held.{pieces_at, trees}
+use Rattle.std.specs.Prelude.{map}
+use Rattle.cxx_form.specs.Found.{each_declarators}
+use Rattle.cxx_form.specs.Views.{facts_in}
+use Rattle.cxx_form.proofs.Lined.{all_lines, lines_are}
+use Rattle.cxx_form.proofs.lines.lines.Goals as goal
+
+pub returns-clause-is : goal.returns-clause-is
+returns-clause-is c =
+    let held = c.args.state.now in
+    let all = trees held in
+    lines_are held c.add_objects.new.lines.items
+    (all_lines all c.as_slice.result.now (facts_in held) (each_declarators (map part_tree (pieces_at all held.pieces))) c.new-found.result.items c.add_enumerations.new.lines.items c.add_functions.new.lines.items c.add_objects.new.lines.items c.new-found.ensures.items (ap (trees_in all) c.as_slice.ensures.value ∙ c.in_ok-declarators.ensures.is) c.in_ok-add_enumerations.ensures c.in_ok-add_functions.ensures c.in_ok-add_objects.ensures).0

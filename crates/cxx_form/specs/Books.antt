@@ -1,0 +1,39 @@
+-- From what a plain form is written: a state, and the tables that were made of it.
+use Rattle.std.specs.Prelude.{◌≡◌, List, [], Option}
+use Rattle.cxx_model.specs.declared.types.TypeId.{TypeId}
+use Rattle.cxx_model.specs.Facts.Declarations.{type_of_option, CxxFact}
+use Rattle.cxx_model.specs.Facts.Fitted.{Fitted}
+use Rattle.cxx_model.specs.Types.Trees.{CxxType}
+use Rattle.cxx_reading.specs.Plain.{type_or_void, NamesOfText}
+use Rattle.cxx_reading.specs.TextOrder.{text_order}
+use Rattle.cxx_reading.specs.Trees.{CxxTree}
+use Rattle.cxx_tree.specs.Held.{meaning, trees, Held}
+use Rattle.cxx_form.specs.declared.book.Book.{Book}
+use Rattle.cxx_form.specs.Giving.{AreEnumerators}
+use Rattle.cxx_form.specs.Names.{names_in, AreTags}
+use Rattle.cxx_form.specs.Numbered.{IsNumbering}
+use Rattle.cxx_form.specs.Views.{facts_in}
+
+abbrev pub held_by : Book → Held
+held_by book = book.state.now
+
+abbrev pub names_of : Book → NamesOfText
+names_of book = names_in book.state.now
+
+abbrev pub facts_of : Book → List CxxFact
+facts_of book = facts_in book.state.now
+
+abbrev pub trees_of : Book → List CxxTree
+trees_of book = trees book.state.now
+
+-- the type with a number, and `void` without one
+abbrev pub type_for : Book → Option TypeId → CxxType
+type_for book of = type_or_void (type_of_option book.state.now.types of)
+
+-- The tables are those of the state.
+pub record IsBook (book : Book) : Type 0 where
+  pub fitted : Fitted book.state.now.graph book.state.now.types
+  pub numbered : IsNumbering (text_order (meaning book.state.now)) book.numbering.now.count book.numbering.now.slots
+  pub classes : book.tags.now.classes ≡ []
+  pub tagged : AreTags book.state.now book.tags.now.enumerations
+  pub held : AreEnumerators (facts_in book.state.now) book.enumerators.now

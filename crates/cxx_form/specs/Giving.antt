@@ -1,0 +1,84 @@
+-- What each declaration gives to the plain form.
+use Rattle.std.specs.Prelude.{ℕ, zero, suc, ◌+◌, ◌≡◌, List, [], ◌++◌, length, Option, Some, None, nat_eq, if◌then◌else◌}
+use Rattle.cxx_model.specs.declared.types.FactId.{FactId}
+use Rattle.cxx_model.specs.Facts.Declarations as facts
+use Rattle.cxx_model.specs.Facts.Declarations.{CxxFact, Declares, fact_at, facts_at}
+use Rattle.cxx_meaning.specs.Lookups.Gathered.{before, gathered}
+use Rattle.cxx_reading.specs.Plain.{number_of_enumeration}
+use Rattle.cxx_reading.specs.TextOrder.{Line, enumeration_line, function_line}
+use Rattle.cxx_form.specs.Rows.{row_at}
+use Rattle.cxx_form.specs.Slots.{slot_at}
+
+-- what a function of a declaration and its number gives where there is one
+abbrev pub given_at : {A : Type 0} → (ℕ → CxxFact → Option A) → ℕ → Option CxxFact → List A
+given_at give number None = []
+given_at give number (Some fact) = before (give number fact) []
+
+-- ---- lines
+
+abbrev pub enumeration_by : ℕ → Declares → Option Line
+enumeration_by number (facts.enumeration n) = Some (enumeration_line n number)
+enumeration_by number _ = None
+
+abbrev pub function_by : ℕ → Declares → Option Line
+function_by number (facts.function of member flags defaults None) = Some (function_line number)
+function_by number _ = None
+
+abbrev pub enumeration_given : ℕ → CxxFact → Option Line
+enumeration_given number fact = enumeration_by number fact.what
+
+abbrev pub function_given : ℕ → CxxFact → Option Line
+function_given number fact = function_by number fact.what
+
+-- ---- enumerations and their enumerators (7.2)
+
+-- the enumeration that is declared
+abbrev pub named_by : Declares → Option ℕ
+named_by (facts.enumeration n) = Some n
+named_by _ = None
+
+-- the enumeration of which an enumerator is declared
+abbrev pub holder_by : Declares → Option ℕ
+holder_by (facts.enumerator n value) = Some n
+holder_by _ = None
+
+abbrev pub if_held : ℕ → ℕ → Option ℕ → Option FactId
+if_held n number None = None
+if_held n number (Some m) = if nat_eq m n then Some (record { 0 = number }) else None
+
+-- the enumerators of an enumeration, by their declarations
+abbrev pub enumerator_given : ℕ → ℕ → CxxFact → Option FactId
+enumerator_given n number fact = if_held n number (holder_by fact.what)
+
+-- rows that hold the enumerators of each enumeration
+abbrev pub AreEnumerators : List CxxFact → List (List FactId) → Type 0
+AreEnumerators all rows = (n : ℕ) → row_at rows n ≡ gathered (enumerator_given n) 0 all
+
+-- rows with one enumerator more, where there is one
+abbrev pub HasEnumerator : List (List FactId) → List (List FactId) → ℕ → Option ℕ → Type 0
+HasEnumerator old new number holder = (n : ℕ) → row_at new n ≡ row_at old n ++ before (if_held n number holder) []
+
+-- rows with what the declaration with a number gives
+abbrev pub HasGiven : List (List FactId) → List (List FactId) → ℕ → Option CxxFact → Type 0
+HasGiven old new number fact = (n : ℕ) → row_at new n ≡ row_at old n ++ given_at (enumerator_given n) number fact
+
+-- a number that was set to one more than where an enumeration is declared, or else what follows
+abbrev pub declared_or : ℕ → ℕ → ℕ
+declared_or zero later = later
+declared_or (suc number) later = number
+
+abbrev pub named_or : ℕ → ℕ → Option ℕ → ℕ → ℕ
+named_or n number None later = later
+named_or n number (Some m) later = if nat_eq m n then number else later
+
+-- numbers that say where each enumeration is declared
+abbrev pub AreDeclared : List CxxFact → List ℕ → Type 0
+AreDeclared all slots = (n : ℕ) → declared_or (slot_at slots n) (length all) ≡ number_of_enumeration n 0 all
+
+-- numbers with one enumeration more, where there is one
+abbrev pub HasNamed : List ℕ → List ℕ → ℕ → Option ℕ → Type 0
+HasNamed old new number named = (n later : ℕ) → declared_or (slot_at new n) later ≡ declared_or (slot_at old n) (named_or n number named later)
+
+-- numbers once the declaration with a number was looked at: before it these are left, and behind it those
+abbrev pub HasDeclared : List ℕ → List ℕ → ℕ → List CxxFact → List CxxFact → Type 0
+HasDeclared old new number before behind = (n : ℕ) → declared_or (slot_at new n) (number_of_enumeration n (number + 1) behind) ≡ declared_or (slot_at old n) (number_of_enumeration n number before)

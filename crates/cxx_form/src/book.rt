@@ -1,0 +1,16 @@
+//! From what a plain form is written.
+
+use crate::numbering::Numbering;
+use crate::rows::Rows;
+use cxx_page::Tags;
+use cxx_tree::State;
+
+/// A state, and the tables that were made of it: the numbers of names, the printed names of enumerations, and their
+/// enumerators.
+#[derive(Clone, Copy)]
+pub(crate) struct Book<'a> {
+    pub state: &'a State,
+    pub numbering: &'a Numbering,
+    pub tags: &'a Tags,
+    pub enumerators: &'a Rows,
+}

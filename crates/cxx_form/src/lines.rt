@@ -1,0 +1,161 @@
+//! The lines of a plain form, in order.
+ghost use Rattle.std.specs.Prelude.{◌≡◌, ◌<◌, [], ℕ, List, length, option_map, IfOk, OnOk};
+ghost use Rattle.std.specs.List.{slice_get};
+ghost use Rattle.cxx_model.specs.Facts.Declarations.{declares_at};
+ghost use Rattle.cxx_model.specs.Types.Trees.{CxxType};
+ghost use Rattle.cxx_meaning.specs.Lookups.Gathered.{before};
+ghost use Rattle.cxx_reading.specs.TextOrder.{enumeration_lines, function_lines, lines as lines_of, object_by, object_lines};
+ghost use Rattle.cxx_reading.specs.Trees.{CxxTree};
+ghost use Rattle.cxx_tree.specs.Arena.{tree_in, trees_in, AreTreesBelow};
+ghost use Rattle.cxx_tree.specs.Held.{meaning, trees};
+ghost use Rattle.cxx_form.specs.Giving.{enumeration_by, enumeration_given, function_by, function_given, given_at};
+ghost use Rattle.cxx_form.specs.Lines.{line_at, lines_at, number_in, object_first_by, AddsLines, AreLinesBelow, IsGivenBelow};
+ghost use Rattle.cxx_form.specs.Views.{facts_in};
+
+use crate::declarators::declarators;
+use crate::facts::{fact, find};
+use cxx_model::{Entity, EnumId, FactId, TreeId};
+use cxx_tree::State;
+use std::alloc::{AllocError, Global};
+
+/// A line of a plain form.
+#[derive(Clone, Copy)]
+pub(crate) enum Line {
+    /// An enumeration, and where it is declared (7.2).
+    Enumeration(EnumId, FactId),
+    /// The first declaration of a function.
+    Function(FactId),
+    /// The tree of a declarator of an object, and the object's first declaration.
+    Object(TreeId, FactId),
+}
+
+fn enumeration_line(number: FactId, what: Entity) -> Option<Line>
+    ensures is { (types : List CxxType) (trees : List CxxTree) → option_map (line_at trees) result ≡ enumeration_by number.0 (declares_at types what) }
+    ensures below { (count : ℕ) → IsGivenBelow count result }
+{
+    match what {
+        Entity::Enumeration { number: n } => Some(Line::Enumeration(n, number)),
+        _ => None,
+    }
+}
+
+fn function_line(number: FactId, what: Entity) -> Option<Line>
+    ensures is { (types : List CxxType) (trees : List CxxTree) → option_map (line_at trees) result ≡ function_by number.0 (declares_at types what) }
+    ensures below { (count : ℕ) → IsGivenBelow count result }
+{
+    match what {
+        Entity::Function { first: None, .. } => Some(Line::Function(number)),
+        _ => None,
+    }
+}
+
+// Adds a line, where there is one.
+fn add(state: &State, lines: &mut Vec<Line>, line: Option<Line>) -> Result<(), AllocError>
+    requires { IsGivenBelow (length (trees state.now)) line }
+    ensures { OnOk result (AddsLines (trees state.now) lines.old.items lines.new.items (before (option_map (line_at (trees state.now)) line) [])) }
+{
+    let _ = state;
+    let Some(line) = line else {
+        return Ok(());
+    };
+    lines.push(line)?;
+    Ok(())
+}
+
+fn add_enumeration(state: &State, number: u32, lines: &mut Vec<Line>) -> Result<(), AllocError>
+    requires { number < length (state.now).graph.facts }
+    ensures { OnOk result (AddsLines (trees state.now) lines.old.items lines.new.items (given_at enumeration_given number (slice_get (facts_in state.now) number))) }
+{
+    let fact = fact(state, FactId(number));
+    add(state, lines, enumeration_line(FactId(number), fact.what))?;
+    Ok(())
+}
+
+fn add_function(state: &State, number: u32, lines: &mut Vec<Line>) -> Result<(), AllocError>
+    requires { number < length (state.now).graph.facts }
+    ensures { OnOk result (AddsLines (trees state.now) lines.old.items lines.new.items (given_at function_given number (slice_get (facts_in state.now) number))) }
+{
+    let fact = fact(state, FactId(number));
+    add(state, lines, function_line(FactId(number), fact.what))?;
+    Ok(())
+}
+
+// Adds a line for each enumeration.
+fn add_enumerations(state: &State, lines: &mut Vec<Line>) -> Result<(), AllocError>
+    ensures { OnOk result (AddsLines (trees state.now) lines.old.items lines.new.items (enumeration_lines 0 (facts_in state.now))) }
+{
+    for number in 0..state.graph().length() {
+        add_enumeration(state, number, lines)?;
+    }
+    Ok(())
+}
+
+// Adds a line for each function.
+fn add_functions(state: &State, lines: &mut Vec<Line>) -> Result<(), AllocError>
+    ensures { OnOk result (AddsLines (trees state.now) lines.old.items lines.new.items (function_lines 0 (facts_in state.now))) }
+{
+    for number in 0..state.graph().length() {
+        add_function(state, number, lines)?;
+    }
+    Ok(())
+}
+
+// The first declaration of the object that is declared.
+fn object_first(number: FactId, what: Entity) -> Option<FactId>
+    ensures { (types : List CxxType) → option_map number_in result ≡ object_first_by number.0 (declares_at types what) }
+{
+    match what {
+        Entity::Object {
+            first: Some(first),
+            ..
+        } => Some(first),
+        Entity::Object { first: None, .. } => Some(number),
+        _ => None,
+    }
+}
+
+// The line of a declarator, where it declares an object.
+fn object_line(state: &State, tree: TreeId) -> Option<Line>
+    requires { tree.0 < length (trees state.now) }
+    ensures is { before (option_map (line_at (trees state.now)) result) [] ≡ object_by (facts_in state.now) (tree_in (trees state.now) tree.0) (tree_in (trees state.now) tree.0).label.target }
+    ensures below { IsGivenBelow (length (trees state.now)) result }
+{
+    let Some(number) = state.node(tree).target else {
+        return None;
+    };
+    let Some(fact) = find(state, number) else {
+        return None;
+    };
+    let Some(first) = object_first(number, fact.what) else {
+        return None;
+    };
+    Some(Line::Object(tree, first))
+}
+
+// Adds a line for each declarator of an object.
+fn add_objects(
+    state: &State,
+    declarators: &[TreeId],
+    lines: &mut Vec<Line>,
+) -> Result<(), AllocError>
+    requires { AreTreesBelow (length (trees state.now)) declarators.now }
+    ensures { OnOk result (AddsLines (trees state.now) lines.old.items lines.new.items (object_lines (facts_in state.now) (trees_in (trees state.now) declarators.now))) }
+{
+    for tree in declarators {
+        add(state, lines, object_line(state, *tree))?;
+    }
+    Ok(())
+}
+
+/// The lines of the plain form, in order.
+pub(crate) fn lines(state: &State, alloc: Global) -> Result<Vec<Line>, AllocError>
+    ensures is { IfOk result (λ found. lines_at (trees state.now) found.items ≡ lines_of (meaning state.now)) }
+    ensures below { IfOk result (λ found. AreLinesBelow (length (trees state.now)) found.items) }
+{
+    let mut found = Vec::new(alloc);
+    let declarators = declarators(state, alloc)?;
+    add_enumerations(state, &mut found)?;
+    add_functions(state, &mut found)?;
+    add_objects(state, declarators.as_slice(), &mut found)?;
+    Ok(found)
+}

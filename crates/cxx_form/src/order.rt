@@ -1,0 +1,85 @@
+//! The order in which names stand in the text.
+ghost use Rattle.std.specs.Prelude.{◌≡◌, ◌++◌, [], flat_map, IfOk, OnOk};
+ghost use Rattle.cxx_reading.specs.TextOrder.{declared_on, lines as lines_of, text_order, with_each_new};
+ghost use Rattle.cxx_tree.specs.Held.{meaning, trees};
+ghost use Rattle.cxx_form.specs.Giving.{AreEnumerators};
+ghost use Rattle.cxx_form.specs.Lines.{line_at, lines_at, numbers_in};
+ghost use Rattle.cxx_form.specs.Numbered.{IsNumbering};
+ghost use Rattle.cxx_form.specs.Views.{facts_in};
+
+use crate::lines::Line;
+use crate::numbering::Numbering;
+use crate::rows::Rows;
+use cxx_model::FactId;
+use cxx_tree::State;
+use std::alloc::{AllocError, Global};
+
+// Adds what a line declares, by first declarations.
+#[tactic(auto, using(crate::proofs::Ordered::one_declared, crate::proofs::Ordered::enumeration_declared))]
+fn add_declared(
+    state: &State,
+    rows: &Rows,
+    line: Line,
+    found: &mut Vec<FactId>,
+) -> Result<(), AllocError>
+    requires { AreEnumerators (facts_in state.now) rows.now }
+    ensures { OnOk result (numbers_in found.new.items ≡ numbers_in found.old.items ++ declared_on (facts_in state.now) (line_at (trees state.now) line)) }
+{
+    let _ = state;
+    match line {
+        Line::Enumeration(n, number) => {
+            found.push(number)?;
+            found.extend_from_slice(rows.row(n.0))?;
+            Ok(())
+        }
+        Line::Function(number) | Line::Object(_, number) => {
+            found.push(number)?;
+            Ok(())
+        }
+    }
+}
+
+// What lines declare, in order.
+#[tactic(auto, using(crate::proofs::Ordered::declared_more, crate::proofs::Ordered::declared_all))]
+fn declared(
+    state: &State,
+    rows: &Rows,
+    lines: &[Line],
+    alloc: Global,
+) -> Result<Vec<FactId>, AllocError>
+    requires { AreEnumerators (facts_in state.now) rows.now }
+    ensures { IfOk result (λ found. numbers_in found.items ≡ flat_map (declared_on (facts_in state.now)) (lines_at (trees state.now) lines.now)) }
+{
+    let mut found = Vec::new(alloc);
+    for line in lines {
+        add_declared(state, rows, *line, &mut found)?;
+    }
+    Ok(found)
+}
+
+// The numbers of declarations in their order, each once.
+fn numbered(numbers: &[FactId], alloc: Global) -> Result<Numbering, AllocError>
+    ensures { IfOk result (λ numbering. IsNumbering (with_each_new [] (numbers_in numbers.now)) numbering.count numbering.slots) }
+{
+    let mut numbering = Numbering::new(alloc);
+    for number in numbers {
+        numbering.note(number.0)?;
+    }
+    Ok(numbering)
+}
+
+/// The numbers of names in the order in which they stand in the text, given its lines.
+pub(crate) fn numbering(
+    state: &State,
+    rows: &Rows,
+    lines: &[Line],
+    alloc: Global,
+) -> Result<Numbering, AllocError>
+    requires rows { AreEnumerators (facts_in state.now) rows.now }
+    requires lines { lines_at (trees state.now) lines.now ≡ lines_of (meaning state.now) }
+    ensures { IfOk result (λ numbering. IsNumbering (text_order (meaning state.now)) numbering.count numbering.slots) }
+{
+    let numbers = declared(state, rows, lines, alloc)?;
+    let numbering = numbered(numbers.as_slice(), alloc)?;
+    Ok(numbering)
+}

@@ -1,0 +1,109 @@
+//! The lines of a plain form, one behind another.
+ghost use Rattle.std.specs.Prelude.{◌≡◌, [], ◌∷◌, ◌++◌, length, map};
+ghost use Rattle.std.specs.List.{slice_get};
+ghost use Rattle.cxx_model.specs.Facts.Declarations.{declares_at, type_of_option};
+ghost use Rattle.cxx_model.specs.Facts.Fitted.{IsEntityBelow, IsTypeNumberBelow};
+ghost use Rattle.cxx_page.specs.Sheets.{Writes, put, put_line, put_lines};
+ghost use Rattle.cxx_reading.specs.Plain.{function_words, type_of_function, type_or_void};
+ghost use Rattle.cxx_form.specs.Books.{facts_of, names_of, trees_of, IsBook};
+ghost use Rattle.cxx_form.specs.Functions.{function_type_by};
+ghost use Rattle.cxx_form.specs.Lines.{AreLinesBelow, IsLineBelow};
+ghost use Rattle.cxx_form.specs.Parts.{line_written};
+ghost use Rattle.cxx_form.specs.Views.{facts_in};
+ghost use Rattle.std.specs.Prelude.{ℕ, List};
+ghost use Rattle.cxx_model.specs.Types.Trees.{CxxType};
+
+use crate::book::Book;
+use crate::enumerators::write_enumeration;
+use crate::facts::find;
+use crate::lines::Line;
+use crate::objects::write_object;
+use crate::words::write_declared;
+use cxx_model::{Entity, FactId, TypeId};
+use cxx_page::{Page, PlainFault};
+use cxx_reading::Role;
+use cxx_tree::State;
+
+fn type_in(what: Entity) -> Option<TypeId>
+    ensures is { (types : List CxxType) → type_or_void (type_of_option types result) ≡ function_type_by (declares_at types what) }
+    ensures below { (count : ℕ) → IsEntityBelow count what → IsTypeNumberBelow count result }
+{
+    match what {
+        Entity::Function { of, .. } => Some(of),
+        _ => None,
+    }
+}
+
+// The type of a function, by its declaration.
+fn function_type(state: &State, number: FactId) -> Option<TypeId>
+    ensures is { type_or_void (type_of_option (state.now).types result) ≡ type_of_function (slice_get (facts_in state.now) number.0) }
+    ensures below { IsTypeNumberBelow (length (state.now).types) result }
+{
+    let Some(fact) = find(state, number) else {
+        return None;
+    };
+    type_in(fact.what)
+}
+
+#[tactic(auto, using(cxx_page::proofs::Put::put_append))]
+fn write_typed(
+    book: &Book<'_>,
+    page: &mut Page,
+    of: Option<TypeId>,
+    number: FactId,
+) -> Result<(), PlainFault>
+    requires book { IsBook book.now }
+    requires below { IsTypeNumberBelow (length (book.now.state.now).types) of }
+    requires is { type_or_void (type_of_option (book.now.state.now).types of) ≡ type_of_function (slice_get (facts_of book.now) number.0) }
+    ensures { Writes result page.new (put (function_words (names_of book.now) (facts_of book.now) number.0) page.old) }
+{
+    write_declared(book, page, of, number)?;
+    page.word(Role::Follows, b";")
+}
+
+// Writes the words of a function (8.3.5).
+fn write_function(book: &Book<'_>, page: &mut Page, number: FactId) -> Result<(), PlainFault>
+    requires { IsBook book.now }
+    ensures { Writes result page.new (put (function_words (names_of book.now) (facts_of book.now) number.0) page.old) }
+{
+    write_typed(book, page, function_type(book.state, number), number)
+}
+
+#[tactic(auto, unfolding(crate::specs::Parts::line_written))]
+fn write_words(book: &Book<'_>, page: &mut Page, line: Line) -> Result<(), PlainFault>
+    requires book { IsBook book.now }
+    requires below { IsLineBelow (length (trees_of book.now)) line }
+    ensures { Writes result page.new (put (line_written book.now line) page.old) }
+{
+    match line {
+        Line::Enumeration(named, number) => write_enumeration(book, page, named, number),
+        Line::Function(number) => write_function(book, page, number),
+        Line::Object(tree, number) => write_object(book, page, tree, number),
+    }
+}
+
+#[tactic(auto, unfolding(cxx_page::specs::Sheets::put_line))]
+fn write_line(book: &Book<'_>, page: &mut Page, line: Line) -> Result<(), PlainFault>
+    requires book { IsBook book.now }
+    requires below { IsLineBelow (length (trees_of book.now)) line }
+    ensures { Writes result page.new (put_line (line_written book.now line) page.old) }
+{
+    write_words(book, page, line)?;
+    page.end_line()
+}
+
+/// Writes the lines of a plain form.
+pub(crate) fn write_lines(
+    book: &Book<'_>,
+    page: &mut Page,
+    lines: &[Line],
+) -> Result<(), PlainFault>
+    requires book { IsBook book.now }
+    requires below { AreLinesBelow (length (trees_of book.now)) lines.now }
+    ensures { Writes result page.new (put_lines (map (line_written book.now) lines.now) page.old) }
+{
+    for line in lines {
+        write_line(book, page, *line)?;
+    }
+    Ok(())
+}
