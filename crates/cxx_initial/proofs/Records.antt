@@ -1,5 +1,5 @@
 -- What is kept of a call, gathered one after another.
-use Rattle.std.specs.Prelude.{ℕ, ◌≡◌, ◌<◌, List, [], ◌∷◌, ◌++◌, length, Option, Some, None, refl}
+use Rattle.std.specs.Prelude.{ℕ, ◌≡◌, ◌<◌, List, [], ◌∷◌, ◌++◌, length, map, Option, Some, None, refl}
 use Rattle.std.proofs.Common.{ap, sym, ◌∙◌, append_assoc}
 use Rattle.cxx_model.specs.declared.sequence.Operand.{Operand}
 use Rattle.cxx_model.specs.declared.sequence.StandardSequence.{StandardSequence}
@@ -8,16 +8,23 @@ use Rattle.cxx_model.specs.declared.types.TypeId.{TypeId}
 use Rattle.cxx_model.specs.Types.Numbers.{AreTypesBelow, type_at}
 use Rattle.cxx_model.specs.Types.Trees.{CxxType}
 use Rattle.cxx_meaning.specs.Conversions.Standard.{CxxStandard}
-use Rattle.cxx_reading.specs.Initializers.{present}
+use Rattle.cxx_reading.specs.Initializers.{present, row_of}
 use Rattle.cxx_standard.specs.Views.{operand_at, sequence_at, found_at, IsSequenceBelow}
 use Rattle.cxx_tree.specs.declared.kept.Contending.{Contending}
 use Rattle.cxx_tree.specs.Held as held
 use Rattle.cxx_tree.specs.Held.{numbers_at, parameters_at, rows_at, row_at, AreRowsBelow, AreSequencesBelow}
 use Rattle.cxx_viable.specs.Views as viable
+use Rattle.cxx_viable.specs.Contests.{contender_at, contenders_at}
+use Rattle.cxx_viable.specs.declared.contender.Contender.{Contender}
+use Rattle.cxx_viable.specs.declared.rating.Rated.{Rated}
+use Rattle.cxx_initial.specs.Rulings.{number_of}
 
-pub numbers_more : (found : List FactId) (one : FactId) → numbers_at (found ++ one ∷ []) ≡ numbers_at found ++ one.0 ∷ []
+numbers_more : (found : List FactId) (one : FactId) → numbers_at (found ++ one ∷ []) ≡ numbers_at found ++ one.0 ∷ []
 numbers_more [] one = refl
 numbers_more (first ∷ found) one = ap (λ ns. first.0 ∷ ns) (numbers_more found one)
+
+pub numbers_first : (types : List CxxType) (found : List FactId) (one : Rated) (others : List Rated) → numbers_at found ++ map number_of (map (viable.rated_at types) (one ∷ others)) ≡ numbers_at (found ++ one.candidate.number ∷ []) ++ map number_of (map (viable.rated_at types) others)
+numbers_first types found one others = sym (append_assoc (numbers_at found) (one.candidate.number.0 ∷ []) (map number_of (map (viable.rated_at types) others))) ∙ ap (λ ns. ns ++ map number_of (map (viable.rated_at types) others)) (sym (numbers_more found one.candidate.number))
 
 pub sequences_more : (types : List CxxType) (found : List StandardSequence) (one : StandardSequence) → held.sequences_at types (found ++ one ∷ []) ≡ held.sequences_at types found ++ sequence_at types one ∷ []
 sequences_more types [] one = refl
@@ -35,9 +42,15 @@ present_with types (Some one) others = refl
 pub present_first : (types : List CxxType) (found : List CxxStandard) (one : Option StandardSequence) (others : List (Option StandardSequence)) → found ++ present (viable.sequences_at types (one ∷ others)) ≡ (found ++ present (viable.sequences_at types (one ∷ []))) ++ present (viable.sequences_at types others)
 present_first types found one others = ap (λ xs. found ++ xs) (present_with types one others) ∙ sym (append_assoc found (present (viable.sequences_at types (one ∷ []))) (present (viable.sequences_at types others)))
 
-pub rows_more : (types : List CxxType) (found : List Contending) (one : Contending) → rows_at types (found ++ one ∷ []) ≡ rows_at types found ++ row_at types one ∷ []
+rows_more : (types : List CxxType) (found : List Contending) (one : Contending) → rows_at types (found ++ one ∷ []) ≡ rows_at types found ++ row_at types one ∷ []
 rows_more types [] one = refl
 rows_more types (first ∷ found) one = ap (λ rs. row_at types first ∷ rs) (rows_more types found one)
+
+pub rows_first : (types : List CxxType) (found : List Contending) (row : Contending) (one : Contender) (others : List Contender) → row_at types row ≡ row_of (contender_at types one) → rows_at types found ++ map row_of (contenders_at types (one ∷ others)) ≡ rows_at types (found ++ row ∷ []) ++ map row_of (contenders_at types others)
+rows_first types found row one others is =
+    ap (λ r. rows_at types found ++ (r ∷ map row_of (contenders_at types others))) (sym is)
+    ∙ sym (append_assoc (rows_at types found) (row_at types row ∷ []) (map row_of (contenders_at types others)))
+    ∙ ap (λ rs. rs ++ map row_of (contenders_at types others)) (sym (rows_more types found row))
 
 pub rows_below_more : (count : ℕ) (found : List Contending) (one : Contending) → AreRowsBelow count found → AreRowsBelow count (one ∷ []) → AreRowsBelow count (found ++ one ∷ [])
 rows_below_more count [] one all last = last

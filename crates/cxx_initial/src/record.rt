@@ -19,14 +19,16 @@ use cxx_viable::{Contender, Rated, contenders};
 use std::alloc::{AllocError, Global};
 
 // The declarations of the candidates.
-#[tactic(auto, using(crate::proofs::Records::numbers_more))]
+#[tactic(auto, using(crate::proofs::Records::numbers_first))]
 fn numbers(alloc: Global, types: &TypeTable, all: &[Rated]) -> Result<FactList, AllocError>
     ensures { IfOk result (λ found. numbers_at found ≡ map number_of (map (rated_at types.now) all.now)) }
 {
     let _ = types;
     let mut found = Listed::new(alloc);
-    for one in all {
+    let mut left = all;
+    while let [one, others @ ..] = left {
         found.push(one.candidate.number)?;
+        left = others;
     }
     Ok(found)
 }
@@ -96,7 +98,7 @@ fn row(alloc: Global, types: &TypeTable, one: &Contender) -> Result<Contending, 
     })
 }
 
-#[tactic(auto, using(crate::proofs::Records::rows_more, crate::proofs::Records::rows_below_more))]
+#[tactic(auto, using(crate::proofs::Records::rows_first, crate::proofs::Records::rows_below_more))]
 fn rows(
     alloc: Global,
     types: &TypeTable,
@@ -107,9 +109,11 @@ fn rows(
     ensures below { IfOk result (AreRowsBelow (length types.now)) }
 {
     let mut found = Listed::new(alloc);
-    for one in viable {
+    let mut left = viable;
+    while let [one, others @ ..] = left {
         let row = row(alloc, types, one)?;
         found.push(row)?;
+        left = others;
     }
     Ok(found)
 }

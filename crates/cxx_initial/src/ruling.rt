@@ -1,6 +1,6 @@
 //! Which function a call means, among the declarations that its name has (13.3).
 
-ghost use Rattle.std.specs.Prelude.{◌≡◌, ◌≤◌, ◌<◌, length, map, IfOk};
+ghost use Rattle.std.specs.Prelude.{◌≡◌, ◌≤◌, ◌<◌, [], ◌∷◌, length, map, IfOk};
 ghost use Rattle.std.specs.List.{All};
 ghost use Rattle.cxx_model.specs.declared.limits.TheConstants as limits;
 ghost use Rattle.cxx_model.specs.Facts.Declarations.{graph_at};

@@ -32,7 +32,7 @@ pub(crate) mod production {
 }
 
 /// A node that covers what was read from one place up to another, and says nothing else yet.
-pub(crate) fn node_from(
+pub fn node_from(
     production: u8,
     spelling: Text,
     from: &Cursor<'_>,
@@ -93,7 +93,7 @@ pub(crate) fn place_of(place: Place, name: &Option<NameToken>) -> Place
 }
 
 /// Adds a node.
-pub(crate) fn push(state: &mut State, node: Node) -> Result<TreeId, Stop>
+pub fn push(state: &mut State, node: Node) -> Result<TreeId, Stop>
     requires below { IsNodeBelow (length (state.old).types) node }
     requires children { AreTreesBelow (length (trees state.old)) node.children }
     ensures { GrowsTree state.old state.new result (tree_over (state.old).types (trees state.old) node) }

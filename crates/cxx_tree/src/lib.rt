@@ -11,5 +11,6 @@ mod trees;
 pub use kept::{
     Binding, BindingList, Decided, DecidedList, Fallback, FallbackList, Piece, PieceList,
 };
+pub use kept::{Contending, ContendingList};
 pub use state::State;
 pub use trees::Trees;
