@@ -1,6 +1,7 @@
 -- The list of trees of an arena, and what becomes of it when a node is added or the table of types grows.
-use Rattle.std.specs.Prelude.{ℕ, ◌≡◌, ◌≤◌, ◌+◌, List, [], ◌∷◌, ◌++◌, length, Option, Some, None, refl}
-use Rattle.std.proofs.Common.{ap, ◌∙◌, arith, length-append}
+use Rattle.std.specs.Prelude.{ℕ, zero, suc, ◌≡◌, ◌<◌, ◌≤◌, ◌+◌, List, [], ◌∷◌, ◌++◌, length, Option, Some, None, refl}
+use Rattle.std.specs.List.{slice_get}
+use Rattle.std.proofs.Common.{ap, ◌∙◌, subst, sym, arith, length-append}
 use Rattle.std.proofs.Math.ListN.{get_or-append}
 use Rattle.std.proofs.Math.Seq.{get_or-append_seam}
 use Rattle.cxx_model.specs.declared.sequence.Operand.{Operand}
@@ -13,8 +14,8 @@ use Rattle.cxx_model.specs.Types.Trees.{CxxType}
 use Rattle.cxx_model.specs.Types.Numbers.{type_at, Keeps}
 use Rattle.cxx_meaning.specs.Conversions.Standard.{CxxOperand}
 use Rattle.cxx_reading.specs.State.{CxxPart}
-use Rattle.cxx_reading.specs.Trees.{CxxTree, Label}
-use Rattle.cxx_tree.specs.Arena.{AreNodesBelow, AreTreesBelow, IsNodeBelow, IsOperandBelow, KeepsTrees, label_at, no_tree, number_of_option, operand_of_option, path_of_option, tree_in, trees_in, tree_over, trees_after, trees_of}
+use Rattle.cxx_reading.specs.Trees.{CxxTree, Label, tree_of}
+use Rattle.cxx_tree.specs.Arena.{AreNodesBelow, AreTreesBelow, HaveEarlierChildren, IsNodeBelow, IsOperandBelow, KeepsTrees, label_at, no_tree, number_of_option, operand_of_option, path_of_option, tree_in, trees_in, tree_over, trees_after, trees_of}
 use Rattle.cxx_tree.specs.declared.kept.Piece.{Piece}
 use Rattle.cxx_tree.specs.Held.{ArePiecesBelow, piece_at, pieces_at, uses_at}
 
@@ -85,6 +86,10 @@ pub nodes_more : (count : ℕ) (nodes : List Node) (x : Node) → AreNodesBelow 
 nodes_more count [] x all ok = (ok, tt)
 nodes_more count (y ∷ ys) x all ok = (all.0, nodes_more count ys x all.1 ok)
 
+pub children_more : (number : ℕ) (nodes : List Node) (x : Node) → HaveEarlierChildren number nodes → AreTreesBelow (number + length nodes) x.children → HaveEarlierChildren number (nodes ++ x ∷ [])
+children_more number [] x all ok = (let e : number + 0 ≡ number = omega arith in subst (λ n. AreTreesBelow n x.children) e ok, tt)
+children_more number (y ∷ ys) x all ok = (let e : number + length (y ∷ ys) ≡ suc number + length ys = omega arith in (all.0, children_more (suc number) ys x all.1 (subst (λ n. AreTreesBelow n x.children) e ok)))
+
 -- ---- what names trees
 
 pub pieces_later : (old new : ℕ) (pieces : List Piece) → old ≤ new → ArePiecesBelow old pieces → ArePiecesBelow new pieces
@@ -117,3 +122,38 @@ below_append count (x ∷ xs) two first second = (first.0, below_append count xs
 
 pub last_tree : (trees : List CxxTree) (t : CxxTree) → tree_in (trees ++ t ∷ []) (length trees) ≡ t
 last_tree trees t = get_or-append_seam trees t [] no_tree
+
+-- ---- the tree of a node
+
+pub node_below : (count : ℕ) (nodes : List Node) (i : ℕ) (x : Node) → AreNodesBelow count nodes → slice_get nodes i ≡ Some x → IsNodeBelow count x
+node_below count [] i x all at = absurd (cc)
+node_below count (y ∷ ys) zero x all at = (let same : y ≡ x = cc in subst (λ n. IsNodeBelow count n) same all.0)
+node_below count (y ∷ ys) (suc i) x all at = node_below count ys i x all.1 at
+
+pub children_below : (number : ℕ) (nodes : List Node) (i : ℕ) (x : Node) → HaveEarlierChildren number nodes → slice_get nodes i ≡ Some x → AreTreesBelow (number + i) x.children
+children_below number [] i x all at = absurd (cc)
+children_below number (y ∷ ys) zero x all at = (let same : y ≡ x = cc in let e : number ≡ number + 0 = omega arith in subst (λ n. AreTreesBelow n x.children) e (subst (λ n. AreTreesBelow number n.children) same all.0))
+children_below number (y ∷ ys) (suc i) x all at = (let e : suc number + i ≡ number + suc i = omega arith in subst (λ n. AreTreesBelow n x.children) e (children_below (suc number) ys i x all.1 at))
+
+-- what is done stays in front
+after_keeps : (types : List CxxType) (done : List CxxTree) (nodes : List Node) → KeepsTrees done (trees_after types done nodes)
+after_keeps types done [] = KeepsTrees_refl done
+after_keeps types done (x ∷ xs) = KeepsTrees_trans done (done ++ tree_over types done x ∷ []) (trees_after types (done ++ tree_over types done x ∷ []) xs) (keeps_more done (tree_over types done x)) (after_keeps types (done ++ tree_over types done x ∷ []) xs)
+
+pub tree_after : (types : List CxxType) (done : List CxxTree) (nodes : List Node) (i : ℕ) (x : Node) → HaveEarlierChildren (length done) nodes → slice_get nodes i ≡ Some x → tree_in (trees_after types done nodes) (length done + i) ≡ tree_over types (trees_after types done nodes) x
+tree_after types done [] i x all at = absurd (cc)
+tree_after types done (y ∷ ys) zero x all at =
+    let t : CxxTree = tree_over types done y in
+    let last : List CxxTree = trees_after types (done ++ t ∷ []) ys in
+    let same : y ≡ x = cc in
+    let here : length done + 0 ≡ length done = omega arith in
+    let grown : length done < length (done ++ t ∷ []) = omega (arith, length-append done (t ∷ [])) in
+    let stays : tree_in last (length done) ≡ t = (after_keeps types (done ++ t ∷ []) ys).same (length done) grown ∙ last_tree done t in
+    let make : List CxxTree → CxxTree = λ children. tree_of (label_at types y) children in
+    let under : tree_over types last y ≡ t = ap make (trees_kept done last y.children (KeepsTrees_trans done (done ++ t ∷ []) last (keeps_more done t) (after_keeps types (done ++ t ∷ []) ys)) all.0) in
+    ap (tree_in last) here ∙ (stays ∙ (sym under ∙ ap (tree_over types last) same))
+tree_after types done (y ∷ ys) (suc i) x all at =
+    let t : CxxTree = tree_over types done y in
+    let longer : length (done ++ t ∷ []) ≡ suc (length done) = omega (arith, length-append done (t ∷ [])) in
+    let place : length done + suc i ≡ length (done ++ t ∷ []) + i = omega arith in
+    ap (tree_in (trees_after types (done ++ t ∷ []) ys)) place ∙ tree_after types (done ++ t ∷ []) ys i x (subst (λ n. HaveEarlierChildren n ys) (sym longer) all.1) at

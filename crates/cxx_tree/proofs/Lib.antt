@@ -1,3 +1,4 @@
 pub mod Arenas
 pub mod Calls
+pub mod Keeping
 pub mod Steps

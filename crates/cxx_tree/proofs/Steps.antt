@@ -16,11 +16,11 @@ use Rattle.cxx_graph.proofs.Fitting.{graph-kept, fitted-table}
 use Rattle.cxx_types.specs.Makes as table
 use Rattle.cxx_reading.specs.State.{CxxCall, CxxPart, CxxState}
 use Rattle.cxx_reading.specs.Trees.{CxxTree}
-use Rattle.cxx_tree.specs.Arena.{bound_of, IsNodeBelow, KeepsTrees, tree_in, tree_over}
+use Rattle.cxx_tree.specs.Arena.{AreTreesBelow, bound_of, IsNodeBelow, KeepsTrees, tree_in, tree_over}
 use Rattle.cxx_tree.specs.Held.{ArePiecesBelow, Held, IsSound, calls_at, fallbacks_at, here_in, meaning, numbers_at, pieces_at, state_over, trees, uses_at}
 use Rattle.cxx_tree.specs.Later.{IsType, Later, MakesTree, MakesType}
 use Rattle.cxx_tree.proofs.Calls.{calls_kept, calls_later}
-use Rattle.cxx_tree.proofs.Arenas.{KeepsTrees_refl, KeepsTrees_trans, after_kept, after_more, keeps_more, last_tree, length_trees, nodes_later, nodes_more, pieces_kept, pieces_later}
+use Rattle.cxx_tree.proofs.Arenas.{KeepsTrees_refl, KeepsTrees_trans, after_kept, after_more, children_more, keeps_more, last_tree, length_trees, nodes_later, nodes_more, pieces_kept, pieces_later}
 
 pub Later_refl : (held : Held) → Later held held
 Later_refl held = record { types = Keeps-refl held.types; trees = KeepsTrees_refl (trees held) }
@@ -33,12 +33,14 @@ Later_trans one two three p q = record { types = Keeps-trans one.types two.types
 abbrev with_node : Held → Node → Held
 with_node held node = record held { nodes = held.nodes ++ node ∷ [] }
 
-pub sound_node : (held : Held) (node : Node) → IsSound held → IsNodeBelow (length held.types) node → IsSound (record held { nodes = held.nodes ++ node ∷ [] })
-sound_node held node sound ok = record {
+pub sound_node : (held : Held) (node : Node) → IsSound held → IsNodeBelow (length held.types) node → AreTreesBelow (length (trees held)) node.children → IsSound (record held { nodes = held.nodes ++ node ∷ [] })
+sound_node held node sound ok children = record {
   fitted = sound.fitted;
   nodes = nodes_more (length held.types) held.nodes node sound.nodes ok;
+  children = children_more 0 held.nodes node sound.children (subst (λ n. AreTreesBelow n node.children) (let e : length (trees held) ≡ length held.nodes = length_trees held.types held.nodes in omega arith) children);
   pieces = pieces_later (length held.nodes) (length (held.nodes ++ node ∷ [])) held.pieces (omega (arith, length-append held.nodes (node ∷ []))) sound.pieces;
   calls = sound.calls;
+  scope = sound.scope;
 }
 
 node_keeps : (held : Held) (node : Node) → KeepsTrees (trees held) (trees (with_node held node))
@@ -74,6 +76,8 @@ pub sound_type : (held : Held) (new : List CxxType) (result : Result TypeId OutO
 sound_type held new result t sound makes range = record {
   fitted = fitted-table held.graph held.types new sound.fitted makes.keeps (λ i from within. makes.fits held.graph sound.fitted.names range i within);
   nodes = nodes_later (length held.types) (length new) held.nodes makes.keeps.grows sound.nodes;
+  children = sound.children;
+  scope = sound.scope;
   pieces = sound.pieces;
   calls = calls_later (length held.types) (length new) held.calls makes.keeps.grows sound.calls;
 }
@@ -96,9 +100,9 @@ makes_type held new result t sound makes = record {
 
 -- ---- what calls answer
 
-pub pushed_sound : (held : Held) (new : List Node) (node : Node) (result : Result TreeId OutOfMemory) → IsSound held → IsNodeBelow (length held.types) node → OnOk result (new ≡ held.nodes ++ node ∷ []) → OnErr result (new ≡ held.nodes) → IsSound (record held { nodes = new })
-pushed_sound held new node (Ok number) sound ok added unchanged = subst (λ ns. IsSound (record held { nodes = ns })) (sym added) (sound_node held node sound ok)
-pushed_sound held new node (Err memory) sound ok added unchanged = subst (λ ns. IsSound (record held { nodes = ns })) (sym unchanged) sound
+pub pushed_sound : (held : Held) (new : List Node) (node : Node) (result : Result TreeId OutOfMemory) → IsSound held → IsNodeBelow (length held.types) node → AreTreesBelow (length (trees held)) node.children → OnOk result (new ≡ held.nodes ++ node ∷ []) → OnErr result (new ≡ held.nodes) → IsSound (record held { nodes = new })
+pushed_sound held new node (Ok number) sound ok children added unchanged = subst (λ ns. IsSound (record held { nodes = ns })) (sym added) (sound_node held node sound ok children)
+pushed_sound held new node (Err memory) sound ok children added unchanged = subst (λ ns. IsSound (record held { nodes = ns })) (sym unchanged) sound
 
 pub pushed_tree : (held : Held) (new : List Node) (node : Node) (result : Result TreeId OutOfMemory) → IsSound held → IfOk result (λ number. number.0 ≡ length held.nodes) → OnOk result (new ≡ held.nodes ++ node ∷ []) → OnErr result (new ≡ held.nodes) → MakesTree held (record held { nodes = new }) result (tree_over held.types (trees held) node)
 pushed_tree held new node (Ok number) sound is added unchanged = subst (λ ns. MakesTree held (record held { nodes = ns }) (Ok number) (tree_over held.types (trees held) node)) (sym added) (makes_node held node number sound is)

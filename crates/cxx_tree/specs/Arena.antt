@@ -1,5 +1,5 @@
 -- What the nodes of an arena stand for: the list of their trees, each made of earlier ones, given the types of a table.
-use Rattle.std.specs.Prelude.{ℕ, zero, ◌≡◌, ◌<◌, ◌≤◌, List, [], ◌∷◌, ◌++◌, length, slice_index_or, Option, Some, None}
+use Rattle.std.specs.Prelude.{ℕ, zero, suc, ◌≡◌, ◌<◌, ◌≤◌, List, [], ◌∷◌, ◌++◌, length, slice_index_or, Option, Some, None}
 use Rattle.cxx_model.specs.declared.sequence.Operand.{Operand}
 use Rattle.cxx_model.specs.declared.tree.Node.{Node}
 use Rattle.cxx_model.specs.declared.tree.Path.{Path}
@@ -104,6 +104,11 @@ pub record IsNodeBelow (count : ℕ) (node : Node) : Type 0 where
 abbrev pub AreNodesBelow : ℕ → List Node → Type 0
 AreNodesBelow count [] = Unit {0}
 AreNodesBelow count (node ∷ nodes) = IsNodeBelow count node × AreNodesBelow count nodes
+
+-- the children of each of some nodes, the first of which has a number, stand before it
+abbrev pub HaveEarlierChildren : ℕ → List Node → Type 0
+HaveEarlierChildren number [] = Unit {0}
+HaveEarlierChildren number (node ∷ nodes) = AreTreesBelow number node.children × HaveEarlierChildren (suc number) nodes
 
 -- A list of trees that grew: each number that was given before names the same tree.
 pub record KeepsTrees (old new : List CxxTree) : Type 0 where

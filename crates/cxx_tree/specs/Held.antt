@@ -11,7 +11,7 @@ use Rattle.cxx_model.specs.declared.types.TreeId.{TreeId}
 use Rattle.cxx_model.specs.Facts.Conflicts.{Given}
 use Rattle.cxx_model.specs.Facts.Declarations.{graph_at}
 use Rattle.cxx_model.specs.Facts.Fitted.{Fitted}
-use Rattle.cxx_model.specs.Facts.Graph.{Graph}
+use Rattle.cxx_model.specs.Facts.Graph.{Graph, scopes}
 use Rattle.cxx_model.specs.Facts.Here.{CxxHere}
 use Rattle.cxx_model.specs.Types.Trees.{CxxType}
 use Rattle.cxx_model.specs.Types.Numbers.{AreTypesBelow, type_at}
@@ -24,7 +24,7 @@ use Rattle.cxx_tree.specs.declared.kept.Contending.{Contending}
 use Rattle.cxx_tree.specs.declared.kept.Decided.{Decided}
 use Rattle.cxx_tree.specs.declared.kept.Fallback.{Fallback}
 use Rattle.cxx_tree.specs.declared.kept.Piece.{Piece}
-use Rattle.cxx_tree.specs.Arena.{AreNodesBelow, tree_in, trees_of}
+use Rattle.cxx_tree.specs.Arena.{AreNodesBelow, HaveEarlierChildren, tree_in, trees_of}
 
 pub record Held : Type 0 where
   pub graph : Graph
@@ -150,5 +150,7 @@ AreCallsBelow count (call ∷ others) = (AreOperandsBelow count call.operands ×
 pub record IsSound (held : Held) : Type 0 where
   pub fitted : Fitted held.graph held.types
   pub nodes : AreNodesBelow (length held.types) held.nodes
+  pub children : HaveEarlierChildren 0 held.nodes
   pub pieces : ArePiecesBelow (length held.nodes) held.pieces
   pub calls : AreCallsBelow (length held.types) held.calls
+  pub scope : held.scope.0 < scopes held.graph.facts

@@ -1,20 +1,33 @@
-ghost use Rattle.std.specs.Prelude.{ℕ, List, ◌≡◌, ◌<◌, length, Ok, Err, []};
+ghost use Rattle.std.specs.Prelude.{ℕ, List, ◌≡◌, ◌<◌, length, Ok, Err, Some, [], ◌∷◌, IfOk, OnOk};
+ghost use Rattle.std.specs.List.{slice_get};
+ghost use Rattle.cxx_model.specs.Facts.Fitted.{Fitted};
+ghost use Rattle.cxx_model.specs.Facts.Graph.{scopes};
 ghost use Rattle.cxx_model.specs.Types.Numbers.{AreTypesBelow, IsBoundBelow, bound_at, type_at, types_at};
 ghost use Rattle.cxx_model.specs.Types.Trees as definition;
 ghost use Rattle.cxx_model.specs.Types.Trees.{CxxType, decayed, fundamental};
-ghost use Rattle.cxx_tree.specs.Arena.{AreTreesBelow, IsNodeBelow, tree_over};
-ghost use Rattle.cxx_tree.specs.Held.{meaning, trees};
+ghost use Rattle.cxx_tree.specs.Arena.{AreNodesBelow, AreTreesBelow, HaveEarlierChildren, IsNodeBelow, tree_over};
+ghost use Rattle.cxx_tree.specs.Held.{AreCallsBelow, ArePiecesBelow, call_at, meaning, tree, trees};
 ghost use Rattle.cxx_types.specs.Parameters.{adjusted_types};
 ghost use Rattle.cxx_reading.specs.Declarators.{no_cv};
+ghost use Rattle.cxx_reading.specs.Declaring.{at_scope};
+ghost use Rattle.cxx_reading.specs.Initializers.{with_call};
+ghost use Rattle.cxx_reading.specs.Units.{with_part};
 ghost use Rattle.cxx_tree.specs.Arena.{bound_of};
-ghost use Rattle.cxx_tree.specs.Later.{MakesTree, MakesType};
+ghost use Rattle.cxx_tree.specs.Later.{Later, MakesTree, MakesType};
 
-use crate::kept::{BindingList, DecidedList, FallbackList, PieceList};
+use crate::kept::{BindingList, Decided, DecidedList, FallbackList, Piece, PieceList};
 use crate::trees::Trees;
 use cxx_graph::Graph;
-use cxx_model::{Base, Bound, Cv, EnumId, FactList, Node, OutOfMemory, ScopeId, TreeId, TypeId};
+use cxx_model::{
+    Base, Bound, Cv, EnumId, FactId, FactList, Listed, Node, OutOfMemory, ScopeId, TreeId, TypeId,
+};
 use cxx_types::TypeTable;
+use std::alloc::Global;
 use std::marker::Model;
+use std::mem;
+
+/// The most calls: their numbers are below it.
+const MOST_CALLS: usize = 4_294_967_295;
 
 /// The state of a reading: what is declared so far, where the reader stands, and what the reading keeps.
 #[derive(Drop)]
@@ -29,6 +42,7 @@ pub struct State {
     calls: DecidedList,
     pieces: PieceList,
     uses: BindingList,
+    alloc: Global,
 }
 
 impl Model for State {
@@ -58,6 +72,122 @@ fn bound_with(bound: Option<u64>) -> Bound
 }
 
 impl State {
+    /// What is declared so far. The types that it names by number are those of the table.
+    pub fn graph(&self) -> &Graph
+        ensures is { result.now ≡ (self.now).graph }
+        ensures fitted { Fitted (self.now).graph (self.now).types }
+    {
+        &self.graph
+    }
+
+    /// The types that were made so far.
+    pub fn types(&self) -> &TypeTable
+        ensures is { result.now ≡ (self.now).types }
+        ensures fitted { Fitted (self.now).graph (self.now).types }
+    {
+        &self.types
+    }
+
+    /// The nodes of all trees.
+    pub fn trees(&self) -> &Trees
+        ensures is { result.now ≡ (self.now).nodes }
+        ensures below { AreNodesBelow (length (self.now).types) (self.now).nodes }
+        ensures children { HaveEarlierChildren 0 (self.now).nodes }
+        ensures count { length (trees self.now) ≡ length (self.now).nodes }
+    {
+        &self.trees
+    }
+
+    /// The node of a tree.
+    pub fn node(&self, number: TreeId) -> &Node
+        requires { number.0 < length (trees self.now) }
+        ensures is { slice_get (self.now).nodes number.0 ≡ Some result.now }
+        ensures below { IsNodeBelow (length (self.now).types) result.now }
+        ensures children { AreTreesBelow number.0 (result.now).children }
+        ensures tree { tree self.now number ≡ tree_over (self.now).types (trees self.now) result.now }
+    {
+        self.trees.node(number)
+    }
+
+    /// Where the reader stands (3.3).
+    pub fn scope(&self) -> ScopeId
+        ensures { result ≡ (self.now).scope }
+    {
+        self.scope
+    }
+
+    /// The enumeration whose list is being read (7.2).
+    pub fn enumeration(&self) -> Option<EnumId>
+        ensures { result ≡ (self.now).enumeration }
+    {
+        self.enumeration
+    }
+
+    /// The declarations that are definitions, in order (3.2).
+    pub fn defined(&self) -> &[FactId]
+        ensures { result.now ≡ (self.now).defined }
+    {
+        self.defined.as_slice()
+    }
+
+    /// What was read by itself so far, in order.
+    pub fn pieces(&self) -> &[Piece]
+        ensures is { result.now ≡ (self.now).pieces }
+        ensures below { ArePiecesBelow (length (trees self.now)) result.now }
+    {
+        self.pieces.as_slice()
+    }
+
+    /// The calls that were decided so far, in order (13.3).
+    pub fn calls(&self) -> &[Decided]
+        ensures is { result.now ≡ (self.now).calls }
+        ensures below { AreCallsBelow (length (self.now).types) result.now }
+    {
+        self.calls.as_slice()
+    }
+
+    /// Keeps a call that was decided (13.3). It answers its index among the calls.
+    pub fn add_call(&mut self, call: Decided) -> Result<u32, OutOfMemory>
+        requires { AreCallsBelow (length (self.old).types) (call ∷ []) }
+        ensures later { Later self.old self.new }
+        ensures number { IfOk result (λ number. number ≡ length (meaning self.old).calls) }
+        ensures added { OnOk result (meaning self.new ≡ with_call (call_at (self.old).types call) (meaning self.old)) }
+    {
+        let count = self.calls.len();
+        if count >= MOST_CALLS {
+            return Err(OutOfMemory);
+        }
+        self.calls.push(call)?;
+        Ok(count as u32)
+    }
+
+    /// Keeps what was read by itself, with the names that were bound in it.
+    pub fn add_piece(&mut self, number: TreeId) -> Result<(), OutOfMemory>
+        requires { number.0 < length (trees self.old) }
+        ensures later { Later self.old self.new }
+        ensures added { OnOk result (meaning self.new ≡ with_part (tree self.old number) (meaning self.old)) }
+    {
+        let uses = mem::replace(&mut self.uses, Listed::new(self.alloc));
+        let piece = Piece {
+            tree: number,
+            scope: ScopeId(0),
+            uses,
+        };
+        self.pieces.push(piece)?;
+        Ok(())
+    }
+
+    /// Puts the reader into a scope.
+    pub fn set_scope(&mut self, scope: ScopeId)
+        requires { scope.0 < scopes (self.old).graph.facts }
+        ensures later { Later self.old self.new }
+        ensures is { meaning self.new ≡ at_scope scope.0 (meaning self.old) }
+        ensures held { (self.new).scope ≡ scope }
+        ensures graph { (self.new).graph ≡ (self.old).graph }
+    {
+        self.scope = scope;
+    }
+
     /// Adds a node to the trees.
     pub fn push(&mut self, node: Node) -> Result<TreeId, OutOfMemory>
         requires below { IsNodeBelow (length (self.old).types) node }

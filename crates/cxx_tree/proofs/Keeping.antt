@@ -1,0 +1,127 @@
+-- What a state answers of what it keeps, and what becomes of it when it keeps more.
+use Rattle.std.specs.Prelude.{ℕ, ◌≡◌, ◌<◌, ◌+◌, List, [], ◌∷◌, ◌++◌, length, Some, refl}
+use Rattle.std.specs.List.{slice_get}
+use Rattle.std.proofs.Common.{ap, sym, subst, ◌∙◌, arith}
+use Rattle.cxx_model.specs.declared.tree.Node.{Node}
+use Rattle.cxx_model.specs.declared.types.ScopeId.{ScopeId}
+use Rattle.cxx_model.specs.declared.types.TreeId.{TreeId}
+use Rattle.cxx_model.specs.Facts.Declarations.{graph_at}
+use Rattle.cxx_model.specs.Facts.Graph.{scopes}
+use Rattle.cxx_model.specs.Types.Trees.{CxxType}
+use Rattle.cxx_reading.specs.Declaring.{at_scope}
+use Rattle.cxx_reading.specs.Initializers.{with_call}
+use Rattle.cxx_reading.specs.State.{CxxCall, CxxPart, CxxState, CxxUse}
+use Rattle.cxx_reading.specs.Trees.{CxxTree}
+use Rattle.cxx_reading.specs.Units.{with_part}
+use Rattle.cxx_tree.specs.declared.kept.Binding.{Binding}
+use Rattle.cxx_tree.specs.declared.kept.Decided.{Decided}
+use Rattle.cxx_tree.specs.declared.kept.Piece.{Piece}
+use Rattle.cxx_tree.specs.Arena.{AreTreesBelow, IsNodeBelow, tree_in, tree_over}
+use Rattle.cxx_tree.specs.Held.{AreCallsBelow, ArePiecesBelow, Held, IsSound, call_at, calls_at, fallbacks_at, here_in, meaning, numbers_at, piece_at, pieces_at, tree, trees, uses_at}
+use Rattle.cxx_tree.proofs.Arenas.{children_below, length_trees, node_below, tree_after}
+
+-- ---- nodes
+
+pub node_within : (seen held : Held) (n : ℕ) → held ≡ seen → n < length (trees seen) → n < length held.nodes
+node_within seen held n same within = subst (λ k. n < k) (length_trees held.types held.nodes) (subst (λ (h : Held). n < length (trees h)) (sym same) within)
+
+pub node_is_below : (seen held : Held) (n : ℕ) (x : Node) → held ≡ seen → IsSound held → slice_get held.nodes n ≡ Some x → IsNodeBelow (length seen.types) x
+node_is_below seen held n x same sound at = subst (λ (h : Held). IsNodeBelow (length h.types) x) same (node_below (length held.types) held.nodes n x sound.nodes at)
+
+pub node_children : (held : Held) (n : ℕ) (x : Node) → IsSound held → slice_get held.nodes n ≡ Some x → AreTreesBelow n x.children
+node_children held n x sound at = (let e : 0 + n ≡ n = omega arith in subst (λ k. AreTreesBelow k x.children) e (children_below 0 held.nodes n x sound.children at))
+
+pub node_tree : (seen held : Held) (n : TreeId) (x : Node) → held ≡ seen → IsSound held → slice_get held.nodes n.0 ≡ Some x → tree seen n ≡ tree_over seen.types (trees seen) x
+node_tree seen held n x same sound at = subst (λ (h : Held). tree h n ≡ tree_over h.types (trees h) x) same (let e : 0 + n.0 ≡ n.0 = omega arith in ap (tree_in (trees held)) (sym e) ∙ tree_after held.types [] held.nodes n.0 x sound.children at)
+
+pub pieces_below : (seen held : Held) (pieces : List Piece) → held ≡ seen → IsSound held → pieces ≡ held.pieces → ArePiecesBelow (length (trees seen)) pieces
+pieces_below seen held pieces same sound is = subst (λ (h : Held). ArePiecesBelow (length (trees h)) pieces) same (subst (λ ps. ArePiecesBelow (length (trees held)) ps) (sym is) (subst (λ n. ArePiecesBelow n held.pieces) (sym (length_trees held.types held.nodes)) sound.pieces))
+
+pub trees_counted : (seen held : Held) → held ≡ seen → length (trees seen) ≡ length seen.nodes
+trees_counted seen held same = length_trees seen.types seen.nodes
+
+-- ---- calls
+
+calls_more : (count : ℕ) (calls : List Decided) (call : Decided) → AreCallsBelow count calls → AreCallsBelow count (call ∷ []) → AreCallsBelow count (calls ++ call ∷ [])
+calls_more count [] call all ok = ok
+calls_more count (one ∷ others) call all ok = (all.0, calls_more count others call all.1 ok)
+
+calls_at_more : (types : List CxxType) (calls : List Decided) (call : Decided) → calls_at types (calls ++ call ∷ []) ≡ calls_at types calls ++ call_at types call ∷ []
+calls_at_more types [] call = refl
+calls_at_more types (one ∷ others) call = ap (λ cs. call_at types one ∷ cs) (calls_at_more types others call)
+
+length_calls : (types : List CxxType) (calls : List Decided) → length (calls_at types calls) ≡ length calls
+length_calls types [] = refl
+length_calls types (one ∷ others) = let e : length (calls_at types others) ≡ length others = length_calls types others in omega arith
+
+pub sound_call : (seen held : Held) (new : List Decided) (call : Decided) → held ≡ seen → IsSound held → AreCallsBelow (length seen.types) (call ∷ []) → new ≡ held.calls ++ call ∷ [] → IsSound (record held { calls = new })
+sound_call seen held new call same sound ok is = record {
+  fitted = sound.fitted;
+  nodes = sound.nodes;
+  children = sound.children;
+  pieces = sound.pieces;
+  calls = subst (λ cs. AreCallsBelow (length held.types) cs) (sym is) (calls_more (length held.types) held.calls call sound.calls (subst (λ (h : Held). AreCallsBelow (length h.types) (call ∷ [])) (sym same) ok));
+  scope = sound.scope;
+}
+
+pub call_number : (seen held : Held) (count : ℕ) → held ≡ seen → count ≡ length held.calls → count ≡ length (meaning seen).calls
+unfolding meaning
+call_number seen held count same is = subst (λ (h : Held). count ≡ length (calls_at h.types h.calls)) same (is ∙ sym (length_calls held.types held.calls))
+
+pub call_added : (seen held : Held) (new : List Decided) (call : Decided) → held ≡ seen → new ≡ held.calls ++ call ∷ [] → meaning (record held { calls = new }) ≡ with_call (call_at seen.types call) (meaning seen)
+unfolding meaning
+call_added seen held new call same is = subst (λ (h : Held). meaning (record held { calls = new }) ≡ with_call (call_at h.types call) (meaning h)) same (ap make (ap (calls_at held.types) is ∙ calls_at_more held.types held.calls call))
+  where
+    make : List CxxCall → CxxState
+    make calls = record { graph = graph_at held.types held.graph; here = here_in held.scope held.enumeration; defined = numbers_at held.defined; given = fallbacks_at held.fallbacks; calls = calls; parts = pieces_at (trees held) held.pieces; uses = uses_at held.uses }
+
+-- ---- what was read by itself
+
+pieces_more : (count : ℕ) (pieces : List Piece) (piece : Piece) → ArePiecesBelow count pieces → piece.tree.0 < count → ArePiecesBelow count (pieces ++ piece ∷ [])
+pieces_more count [] piece all ok = (ok, tt)
+pieces_more count (one ∷ others) piece all ok = (all.0, pieces_more count others piece all.1 ok)
+
+pieces_at_more : (all : List CxxTree) (pieces : List Piece) (piece : Piece) → pieces_at all (pieces ++ piece ∷ []) ≡ pieces_at all pieces ++ piece_at all piece ∷ []
+pieces_at_more all [] piece = refl
+pieces_at_more all (one ∷ others) piece = ap (λ ps. piece_at all one ∷ ps) (pieces_at_more all others piece)
+
+pub sound_piece : (seen held : Held) (new : List Piece) (uses : List Binding) (piece : Piece) → held ≡ seen → IsSound held → piece.tree.0 < length (trees seen) → new ≡ held.pieces ++ piece ∷ [] → IsSound (record held { pieces = new; uses = uses })
+sound_piece seen held new uses piece same sound ok is = record {
+  fitted = sound.fitted;
+  nodes = sound.nodes;
+  children = sound.children;
+  pieces = subst (λ ps. ArePiecesBelow (length held.nodes) ps) (sym is) (pieces_more (length held.nodes) held.pieces piece sound.pieces (node_within seen held piece.tree.0 same ok));
+  calls = sound.calls;
+  scope = sound.scope;
+}
+
+pub piece_added : (seen held : Held) (new : List Piece) (uses : List Binding) (piece : Piece) → held ≡ seen → piece.scope.0 ≡ 0 → piece.uses ≡ held.uses → uses ≡ [] → new ≡ held.pieces ++ piece ∷ [] → meaning (record held { pieces = new; uses = uses }) ≡ with_part (tree seen piece.tree) (meaning seen)
+unfolding meaning
+piece_added seen held new uses piece same outside taken none is =
+    subst (λ (h : Held). meaning (record held { pieces = new; uses = uses }) ≡ with_part (tree h piece.tree) (meaning h)) same
+    (ap (λ us. make (pieces_at (trees held) new) (uses_at us)) none
+    ∙ ap (λ ps. make ps []) (ap (pieces_at (trees held)) is ∙ (pieces_at_more (trees held) held.pieces piece
+    ∙ (ap (λ n. pieces_at (trees held) held.pieces ++ part n piece.uses ∷ []) outside
+    ∙ ap (λ us. pieces_at (trees held) held.pieces ++ part 0 us ∷ []) taken))))
+  where
+    make : List CxxPart → List CxxUse → CxxState
+    make parts bound = record { graph = graph_at held.types held.graph; here = here_in held.scope held.enumeration; defined = numbers_at held.defined; given = fallbacks_at held.fallbacks; calls = calls_at held.types held.calls; parts = parts; uses = bound }
+
+    part : ℕ → List Binding → CxxPart
+    part scope bound = record { tree = tree_in (trees held) piece.tree.0; scope = scope; uses = uses_at bound }
+
+-- ---- where the reader stands
+
+pub sound_scope : (seen held : Held) (scope : ScopeId) → held ≡ seen → IsSound held → scope.0 < scopes seen.graph.facts → IsSound (record held { scope = scope })
+sound_scope seen held scope same sound ok = record {
+  fitted = sound.fitted;
+  nodes = sound.nodes;
+  children = sound.children;
+  pieces = sound.pieces;
+  calls = sound.calls;
+  scope = subst (λ (h : Held). scope.0 < scopes h.graph.facts) (sym same) ok;
+}
+
+pub scope_set : (seen held : Held) (scope : ScopeId) → held ≡ seen → meaning (record held { scope = scope }) ≡ at_scope scope.0 (meaning seen)
+unfolding meaning
+scope_set seen held scope same = subst (λ (h : Held). meaning (record held { scope = scope }) ≡ at_scope scope.0 (meaning h)) same refl
