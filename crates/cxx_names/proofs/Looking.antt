@@ -8,16 +8,17 @@ use Rattle.cxx_model.specs.declared.facts.Fact.{Fact}
 use Rattle.cxx_model.specs.declared.types.FactId.{FactId}
 use Rattle.cxx_model.specs.declared.types.ScopeId.{ScopeId}
 use Rattle.cxx_model.specs.Facts.Conflicts.{scope_facts}
-use Rattle.cxx_model.specs.Facts.Declarations.{CxxFact, CxxGraph, CxxName, fact_at, facts_at, graph_at}
+use Rattle.cxx_model.specs.Facts.Declarations as declares
+use Rattle.cxx_model.specs.Facts.Declarations.{CxxFact, CxxGraph, CxxName, Declares, fact_at, facts_at, graph_at}
 use Rattle.cxx_model.specs.Facts.Graph.{Graph}
 use Rattle.cxx_model.specs.Types.Trees.{CxxType}
 use Rattle.cxx_meaning.specs.Lookups.Wanted.{hides_types, names_type}
 use Rattle.cxx_model.specs.declared.tree.Kind.TheVariants as kind
-use Rattle.cxx_reading.specs.Declaring.{first_function, first_object, is_object, is_same_function}
+use Rattle.cxx_reading.specs.Declaring.{enumeration_in, first_function, first_object, is_object, is_same_function}
 use Rattle.cxx_names.specs.Meant.{first_named, first_or, or_void}
 use Rattle.cxx_reading.specs.Seen.{type_in, type_named_by, Numbered, any_hides, any_type, kind_of_found, declared_from, declared_in, declares_in, found, found_from, found_types, kept, or_outside, parent_of}
 use Rattle.cxx_names.specs.Index.{noted_by, numbers_in, scopes_of}
-use Rattle.cxx_names.specs.Looked.{any_wanted, holder_in, looked_up, seen_by, wanted_by}
+use Rattle.cxx_names.specs.Looked.{any_wanted, first_number, holder_in, looked_up, seen_by, wanted_by}
 
 -- ---- numbers
 
@@ -187,6 +188,53 @@ function_more of types facts number numbers = by (slice_get facts number.0)
     by : (o : Option Fact) → first_function of (seen_by types number (looked_up types facts numbers) o) ≡ or_later (first_function of (seen_by types number [] o)) (first_function of (looked_up types facts numbers))
     by None = refl
     by (Some fact) = one (is_same_function of (fact_at types fact).what) (first_function of (looked_up types facts numbers))
+
+-- ---- the first type and the first enumeration
+
+abbrev pub first_enumeration_or : Option ℕ → Option ℕ → Option ℕ
+first_enumeration_or None later = later
+first_enumeration_or (Some n) later = Some n
+
+enumeration_head : (one : Numbered) (others : List Numbered) → enumeration_in (one ∷ others) ≡ first_enumeration_or (enumeration_in (one ∷ [])) (enumeration_in others)
+enumeration_head one others = by one.fact.what
+  where
+    by : (what : Declares) → enumeration_in (record one { fact = record one.fact { what = what } } ∷ others) ≡ first_enumeration_or (enumeration_in (record one { fact = record one.fact { what = what } } ∷ [])) (enumeration_in others)
+    by (declares.enumeration n) = refl
+    by _ = refl
+
+pub enumeration_more : (types : List CxxType) (facts : List Fact) (number : FactId) (numbers : List FactId)
+    → enumeration_in (looked_up types facts (number ∷ numbers)) ≡ first_enumeration_or (enumeration_in (looked_up types facts (number ∷ []))) (enumeration_in (looked_up types facts numbers))
+enumeration_more types facts number numbers = by (slice_get facts number.0)
+  where
+    by : (o : Option Fact) → enumeration_in (seen_by types number (looked_up types facts numbers) o) ≡ first_enumeration_or (enumeration_in (seen_by types number [] o)) (enumeration_in (looked_up types facts numbers))
+    by None = refl
+    by (Some fact) = enumeration_head (record { number = number.0; fact = fact_at types fact }) (looked_up types facts numbers)
+
+-- only a type is an enumeration
+pub enumeration_kept : (graph : CxxGraph) (all : List Numbered) → enumeration_in (kept (names_type graph) all) ≡ enumeration_in all
+enumeration_kept graph [] = refl
+enumeration_kept graph (one ∷ others) = by one.fact.what (enumeration_kept graph others)
+  where
+    passed : (b : Bool) (two : Numbered) → enumeration_in (two ∷ others) ≡ enumeration_in others → enumeration_in (two ∷ kept (names_type graph) others) ≡ enumeration_in (kept (names_type graph) others) → enumeration_in (kept (names_type graph) others) ≡ enumeration_in others → enumeration_in (cond b (two ∷ kept (names_type graph) others) (kept (names_type graph) others)) ≡ enumeration_in (two ∷ others)
+    passed true two here there ih = there ∙ (ih ∙ sym here)
+    passed false two here there ih = ih ∙ sym here
+
+    by : (what : Declares) → enumeration_in (kept (names_type graph) others) ≡ enumeration_in others → enumeration_in (kept (names_type graph) (record one { fact = record one.fact { what = what } } ∷ others)) ≡ enumeration_in (record one { fact = record one.fact { what = what } } ∷ others)
+    by (declares.enumeration n) ih = refl
+    by (declares.template template member defaults is_explicit first) ih = passed (names_type graph (declares.template template member defaults is_explicit first)) _ refl refl ih
+    by _ ih = ih
+
+pub first_wanted : (graph : CxxGraph) (types : List CxxType) (facts : List Fact) (number : FactId) (numbers : List FactId)
+    → first_number (kept (names_type graph) (looked_up types facts (number ∷ numbers))) ≡ cond (any_wanted graph true (looked_up types facts (number ∷ []))) (Some number) (first_number (kept (names_type graph) (looked_up types facts numbers)))
+first_wanted graph types facts number numbers = by (slice_get facts number.0)
+  where
+    one : (b : Bool) (fact : CxxFact) (later : List Numbered) → first_number (cond b (record { number = number.0; fact = fact } ∷ later) later) ≡ cond (b || false) (Some number) (first_number later)
+    one true fact later = refl
+    one false fact later = refl
+
+    by : (o : Option Fact) → first_number (kept (names_type graph) (seen_by types number (looked_up types facts numbers) o)) ≡ cond (any_wanted graph true (seen_by types number [] o)) (Some number) (first_number (kept (names_type graph) (looked_up types facts numbers)))
+    by None = refl
+    by (Some fact) = one (names_type graph (fact_at types fact).what) (fact_at types fact) (kept (names_type graph) (looked_up types facts numbers))
 
 -- ---- the types that names mean
 

@@ -1,11 +1,9 @@
 -- What is kept after one more fact.
-use Rattle.std.proofs.Common.{Bor, ◌≡◌, ℕ, zero, suc, ◌+◌, ℤ, Bool, true, false, cond, ◌&&◌, List, [], ◌∷◌, ◌++◌, length, Option, Some, None, refl, sym, ap, ◌∙◌, subst, arith, append-nil, append_assoc, nat_eq}
+use Rattle.std.proofs.Common.{◌≡◌, ◌≤◌, ℕ, zero, suc, ◌+◌, ℤ, Bool, true, false, cond, ◌&&◌, List, [], ◌∷◌, ◌++◌, length, Option, Some, None, refl, sym, ap, ◌∙◌, subst, arith, append-nil, append_assoc, nat_eq}
 use Rattle.std.specs.Global.{Vec}
 use Rattle.std.specs.Map.{lookup}
 use Rattle.std.specs.Option.{option_to_list}
-use Rattle.std.specs.Str.{bytes_eq}
 use Rattle.std.proofs.lemmas.Bool.{eqb-true}
-use Rattle.std.proofs.lemmas.Slice.Eq.{bytes_eq-Decides}
 use Rattle.cxx_model.specs.declared.facts.Entity.{Entity}
 use Rattle.cxx_model.specs.declared.facts.Entity.TheVariants as entity
 use Rattle.cxx_model.specs.declared.facts.Fact.{Fact}
@@ -25,10 +23,11 @@ use Rattle.cxx_names.specs.declared.entry.Noted.{Noted}
 use Rattle.cxx_names.specs.declared.entry.Spelling.{Spelling}
 use Rattle.cxx_names.specs.declared.kept.Kept.{Kept}
 use Rattle.cxx_names.specs.declared.names.Names.{Names}
-use Rattle.cxx_names.specs.Filed.{row, those_in, IsMoreBy}
+use Rattle.cxx_names.specs.Filed.{row, those_in, AreSame, IsMoreBy}
 use Rattle.cxx_names.specs.declared.words.Words.{Words}
-use Rattle.cxx_names.specs.Words.{same_spelling, is_known, IsSound, HasWord}
-use Rattle.cxx_names.specs.Index.{same_scope, same_enumeration, IsSpelledBy, is_spelled, declares_word, noted_by, value_by, is_outermost_kind, block_by, scopes_of, blocks_from, numbers_in, Keeps, Notes, HasKept, HasNoted, AreSameKept, AreSameNames}
+use Rattle.cxx_names.specs.Words.{same_spelling, number_among, numbered_row, word_declared_by, IsNumbered, HasMet, HasWord}
+use Rattle.cxx_names.proofs.Known.{same_text, one_name, sound_met, row_met, sound_more}
+use Rattle.cxx_names.specs.Index.{same_scope, same_enumeration, filed_by, noted_by, value_by, is_outermost_kind, block_by, scopes_of, blocks_from, numbers_in, Keeps, Notes, HasKept, HasNoted, AreSameKept, AreSameNames}
 
 -- ---- declarations of a name
 
@@ -75,10 +74,6 @@ declares_alike types (entity.Directive nominated) = refl
 declares_alike types (entity.Using target) = refl
 declares_alike types (entity.Friend number target) = refl
 
-abbrev same_text : Name → List ℕ → Bool
-same_text (name.Spelled word) other = bytes_eq word other
-same_text _ other = false
-
 named_alike : (types : List CxxType) (scope : ℕ) (word : List ℕ) (fact : Fact) → declares_in scope (spelled word) (fact_at types fact) ≡ (nat_eq fact.scope.0 scope && (declares_name (declares_at [] fact.what) && same_text fact.name word))
 named_alike types scope word fact = ap (λ b. nat_eq fact.scope.0 scope && (b && (true && same_name (name_at types fact.name) (spelled word)))) (declares_alike types fact.what) ∙ by fact.name
   where
@@ -89,61 +84,20 @@ named_alike types scope word fact = ap (λ b. nat_eq fact.scope.0 scope && (b &&
     by (name.Conversion of) = refl
     by name.Destructor = refl
 
-never : {A : Type 0} (a d : Bool) (x y : A) → cond (a && (d && false)) x y ≡ y
-never true true x y = refl
-never true false x y = refl
-never false d x y = refl
-
-not_declared : {A : Type 0} (a b : Bool) (x y : A) → cond (a && (false && b)) x y ≡ y
-not_declared true b x y = refl
-not_declared false b x y = refl
-
-both_true : (a b : Bool) → (a && b) ≡ true → (a ≡ true) × (b ≡ true)
-both_true true b e = (refl, e)
-both_true false b e = absurd (cc)
-
-module _ (old new : List (Spelling × Vec FactId)) (scope : ScopeId) (word : Bor (List ℕ)) (number : FactId) where
-  abbrev at : List (Spelling × Vec FactId) → Spelling → List FactId
-  at entries key = row same_spelling entries key
-
-  abbrev by_parts : ℕ → List ℕ → List FactId
-  by_parts m w = those_in (lookup (λ k. nat_eq m k.scope.0 && bytes_eq w k.word.now) old)
-
-  here : (key : Spelling) (v : List ℕ) → v ≡ word.now → (t : Bool) → (nat_eq scope.0 key.scope.0 && bytes_eq v key.word.now) ≡ t
-      → cond t (at old (record { scope = scope; word = word }) ++ number ∷ []) (at old key) ≡ cond t (at old key ++ number ∷ []) (at old key)
-  here key v s true e =
-      let both = both_true (nat_eq scope.0 key.scope.0) (bytes_eq v key.word.now) e in
-      let one : scope.0 ≡ key.scope.0 = eqb-true scope.0 key.scope.0 both.0 in
-      let two : word.now ≡ key.word.now = sym s ∙ (bytes_eq-Decides v key.word.now).0 both.1 in
-      ap (λ ns. ns ++ number ∷ []) (ap (λ m. by_parts m word.now) one ∙ ap (by_parts key.scope.0) two)
-  here key v s false e = refl
-
-  one_name : (n : Name) (d : Bool) → IsSpelledBy n word.now → IsMoreBy same_spelling old new (cond (is_spelled n && d) (Some (record { scope = scope; word = word }, number)) None)
-      → (key : Spelling) → at new key ≡ cond (nat_eq scope.0 key.scope.0 && (d && same_text n key.word.now)) (at old key ++ number ∷ []) (at old key)
-  one_name name.Unnamed d s more key = more key ∙ sym (never (nat_eq scope.0 key.scope.0) d _ _)
-  one_name (name.Operator o) d s more key = more key ∙ sym (never (nat_eq scope.0 key.scope.0) d _ _)
-  one_name (name.Conversion of) d s more key = more key ∙ sym (never (nat_eq scope.0 key.scope.0) d _ _)
-  one_name name.Destructor d s more key = more key ∙ sym (never (nat_eq scope.0 key.scope.0) d _ _)
-  one_name (name.Spelled v) false s more key = more key ∙ sym (not_declared (nat_eq scope.0 key.scope.0) (bytes_eq v key.word.now) _ _)
-  one_name (name.Spelled v) true s more key =
-      more key
-      ∙ ap (λ w. cond (nat_eq scope.0 key.scope.0 && bytes_eq w key.word.now) (at old (record { scope = scope; word = word }) ++ number ∷ []) (at old key)) (sym s)
-      ∙ here key v s (nat_eq scope.0 key.scope.0 && bytes_eq v key.word.now) refl
-
 -- the declarations of each name, with one more
-pub names_noted : (types : List CxxType) (old new : List (Spelling × Vec FactId)) (facts : List Fact) (fact : Fact) (word : Bor (List ℕ)) (number : FactId) → number.0 ≡ length facts → IsSpelledBy fact.name word.now
-    → ((key : Spelling) → row same_spelling old key ≡ numbers_in (declared_from key.scope.0 (spelled key.word.now) zero (facts_at types facts)))
-    → IsMoreBy same_spelling old new (cond (declares_word fact) (Some (record { scope = fact.scope; word = word }, number)) None)
-    → (key : Spelling) → row same_spelling new key ≡ numbers_in (declared_from key.scope.0 (spelled key.word.now) zero (facts_at types (facts ++ fact ∷ [])))
-names_noted types old new facts fact word number n s kept more key =
-    let test : Bool = nat_eq fact.scope.0 key.scope.0 && (declares_name (declares_at [] fact.what) && same_text fact.name key.word.now) in
-    let before : List FactId = numbers_in (declared_from key.scope.0 (spelled key.word.now) zero (facts_at types facts)) in
+pub names_noted : (types : List CxxType) (known : List (Vec ℕ)) (old new : List (Spelling × Vec FactId)) (facts : List Fact) (fact : Fact) (name : Option Spelling) (number : FactId) → number.0 ≡ length facts → IsNumbered known fact name
+    → ((scope : ScopeId) (word : List ℕ) → numbered_row old scope (number_among known word) ≡ numbers_in (declared_from scope.0 (spelled word) zero (facts_at types facts)))
+    → IsMoreBy same_spelling old new (filed_by number name)
+    → (scope : ScopeId) (word : List ℕ) → numbered_row new scope (number_among known word) ≡ numbers_in (declared_from scope.0 (spelled word) zero (facts_at types (facts ++ fact ∷ [])))
+names_noted types known old new facts fact name number n is kept more scope word =
+    let test : Bool = nat_eq fact.scope.0 scope.0 && (declares_name (declares_at [] fact.what) && same_text fact.name word) in
+    let before : List FactId = numbers_in (declared_from scope.0 (spelled word) zero (facts_at types facts)) in
     let place : 0 + length facts ≡ number.0 = omega (arith, n) in
-    one_name old new fact.scope word number fact.name (declares_name (declares_at [] fact.what)) s more key
-    ∙ ap (λ ns. cond test (ns ++ number ∷ []) ns) (kept key)
+    one_name known old new fact.scope number fact.name (declares_name (declares_at [] fact.what)) name is more scope word
+    ∙ ap (λ ns. cond test (ns ++ number ∷ []) ns) (kept scope word)
     ∙ ap (λ k. cond test (before ++ record { 0 = k } ∷ []) before) (sym place)
-    ∙ ap (λ t. cond t (before ++ record { 0 = 0 + length facts } ∷ []) before) (sym (named_alike types key.scope.0 key.word.now fact))
-    ∙ sym (numbers_more types key.scope.0 (spelled key.word.now) zero facts fact)
+    ∙ ap (λ t. cond t (before ++ record { 0 = 0 + length facts } ∷ []) before) (sym (named_alike types scope.0 word fact))
+    ∙ sym (numbers_more types scope.0 (spelled word) zero facts fact)
 
 -- ---- scopes and enumerations
 
@@ -255,44 +209,35 @@ keeps_same old new facts kept same = record {
   values = λ number types. same.values number ∙ kept.values number types;
 }
 
--- ---- spellings
-
-not_both : (a b : Bool) → a ≡ true → a ≡ false → b ≡ true
-not_both a b p q = absurd (cc)
-
-apart : (one two : List ℕ) (words : List (Bor (List ℕ))) → is_known words one ≡ true → is_known words two ≡ false → bytes_eq one two ≡ false
-apart one two words p q = by (bytes_eq one two) refl
-  where
-    by : (t : Bool) → bytes_eq one two ≡ t → t ≡ false
-    by true e = (let same : one ≡ two = (bytes_eq-Decides one two).0 e in let k : is_known words two ≡ true = subst (λ w. is_known words w ≡ true) same p in absurd (cc))
-    by false e = refl
-
-and_false : (a b : Bool) → b ≡ false → (a && b) ≡ false
-and_false true b e = e
-and_false false b e = refl
-
-sound_more : (old new : Words) (name : Option (Spelling × FactId)) → IsSound old → HasWord old new name → IsSound new
-sound_more old new None sound has key none = has.rows key ∙ sound key (has.knows key.word.now none)
-sound_more old new (Some name) sound has key none =
-    has.rows key
-    ∙ ap (λ t. cond t (row same_spelling old.rows.rows.entries name.0 ++ name.1 ∷ []) (row same_spelling old.rows.rows.entries key)) (and_false (nat_eq name.0.scope.0 key.scope.0) (bytes_eq name.0.word.now key.word.now) (apart name.0.word.now key.word.now new.spellings.keys has.known none))
-    ∙ sound key (has.knows key.word.now none)
-
 -- ---- all of it
 
-pub notes_more : (old new : Names) (one : Entry) (facts : List Fact) (fact : Fact) (word : Bor (List ℕ)) (number : FactId) (scopes : ℕ) → number.0 ≡ length facts → scopes ≡ length (scopes_of facts) → IsSpelledBy fact.name word.now
-    → one.name ≡ cond (declares_word fact) (Some (record { scope = fact.scope; word = word }, number)) None
+-- more spellings were met
+pub notes_met : (old : Names) (words : Words) (facts : List Fact) → Notes old facts → HasMet old.words words → Notes (record old { words = words }) facts
+notes_met old words facts notes met = record {
+  sound = sound_met old.words words notes.sound met;
+  words = λ scope word types. row_met old.words words notes.sound met scope word ∙ notes.words scope word types;
+  kept = notes.kept;
+}
+
+pub notes_more : (old new : Names) (one : Entry) (facts : List Fact) (fact : Fact) (name : Option Spelling) (number : FactId) (scopes : ℕ) → number.0 ≡ length facts → scopes ≡ length (scopes_of facts) → IsNumbered old.words.spellings.keys fact name
+    → one.name ≡ filed_by number name
     → one.noted ≡ noted_by fact.scope fact.what → one.block ≡ block_by scopes (noted_by fact.scope fact.what) → one.value ≡ value_by fact.what → one.is_enumeration ≡ is_enumeration fact.what
     → Notes old facts → HasNoted old new one → Notes new (facts ++ fact ∷ [])
-notes_more old new one facts fact word number scopes n m s name noted block value counts notes has = record {
-  sound = sound_more old.words new.words one.name notes.sound has.words;
-  words = λ key types. names_noted types old.words.rows.rows.entries new.words.rows.rows.entries facts fact word number n s (λ k. notes.words k types) (subst (λ o. IsMoreBy same_spelling old.words.rows.rows.entries new.words.rows.rows.entries o) name has.words.rows) key;
-  kept = keeps_more old.kept new.kept one facts fact noted (block ∙ ap (λ k. block_by k (noted_by fact.scope fact.what)) m) value counts notes.kept has.kept;
-}
+notes_more old new one facts fact name number scopes n m is filed noted block value counts notes has =
+    let has_word : HasWord old.words new.words (filed_by number name) = subst (λ o. HasWord old.words new.words o) filed has.words in
+    record {
+      sound = sound_more old.words new.words fact.scope (word_declared_by fact) name number notes.sound is has_word;
+      words = λ scope word types. ap (λ ks. numbered_row new.words.rows.rows.entries scope (number_among ks word)) has_word.spellings ∙ names_noted types old.words.spellings.keys old.words.rows.rows.entries new.words.rows.rows.entries facts fact name number n is (λ s w. notes.words s w types) has_word.rows scope word;
+      kept = keeps_more old.kept new.kept one facts fact noted (block ∙ ap (λ k. block_by k (noted_by fact.scope fact.what)) m) value counts notes.kept has.kept;
+    }
+
+numbered_same : (old new : List (Spelling × Vec FactId)) → AreSame same_spelling old new → (scope : ScopeId) (o : Option ℕ) → numbered_row new scope o ≡ numbered_row old scope o
+numbered_same old new same scope None = refl
+numbered_same old new same scope (Some n) = same (record { scope = scope; number = n })
 
 pub notes_same : (old new : Names) (facts : List Fact) → Notes old facts → AreSameNames old new → Notes new facts
 notes_same old new facts notes same = record {
-  sound = λ key none. same.words.rows key ∙ notes.sound key (same.words.knows key.word.now none);
-  words = λ key types. same.words.rows key ∙ notes.words key types;
+  sound = λ key out. same.words.rows key ∙ notes.sound key (subst (λ ks. length ks ≤ key.number) same.words.spellings out);
+  words = λ scope word types. ap (λ ks. numbered_row new.words.rows.rows.entries scope (number_among ks word)) same.words.spellings ∙ (numbered_same old.words.rows.rows.entries new.words.rows.rows.entries same.words.rows scope (number_among old.words.spellings.keys word) ∙ notes.words scope word types);
   kept = keeps_same old.kept new.kept facts notes.kept same.kept;
 }

@@ -4,21 +4,18 @@ use Rattle.std.specs.Option.{option_to_list}
 use Rattle.cxx_model.specs.declared.facts.Entity.{Entity}
 use Rattle.cxx_model.specs.declared.facts.Entity.TheVariants as entity
 use Rattle.cxx_model.specs.declared.facts.Fact.{Fact}
-use Rattle.cxx_model.specs.declared.facts.Name.{Name}
-use Rattle.cxx_model.specs.declared.facts.Name.TheVariants as name
 use Rattle.cxx_model.specs.declared.facts.ScopeKind.{ScopeKind}
 use Rattle.cxx_model.specs.declared.facts.ScopeKind.TheVariants as kind
 use Rattle.cxx_model.specs.declared.types.EnumId.{EnumId}
 use Rattle.cxx_model.specs.declared.types.FactId.{FactId}
 use Rattle.cxx_model.specs.declared.types.ScopeId.{ScopeId}
-use Rattle.cxx_model.specs.Facts.Conflicts.{declares_name}
-use Rattle.cxx_model.specs.Facts.Declarations.{declares_at, facts_at, spelled}
+use Rattle.cxx_model.specs.Facts.Declarations.{facts_at, spelled}
 use Rattle.cxx_model.specs.Facts.Graph.{counted, enumerations}
 use Rattle.cxx_model.specs.Types.Trees.{CxxType}
 use Rattle.cxx_meaning.specs.Conversions.Enumerations.{values_in}
 use Rattle.cxx_reading.specs.Seen.{Numbered, declared_from}
 use Rattle.cxx_names.specs.Filed.{row, AreSame, IsMoreBy}
-use Rattle.cxx_names.specs.Words.{AreSameWords, HasWord, IsSound, same_spelling}
+use Rattle.cxx_names.specs.Words.{AreSameWords, HasWord, IsSound, word_row}
 use Rattle.cxx_names.specs.declared.entry.Entry.{Entry}
 use Rattle.cxx_names.specs.declared.entry.Noted.{Noted}
 use Rattle.cxx_names.specs.declared.entry.Spelling.{Spelling}
@@ -35,18 +32,10 @@ same_enumeration one two = nat_eq one.0 two.0
 
 -- ---- what is kept of one fact
 
--- a name is spelled by the word, if it is spelled at all
-abbrev pub IsSpelledBy : Name → List ℕ → Type 0
-IsSpelledBy (name.Spelled spelling) word = spelling ≡ word
-IsSpelledBy _ word = Unit {0}
-
-abbrev pub is_spelled : Name → Bool
-is_spelled (name.Spelled word) = true
-is_spelled _ = false
-
--- whether a fact declares a name that is spelled
-abbrev pub declares_word : Fact → Bool
-declares_word fact = is_spelled fact.name && declares_name (declares_at [] fact.what)
+-- the name of a fact with a number
+abbrev pub filed_by : FactId → Option Spelling → Option (Spelling × FactId)
+filed_by number None = None
+filed_by number (Some name) = Some (name, number)
 
 abbrev pub noted_by : ScopeId → Entity → Option Noted
 noted_by holder (entity.Scope parent kind) = Some (record { kind = kind; parent = holder })
@@ -93,7 +82,7 @@ pub record Keeps (kept : Kept) (facts : List Fact) : Type 0 where
 -- Exactly these facts were noted.
 pub record Notes (names : Names) (facts : List Fact) : Type 0 where
   pub sound : IsSound names.words
-  pub words : (key : Spelling) (types : List CxxType) → row same_spelling names.words.rows.rows.entries key ≡ numbers_in (declared_from key.scope.0 (spelled key.word.now) zero (facts_at types facts))
+  pub words : (scope : ScopeId) (word : List ℕ) (types : List CxxType) → word_row names.words scope word ≡ numbers_in (declared_from scope.0 (spelled word) zero (facts_at types facts))
   pub kept : Keeps names.kept facts
 
 -- ---- what one more fact changes

@@ -1,7 +1,8 @@
 -- Declarations that are named by their numbers.
-use Rattle.std.specs.Prelude.{Bool, true, false, ◌||◌, List, [], ◌∷◌, Option, Some, None}
+use Rattle.std.specs.Prelude.{ℕ, Bool, true, false, ◌||◌, List, [], ◌∷◌, Option, Some, None}
 use Rattle.std.specs.List.{slice_get}
 use Rattle.cxx_model.specs.declared.facts.Fact.{Fact}
+use Rattle.cxx_model.specs.declared.types.EnumId.{EnumId}
 use Rattle.cxx_model.specs.declared.types.FactId.{FactId}
 use Rattle.cxx_model.specs.declared.types.ScopeId.{ScopeId}
 use Rattle.cxx_model.specs.Facts.Declarations.{CxxGraph, Declares, fact_at}
@@ -32,3 +33,11 @@ any_wanted graph types_only (one ∷ others) = wanted_by graph types_only one.fa
 abbrev pub holder_in : ScopeId → Option Noted → ScopeId
 holder_in scope None = scope
 holder_in scope (Some noted) = noted.parent
+
+-- the number of the first of some declarations
+abbrev pub first_number : List Numbered → Option FactId
+first_number [] = None
+first_number (one ∷ others) = Some (record { 0 = one.number })
+
+abbrev pub enumeration_number : EnumId → ℕ
+enumeration_number number = number.0

@@ -49,7 +49,7 @@ fn either(one: bool, two: bool) -> bool
     one || two
 }
 
-impl Names<'_> {
+impl Names {
     // Whether a new declaration conflicts with another.
     fn clashes(&self, graph: &Graph, types: &TypeTable, old: &Fact, new: &Fact) -> bool
         requires noted { Notes self.now graph.now.facts }

@@ -1,17 +1,19 @@
-ghost use Rattle.std.specs.Prelude.{◌≡◌, ℕ, List, Some, None, if◌then◌else◌};
+ghost use Rattle.std.specs.Prelude.{◌≡◌, List};
+ghost use Rattle.std.specs.Option.{option_copied};
 ghost use Rattle.cxx_model.specs.Facts.Conflicts.{declares_name as declares_a_name};
 ghost use Rattle.cxx_model.specs.Facts.Declarations.{declares_at};
 ghost use Rattle.cxx_model.specs.Facts.Graph.{is_enumeration as is_one_enumeration};
 ghost use Rattle.cxx_model.specs.Types.Trees.{CxxType};
-ghost use Rattle.cxx_names.specs.Index.{block_by, declares_word as declares_a_word, is_outermost_kind, noted_by, value_by};
+ghost use Rattle.cxx_names.specs.Index.{block_by, filed_by, is_outermost_kind, noted_by, value_by};
+ghost use Rattle.cxx_names.specs.Words.{word_declared_by};
 
 use cxx_model::{Entity, EnumId, Fact, FactId, Name, ScopeId, ScopeKind};
 
-/// A spelled name in a scope.
+/// A spelled name in a scope, by the number of its spelling among those that were met.
 #[derive(Clone, Copy, PartialEq, Eq, Hash)]
-pub(crate) struct Spelling<'a> {
+pub(crate) struct Spelling {
     pub(crate) scope: ScopeId,
-    pub(crate) word: &'a [u8],
+    pub(crate) number: usize,
 }
 
 /// A scope, and the one that holds it (3.3).
@@ -23,8 +25,8 @@ pub(crate) struct Noted {
 
 /// What is kept of one fact.
 #[derive(Clone, Copy)]
-pub(crate) struct Entry<'a> {
-    pub(crate) name: Option<(Spelling<'a>, FactId)>,
+pub(crate) struct Entry {
+    pub(crate) name: Option<(Spelling, FactId)>,
     pub(crate) noted: Option<Noted>,
     // The outermost block of a function, under the scope that holds it.
     pub(crate) block: Option<(ScopeId, ScopeId)>,
@@ -47,12 +49,13 @@ pub(crate) fn declares_name(what: Entity) -> bool
     }
 }
 
-fn declares_word(fact: &Fact) -> bool
-    ensures { result ≡ declares_a_word fact.now }
+/// The spelled name that a fact declares, if it does.
+pub(crate) fn declared_word(fact: &Fact) -> Option<&[u8]>
+    ensures { option_copied result ≡ word_declared_by fact.now }
 {
-    match fact.name {
-        Name::Spelled(_) => declares_name(fact.what),
-        _ => false,
+    match &fact.name {
+        Name::Spelled(word) if declares_name(fact.what) => Some(word.as_slice()),
+        _ => None,
     }
 }
 
@@ -105,27 +108,27 @@ fn is_enumeration(what: Entity) -> bool
     }
 }
 
-impl<'a> Entry<'a> {
-    /// What is kept of a fact with a number, whose name is spelled by a word, where there are so many scopes.
-    pub(crate) fn of(fact: &Fact, word: &'a [u8], number: FactId, scopes: u32) -> Entry<'a>
-        ensures name { result.name ≡ (if declares_a_word fact.now then Some (record { scope = fact.now.scope; word = word.entry }, number) else None) }
+fn filed_name(name: Option<Spelling>, number: FactId) -> Option<(Spelling, FactId)>
+    ensures { result ≡ filed_by number name }
+{
+    match name {
+        Some(spelling) => Some((spelling, number)),
+        None => None,
+    }
+}
+
+impl Entry {
+    /// What is kept of a fact with a number, which declares a spelled name or none, where there are so many scopes.
+    pub(crate) fn of(fact: &Fact, name: Option<Spelling>, number: FactId, scopes: u32) -> Entry
+        ensures name { result.name ≡ filed_by number name }
         ensures noted { result.noted ≡ noted_by fact.now.scope fact.now.what }
         ensures block { result.block ≡ block_by scopes (noted_by fact.now.scope fact.now.what) }
         ensures value { result.value ≡ value_by fact.now.what }
         ensures enumeration { result.is_enumeration ≡ is_one_enumeration fact.now.what }
     {
         let noted = noted_in(fact.scope, fact.what);
-        let name = if declares_word(fact) {
-            let spelling = Spelling {
-                scope: fact.scope,
-                word,
-            };
-            Some((spelling, number))
-        } else {
-            None
-        };
         Entry {
-            name,
+            name: filed_name(name, number),
             noted,
             block: block_in(ScopeId(scopes), noted),
             value: value_in(fact.what),

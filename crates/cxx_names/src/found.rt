@@ -1,24 +1,26 @@
 //! What names mean among the declarations so far (3.4.1, 3.4.4).
 
-ghost use Rattle.std.specs.Prelude.{◌≡◌, ◌<◌, List, length};
+ghost use Rattle.std.specs.Prelude.{◌≡◌, ◌<◌, List, length, option_map};
 ghost use Rattle.cxx_model.specs.Facts.Declarations.{facts_at, graph_at, spelled};
 ghost use Rattle.cxx_model.specs.Facts.Fitted.{IsGraphBelow};
 ghost use Rattle.cxx_model.specs.Types.Numbers.{type_at};
 ghost use Rattle.cxx_model.specs.Types.Trees.{CxxType};
 ghost use Rattle.cxx_meaning.specs.Conversions.Enumerations.{values_in};
 ghost use Rattle.cxx_meaning.specs.Lookups.Wanted.{names_type};
-ghost use Rattle.cxx_reading.specs.Declaring.{first_function as first_function_by, first_object as first_object_by};
+ghost use Rattle.cxx_reading.specs.Declaring.{enumeration_in, first_function as first_function_by, first_object as first_object_by};
 ghost use Rattle.cxx_reading.specs.Seen.{kind_of_found, declared_in as declared_by, found as found_by, found_from, found_types as found_types_by, kept, parent_of};
 ghost use Rattle.cxx_names.specs.Index.{Notes, numbers_in};
-ghost use Rattle.cxx_names.specs.Looked.{any_wanted, looked_up, wanted_by};
+ghost use Rattle.cxx_names.specs.Looked.{any_wanted, enumeration_number, first_number, looked_up, wanted_by};
 
-use crate::looked::{first_function_of, first_object_of, has_wanted, kind_of};
+use crate::looked::{
+    first_enumeration_of, first_function_of, first_object_of, first_type_of, has_wanted, kind_of,
+};
 use crate::names::Names;
 use cxx_graph::Graph;
 use cxx_model::{EnumId, FactId, Kind, ScopeId, TypeId};
 use cxx_types::TypeTable;
 
-impl Names<'_> {
+impl Names {
     /// The declarations of a spelled name in a scope, in order.
     pub fn declared_in(&self, graph: &Graph, scope: ScopeId, word: &[u8]) -> &[FactId]
         requires { Notes self.now graph.now.facts }
@@ -87,6 +89,22 @@ impl Names<'_> {
         ensures { (types : List CxxType) → kept (names_type (graph_at types graph.now)) (looked_up types graph.now.facts result.now) ≡ found_types_by (graph_at types graph.now) scope.0 (spelled word.now) }
     {
         self.innermost(graph, true, scope, word)
+    }
+
+    /// The first declaration of a type that a name means as that of a type (3.4.4).
+    pub fn first_type(&self, graph: &Graph, scope: ScopeId, word: &[u8]) -> Option<FactId>
+        requires { Notes self.now graph.now.facts }
+        ensures { (types : List CxxType) → result ≡ first_number (found_types_by (graph_at types graph.now) scope.0 (spelled word.now)) }
+    {
+        first_type_of(graph, self.found_types(graph, scope, word))
+    }
+
+    /// The first enumeration that a name means as that of a type (3.4.4, 7.1.5.3).
+    pub fn first_enumeration(&self, graph: &Graph, scope: ScopeId, word: &[u8]) -> Option<EnumId>
+        requires { Notes self.now graph.now.facts }
+        ensures { (types : List CxxType) → option_map enumeration_number result ≡ enumeration_in (found_types_by (graph_at types graph.now) scope.0 (spelled word.now)) }
+    {
+        first_enumeration_of(graph, self.found_types(graph, scope, word))
     }
 
     /// What a name is to a reader (3.3.7).

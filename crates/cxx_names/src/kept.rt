@@ -125,7 +125,7 @@ impl Kept {
     /// Keeps what is to be kept of one more fact. An `Err` changes nothing of what is kept.
     pub(crate) fn note(&mut self, one: Entry) -> Result<(), OutOfMemory>
         requires { self.old.enumerations + 1 < 2 ^ 64 }
-        ensures noted { OnOk result (HasKept self.old self.new one.entry) }
+        ensures noted { OnOk result (HasKept self.old self.new one) }
         ensures same { OnErr result (AreSameKept self.old self.new) }
     {
         push_some(&mut self.scopes, one.noted)?;
@@ -144,7 +144,7 @@ impl Kept {
 
     /// Takes back what was kept of the last fact.
     pub(crate) fn take_back(&mut self, one: Entry)
-        ensures { (before : KeptBefore) → HasKept before self.old one.entry → AreSameKept before self.new }
+        ensures { (before : KeptBefore) → HasKept before self.old one → AreSameKept before self.new }
     {
         pop_some(&mut self.scopes, one.noted);
         self.blocks.take_back(one.block);

@@ -1,6 +1,6 @@
 //! Facts by their numbers, and what they are to a lookup.
 
-ghost use Rattle.std.specs.Prelude.{◌≡◌, ◌<◌, length, [], ◌∷◌, List, Some, None, if◌then◌else◌};
+ghost use Rattle.std.specs.Prelude.{◌≡◌, ◌<◌, length, [], ◌∷◌, List, Some, None, if◌then◌else◌, option_map};
 ghost use Rattle.std.specs.List.{slice_get};
 ghost use Rattle.std.specs.Option.{option_copied};
 ghost use Rattle.cxx_model.specs.Facts.Declarations.{declares_at, graph_at};
@@ -8,13 +8,13 @@ ghost use Rattle.cxx_model.specs.Facts.Fitted.{IsEntityBelow, IsGraphBelow};
 ghost use Rattle.cxx_model.specs.Types.Numbers.{type_at};
 ghost use Rattle.cxx_model.specs.Types.Trees.{CxxType};
 ghost use Rattle.cxx_meaning.specs.Lookups.Wanted.{hides_types as hides_a_type, is_function as is_a_function, is_of_functions as is_one_of_functions, names_type as names_a_type};
-ghost use Rattle.cxx_reading.specs.Declaring.{first_function, first_object, is_object as is_an_object, is_same_function as is_one_function};
-ghost use Rattle.cxx_reading.specs.Seen.{any_hides, kind_of_found};
-ghost use Rattle.cxx_names.specs.Looked.{any_wanted, looked_up, wanted_by};
+ghost use Rattle.cxx_reading.specs.Declaring.{enumeration_in, first_function, first_object, is_object as is_an_object, is_same_function as is_one_function};
+ghost use Rattle.cxx_reading.specs.Seen.{any_hides, kept, kind_of_found};
+ghost use Rattle.cxx_names.specs.Looked.{any_wanted, enumeration_number, first_number, looked_up, wanted_by};
 
 use crate::alike::same_parameters;
 use cxx_graph::Graph;
-use cxx_model::{Entity, Fact, FactId, Kind, Pattern, TemplateId, TypeId};
+use cxx_model::{Entity, EnumId, Fact, FactId, Kind, Pattern, TemplateId, TypeId};
 use cxx_types::TypeTable;
 
 pub(crate) fn fact_of(graph: &Graph, number: FactId) -> Option<&Fact>
@@ -202,6 +202,43 @@ pub(crate) fn first_function_of(
 {
     for number in numbers {
         if is_function_at(graph, types, of, *number) {
+            return Some(*number);
+        }
+    }
+    None
+}
+
+fn enumeration_at(graph: &Graph, number: FactId) -> Option<EnumId>
+    ensures { (types : List CxxType) → option_map enumeration_number result ≡ enumeration_in (looked_up types graph.now.facts (number ∷ [])) }
+{
+    match fact_of(graph, number) {
+        Some(fact) => match fact.what {
+            Entity::Enumeration { number } => Some(number),
+            _ => None,
+        },
+        None => None,
+    }
+}
+
+/// The first enumeration among some declarations.
+#[tactic(auto, using(crate::proofs::Looking::enumeration_more))]
+pub(crate) fn first_enumeration_of(graph: &Graph, numbers: &[FactId]) -> Option<EnumId>
+    ensures { (types : List CxxType) → option_map enumeration_number result ≡ enumeration_in (looked_up types graph.now.facts numbers.now) }
+{
+    for number in numbers {
+        if let Some(found) = enumeration_at(graph, *number) {
+            return Some(found);
+        }
+    }
+    None
+}
+
+/// The first of some declarations that names a type.
+pub(crate) fn first_type_of(graph: &Graph, numbers: &[FactId]) -> Option<FactId>
+    ensures { (types : List CxxType) → result ≡ first_number (kept (names_a_type (graph_at types graph.now)) (looked_up types graph.now.facts numbers.now)) }
+{
+    for number in numbers {
+        if is_wanted_at(graph, true, *number) {
             return Some(*number);
         }
     }

@@ -77,7 +77,7 @@ fn make(types: &mut TypeTable, named: Option<NamedType>) -> Result<TypeId, OutOf
     }
 }
 
-impl Names<'_> {
+impl Names {
     /// The type that a name means where it stands; `void` for one that names no type.
     pub fn type_of(
         &self,

@@ -3,10 +3,11 @@ ghost use Rattle.cxx_model.specs.Facts.Declarations.{facts_at, graph_at};
 ghost use Rattle.cxx_model.specs.Facts.Graph.{InRange, appended, enumerations as enumerations_in, scopes as scopes_in};
 ghost use Rattle.cxx_model.specs.Types.Trees.{CxxType};
 ghost use Rattle.cxx_reading.specs.Declaring.{enumeration_count, scope_count};
-ghost use Rattle.cxx_names.specs.Index.{AreSameNames, HasNoted, IsSpelledBy, Notes};
+ghost use Rattle.cxx_names.specs.Index.{AreSameNames, HasNoted, Notes};
+ghost use Rattle.cxx_names.specs.Words.{IsNumbered};
 ghost use Rattle.cxx_names.specs.declared.names.Names.{Names as NamesBefore};
 
-use crate::entry::Entry;
+use crate::entry::{Entry, Spelling};
 use crate::kept::Kept;
 use crate::words::Words;
 use cxx_graph::{AddFault, Graph};
@@ -19,14 +20,14 @@ const LIMIT: usize = 2_097_152;
 
 /// What is kept beside the facts of a graph, so that no question about names goes over them all.
 #[derive(Drop)]
-pub struct Names<'a> {
-    pub(crate) words: Words<'a>,
+pub struct Names {
+    pub(crate) words: Words,
     pub(crate) kept: Kept,
 }
 
-impl<'a> Names<'a> {
+impl Names {
     /// Of no facts. What is looked up is hashed by the key.
-    pub fn new(alloc: Global, key: Key) -> Names<'a>
+    pub fn new(alloc: Global, key: Key) -> Names
         ensures { Notes result [] }
     {
         Names {
@@ -36,9 +37,9 @@ impl<'a> Names<'a> {
     }
 
     // Keeps what is to be kept of one more fact. An `Err` changes nothing of what is kept.
-    fn note(&mut self, one: Entry<'a>) -> Result<(), OutOfMemory>
+    fn note(&mut self, one: Entry) -> Result<(), OutOfMemory>
         requires { self.old.kept.enumerations + 1 < 2 ^ 64 }
-        ensures noted { OnOk result (HasNoted self.old self.new one.entry) }
+        ensures noted { OnOk result (HasNoted self.old self.new one) }
         ensures same { OnErr result (AreSameNames self.old self.new) }
     {
         self.words.add(one.name)?;
@@ -50,8 +51,8 @@ impl<'a> Names<'a> {
     }
 
     // Takes back what was kept of the last fact.
-    fn take_back(&mut self, one: Entry<'a>)
-        ensures { (before : NamesBefore) → HasNoted before self.old one.entry → AreSameNames before self.new }
+    fn take_back(&mut self, one: Entry)
+        ensures { (before : NamesBefore) → HasNoted before self.old one → AreSameNames before self.new }
     {
         self.words.take_back(one.name);
         self.kept.take_back(one);
@@ -80,11 +81,19 @@ impl<'a> Names<'a> {
         EnumId(self.kept.enumerations as u32)
     }
 
-    /// Appends a fact to a graph, and keeps what is to be kept of it. The word is how its name is spelled, if it is. An
-    /// `Err` changes nothing.
-    pub fn add(&mut self, graph: &mut Graph, fact: Fact, word: &'a [u8]) -> Result<FactId, AddFault>
+    // The spelled name that a fact declares, if it does. Its spelling is met.
+    fn meet(&mut self, graph: &Graph, fact: &Fact) -> Result<Option<Spelling>, OutOfMemory>
+        requires { Notes self.old graph.now.facts }
+        ensures noted { Notes self.new graph.now.facts }
+        ensures number { IfOk result (IsNumbered self.new.words.spellings.keys fact.now) }
+    {
+        let _ = graph;
+        self.words.meet(fact)
+    }
+
+    /// Appends a fact to a graph, and keeps what is to be kept of it. An `Err` changes nothing.
+    pub fn add(&mut self, graph: &mut Graph, fact: Fact) -> Result<FactId, AddFault>
         requires range { InRange (appended graph.old fact) }
-        requires spelled { IsSpelledBy fact.name word.now }
         requires noted { Notes self.old graph.old.facts }
         ensures number { IfOk result (λ number. number.0 ≡ length graph.old.facts) }
         ensures appended { OnOk result (graph.new ≡ appended graph.old fact) }
@@ -96,7 +105,8 @@ impl<'a> Names<'a> {
         if (length as usize).saturating_add(graph.class_count()) == LIMIT {
             return Err(AddFault::Limit);
         }
-        let one = Entry::of(&fact, word, FactId(length), self.scopes(graph).0);
+        let name = self.meet(graph, &fact)?;
+        let one = Entry::of(&fact, name, FactId(length), self.scopes(graph).0);
         self.note(one)?;
         match graph.add(fact) {
             Ok(number) => Ok(number),

@@ -1,74 +1,89 @@
-ghost use Rattle.std.specs.Prelude.{◌≡◌, [], OnOk, OnErr};
-ghost use Rattle.cxx_names.specs.Filed.{row as row_of};
-ghost use Rattle.cxx_names.specs.Words.{AreSameWords, HasWord, IsKnownBy, IsSound, KnowsMore, same_spelling};
+ghost use Rattle.std.specs.Prelude.{◌≡◌, [], Some, IfOk, OnOk, OnErr};
+ghost use Rattle.cxx_names.specs.Words.{AreSameWords, HasMet, HasWord, IsNumbered, IsSound, KnowsMore, number_among, word_row};
 ghost use Rattle.cxx_names.specs.declared.words.Words.{Words as WordsBefore};
 
-use crate::entry::Spelling;
+use crate::entry::{Spelling, declared_word};
 use crate::filed::Filed;
 use cxx_hash::Key;
-use cxx_model::{FactId, OutOfMemory, ScopeId};
+use cxx_model::{Fact, FactId, OutOfMemory, ScopeId};
 use indexmap::IndexSet;
 use std::alloc::Global;
 
 /// The declarations of each spelled name in each scope.
 #[derive(Drop)]
-pub(crate) struct Words<'a> {
+pub(crate) struct Words {
     // Each spelling that was met, once.
-    pub(crate) spellings: IndexSet<&'a [u8], Key>,
-    pub(crate) rows: Filed<Spelling<'a>, FactId>,
+    pub(crate) spellings: IndexSet<Vec<u8>, Key>,
+    pub(crate) rows: Filed<Spelling, FactId>,
+    alloc: Global,
 }
 
-// Knows the spelling of a declaration.
-fn meet<'a>(
-    spellings: &mut IndexSet<&'a [u8], Key>,
-    name: Option<(Spelling<'a>, FactId)>,
-) -> Result<(), OutOfMemory>
+// The number of a spelling, which is met now if it was not before.
+fn meet(
+    spellings: &mut IndexSet<Vec<u8>, Key>,
+    alloc: Global,
+    word: &[u8],
+) -> Result<usize, OutOfMemory>
     ensures more { KnowsMore spellings.old.keys spellings.new.keys }
-    ensures known { OnOk result (IsKnownBy spellings.new.keys name.entry) }
+    ensures number { IfOk result (λ number. number_among spellings.new.keys word.now ≡ Some number) }
 {
-    if let Some(one) = name {
-        spellings.insert(one.0.word)?;
+    if let Some(number) = spellings.get_index_of(word) {
+        return Ok(number);
     }
-    Ok(())
+    let (number, _) = spellings.insert_full(Vec::from_slice(alloc, word)?)?;
+    Ok(number)
 }
 
-impl<'a> Words<'a> {
-    pub(crate) fn new(alloc: Global, key: Key) -> Words<'a>
+impl Words {
+    pub(crate) fn new(alloc: Global, key: Key) -> Words
         ensures rows { result.rows.rows.entries ≡ [] }
         ensures sound { IsSound result }
     {
         Words {
             spellings: IndexSet::with_hasher(alloc, key),
             rows: Filed::new(alloc, key),
+            alloc,
         }
     }
 
     /// The declarations of a name in a scope, in order.
     pub(crate) fn row(&self, scope: ScopeId, word: &[u8]) -> &[FactId]
-        requires { IsSound self.now }
-        ensures { result.now ≡ row_of same_spelling self.now.rows.rows.entries (record { scope = scope; word = word.entry }) }
+        ensures { result.now ≡ word_row self.now scope word.now }
     {
-        match self.spellings.get(word) {
-            Some(known) => self.rows.row(&Spelling {
-                scope,
-                word: *known,
-            }),
+        match self.spellings.get_index_of(word) {
+            Some(number) => self.rows.row(&Spelling { scope, number }),
             None => &[],
         }
     }
 
+    /// The spelled name that a fact declares, if it does, in its scope. Its spelling is met.
+    pub(crate) fn meet(&mut self, fact: &Fact) -> Result<Option<Spelling>, OutOfMemory>
+        ensures met { HasMet self.old self.new }
+        ensures number { IfOk result (IsNumbered self.new.spellings.keys fact.now) }
+    {
+        match declared_word(fact) {
+            Some(word) => {
+                let number = meet(&mut self.spellings, self.alloc, word)?;
+                Ok(Some(Spelling {
+                    scope: fact.scope,
+                    number,
+                }))
+            }
+            None => Ok(None),
+        }
+    }
+
     /// Files one more declaration, where it has a spelled name. An `Err` changes nothing of what is filed.
-    pub(crate) fn add(&mut self, name: Option<(Spelling<'a>, FactId)>) -> Result<(), OutOfMemory>
-        ensures more { OnOk result (HasWord self.old self.new name.entry) }
+    pub(crate) fn add(&mut self, name: Option<(Spelling, FactId)>) -> Result<(), OutOfMemory>
+        ensures more { OnOk result (HasWord self.old self.new name) }
         ensures same { OnErr result (AreSameWords self.old self.new) }
     {
-        meet(&mut self.spellings, name)?;
         self.rows.add(name)
     }
 
     /// Takes back what was filed last.
-    pub(crate) fn take_back(&mut self, name: Option<(Spelling<'a>, FactId)>)
-        ensures { (before : WordsBefore) → HasWord before self.old name.entry → AreSameWords before self.new }
+    pub(crate) fn take_back(&mut self, name: Option<(Spelling, FactId)>)
+        ensures { (before : WordsBefore) → HasWord before self.old name → AreSameWords before self.new }
     {
         self.rows.take_back(name);
     }

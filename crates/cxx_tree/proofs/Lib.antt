@@ -1,4 +1,6 @@
 pub mod Arenas
 pub mod Calls
+pub mod Graphs
 pub mod Keeping
 pub mod Steps
+pub mod Wholes

@@ -1,3 +1,5 @@
+pub mod Answered
 pub mod Arena
 pub mod Held
 pub mod Later
+pub mod Whole

@@ -1,26 +1,39 @@
-ghost use Rattle.std.specs.Prelude.{ℕ, List, ◌≡◌, ◌<◌, length, Ok, Err, Some, [], ◌∷◌, IfOk, OnOk};
+ghost use Rattle.std.specs.Prelude.{ℕ, List, ◌≡◌, ◌<◌, ◌++◌, length, Ok, Err, Some, [], ◌∷◌, IfOk, OnOk, OnErr};
 ghost use Rattle.std.specs.List.{slice_get};
-ghost use Rattle.cxx_model.specs.Facts.Fitted.{Fitted};
-ghost use Rattle.cxx_model.specs.Facts.Graph.{scopes};
+ghost use Rattle.std.specs.Option.{option_copied};
+ghost use Rattle.cxx_model.specs.Facts.Declarations.{fact_at, spelled};
+ghost use Rattle.cxx_model.specs.Facts.Fitted.{Fitted, IsFactBelow};
+ghost use Rattle.cxx_model.specs.Facts.Graph.{IsUnitScope, MayFollow, appended, enumerations, scopes};
 ghost use Rattle.cxx_model.specs.Types.Numbers.{AreTypesBelow, IsBoundBelow, bound_at, type_at, types_at};
 ghost use Rattle.cxx_model.specs.Types.Trees as definition;
 ghost use Rattle.cxx_model.specs.Types.Trees.{CxxType, decayed, fundamental};
-ghost use Rattle.cxx_tree.specs.Arena.{AreNodesBelow, AreTreesBelow, HaveEarlierChildren, IsNodeBelow, tree_over};
-ghost use Rattle.cxx_tree.specs.Held.{AreCallsBelow, ArePiecesBelow, call_at, meaning, tree, trees};
+ghost use Rattle.cxx_names.specs.Clashes.{IsPlain, NoneBrought};
+ghost use Rattle.cxx_defined.specs.Defined.{Defines, IsOwn};
+ghost use Rattle.cxx_names.specs.Index.{Notes};
 ghost use Rattle.cxx_types.specs.Parameters.{adjusted_types};
 ghost use Rattle.cxx_reading.specs.Declarators.{no_cv};
-ghost use Rattle.cxx_reading.specs.Declaring.{at_scope};
+ghost use Rattle.cxx_reading.specs.Declaring as declaring;
+ghost use Rattle.cxx_reading.specs.Declaring.{added, at_scope, in_enumeration, parameters_scope, with_definition};
 ghost use Rattle.cxx_reading.specs.Initializers.{with_call};
+ghost use Rattle.cxx_reading.specs.Seen.{found, type_in};
+ghost use Rattle.cxx_reading.specs.State.{first_state};
 ghost use Rattle.cxx_reading.specs.Units.{with_part};
-ghost use Rattle.cxx_tree.specs.Arena.{bound_of};
+ghost use Rattle.cxx_tree.specs.Answered.{AnyKnown, IsAnswered, IsFactKnown, fact_number, scope_number};
+ghost use Rattle.cxx_tree.specs.Arena.{AreNodesBelow, AreTreesBelow, HaveEarlierChildren, IsNodeBelow, bound_of, tree_over};
+ghost use Rattle.cxx_tree.specs.Held.{AreCallsBelow, ArePiecesBelow, call_at, enumeration_of_option, meaning, numbers_at, tree, trees};
 ghost use Rattle.cxx_tree.specs.Later.{Later, MakesTree, MakesType};
+ghost use Rattle.cxx_tree.specs.Whole.{parameters_fact, stopped_as};
 
 use crate::kept::{BindingList, Decided, DecidedList, FallbackList, Piece, PieceList};
 use crate::trees::Trees;
-use cxx_graph::Graph;
+use cxx_defined::Definitions;
+use cxx_graph::{AddFault, Graph};
+use cxx_hash::Key;
 use cxx_model::{
-    Base, Bound, Cv, EnumId, FactId, FactList, Listed, Node, OutOfMemory, ScopeId, TreeId, TypeId,
+    Access, Base, Bound, Cv, Entity, EnumId, Fact, FactId, LimitKind, Listed, Name, Node,
+    OutOfMemory, Place, ScopeId, ScopeKind, Stop, TreeId, TypeId,
 };
+use cxx_names::Names;
 use cxx_types::TypeTable;
 use std::alloc::Global;
 use std::marker::Model;
@@ -34,10 +47,14 @@ const MOST_CALLS: usize = 4_294_967_295;
 pub struct State {
     graph: Graph,
     types: TypeTable,
+    names: Names,
+    definitions: Definitions,
+    // Where the scopes stand, in order.
+    openings: Vec<Place>,
     trees: Trees,
     scope: ScopeId,
     enumeration: Option<EnumId>,
-    defined: FactList,
+    defined: Vec<FactId>,
     fallbacks: FallbackList,
     calls: DecidedList,
     pieces: PieceList,
@@ -50,15 +67,46 @@ impl Model for State {
     ghost use Rattle.cxx_model.specs.Types.Code.{coded_type};
     ghost use Rattle.cxx_model.specs.contracts.types.Formula as formula;
     ghost use Rattle.cxx_model.specs.contracts.types.TypeTree as tree;
-    ghost use Rattle.cxx_tree.specs.Held.{Held, IsSound};
+    ghost use Rattle.cxx_tree.specs.Held.{Held};
+    ghost use Rattle.cxx_tree.specs.Whole.{IsWhole};
 
     ghost Value = { Held };
 
     ghost coded = { Prim.hlevel (codes, coded_type, formula.the_row.coded, tree.the_row.coded) };
 
-    ghost view = { λ state. record { graph = state.graph; types = state.types; nodes = state.trees; scope = state.scope; enumeration = state.enumeration; defined = state.defined; fallbacks = state.fallbacks; calls = state.calls; pieces = state.pieces; uses = state.uses } };
+    ghost view = { λ state. record { graph = state.graph; types = state.types; nodes = state.trees; scope = state.scope; enumeration = state.enumeration; defined = state.defined.items; fallbacks = state.fallbacks; calls = state.calls; pieces = state.pieces; uses = state.uses } };
 
-    ghost invariant = { λ state. IsSound (record { graph = state.graph; types = state.types; nodes = state.trees; scope = state.scope; enumeration = state.enumeration; defined = state.defined; fallbacks = state.fallbacks; calls = state.calls; pieces = state.pieces; uses = state.uses }) };
+    ghost invariant = { λ state. IsWhole state.names state.definitions state.openings.items (record { graph = state.graph; types = state.types; nodes = state.trees; scope = state.scope; enumeration = state.enumeration; defined = state.defined.items; fallbacks = state.fallbacks; calls = state.calls; pieces = state.pieces; uses = state.uses }) };
+}
+
+fn place_at(places: &[Place], scope: ScopeId) -> Option<&Place>
+    ensures { option_copied result ≡ slice_get places.now scope.0 }
+{
+    places.get(scope.0 as usize)
+}
+
+fn stopped(added: Result<FactId, AddFault>) -> Result<FactId, Stop>
+    ensures { result ≡ stopped_as added }
+{
+    match added {
+        Ok(number) => Ok(number),
+        Err(AddFault::Limit) => Err(Stop::Limit(LimitKind::Facts)),
+        Err(AddFault::OutOfMemory) => Err(Stop::OutOfMemory),
+    }
+}
+
+// The first fact of a graph.
+fn begin(graph: &mut Graph, names: &mut Names, unit: Fact) -> Result<(), OutOfMemory>
+    requires empty { graph.old ≡ record { facts = []; classes = []; patterns = [] } }
+    requires noted { Notes names.old [] }
+    requires unit { IsUnitScope unit }
+    ensures added { OnOk result (graph.new ≡ record { facts = unit ∷ []; classes = []; patterns = [] }) }
+    ensures noted { Notes names.new graph.new.facts }
+{
+    match names.add(graph, unit) {
+        Ok(_) => Ok(()),
+        Err(_) => Err(OutOfMemory),
+    }
 }
 
 fn bound_with(bound: Option<u64>) -> Bound
@@ -72,12 +120,70 @@ fn bound_with(bound: Option<u64>) -> Bound
 }
 
 impl State {
+    /// The state in which a reading begins. What is looked up is hashed by the key.
+    pub fn new(alloc: Global, key: Key) -> Result<State, OutOfMemory>
+        ensures { IfOk result (λ state. meaning state ≡ first_state) }
+    {
+        let place = Place { line: 1, column: 1 };
+        let mut openings = Vec::new(alloc);
+        openings.push(place)?;
+        let mut graph = Graph::new(alloc, key);
+        let mut names = Names::new(alloc, key);
+        let unit = Fact {
+            place,
+            scope: ScopeId(0),
+            name: Name::Unnamed,
+            access: Access::Public,
+            what: Entity::Scope {
+                parent: None,
+                kind: ScopeKind::Space,
+            },
+        };
+        begin(&mut graph, &mut names, unit)?;
+        Ok(State {
+            graph,
+            types: TypeTable::new(alloc, key),
+            names,
+            definitions: Definitions::new(alloc, key),
+            openings,
+            trees: Trees::new(alloc),
+            scope: ScopeId(0),
+            enumeration: None,
+            defined: Vec::new(alloc),
+            fallbacks: Listed::new(alloc),
+            calls: Listed::new(alloc),
+            pieces: Listed::new(alloc),
+            uses: Listed::new(alloc),
+            alloc,
+        })
+    }
+
+    /// The allocator of what the state holds.
+    pub fn alloc(&self) -> Global {
+        self.alloc
+    }
+
     /// What is declared so far. The types that it names by number are those of the table.
     pub fn graph(&self) -> &Graph
         ensures is { result.now ≡ (self.now).graph }
         ensures fitted { Fitted (self.now).graph (self.now).types }
     {
         &self.graph
+    }
+
+    /// The index of the names of what is declared so far.
+    pub fn names(&self) -> &Names
+        ensures noted { Notes result.now (self.now).graph.facts }
+        ensures own { NoneBrought (self.now).graph.facts }
+    {
+        &self.names
+    }
+
+    /// The index of the definitions so far.
+    pub fn definitions(&self) -> &Definitions
+        ensures { Defines result.now (self.now).graph.facts (numbers_at (self.now).defined) }
+    {
+        &self.definitions
     }
 
     /// The types that were made so far.
@@ -146,6 +252,98 @@ impl State {
         self.calls.as_slice()
     }
 
+    /// Where a scope stands (3.3).
+    pub fn place_of_scope(&self, scope: ScopeId) -> Place
+        ensures { result ≡ declaring.place_of_scope (meaning self.now).graph scope.0 }
+    {
+        match place_at(self.openings.as_slice(), scope) {
+            Some(place) => *place,
+            None => Place { line: 0, column: 0 },
+        }
+    }
+
+    /// Adds a declaration (3.3), where there is room for one: its number.
+    pub fn add(&mut self, fact: Fact) -> Result<FactId, Stop>
+        requires follows { MayFollow (self.old).graph fact }
+        requires below { IsFactBelow (length (self.old).types) fact }
+        requires plain { IsPlain fact }
+        ensures answered { IsAnswered fact_number IsFactKnown self.old self.new result (added (fact_at (self.old).types fact) (meaning self.old)) }
+        ensures held { OnOk result (self.new ≡ record self.old { graph = appended (self.old).graph fact }) }
+        ensures unchanged { OnErr result (self.new ≡ self.old) }
+    {
+        self.graph.in_range();
+        let added = self.names.add(&mut self.graph, fact);
+        stopped(added)
+    }
+
+    // Adds a scope of parameters in the scope where the reader stands.
+    fn add_parameters(&mut self, place: Place) -> Result<FactId, Stop>
+        requires { place ≡ declaring.place_of_scope (meaning self.old).graph (self.old).scope.0 }
+        ensures answered { IsAnswered fact_number IsFactKnown self.old self.new result (added (parameters_scope (meaning self.old)) (meaning self.old)) }
+        ensures held { OnOk result (self.new ≡ record self.old { graph = appended (self.old).graph (parameters_fact place (self.old).scope) }) }
+    {
+        let scope = self.scope;
+        let fact = Fact {
+            place,
+            scope,
+            name: Name::Unnamed,
+            access: Access::Public,
+            what: Entity::Scope {
+                parent: Some(scope),
+                kind: ScopeKind::Parameters,
+            },
+        };
+        self.graph.in_range();
+        self.openings.reserve(1)?;
+        let number = stopped(self.names.add(&mut self.graph, fact))?;
+        self.openings.push(place)?;
+        Ok(number)
+    }
+
+    /// A list of parameters begins (3.3.2), where there is room for its scope. The reader stands in that then.
+    pub fn enter_parameters(&mut self) -> Result<ScopeId, Stop>
+        ensures { IsAnswered scope_number AnyKnown self.old self.new result (declaring.enter_parameters (meaning self.old)) }
+    {
+        let number = self.names.scopes(&self.graph);
+        let place = self.place_of_scope(self.scope);
+        self.add_parameters(place)?;
+        self.set_scope(number);
+        Ok(number)
+    }
+
+    /// A list of parameters ends: the reader stands in the scope that holds its scope (3.3.2).
+    pub fn leave_parameters(&mut self)
+        ensures later { Later self.old self.new }
+        ensures is { declaring.leave_parameters (meaning self.old) ≡ Ok (tt, meaning self.new) }
+    {
+        self.graph.in_range();
+        let outside = self.names.parent(&self.graph, self.scope);
+        self.set_scope(outside);
+    }
+
+    /// Notes that a declaration is a definition (3.2). An `Err` changes nothing.
+    pub fn add_definition(&mut self, number: FactId) -> Result<(), OutOfMemory>
+        requires { IsOwn (slice_get (self.old).graph.facts number.0) }
+        ensures held { OnOk result (self.new ≡ record self.old { defined = (self.old).defined ++ number ∷ [] }) }
+        ensures unchanged { OnErr result (self.new ≡ self.old) }
+        ensures later { Later self.old self.new }
+        ensures is { OnOk result (meaning self.new ≡ with_definition number.0 (meaning self.old)) }
+    {
+        self.defined.reserve(1)?;
+        self.definitions.add(&self.graph, number)?;
+        self.defined.push(number)?;
+        Ok(())
+    }
+
+    /// Puts the reader into the list of an enumeration, or out of it (7.2).
+    pub fn set_enumeration(&mut self, number: Option<EnumId>)
+        ensures held { self.new ≡ record self.old { enumeration = number } }
+        ensures later { Later self.old self.new }
+        ensures is { meaning self.new ≡ in_enumeration (enumeration_of_option number) (meaning self.old) }
+    {
+        self.enumeration = number;
+    }
+
     /// Keeps a call that was decided (13.3). It answers its index among the calls.
     pub fn add_call(&mut self, call: Decided) -> Result<u32, OutOfMemory>
         requires { AreCallsBelow (length (self.old).types) (call ∷ []) }
@@ -182,8 +380,7 @@ impl State {
         requires { scope.0 < scopes (self.old).graph.facts }
         ensures later { Later self.old self.new }
         ensures is { meaning self.new ≡ at_scope scope.0 (meaning self.old) }
-        ensures held { (self.new).scope ≡ scope }
-        ensures graph { (self.new).graph ≡ (self.old).graph }
+        ensures held { self.new ≡ record self.old { scope = scope } }
     {
         self.scope = scope;
     }
@@ -195,6 +392,23 @@ impl State {
         ensures { MakesTree self.old self.new result (tree_over (self.old).types (trees self.old) node) }
     {
         self.trees.push(node)
+    }
+
+    /// An enumeration (7.2).
+    pub fn enumeration_type(&mut self, number: EnumId) -> Result<TypeId, OutOfMemory>
+        requires { number.0 < enumerations (self.old).graph.facts }
+        ensures { MakesType self.old self.new result (definition.enumeration number.0) }
+    {
+        self.types.enumeration(number)
+    }
+
+    /// The type that a name means where the reader stands (7.1.3); `void` for one that names no type.
+    pub fn named_type(&mut self, word: &[u8]) -> Result<TypeId, OutOfMemory>
+        ensures { MakesType self.old self.new result (type_in (found (meaning self.old).graph (self.old).scope.0 (spelled word.now))) }
+    {
+        self.graph.in_range();
+        self.names
+            .type_of(&self.graph, &mut self.types, self.scope, word)
     }
 
     /// A fundamental type (3.9.1).

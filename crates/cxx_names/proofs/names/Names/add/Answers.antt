@@ -8,7 +8,7 @@ use Rattle.cxx_names.proofs.names.Names.add.Goals as goal
 pub note-requires : goal.note-requires
 note-requires c =
     let most : enumerations c.args.graph.now.facts ≤ length c.args.graph.now.facts = enumerations_below c.args.graph.now.facts in
-    let kept : c.args.self.now.kept.enumerations ≡ enumerations c.args.graph.now.facts = c.requires.noted.kept.enumerations in
+    let kept : c.meet.new.self.kept.enumerations ≡ enumerations c.args.graph.now.facts = c.meet.ensures.noted.kept.enumerations in
     let count : c.length-length.result ≡ length c.args.graph.now.facts = c.length-length.ensures.count in
     omega arith
 
@@ -16,4 +16,4 @@ pub returns-in-Ok-clause-noted : goal.returns-in-Ok-clause-noted
 returns-in-Ok-clause-noted c =
     let of = c.of-one.ensures in
     subst (λ g. Notes c.note.new.self g.facts) (sym c.in-Ok.ensures.appended)
-    (notes_more c.args.self.now c.note.new.self c.of-one.result c.args.graph.now.facts c.args.fact c.args.word (record { 0 = c.length-length.result }) c.scopes.result.0 c.length-length.ensures.count (c.scopes.ensures.kept ∙ ap length c.requires.noted.kept.scopes) c.requires.spelled of.name of.noted of.block of.value of.enumeration c.requires.noted c.in_ok-note.ensures.noted)
+    (notes_more c.meet.new.self c.note.new.self c.of-one.result c.args.graph.now.facts c.args.fact c.in_ok-name.name (record { 0 = c.length-length.result }) c.scopes.result.0 c.length-length.ensures.count (c.scopes.ensures.kept ∙ ap length c.meet.ensures.noted.kept.scopes) c.in_ok-name.ensures.number of.name of.noted of.block of.value of.enumeration c.meet.ensures.noted c.in_ok-note.ensures.noted)

@@ -4,7 +4,7 @@ use Rattle.cxx_names.proofs.Looking.{declared_looked, declared_numbers}
 use Rattle.cxx_names.proofs.names.Names.declared_in.Goals as goal
 
 pub returns-clause-numbers : goal.returns-clause-numbers
-returns-clause-numbers c = λ types. declared_numbers types c.args.graph.now c.args.scope.0 (spelled c.args.word.now) c.row.result.now (c.row.ensures ∙ c.requires.words (record { scope = c.args.scope; word = c.args.word }) types)
+returns-clause-numbers c = λ types. declared_numbers types c.args.graph.now c.args.scope.0 (spelled c.args.word.now) c.row.result.now (c.row.ensures ∙ c.requires.words c.args.scope c.args.word.now types)
 
 pub returns-clause-facts : goal.returns-clause-facts
-returns-clause-facts c = λ types. declared_looked types c.args.graph.now c.args.scope.0 (spelled c.args.word.now) c.row.result.now (c.row.ensures ∙ c.requires.words (record { scope = c.args.scope; word = c.args.word }) types)
+returns-clause-facts c = λ types. declared_looked types c.args.graph.now c.args.scope.0 (spelled c.args.word.now) c.row.result.now (c.row.ensures ∙ c.requires.words c.args.scope c.args.word.now types)

@@ -1,0 +1,10 @@
+use Rattle.std.proofs.Common.{◌≡◌, List, drop}
+use Rattle.cxx_model.specs.Facts.Declarations.{graph_at}
+use Rattle.cxx_model.specs.Types.Trees.{CxxType}
+use Rattle.cxx_meaning.specs.Lookups.Wanted.{names_type}
+use Rattle.cxx_reading.specs.Seen.{kept}
+use Rattle.cxx_names.specs.Looked.{first_number, looked_up}
+use Rattle.cxx_names.proofs.looked.first_type_of.Given as goal
+
+abbrev pub invariant-loop-number : goal.invariant-loop-number
+invariant-loop-number l = (types : List CxxType) → first_number (kept (names_type (graph_at types l.graph)) (looked_up types l.graph.facts (drop l.number-index l.numbers))) ≡ first_number (kept (names_type (graph_at types l.graph)) (looked_up types l.graph.facts l.numbers))

@@ -1,0 +1,383 @@
+-- What is kept beside a state, after a step of it.
+use Rattle.std.specs.Prelude.{ℕ, ◌≡◌, ◌<◌, ◌+◌, ◌↔◌, Bool, true, false, if◌then◌else◌, List, [], ◌∷◌, ◌++◌, length, Option, Some, None, Result, Ok, Err, refl, nat_eq, IfOk, OnOk, OnErr}
+use Rattle.std.specs.List.{slice_get}
+use Rattle.std.proofs.Common.{ap, sym, subst, ◌∙◌, arith, length-append, append-nil}
+use Rattle.std.proofs.lemmas.Bool.{eq-eqb, eqb-true}
+use Rattle.cxx_defined.proofs.Owning.{defines_later}
+use Rattle.cxx_defined.specs.Defined.{Defines}
+use Rattle.cxx_defined.specs.declared.defined.Definitions.{Definitions}
+use Rattle.cxx_graph.specs.declared.graph.AddFault.{AddFault}
+use Rattle.cxx_graph.specs.declared.graph.AddFault.TheVariants as fault
+use Rattle.cxx_graph.proofs.Fitting.{fitted-fact}
+use Rattle.cxx_graph.proofs.GraphRange.{appended-in-range}
+use Rattle.cxx_model.proofs.TypeTrees.{Keeps-refl}
+use Rattle.cxx_model.specs.declared.facts.Entity.{Entity}
+use Rattle.cxx_model.specs.declared.facts.Entity.TheVariants as entity
+use Rattle.cxx_model.specs.declared.facts.Fact.{Fact}
+use Rattle.cxx_model.specs.declared.facts.Pattern.{Pattern}
+use Rattle.cxx_model.specs.declared.facts.ScopeKind.TheVariants.{Parameters}
+use Rattle.cxx_model.specs.declared.facts.Specialisation.{Specialisation}
+use Rattle.cxx_model.specs.declared.memory.OutOfMemory.{OutOfMemory}
+use Rattle.cxx_model.specs.declared.place.Place.{Place}
+use Rattle.cxx_model.specs.declared.stop.LimitKind.TheVariants.{Facts}
+use Rattle.cxx_model.specs.declared.stop.Stop.{Stop}
+use Rattle.cxx_model.specs.declared.stop.Stop.TheVariants as stop
+use Rattle.cxx_model.specs.declared.types.EnumId.{EnumId}
+use Rattle.cxx_model.specs.declared.types.FactId.{FactId}
+use Rattle.cxx_model.specs.declared.types.ScopeId.{ScopeId}
+use Rattle.cxx_model.specs.declared.types.TypeId.{TypeId}
+use Rattle.cxx_model.specs.Facts.Conflicts.{is_using}
+use Rattle.cxx_model.specs.Stops.{Answer, Limited, Stops, ◌>>=◌}
+use Rattle.cxx_model.specs.Types.Trees.{CxxType, enumeration}
+use Rattle.cxx_model.specs.Facts.Declarations.{CxxFact, classes_at, declares_at, fact_at, facts_at, graph_at, patterns_at, spelled}
+use Rattle.cxx_model.specs.Facts.Fitted.{IsFactBelow}
+use Rattle.cxx_model.specs.Facts.Graph.{Graph, InRange, IsEntityInRange, IsTypeInRange, MayFollow, appended, enumerations, scopes}
+use Rattle.cxx_names.proofs.Clashing.{none_brought_more, plain_not_brought}
+use Rattle.cxx_names.specs.Clashes.{IsPlain, IsPlainEntity, NoneBrought}
+use Rattle.cxx_names.specs.declared.names.Names.{Names}
+use Rattle.cxx_names.specs.Index.{Notes}
+use Rattle.cxx_reading.specs.Declaring.{added, at_scope, enter_parameters, entered_as, in_enumeration, leave_parameters, parameters_scope, place_of_scope, scope_count, with_definition, with_fact}
+use Rattle.cxx_reading.specs.Seen.{found, parent_of, type_in}
+use Rattle.cxx_reading.specs.State.{CxxState, first_state}
+use Rattle.cxx_model.specs.declared.tree.Node.{Node}
+use Rattle.cxx_model.specs.Text.Lexemes.{first_place}
+use Rattle.cxx_tree.specs.Answered.{AnyKnown, IsAnswered, IsFactKnown, fact_number, scope_number}
+use Rattle.cxx_tree.specs.Held.{Held, IsSound, calls_at, enumeration_of_option, fallbacks_at, here_in, meaning, numbers_at, pieces_at, trees, uses_at}
+use Rattle.cxx_tree.specs.Later.{Later, MakesType}
+use Rattle.cxx_tree.specs.declared.kept.Binding.{Binding}
+use Rattle.cxx_tree.specs.declared.kept.Decided.{Decided}
+use Rattle.cxx_tree.specs.declared.kept.Fallback.{Fallback}
+use Rattle.cxx_tree.specs.declared.kept.Piece.{Piece}
+use Rattle.cxx_tree.specs.Whole.{IsWhole, parameters_fact, place_by, scope_places, stopped_as, unit_fact, unit_graph}
+use Rattle.cxx_tree.proofs.Arenas.{KeepsTrees_refl}
+use Rattle.cxx_tree.proofs.Graphs.{facts_more, length_classes, length_facts, opened_at, opened_nowhere, parent_there, places_more, scope_next, scopes_later}
+use Rattle.cxx_tree.proofs.Steps.{Later_refl, Later_trans, makes_type}
+use Rattle.cxx_types.specs.Makes as table
+
+-- the graph and what is defined stay
+pub still : (names : Names) (definitions : Definitions) (openings : List Place) (held new : Held) → IsWhole names definitions openings held → new.graph ≡ held.graph → new.defined ≡ held.defined → IsSound new → IsWhole names definitions openings new
+still names definitions openings held new whole same defined sound = record {
+  sound = sound;
+  noted = subst (λ (g : Graph). Notes names g.facts) (sym same) whole.noted;
+  own = subst (λ (g : Graph). NoneBrought g.facts) (sym same) whole.own;
+  defines = subst (λ ds. Defines definitions new.graph.facts (numbers_at ds)) (sym defined) (subst (λ (g : Graph). Defines definitions g.facts (numbers_at held.defined)) (sym same) whole.defines);
+  opened = subst (λ (g : Graph). openings ≡ scope_places g.facts) (sym same) whole.opened;
+}
+
+-- ---- one more fact
+
+pub sound_fact : (held : Held) (fact : Fact) → IsSound held → IsFactBelow (length held.types) fact → IsSound (record held { graph = appended held.graph fact })
+sound_fact held fact sound below = record {
+  fitted = fitted-fact held.graph held.types fact sound.fitted below;
+  nodes = sound.nodes;
+  children = sound.children;
+  pieces = sound.pieces;
+  calls = sound.calls;
+  scope = scopes_later held.graph.facts (fact ∷ []) held.scope.0 sound.scope;
+}
+
+pub meaning_fact : (held : Held) (fact : Fact) → meaning (record held { graph = appended held.graph fact }) ≡ with_fact (fact_at held.types fact) (meaning held)
+unfolding meaning
+meaning_fact held fact = ap make (facts_more held.types held.graph.facts fact)
+  where
+    make : List CxxFact → CxxState
+    make facts = record {
+      graph = record { facts = facts; classes = classes_at held.types held.graph.classes; patterns = patterns_at held.types held.graph.patterns };
+      here = here_in held.scope held.enumeration;
+      defined = numbers_at held.defined;
+      given = fallbacks_at held.fallbacks;
+      calls = calls_at held.types held.calls;
+      parts = pieces_at (trees held) held.pieces;
+      uses = uses_at held.uses;
+    }
+
+pub later_fact : (held : Held) (graph : Graph) → Later held (record held { graph = graph })
+later_fact held graph = record { types = Keeps-refl held.types; trees = KeepsTrees_refl (trees held) }
+
+-- what `added` answers
+room_is : (held : Held) → (length (meaning held).graph.facts + length (meaning held).graph.classes) ≡ (length held.graph.facts + length held.graph.classes)
+unfolding meaning
+room_is held = (let a : length (facts_at held.types held.graph.facts) ≡ length held.graph.facts = length_facts held.types held.graph.facts in let b : length (classes_at held.types held.graph.classes) ≡ length held.graph.classes = length_classes held.types held.graph.classes in omega arith)
+
+number_is : (held : Held) → length (meaning held).graph.facts ≡ length held.graph.facts
+unfolding meaning
+number_is held = length_facts held.types held.graph.facts
+
+no_room : (m : ℕ) → nat_eq m 2097152 ≡ false → m ≡ 2097152 → ⊥
+no_room m e is = (let yes : nat_eq m 2097152 ≡ true = eq-eqb m 2097152 is in absurd (cc))
+
+added_full : (fact : CxxFact) (state : CxxState) → nat_eq (length state.graph.facts + length state.graph.classes) 2097152 ≡ true → added fact state ≡ Err (Limited Facts)
+unfolding added
+added_full fact state e = ap (λ b. if b then Err (Limited Facts) else Ok (length state.graph.facts, with_fact fact state)) e
+
+added_room : (fact : CxxFact) (state : CxxState) → nat_eq (length state.graph.facts + length state.graph.classes) 2097152 ≡ false → added fact state ≡ Ok (length state.graph.facts, with_fact fact state)
+unfolding added
+added_room fact state e = ap (λ b. if b then Err (Limited Facts) else Ok (length state.graph.facts, with_fact fact state)) e
+
+module _ (held : Held) (fact : Fact) where
+  abbrev sum : ℕ
+  sum = length held.graph.facts + length held.graph.classes
+
+  full_is : (b : Bool) → nat_eq (length (meaning held).graph.facts + length (meaning held).graph.classes) 2097152 ≡ b → nat_eq sum 2097152 ≡ b
+  full_is b e = ap (λ n. nat_eq n 2097152) (sym (room_is held)) ∙ e
+
+  added_ok : (number : FactId) → number.0 ≡ length held.graph.facts → nat_eq (length (meaning held).graph.facts + length (meaning held).graph.classes) 2097152 ≡ false
+      → added (fact_at held.types fact) (meaning held) ≡ Ok (number.0, meaning (record held { graph = appended held.graph fact }))
+  added_ok number is room =
+      added_room (fact_at held.types fact) (meaning held) room
+      ∙ (ap (λ n. Ok (n, with_fact (fact_at held.types fact) (meaning held))) (number_is held ∙ sym is)
+      ∙ ap (λ (s : CxxState). Ok (number.0, s)) (sym (meaning_fact held fact)))
+
+  add_ok : (number : FactId) → number.0 ≡ length held.graph.facts → ((Ok number ≡ Err fault.Limit) ↔ (sum ≡ 2097152)) → IsAnswered fact_number IsFactKnown held (record held { graph = appended held.graph fact }) (Ok number) (added (fact_at held.types fact) (meaning held))
+  add_ok number is limit = record {
+    is = (by (nat_eq (length (meaning held).graph.facts + length (meaning held).graph.classes) 2097152) refl, omega (arith, is, length-append held.graph.facts (fact ∷ [])));
+    later = later_fact held (appended held.graph fact);
+  }
+    where
+      by : (b : Bool) → nat_eq (length (meaning held).graph.facts + length (meaning held).graph.classes) 2097152 ≡ b → added (fact_at held.types fact) (meaning held) ≡ Ok (number.0, meaning (record held { graph = appended held.graph fact }))
+      by true e = (let bad : Ok number ≡ Err fault.Limit = limit.1 (eqb-true sum 2097152 (full_is true e)) in absurd (cc))
+      by false e = added_ok number is e
+
+  add_full : (sum ≡ 2097152) → IsAnswered fact_number IsFactKnown held held (Err (stop.Limit Facts)) (added (fact_at held.types fact) (meaning held))
+  add_full is = record {
+    is = added_full (fact_at held.types fact) (meaning held) (ap (λ n. nat_eq n 2097152) (room_is held) ∙ eq-eqb sum 2097152 is);
+    later = Later_refl held;
+  }
+
+  add_by : (new : Graph) (r : Result FactId AddFault) → IfOk r (λ number. number.0 ≡ length held.graph.facts) → OnOk r (new ≡ appended held.graph fact) → OnErr r (new ≡ held.graph) → ((r ≡ Err fault.Limit) ↔ (sum ≡ 2097152))
+      → IsAnswered fact_number IsFactKnown held (record held { graph = new }) (stopped_as r) (added (fact_at held.types fact) (meaning held))
+  add_by new (Ok number) is appends stays limit = subst (λ (g : Graph). IsAnswered fact_number IsFactKnown held (record held { graph = g }) (Ok number) (added (fact_at held.types fact) (meaning held))) (sym appends) (add_ok number is limit)
+  add_by new (Err fault.Limit) is appends stays limit = subst (λ (g : Graph). IsAnswered fact_number IsFactKnown held (record held { graph = g }) (Err (stop.Limit Facts)) (added (fact_at held.types fact) (meaning held))) (sym stays) (add_full (limit.0 refl))
+  add_by new (Err fault.OutOfMemory) is appends stays limit = record { is = tt; later = later_fact held new }
+
+pub fact_answered : (seen held : Held) (new : Graph) (fact : Fact) (what : CxxFact) (r : Result FactId AddFault) (result : Result FactId Stop) → held ≡ seen → fact_at held.types fact ≡ what → result ≡ stopped_as r
+    → IfOk r (λ number. number.0 ≡ length held.graph.facts) → OnOk r (new ≡ appended held.graph fact) → OnErr r (new ≡ held.graph) → ((r ≡ Err fault.Limit) ↔ (length held.graph.facts + length held.graph.classes ≡ 2097152))
+    → IsAnswered fact_number IsFactKnown seen (record held { graph = new }) result (added what (meaning seen))
+fact_answered seen held new fact what r result same is stopped number appends stays limit =
+    subst (λ (h : Held). IsAnswered fact_number IsFactKnown h (record held { graph = new }) result (added what (meaning h))) same
+    (subst (λ (w : CxxFact). IsAnswered fact_number IsFactKnown held (record held { graph = new }) result (added w (meaning held))) is
+    (subst (λ s. IsAnswered fact_number IsFactKnown held (record held { graph = new }) s (added (fact_at held.types fact) (meaning held))) (sym stopped)
+    (add_by held fact new r number appends stays limit)))
+
+-- ---- what is kept beside one more fact
+
+module _ (names : Names) (definitions : Definitions) (openings : List Place) (held : Held) (fact : Fact) (whole : IsWhole names definitions openings held) (below : IsFactBelow (length held.types) fact) (plain : is_using (declares_at [] fact.what) ≡ false) where
+  abbrev grown : Held
+  grown = record held { graph = appended held.graph fact }
+
+  pub whole_more : (names' : Names) → Notes names' (held.graph.facts ++ fact ∷ []) → IsWhole names' definitions (openings ++ place_by fact.place fact.what) grown
+  whole_more names' noted = record {
+    sound = sound_fact held fact whole.sound below;
+    noted = noted;
+    own = none_brought_more held.graph.facts fact whole.own plain;
+    defines = defines_later definitions held.graph.facts (fact ∷ []) (numbers_at held.defined) whole.defines;
+    opened = ap (λ ps. ps ++ place_by fact.place fact.what) whole.opened ∙ sym (places_more held.graph.facts fact);
+  }
+
+no_place : (place : Place) (what : Entity) → IsPlainEntity what → place_by place what ≡ []
+no_place place (entity.Object of member is_mutable value first) ok = refl
+no_place place (entity.Function of member flags defaults first) ok = refl
+no_place place (entity.Enumeration number) ok = refl
+no_place place (entity.Enumerator number value) ok = refl
+no_place place (entity.Synonym of) ok = refl
+no_place place (entity.Scope parent kind) ok = absurd ok
+no_place place (entity.Template number member defaults is_explicit first) ok = absurd ok
+no_place place (entity.Parameter depth index of) ok = absurd ok
+no_place place (entity.Injected number) ok = absurd ok
+no_place place (entity.Class number is_union) ok = absurd ok
+no_place place (entity.Complete number) ok = absurd ok
+no_place place (entity.Passed number) ok = absurd ok
+no_place place (entity.Ancestor number parent index access) ok = absurd ok
+no_place place (entity.Namespace inner) ok = absurd ok
+no_place place (entity.Directive nominated) ok = absurd ok
+no_place place (entity.Using target) ok = absurd ok
+no_place place (entity.Friend number target) ok = absurd ok
+
+whole_plain : (names names' : Names) (definitions : Definitions) (openings : List Place) (held : Held) (fact : Fact) → IsWhole names definitions openings held → IsFactBelow (length held.types) fact → IsPlain fact → Notes names' (held.graph.facts ++ fact ∷ []) → IsWhole names' definitions openings (record held { graph = appended held.graph fact })
+whole_plain names names' definitions openings held fact whole below plain noted =
+    subst (λ ps. IsWhole names' definitions ps (record held { graph = appended held.graph fact })) (ap (λ ps. openings ++ ps) (no_place fact.place fact.what plain.what) ∙ append-nil openings)
+    (whole_more names definitions openings held fact whole below (plain_not_brought [] fact.what plain.what) names' noted)
+
+whole_same : (names names' : Names) (definitions : Definitions) (openings : List Place) (held : Held) → IsWhole names definitions openings held → Notes names' held.graph.facts → IsWhole names' definitions openings held
+whole_same names names' definitions openings held whole noted = record { sound = whole.sound; noted = noted; own = whole.own; defines = whole.defines; opened = whole.opened }
+
+pub whole_fact : (names names' : Names) (definitions : Definitions) (openings : List Place) (seen held : Held) (new : Graph) (fact : Fact) (r : Result FactId AddFault) → held ≡ seen → IsWhole names definitions openings held → IsFactBelow (length seen.types) fact → IsPlain fact
+    → OnOk r (new ≡ appended held.graph fact) → OnErr r (new ≡ held.graph) → Notes names' new.facts → IsWhole names' definitions openings (record held { graph = new })
+whole_fact names names' definitions openings seen held new fact (Ok number) same whole below plain appends stays noted =
+    subst (λ (g : Graph). IsWhole names' definitions openings (record held { graph = g })) (sym appends)
+    (whole_plain names names' definitions openings held fact whole (subst (λ (h : Held). IsFactBelow (length h.types) fact) (sym same) below) plain (subst (λ (g : Graph). Notes names' g.facts) appends noted))
+whole_fact names names' definitions openings seen held new fact (Err why) same whole below plain appends stays noted =
+    subst (λ (g : Graph). IsWhole names' definitions openings (record held { graph = g })) (sym stays)
+    (whole_same names names' definitions openings held whole (subst (λ (g : Graph). Notes names' g.facts) stays noted))
+
+pub fact_in_range : (seen held : Held) (fact : Fact) → held ≡ seen → InRange held.graph → MayFollow seen.graph fact → InRange (appended held.graph fact)
+fact_in_range seen held fact same range follows = appended-in-range held.graph fact range (subst (λ (h : Held). MayFollow h.graph fact) (sym same) follows)
+
+-- ---- a scope of parameters
+
+may_follow_by : (facts : List Fact) (classes : List (Option Specialisation)) (patterns : List Pattern) (fact : Fact) → fact.scope.0 < scopes facts → IsEntityInRange (record { facts = facts; classes = classes; patterns = patterns }) fact fact.what → MayFollow (record { facts = facts; classes = classes; patterns = patterns }) fact
+may_follow_by [] classes patterns fact within ok = absurd (omega arith)
+may_follow_by (one ∷ others) classes patterns fact within ok = (within, ok)
+
+pub may_follow : (graph : Graph) (fact : Fact) → fact.scope.0 < scopes graph.facts → IsEntityInRange graph fact fact.what → MayFollow graph fact
+may_follow graph fact within ok = may_follow_by graph.facts graph.classes graph.patterns fact within ok
+
+pub parameters_in_range : (held : Held) (place : Place) → IsSound held → InRange held.graph → InRange (appended held.graph (parameters_fact place held.scope))
+parameters_in_range held place sound range = appended-in-range held.graph (parameters_fact place held.scope) range (may_follow held.graph (parameters_fact place held.scope) sound.scope (refl, tt))
+
+pub parameters_are : (seen held : Held) (place : Place) → held ≡ seen → place ≡ place_of_scope (meaning seen).graph seen.scope.0 → fact_at held.types (parameters_fact place held.scope) ≡ parameters_scope (meaning held)
+unfolding meaning
+parameters_are seen held place same is = ap (λ (p : Place). fact_at held.types (parameters_fact p held.scope)) (subst (λ (h : Held). place ≡ place_of_scope (graph_at h.types h.graph) h.scope.0) (sym same) is)
+
+pub whole_parameters : (names names' : Names) (definitions : Definitions) (openings : List Place) (held : Held) (new : Graph) (opened : List Place) (place : Place) → IsWhole names definitions openings held
+    → new ≡ appended held.graph (parameters_fact place held.scope) → opened ≡ openings ++ place ∷ [] → Notes names' new.facts → IsWhole names' definitions opened (record held { graph = new })
+whole_parameters names names' definitions openings held new opened place whole appends opens noted =
+    subst (λ ps. IsWhole names' definitions ps (record held { graph = new })) (sym opens)
+    (subst (λ (g : Graph). IsWhole names' definitions (openings ++ place ∷ []) (record held { graph = g })) (sym appends)
+    (whole_more names definitions openings held (parameters_fact place held.scope) whole (record { name = tt; what = tt }) refl names' (subst (λ (g : Graph). Notes names' g.facts) appends noted)))
+
+-- ---- a definition
+
+numbers_more : (numbers : List FactId) (number : FactId) → numbers_at (numbers ++ number ∷ []) ≡ numbers_at numbers ++ number.0 ∷ []
+numbers_more [] number = refl
+numbers_more (one ∷ others) number = ap (λ ns. one.0 ∷ ns) (numbers_more others number)
+
+pub whole_definition : (names : Names) (definitions definitions' : Definitions) (openings : List Place) (held : Held) (new : List FactId) (number : FactId) → IsWhole names definitions openings held → new ≡ held.defined ++ number ∷ []
+    → Defines definitions' held.graph.facts (numbers_at held.defined ++ number.0 ∷ []) → IsWhole names definitions' openings (record held { defined = new })
+whole_definition names definitions definitions' openings held new number whole is defines = record {
+  sound = record { fitted = whole.sound.fitted; nodes = whole.sound.nodes; children = whole.sound.children; pieces = whole.sound.pieces; calls = whole.sound.calls; scope = whole.sound.scope };
+  noted = whole.noted;
+  own = whole.own;
+  defines = subst (λ ns. Defines definitions' held.graph.facts (numbers_at ns)) (sym is) (subst (λ ns. Defines definitions' held.graph.facts ns) (sym (numbers_more held.defined number)) defines);
+  opened = whole.opened;
+}
+
+pub definition_added : (seen held : Held) (new : List FactId) (number : FactId) → held ≡ seen → new ≡ held.defined ++ number ∷ [] → meaning (record held { defined = new }) ≡ with_definition number.0 (meaning seen)
+unfolding meaning
+definition_added seen held new number same is = subst (λ (h : Held). meaning (record held { defined = new }) ≡ with_definition number.0 (meaning h)) same (ap make (ap numbers_at is ∙ numbers_more held.defined number))
+  where
+    make : List ℕ → CxxState
+    make defined = record { graph = graph_at held.types held.graph; here = here_in held.scope held.enumeration; defined = defined; given = fallbacks_at held.fallbacks; calls = calls_at held.types held.calls; parts = pieces_at (trees held) held.pieces; uses = uses_at held.uses }
+
+-- ---- where the reader stands
+
+pub enumeration_set : (seen held : Held) (number : Option EnumId) → held ≡ seen → meaning (record held { enumeration = number }) ≡ in_enumeration (enumeration_of_option number) (meaning seen)
+unfolding meaning
+enumeration_set seen held number same = subst (λ (h : Held). meaning (record held { enumeration = number }) ≡ in_enumeration (enumeration_of_option number) (meaning h)) same refl
+
+pub outside_there : (seen held : Held) (scope : ScopeId) → held ≡ seen → IsSound held → InRange held.graph → scope.0 ≡ parent_of (graph_at held.types held.graph) held.scope.0 → scope.0 < scopes seen.graph.facts
+outside_there seen held scope same sound range is = subst (λ (h : Held). scope.0 < scopes h.graph.facts) same (subst (λ n. n < scopes held.graph.facts) (sym is) (parent_there held.graph held.types held.scope.0 range sound.scope))
+
+pub left : (seen held new : Held) (scope : ScopeId) → held ≡ seen → scope.0 ≡ parent_of (graph_at held.types held.graph) held.scope.0 → meaning new ≡ at_scope scope.0 (meaning seen) → leave_parameters (meaning seen) ≡ Ok (tt, meaning new)
+unfolding meaning leave_parameters
+left seen held new scope same is set =
+    subst (λ (h : Held). meaning new ≡ at_scope scope.0 (meaning h) → leave_parameters (meaning h) ≡ Ok (tt, meaning new)) same
+    (λ set. ap (λ n. Ok (tt, at_scope n (meaning held))) (sym is) ∙ ap (λ (s : CxxState). Ok (tt, s)) (sym set)) set
+
+-- ---- types
+
+pub type_made_by : (seen held : Held) (new : List CxxType) (result : Result TypeId OutOfMemory) (t : Held → CxxType) → held ≡ seen → IsSound held → table.Makes held.types new result (t held) → MakesType seen (record held { types = new }) result (t seen)
+type_made_by seen held new result t same sound makes = subst (λ (h : Held). MakesType h (record held { types = new }) result (t h)) same (makes_type held new result (t held) sound makes)
+
+pub enumeration_there : (seen held : Held) (number : EnumId) → held ≡ seen → number.0 < enumerations seen.graph.facts → IsTypeInRange held.graph (enumeration number.0)
+enumeration_there seen held number same within = subst (λ (h : Held). number.0 < enumerations h.graph.facts) (sym same) within
+
+abbrev named_in : List ℕ → Held → CxxType
+named_in word held = type_in (found (graph_at held.types held.graph) held.scope.0 (spelled word))
+
+pub named_made : (seen held : Held) (new : List CxxType) (result : Result TypeId OutOfMemory) (word : List ℕ) → held ≡ seen → IsSound held → table.Makes held.types new result (type_in (found (graph_at held.types held.graph) held.scope.0 (spelled word))) → MakesType seen (record held { types = new }) result (type_in (found (meaning seen).graph seen.scope.0 (spelled word)))
+unfolding meaning
+named_made seen held new result word same sound makes = type_made_by seen held new result (named_in word) same sound makes
+
+-- ---- the list of parameters
+
+pub entered : (old middle new : Held) (number : ScopeId) (fact : FactId) → IsAnswered fact_number IsFactKnown old middle (Ok fact) (added (parameters_scope (meaning old)) (meaning old)) → number.0 ≡ scope_count (graph_at old.types old.graph) → Later middle new → meaning new ≡ at_scope number.0 (meaning middle)
+    → IsAnswered scope_number AnyKnown old new (Ok number) (enter_parameters (meaning old))
+unfolding meaning enter_parameters
+entered old middle new number fact answered is later set = record {
+  is = (
+    ap (λ (a : Answer (ℕ × CxxState)). a >>= λ answer. Ok (entered_as (scope_count (graph_at old.types old.graph)) answer)) answered.is.0
+        ∙ (ap (λ n. Ok (n, at_scope n (meaning middle))) (sym is) ∙ ap (λ (s : CxxState). Ok (number.0, s)) (sym set)),
+    tt,
+  );
+  later = Later_trans old middle new answered.later later;
+}
+
+pub not_entered : (old new : Held) (why : Stop) → IsAnswered fact_number IsFactKnown old new (Err why) (added (parameters_scope (meaning old)) (meaning old)) → IsAnswered scope_number AnyKnown old new (Err why) (enter_parameters (meaning old))
+unfolding enter_parameters
+not_entered old new why answered = record { is = by why answered.is; later = answered.later }
+  where
+    go : ℕ × CxxState → Answer (ℕ × CxxState)
+    go answer = Ok (entered_as (scope_count (meaning old).graph) answer)
+
+    by : (s : Stop) → Stops s (added (parameters_scope (meaning old)) (meaning old)) → Stops s (added (parameters_scope (meaning old)) (meaning old) >>= go)
+    by stop.OutOfMemory e = tt
+    by (stop.Fault f) e = ap (λ (a : Answer (ℕ × CxxState)). a >>= go) e
+    by (stop.Limit k) e = ap (λ (a : Answer (ℕ × CxxState)). a >>= go) e
+
+pub scope_there : (old new : Held) (place : Place) (number : ScopeId) → new ≡ record old { graph = appended old.graph (parameters_fact place old.scope) } → number.0 ≡ scopes old.graph.facts → number.0 < scopes new.graph.facts
+scope_there old new place number is counted = subst (λ (h : Held). number.0 < scopes h.graph.facts) (sym is) (subst (λ n. n < scopes (old.graph.facts ++ parameters_fact place old.scope ∷ [])) (sym counted) (scope_next old.graph.facts (parameters_fact place old.scope) (Some old.scope) Parameters refl))
+
+pub scopes_here : (seen held : Held) (number : ScopeId) → held ≡ seen → number.0 ≡ scope_count (graph_at held.types held.graph) → number.0 ≡ scope_count (graph_at seen.types seen.graph)
+scopes_here seen held number same is = subst (λ (h : Held). number.0 ≡ scope_count (graph_at h.types h.graph)) same is
+
+pub scopes_counted_here : (seen held : Held) (number : ScopeId) → held ≡ seen → number.0 ≡ scopes held.graph.facts → number.0 ≡ scopes seen.graph.facts
+scopes_counted_here seen held number same is = subst (λ (h : Held). number.0 ≡ scopes h.graph.facts) same is
+
+-- ---- what went well
+
+pub stopped_ok : {X : Type 0} (r : Result X AddFault) (x : X) → Ok x ≡ stopped_as r → r ≡ Ok x
+stopped_ok (Ok y) x e = (let same : x ≡ y = cc in ap Ok (sym same))
+stopped_ok (Err why) x e = absurd (cc)
+
+pub on_ok : {X E : Type 0} (r : Result X E) (x : X) (P : Type 0) → r ≡ Ok x → OnOk r P → P
+on_ok (Ok y) x P e p = p
+on_ok (Err why) x P e p = absurd (cc)
+
+-- ---- a place by the places of scopes
+
+pub opened_here : (seen held : Held) (openings : List Place) (n : ℕ) (place : Place) → held ≡ seen → openings ≡ scope_places held.graph.facts → slice_get openings n ≡ Some place → place ≡ place_of_scope (meaning seen).graph n
+unfolding meaning
+opened_here seen held openings n place same opened at = subst (λ (h : Held). place ≡ place_of_scope (graph_at h.types h.graph) n) same (opened_at held.graph held.types n place (ap (λ ps. slice_get ps n) (sym opened) ∙ at))
+
+pub opened_nowhere_here : (seen held : Held) (openings : List Place) (n : ℕ) → held ≡ seen → openings ≡ scope_places held.graph.facts → slice_get openings n ≡ None → record { line = 0; column = 0 } ≡ place_of_scope (meaning seen).graph n
+unfolding meaning
+opened_nowhere_here seen held openings n same opened at = subst (λ (h : Held). record { line = 0; column = 0 } ≡ place_of_scope (graph_at h.types h.graph) n) same (opened_nowhere held.graph held.types n (ap (λ ps. slice_get ps n) (sym opened) ∙ at))
+
+-- ---- the beginning
+
+module _ (names : Names) (definitions : Definitions) (graph : Graph) (types : List CxxType) (nodes : List Node) (defined : List FactId) (fallbacks : List Fallback) (calls : List Decided) (pieces : List Piece) (uses : List Binding)
+    (g : graph ≡ unit_graph) (t : types ≡ []) (n : nodes ≡ []) (d : defined ≡ []) (f : fallbacks ≡ []) (c : calls ≡ []) (p : pieces ≡ []) (u : uses ≡ []) where
+  abbrev begun : Graph → List CxxType → List Node → List FactId → List Fallback → List Decided → List Piece → List Binding → Held
+  begun graph types nodes defined fallbacks calls pieces uses = record { graph = graph; types = types; nodes = nodes; scope = record { 0 = 0 }; enumeration = None; defined = defined; fallbacks = fallbacks; calls = calls; pieces = pieces; uses = uses }
+
+  is_begun : begun graph types nodes defined fallbacks calls pieces uses ≡ begun unit_graph [] [] [] [] [] [] []
+  is_begun =
+      ap (λ x. begun x types nodes defined fallbacks calls pieces uses) g ∙ (ap (λ x. begun unit_graph x nodes defined fallbacks calls pieces uses) t
+      ∙ (ap (λ x. begun unit_graph [] x defined fallbacks calls pieces uses) n ∙ (ap (λ x. begun unit_graph [] [] x fallbacks calls pieces uses) d
+      ∙ (ap (λ x. begun unit_graph [] [] [] x calls pieces uses) f ∙ (ap (λ x. begun unit_graph [] [] [] [] x pieces uses) c
+      ∙ (ap (λ x. begun unit_graph [] [] [] [] [] x uses) p ∙ ap (λ x. begun unit_graph [] [] [] [] [] [] x) u))))))
+
+  sound_first : IsSound (begun unit_graph [] [] [] [] [] [] [])
+  sound_first = record {
+    fitted = record { numbers = record { facts = (record { name = tt; what = tt }, tt); classes = tt; patterns = tt }; names = λ i within. absurd (omega arith) };
+    nodes = tt;
+    children = tt;
+    pieces = tt;
+    calls = tt;
+    scope = omega arith;
+  }
+
+  pub whole_first : (openings : List Place) → openings ≡ first_place ∷ [] → Notes names graph.facts → ((facts : List Fact) → Defines definitions facts []) → IsWhole names definitions openings (begun graph types nodes defined fallbacks calls pieces uses)
+  whole_first openings opens noted defines =
+      subst (λ (h : Held). IsWhole names definitions openings h) (sym is_begun) (record {
+        sound = sound_first;
+        noted = subst (λ (x : Graph). Notes names x.facts) g noted;
+        own = (refl, tt);
+        defines = defines (unit_fact ∷ []);
+        opened = opens;
+      })
+
+  pub meaning_first : meaning (begun graph types nodes defined fallbacks calls pieces uses) ≡ first_state
+  unfolding meaning
+  meaning_first = ap meaning is_begun

@@ -1,0 +1,59 @@
+-- What is kept beside the state of a reading, and how it follows from that.
+use Rattle.std.specs.Prelude.{◌≡◌, List, [], ◌∷◌, ◌++◌, Some, None, Result, Ok, Err}
+use Rattle.cxx_graph.specs.declared.graph.AddFault.{AddFault}
+use Rattle.cxx_graph.specs.declared.graph.AddFault.TheVariants as fault
+use Rattle.cxx_model.specs.declared.facts.Access.TheVariants.{Public}
+use Rattle.cxx_model.specs.declared.facts.Entity.{Entity}
+use Rattle.cxx_model.specs.declared.facts.Entity.TheVariants as entity
+use Rattle.cxx_model.specs.declared.facts.Fact.{Fact}
+use Rattle.cxx_model.specs.declared.facts.Name.TheVariants.{Unnamed}
+use Rattle.cxx_model.specs.declared.facts.ScopeKind.TheVariants.{Parameters, Space}
+use Rattle.cxx_model.specs.declared.place.Place.{Place}
+use Rattle.cxx_model.specs.declared.stop.LimitKind.TheVariants.{Facts}
+use Rattle.cxx_model.specs.declared.stop.Stop.{Stop}
+use Rattle.cxx_model.specs.declared.stop.Stop.TheVariants as stop
+use Rattle.cxx_model.specs.declared.types.ScopeId.{ScopeId}
+use Rattle.cxx_model.specs.Facts.Graph.{Graph}
+use Rattle.cxx_model.specs.Text.Lexemes.{first_place}
+use Rattle.cxx_names.specs.Clashes.{NoneBrought}
+use Rattle.cxx_defined.specs.Defined.{Defines}
+use Rattle.cxx_defined.specs.declared.defined.Definitions.{Definitions}
+use Rattle.cxx_names.specs.declared.names.Names.{Names}
+use Rattle.cxx_names.specs.Index.{Notes}
+use Rattle.cxx_tree.specs.Held.{Held, IsSound, numbers_at}
+
+abbrev pub place_by : Place → Entity → List Place
+place_by place (entity.Scope parent kind) = place ∷ []
+place_by place _ = []
+
+-- 3.3: where the scopes stand, in order
+abbrev pub scope_places : List Fact → List Place
+scope_places [] = []
+scope_places (fact ∷ facts) = place_by fact.place fact.what ++ scope_places facts
+
+-- 3.3.5: the scope of the unit
+abbrev pub unit_fact : Fact
+unit_fact = record { place = first_place; scope = record { 0 = 0 }; name = Unnamed; access = Public; what = entity.Scope None Space }
+
+abbrev pub unit_graph : Graph
+unit_graph = record { facts = unit_fact ∷ []; classes = []; patterns = [] }
+
+-- 3.3.2: the scope of parameters in another
+abbrev pub parameters_fact : Place → ScopeId → Fact
+parameters_fact place scope = record { place = place; scope = scope; name = Unnamed; access = Public; what = entity.Scope (Some scope) Parameters }
+
+-- The names, the definitions and the places of scopes that are kept are those of the state.
+pub record IsWhole (names : Names) (definitions : Definitions) (openings : List Place) (held : Held) : Type 0 where
+  pub sound : IsSound held
+  pub noted : Notes names held.graph.facts
+  pub own : NoneBrought held.graph.facts
+  pub defines : Defines definitions held.graph.facts (numbers_at held.defined)
+  pub opened : openings ≡ scope_places held.graph.facts
+
+abbrev pub stop_by : AddFault → Stop
+stop_by fault.Limit = stop.Limit Facts
+stop_by fault.OutOfMemory = stop.OutOfMemory
+
+abbrev pub stopped_as : {X : Type 0} → Result X AddFault → Result X Stop
+stopped_as (Ok x) = Ok x
+stopped_as (Err fault) = Err (stop_by fault)
