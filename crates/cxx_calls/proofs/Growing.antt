@@ -8,7 +8,7 @@ use Rattle.cxx_model.specs.declared.types.TypeId.{TypeId}
 use Rattle.cxx_model.specs.Types.Numbers.{AreTypesBelow, type_at}
 use Rattle.cxx_model.specs.Types.Trees.{CxxType}
 use Rattle.cxx_meaning.specs.Conversions.Standard.{CxxOperand}
-use Rattle.cxx_reading.specs.Initializers.{converted, converted_each, operand_of}
+use Rattle.cxx_reading.specs.Initializers.{converted_each, operand_of}
 use Rattle.cxx_reading.specs.Trees.{CxxTree}
 use Rattle.cxx_standard.specs.Views.{operand_at}
 use Rattle.cxx_tree.proofs.Arenas as arena

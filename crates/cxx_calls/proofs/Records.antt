@@ -7,11 +7,11 @@ use Rattle.cxx_model.specs.declared.sequence.Operand.{Operand}
 use Rattle.cxx_model.specs.declared.sequence.StandardSequence.{StandardSequence}
 use Rattle.cxx_model.specs.declared.types.FactId.{FactId}
 use Rattle.cxx_model.specs.declared.types.TypeId.{TypeId}
-use Rattle.cxx_model.specs.Types.Numbers.{AreTypesBelow, type_at}
+use Rattle.cxx_model.specs.Types.Numbers.{type_at}
 use Rattle.cxx_model.specs.Types.Trees.{CxxType}
 use Rattle.cxx_meaning.specs.Conversions.Standard.{CxxStandard}
 use Rattle.cxx_reading.specs.Initializers.{present, row_of}
-use Rattle.cxx_standard.specs.Views.{operand_at, sequence_at, found_at, IsSequenceBelow}
+use Rattle.cxx_standard.specs.Views.{operand_at, sequence_at, IsSequenceBelow}
 use Rattle.cxx_tree.specs.declared.kept.Contending.{Contending}
 use Rattle.cxx_tree.specs.Held as held
 use Rattle.cxx_tree.specs.Held.{numbers_at, parameters_at, rows_at, row_at, AreRowsBelow, AreSequencesBelow}

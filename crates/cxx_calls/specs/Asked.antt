@@ -1,5 +1,5 @@
 -- The question of a call, once it is decided which function it means.
-use Rattle.std.specs.Prelude.{ℕ, false, List, [], ◌∷◌, length, map, Some, None, Ok, Err}
+use Rattle.std.specs.Prelude.{ℕ, Bool, true, false, List, [], ◌∷◌, length, map, Some, None, Ok, Err}
 use Rattle.cxx_model.specs.declared.place.Place.{Place}
 use Rattle.cxx_model.specs.Facts.Declarations.{graph_at, spelled}
 use Rattle.cxx_model.specs.Stops.{Answer}
@@ -8,12 +8,17 @@ use Rattle.cxx_model.specs.Types.Trees.{CxxType}
 use Rattle.cxx_reading.specs.Initializers.{converted, converted_each, operand_of, value_operand, with_call}
 use Rattle.cxx_reading.specs.Productions as production
 use Rattle.cxx_reading.specs.Reads.{Ahead, count_ahead, place_ahead}
-use Rattle.cxx_reading.specs.Seen.{found}
+use Rattle.cxx_reading.specs.Seen.{Numbered, found}
 use Rattle.cxx_reading.specs.State.{CxxState}
 use Rattle.cxx_reading.specs.Trees.{CxxPath, CxxTree, tree_of}
 use Rattle.cxx_meaning.specs.Conversions.Standard.{CxxOperand}
 use Rattle.cxx_tree.specs.Held.{Held}
 use Rattle.cxx_calls.specs.Rulings.{CxxRuling, ruling_of}
+
+-- whether a name means something
+abbrev pub has_some : List Numbered → Bool
+has_some [] = false
+has_some (one ∷ others) = true
 
 -- what a call covers: how many tokens are left before its first and behind its last one, and the place of the first
 pub record Covers : Type 0 where

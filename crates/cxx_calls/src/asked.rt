@@ -11,15 +11,15 @@ ghost use Rattle.cxx_reading.specs.Seen.{found as found_by};
 ghost use Rattle.cxx_tree.specs.Arena.{path_at};
 ghost use Rattle.cxx_tree.specs.Held.{call_at, meaning, tree, type_of};
 ghost use Rattle.cxx_viable.specs.Views.{listed_at, numbered_in, operands_at, AreOperandsBelow};
-ghost use Rattle.cxx_calls.specs.Asked.{asked_by, asked_covering, made_by, path_to as path_of, ruled_tree, ruling_in};
+ghost use Rattle.cxx_calls.specs.Asked.{asked_by, asked_covering, has_some, made_by, path_to as path_of, ruled_tree, ruling_in};
 ghost use Rattle.cxx_calls.specs.Views.{called_at, covers_at, ruling_at, IsCallBelow, IsRulingBelow};
 ghost use Rattle.cxx_calls.specs.Making.{AreTreesHeld, GrowsTree, IsReply, KeepsCall, trees_held};
 
 use crate::operands::{converted_each, operands_of, push, value_operand};
 use crate::ruling::{Ruling, rule};
 use cxx_model::{
-    FactId, Listed, Node, OperandList, Path, PathPart, Place, Stop, TreeId, TreeIdList, TypeId,
-    Word,
+    FactId, Kind, Listed, Node, OperandList, Path, PathPart, Place, Stop, TreeId, TreeIdList,
+    TypeId, Word,
 };
 use cxx_tree::{Decided, State};
 use std::alloc::{AllocError, Global};
@@ -49,7 +49,26 @@ pub fn found<'s>(state: &'s State, word: &[u8]) -> &'s [FactId]
     ensures is { numbered_in (graph_at (state.now).types (state.now).graph) result.now ≡ found_by (graph_at (state.now).types (state.now).graph) (state.now).scope.0 (spelled word.now) }
     ensures known { length (numbered_in (graph_at (state.now).types (state.now).graph) result.now) ≡ length result.now }
 {
-    unreachable!()
+    state.names().found(state.graph(), state.scope(), word)
+}
+
+/// Whether a name means something where the reader stands (3.4.1).
+#[tactic(auto, using(crate::proofs::Ruled::declared_none, crate::proofs::Ruled::declared_some), unfolding(cxx_tree::specs::Held::meaning))]
+pub fn is_declared(state: &State, word: &[u8]) -> bool
+    ensures { result ≡ has_some (found_by (meaning state.now).graph (meaning state.now).here.scope (spelled word.now)) }
+{
+    match found(state, word) {
+        [] => false,
+        [_, ..] => true,
+    }
+}
+
+/// What a name is to a reader (3.3.7).
+#[tactic(auto, unfolding(cxx_tree::specs::Held::meaning))]
+pub fn kind_here(state: &State, word: &[u8]) -> Kind
+    ensures { result ≡ definition.kind_of_name (meaning state.now) word.now }
+{
+    state.names().kind(state.graph(), state.scope(), word)
 }
 
 // A name without qualifiers.

@@ -2,10 +2,11 @@
 #![tactic(auto)]
 
 mod asked;
+pub mod laws;
 mod operands;
 mod record;
 mod ruling;
 
-pub use asked::{Called, Covers, call_asked, found};
+pub use asked::{Called, Covers, call_asked, found, is_declared, kind_here};
 pub use operands::{CAST, converted, value_operand};
 pub use ruling::{Ruling, rule};

@@ -17,7 +17,8 @@ mod turn;
 mod words;
 
 pub use constants::{
-    begins_operand, begins_unary, continues, is_member_pointer, is_number, literal_at, no_expression,
+    begins_operand, begins_unary, continues, is_member_pointer, is_number, literal_at,
+    no_expression,
 };
 pub use cursor::{Cursor, Spelled, is_keyword, is_name, is_punct};
 pub use declarator::{Declarator, Layer, LayerList, ParameterTypes};
@@ -25,3 +26,4 @@ pub use kinds::Kinds;
 pub use name::NameToken;
 pub use nodes::{node_from, push};
 pub use specifiers::Specifiers;
+pub use turn::Turn;

@@ -1,4 +1,4 @@
-use Rattle.std.proofs.Common.{◌∙◌, refl, arith}
+use Rattle.std.proofs.Common.{◌∙◌, refl}
 use Rattle.cxx_calls.proofs.Growing.{later_trans, converted_step}
 use Rattle.cxx_calls.proofs.operands.converted_each.Goals as goal
 

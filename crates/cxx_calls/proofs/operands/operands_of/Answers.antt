@@ -1,5 +1,4 @@
 use Rattle.std.proofs.Common.{◌∙◌, refl, arith}
-use Rattle.std.proofs.lemmas.Grind.{common_steps}
 use Rattle.cxx_calls.proofs.Growing.{later_trans, operands_step}
 use Rattle.cxx_calls.proofs.operands.operands_of.Goals as goal
 
