@@ -14,7 +14,7 @@ pub record AreArguments (held : Held) (numbers : List TreeId) : Type 0 where
 -- the same with a count
 pub record AreCounted (count : ℕ) (held : Held) (numbers : List TreeId) : Type 0 where
   pub trees : AreTreesHeld held numbers
-  pub count : length numbers ≡ count
+  pub counted : length numbers ≡ count
 
 abbrev pub IsCountedTurn : ℕ → Held → Turn (List TreeId) (List TreeId) → Type 0
 IsCountedTurn count held = IsTurn (AreCounted count held) (AreCounted count held)

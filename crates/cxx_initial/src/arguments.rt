@@ -1,6 +1,6 @@
 //! Arguments of calls (5.2.2).
 
-ghost use Rattle.std.specs.Prelude.{◌≡◌, ◌≤◌, ◌+◌, [], length};
+ghost use Rattle.std.specs.Prelude.{◌≡◌, ◌≤◌, ◌+◌, ◌++◌, [], ◌∷◌, length, IfOk};
 ghost use Rattle.cxx_reading.specs.Initializers as definition;
 ghost use Rattle.cxx_reading.specs.Initializers.{argument_opened};
 ghost use Rattle.cxx_reading.specs.Reads.{repeat};
@@ -18,9 +18,11 @@ use cxx_model::limits::MOST_ARGUMENTS;
 use cxx_model::{LimitKind, Listed, Stop, TreeId, TreeIdList, keyword, punct};
 use cxx_syntax::{Cursor, Turn, is_keyword, is_number, is_punct, literal_at};
 use cxx_tree::State;
+use std::alloc::AllocError;
 
 // A cast in the place of an argument.
 #[tactic(auto, using(cxx_syntax::proofs::Kept::later_trans, cxx_syntax::proofs::Kept::type_kept, cxx_syntax::proofs::Kept::type_later, crate::proofs::Parts::cast_split))]
+#[cycle(argument)]
 fn cast_argument<T: Targets>(
     targets: &T,
     state: &mut State,
@@ -37,6 +39,7 @@ fn cast_argument<T: Targets>(
 
 // An argument: for now a literal, or a cast of one.
 #[tactic(auto, using(cxx_syntax::proofs::Kept::later_trans, cxx_syntax::proofs::Kept::later_refl), unfolding(cxx_reading::specs::Initializers::argument_by))]
+#[cycle(argument)]
 fn argument_by<T: Targets>(
     targets: &T,
     state: &mut State,
@@ -58,6 +61,7 @@ fn argument_by<T: Targets>(
 
 // An argument behind a bracket, with room for so many more.
 #[tactic(auto, using(cxx_syntax::proofs::Kept::later_refl, crate::proofs::Parts::argument_none, crate::proofs::Parts::argument_some))]
+#[cycle(argument)]
 fn argument<T: Targets>(
     targets: &T,
     state: &mut State,
@@ -72,8 +76,27 @@ fn argument<T: Targets>(
     argument_by(targets, state, cursor, room - 1)
 }
 
+// The arguments with one more.
+#[tactic(auto, using(cxx_syntax::proofs::Kept::trees_append, cxx_syntax::proofs::Kept::trees_below_append))]
+fn with_argument(
+    state: &State,
+    so_far: TreeIdList,
+    number: TreeId,
+) -> Result<TreeIdList, AllocError>
+    requires so_far { AreTreesHeld state.now so_far }
+    requires known { IsTreeKnown state.now number }
+    ensures is { IfOk result (λ all. trees_held state.now all ≡ trees_held state.now so_far ++ tree state.now number ∷ []) }
+    ensures trees { IfOk result (AreTreesHeld state.now) }
+    ensures count { IfOk result (λ all. length all ≡ length so_far + 1) }
+{
+    let _ = state;
+    let mut so_far = so_far;
+    so_far.push(number)?;
+    Ok(so_far)
+}
+
 // Behind an argument.
-#[tactic(auto, using(cxx_syntax::proofs::Kept::later_refl, cxx_syntax::proofs::Kept::trees_append, cxx_syntax::proofs::Kept::trees_below_append), unfolding(cxx_reading::specs::Initializers::argument_ended))]
+#[tactic(auto, using(cxx_syntax::proofs::Kept::later_refl), unfolding(cxx_reading::specs::Initializers::argument_ended))]
 fn argument_ended(
     state: &State,
     cursor: &mut Cursor<'_>,
@@ -84,9 +107,7 @@ fn argument_ended(
     requires known { IsTreeKnown state.now number }
     ensures { IsRead trees_turn (IsCountedTurn (length so_far + 1)) state.now state.now cursor.new result (definition.argument_ended (trees_held state.now so_far) (tree state.now number) (meaning state.now) cursor.old) }
 {
-    let _ = state;
-    let mut so_far = so_far;
-    so_far.push(number)?;
+    let so_far = with_argument(state, so_far, number)?;
     if is_punct(punct::COMMA, cursor.kind()) {
         cursor.advance();
         return Ok(Turn::More(so_far));
@@ -122,7 +143,8 @@ fn arguments_over(
 ) -> Result<TreeIdList, Stop>
     ensures { IsRead trees_held AreArguments state.now state.now cursor.now result (definition.arguments_over (trees_held state.now so_far.now) (meaning state.now) cursor.now) }
 {
-    let _ = (state, so_far);
+    let _ = state;
+    let _ = so_far;
     if begins_expression(cursor.kind()) {
         return Err(Stop::Limit(LimitKind::Arguments));
     }

@@ -22,7 +22,6 @@ use cxx_tree::State;
 const INITIALIZER: u8 = 22;
 
 // The function that a call means (13.3), once its arguments are read.
-#[tactic(auto, using(cxx_calls::proofs::Asking::asked_is))]
 fn asked(
     state: &mut State,
     name: Spelled<'_>,
@@ -38,11 +37,10 @@ fn asked(
         place: name.place,
         word: name.spelling,
     };
-    let covers = Covers {
-        first: from.count(),
-        last: to.count(),
-        start: from.place(),
-    };
+    let first = from.count();
+    let last = to.count();
+    let start = from.place();
+    let covers = Covers { first, last, start };
     call_asked(from.alloc(), state, called, arguments, covers)
 }
 
@@ -86,6 +84,7 @@ fn begins_call(cursor: &Cursor<'_>) -> bool
 
 // A cast round what initializes.
 #[tactic(auto, using(cxx_syntax::proofs::Kept::later_trans, cxx_syntax::proofs::Kept::type_kept, cxx_syntax::proofs::Kept::type_later, crate::proofs::Parts::cast_split))]
+#[cycle(initial)]
 fn cast_initial<T: Targets>(
     targets: &T,
     state: &mut State,
@@ -101,6 +100,7 @@ fn cast_initial<T: Targets>(
 }
 
 #[tactic(auto, using(cxx_syntax::proofs::Kept::later_trans, cxx_syntax::proofs::Kept::later_refl), unfolding(cxx_reading::specs::Initializers::initial_by))]
+#[cycle(initial)]
 fn initial_by<T: Targets>(
     targets: &T,
     state: &mut State,
@@ -122,6 +122,7 @@ fn initial_by<T: Targets>(
 
 // What initializes, behind the bracket of a cast.
 #[tactic(auto, using(cxx_syntax::proofs::Kept::later_refl, crate::proofs::Parts::initial_none, crate::proofs::Parts::initial_some))]
+#[cycle(initial)]
 fn initial<T: Targets>(
     targets: &T,
     state: &mut State,

@@ -5,7 +5,9 @@ mod arguments;
 mod casts;
 mod ends;
 mod initial;
+mod target;
 mod words;
 
 pub use casts::Targets;
 pub use initial::initializer_at;
+pub use target::target_at;

@@ -107,14 +107,33 @@ pub fn is_name(kind: TokenKind) -> bool
     }
 }
 
+/// Whether a token is the end of the unit.
 #[tactic(auto, unfolding(cxx_reading::specs::Tokens::is_end))]
-pub(crate) fn is_end(kind: TokenKind) -> bool
+pub fn is_end(kind: TokenKind) -> bool
     ensures { result ≡ definition.is_end kind }
 {
     match kind {
         TokenKind::End => true,
         _ => false,
     }
+}
+
+// A fault without evidence.
+pub(crate) fn fault_at(
+    alloc: Global,
+    place: Place,
+    text: FaultText,
+) -> Result<Box<Fault>, AllocError>
+    ensures { IfOk result (λ at. Faulty at.value ≡ fault place text) }
+{
+    Ok(Box::new(
+        alloc,
+        Fault {
+            place,
+            text,
+            evidence: Listed::new(alloc),
+        },
+    )?)
 }
 
 impl<'a> Cursor<'a> {
@@ -256,14 +275,7 @@ impl<'a> Cursor<'a> {
     pub fn faulty(&self, text: FaultText) -> Result<Box<Fault>, AllocError>
         ensures { IfOk result (λ at. Faulty at.value ≡ fault (place_ahead self.now) text) }
     {
-        Ok(Box::new(
-            self.alloc,
-            Fault {
-                place: self.place(),
-                text,
-                evidence: Listed::new(self.alloc),
-            },
-        )?)
+        fault_at(self.alloc, self.place(), text)
     }
 
     /// No form of the language stands there.

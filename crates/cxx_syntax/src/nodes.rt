@@ -57,8 +57,8 @@ pub fn node_from(
     }
 }
 
-// A name without qualifiers.
-fn path_to(alloc: Global, name: &NameToken) -> Result<Path, AllocError>
+/// The path of a name without qualifiers.
+pub fn path_to(alloc: Global, name: &NameToken) -> Result<Path, AllocError>
     ensures { IfOk result (λ path. path_at path ≡ path_of (name_at name.now)) }
 {
     let mut parts = Listed::new(alloc);
@@ -73,7 +73,10 @@ fn path_to(alloc: Global, name: &NameToken) -> Result<Path, AllocError>
     })
 }
 
-fn path_to_option(alloc: Global, name: &Option<NameToken>) -> Result<Option<Path>, AllocError>
+pub(crate) fn path_to_option(
+    alloc: Global,
+    name: &Option<NameToken>,
+) -> Result<Option<Path>, AllocError>
     ensures { IfOk result (λ path. arena.path_of_option path ≡ definition.path_of_option (name_of_option name.now)) }
 {
     match name {

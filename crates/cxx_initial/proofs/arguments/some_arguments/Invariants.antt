@@ -9,4 +9,4 @@ use Rattle.cxx_initial.specs.Lists.{AreCounted}
 use Rattle.cxx_initial.proofs.arguments.some_arguments.Given as goal
 
 abbrev pub invariant-loop-turn : goal.invariant-loop-turn
-invariant-loop-turn g l = IsTurning (repeat (argument_step l.fn.room (argument_opened l.fn.room)) arguments_over (l._turn-end - l._turn) (trees_held l.state l.so_far) (meaning l.state) l.cursor) (repeat (argument_step l.fn.room (argument_opened l.fn.room)) arguments_over limits.MOST_ARGUMENTS [] (meaning l.fn.state) l.fn.cursor) (AreCounted l._turn l.state l.so_far) l.fn.state l.state
+invariant-loop-turn g l = IsTurning (repeat (argument_step l.fn.room (argument_opened l.fn.room)) arguments_over (limits.MOST_ARGUMENTS - l._turn) (trees_held l.state l.so_far) (meaning l.state) l.cursor) (repeat (argument_step l.fn.room (argument_opened l.fn.room)) arguments_over limits.MOST_ARGUMENTS [] (meaning l.fn.state) l.fn.cursor) (AreCounted l._turn l.state l.so_far) l.fn.state l.state

@@ -1,5 +1,5 @@
 use Rattle.std.proofs.Common.{◌+◌, ◌*◌}
-use Rattle.cxx_initial.proofs.initial.+cast_initial.Given as goal
+use Rattle.cxx_initial.proofs.initial.+initial.Given as goal
 
 abbrev pub decreases-cast_initial : goal.decreases-cast_initial
 decreases-cast_initial g l = 3 * l.room + 1
