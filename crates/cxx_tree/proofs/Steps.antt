@@ -7,7 +7,7 @@ use Rattle.cxx_model.specs.declared.types.TreeId.{TreeId}
 use Rattle.cxx_model.specs.declared.types.TypeId.{TypeId}
 use Rattle.cxx_model.specs.Facts.Declarations.{CxxGraph, graph_at}
 use Rattle.cxx_model.specs.Facts.Graph.{Graph, IsTypeInRange, AreTypesInRange, IsBoundInRange}
-use Rattle.cxx_model.specs.Types.Trees.{CxxType, CxxBound, fundamental, class_type, enumeration, pointer_to, reference_to, array_of, function_of, qualified, type_parameter, specialisation, nested_in, any_cv, merged, layered, with_cv, decayed, adjusted}
+use Rattle.cxx_model.specs.Types.Trees.{CxxType, CxxBound, fundamental, class_type, enumeration, pointer_to, reference_to, array_of, function_of, qualified, type_parameter, specialisation, nested_in, any_cv, merged, layered, with_cv, decayed, adjusted, unqualified}
 use Rattle.cxx_model.specs.Types.Numbers.{type_at, types_at, AreTypesBelow, Keeps}
 use Rattle.cxx_types.specs.Parameters.{adjusted_types}
 use Rattle.cxx_model.specs.declared.types.Cv.{Cv}
@@ -142,6 +142,19 @@ decayed_range graph (qualified own t) ok = ok
 decayed_range graph (type_parameter depth index) ok = ok
 decayed_range graph (specialisation n given) ok = ok
 decayed_range graph (nested_in t word) ok = ok
+
+pub unqualified_range : (graph : Graph) (t : CxxType) → IsTypeInRange graph t → IsTypeInRange graph (unqualified t)
+unqualified_range graph (array_of t b) ok = (unqualified_range graph t ok.0, ok.1)
+unqualified_range graph (fundamental base) ok = ok
+unqualified_range graph (class_type n) ok = ok
+unqualified_range graph (enumeration n) ok = ok
+unqualified_range graph (pointer_to t) ok = ok
+unqualified_range graph (reference_to t) ok = ok
+unqualified_range graph (function_of r ts ellipsis own) ok = ok
+unqualified_range graph (qualified own t) ok = ok
+unqualified_range graph (type_parameter depth index) ok = ok
+unqualified_range graph (specialisation n given) ok = ok
+unqualified_range graph (nested_in t word) ok = ok
 
 adjusted_range : (graph : Graph) (t : CxxType) → IsTypeInRange graph t → IsTypeInRange graph (adjusted t)
 adjusted_range graph (array_of t b) ok = ok.0

@@ -9,7 +9,8 @@ mod state;
 mod trees;
 
 pub use kept::{
-    Binding, BindingList, Decided, DecidedList, Fallback, FallbackList, Piece, PieceList,
+    Binding, BindingList, Contending, ContendingList, Decided, DecidedList, Fallback, FallbackList,
+    Piece, PieceList,
 };
 pub use state::State;
 pub use trees::Trees;

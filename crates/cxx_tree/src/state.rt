@@ -443,6 +443,14 @@ impl State {
         self.types.with_cv(of, cv)
     }
 
+    /// A type without its cv words (3.9.3).
+    pub fn strip_cv(&mut self, of: TypeId) -> Result<TypeId, OutOfMemory>
+        requires { of.0 < length (self.old).types }
+        ensures { MakesType self.old self.new result (definition.unqualified (type_at (self.old).types of.0)) }
+    {
+        self.types.strip_cv(of)
+    }
+
     /// A type, or what stands in its place for an array and a function (4.2, 4.3).
     pub fn decay(&mut self, of: TypeId) -> Result<TypeId, OutOfMemory>
         requires { of.0 < length (self.old).types }

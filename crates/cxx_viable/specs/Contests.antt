@@ -15,7 +15,7 @@ use Rattle.cxx_reading.specs.Choosing.{CxxChoice, chosen_one, none_viable, ambig
 use Rattle.cxx_viable.specs.declared.contender.Contender.{Contender}
 use Rattle.cxx_viable.specs.declared.champion.Choice.{Choice}
 use Rattle.cxx_viable.specs.declared.champion.Choice.TheVariants as choice
-use Rattle.cxx_viable.specs.Views.{candidate_at, sequences_at, AreFoundBelow}
+use Rattle.cxx_viable.specs.Views.{candidate_at, sequences_at, AreFoundBelow, IsCandidateBelow}
 
 abbrev pub wins_between : {F : Type 0} → (F → F → Bool) → Option F → Option F → Bool
 wins_between beats (Some one) (Some two) = beats one two
@@ -44,8 +44,10 @@ contender_at types one = record { candidate = candidate_at types one.candidate; 
 abbrev pub contenders_at : List CxxType → List Contender → List RatedMeant
 contenders_at types all = map (contender_at types) all
 
-abbrev pub IsContenderBelow : ℕ → Contender → Type 0
-IsContenderBelow count one = AreFoundBelow count one.sequences.now
+-- the numbers of its types are below a count
+pub record IsContenderBelow (count : ℕ) (one : Contender) : Type 0 where
+  pub candidate : IsCandidateBelow count one.candidate
+  pub sequences : AreFoundBelow count one.sequences.now
 
 -- what comparing two contenders asks
 pub record IsReady (graph : Graph) (types : List CxxType) (members : List Contender) : Type 0 where
@@ -56,6 +58,11 @@ abbrev pub choice_at : List CxxType → Choice → CxxChoice
 choice_at types (choice.Chosen one) = chosen_one (contender_at types one)
 choice_at types (choice.NoneViable evidence) = none_viable evidence
 choice_at types (choice.Ambiguous evidence) = ambiguous evidence
+
+-- the numbers of the types of the chosen one are below a count
+abbrev pub IsChoiceBelow : ℕ → Choice → Type 0
+IsChoiceBelow count (choice.Chosen one) = IsContenderBelow count one
+IsChoiceBelow count _ = Unit {0}
 
 -- The best of n is found by 2(n - 1) comparisons at most. Where none is, each is compared with the others once more.
 abbrev pub most_comparisons : ℕ → Choice → ℕ

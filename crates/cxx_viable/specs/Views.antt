@@ -72,9 +72,10 @@ AreFoundBelow count (one ∷ others) = IsFoundBelow count one × AreFoundBelow c
 abbrev pub rated_at : List CxxType → Rated → RatedMeant
 rated_at types one = record { candidate = candidate_at types one.candidate; sequences = sequences_at types one.sequences; outcome = one.outcome }
 
--- the numbers of the types of its sequences are below a count
-abbrev pub IsRatedBelow : ℕ → Rated → Type 0
-IsRatedBelow count one = AreFoundBelow count one.sequences
+-- the numbers of its types are below a count
+pub record IsRatedBelow (count : ℕ) (one : Rated) : Type 0 where
+  pub candidate : IsCandidateBelow count one.candidate
+  pub sequences : AreFoundBelow count one.sequences
 
 -- a list with what is there at its end
 abbrev pub with_option : {A : Type 0} → List A → Option A → List A

@@ -1,13 +1,13 @@
 //! The best of the viable functions (13.3.3), and what shows that none is.
 
-ghost use Rattle.std.specs.Prelude.{◌≡◌, ◌+◌, ◌-◌, ◌*◌, ◌<◌, ◌≤◌, length, map, option_map, Some, None, IfOk};
+ghost use Rattle.std.specs.Prelude.{◌≡◌, ◌+◌, ◌-◌, ◌*◌, ◌<◌, ◌≤◌, length, map, option_map, Some, None, IfOk, IfSome};
 ghost use Rattle.std.specs.List.{All, slice_get};
 ghost use Rattle.cxx_model.specs.Facts.Declarations.{graph_at};
 ghost use Rattle.cxx_model.specs.Facts.Fitted.{Fitted};
 ghost use Rattle.cxx_reading.specs.Choosing.{beats as beats_of, choice as choice_of, choice_by, chosen as chosen_of, position_of, tie as tie_of, ties as ties_of, viable as viable_of};
 ghost use Rattle.cxx_standard.specs.Views.{Computes};
 ghost use Rattle.cxx_viable.specs.Candidates.{AreNumbered};
-ghost use Rattle.cxx_viable.specs.Contests.{choice_at, contender_at, contenders_at, line_of, member_at, member_of, most_comparisons, tie_at, wins_at, IsContenderBelow, IsReady};
+ghost use Rattle.cxx_viable.specs.Contests.{choice_at, contender_at, contenders_at, line_of, member_at, member_of, most_comparisons, tie_at, wins_at, IsChoiceBelow, IsContenderBelow, IsReady};
 ghost use Rattle.cxx_viable.specs.Views.{rated_at, IsRatedBelow};
 
 use crate::contender::{Contender, contenders, push_some, refusals, shown};
@@ -110,7 +110,8 @@ fn member<'r, 't>(
     viable: &[Contender<'r, 't>],
     verdict: Verdict,
 ) -> Option<Contender<'r, 't>>
-    ensures { option_map (contender_at types.now) result ≡ member_of (contenders_at types.now viable.now) verdict }
+    ensures is { option_map (contender_at types.now) result ≡ member_of (contenders_at types.now viable.now) verdict }
+    ensures below { All (IsContenderBelow (length types.now)) viable.now → IfSome result (IsContenderBelow (length types.now)) }
 {
     let _ = types;
     match verdict {
@@ -132,6 +133,7 @@ pub fn chosen<'r, 't, L: Ledger>(
     requires numbered { AreNumbered position_of 1 (contenders_at types.now viable.now) }
     requires ready { IsReady graph.now types.now viable.now }
     ensures best { IfOk result (λ found. option_map (contender_at types.now) found ≡ chosen_of (graph_at types.now graph.now) (contenders_at types.now viable.now)) }
+    ensures below { IfOk result (λ found. IfSome found (IsContenderBelow (length types.now))) }
     ensures most { steps.new ≤ steps.old + 2 * (length viable.now - 1) }
 {
     let contest = Viable {
@@ -217,6 +219,7 @@ fn without_best<'r, 't, L: Ledger>(
     requires numbered { AreNumbered position_of 1 (contenders_at types.now viable.now) }
     requires ready { IsReady graph.now types.now viable.now }
     ensures is { IfOk result (λ answer. choice_at types.now answer ≡ choice_by (graph_at types.now graph.now) (map (rated_at types.now) all.now) (contenders_at types.now viable.now) None) }
+    ensures below { IfOk result (IsChoiceBelow (length types.now)) }
     ensures most { IfOk result (λ answer. steps.new + 2 * (length viable.now - 1) ≤ steps.old + most_comparisons (length viable.now) answer) }
 {
     match viable {
@@ -239,6 +242,7 @@ pub fn choose<'r, 't, L: Ledger>(
     requires below { All (IsRatedBelow (length types.now)) all.now }
     requires fitted { Fitted graph.now types.now }
     ensures is { IfOk result (λ answer. choice_at types.now answer ≡ choice_of (graph_at types.now graph.now) (map (rated_at types.now) all.now)) }
+    ensures below { IfOk result (IsChoiceBelow (length types.now)) }
     ensures most { IfOk result (λ answer. steps.new ≤ steps.old + most_comparisons (length (viable_of (map (rated_at types.now) all.now))) answer) }
 {
     let viable = contenders(alloc, types, all)?;

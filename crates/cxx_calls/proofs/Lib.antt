@@ -1,0 +1,4 @@
+pub mod Records
+pub mod Ruled
+pub mod Growing
+pub mod Asking

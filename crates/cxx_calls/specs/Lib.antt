@@ -1,0 +1,4 @@
+pub mod Rulings
+pub mod Views
+pub mod Making
+pub mod Asked
