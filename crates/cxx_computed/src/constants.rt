@@ -23,7 +23,8 @@ pub(crate) struct Constant {
     pub value: Result<i128, ValueFault>,
 }
 
-pub(crate) fn unary_operator(number: u8) -> Option<UnaryOperator>
+/// The operator with one operand that a number means (5.3.1).
+pub fn unary_operator(number: u8) -> Option<UnaryOperator>
     ensures { result ≡ definition.unary_operator number }
 {
     match number {
@@ -62,7 +63,8 @@ fn bit_operator(number: u8) -> Option<BinaryOperator>
     }
 }
 
-fn binary_operator(number: u8) -> Option<BinaryOperator>
+/// The operator that a number means, of two operands that are both evaluated (5.6 to 5.13).
+pub fn binary_operator(number: u8) -> Option<BinaryOperator>
     ensures { result ≡ definition.binary_operator number }
 {
     match number {

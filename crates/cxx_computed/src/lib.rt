@@ -8,6 +8,7 @@ pub mod laws;
 mod operators;
 mod values;
 
+pub use constants::{binary_operator, unary_operator};
 pub use formulas::{ComputeStop, computed};
 pub use integers::{converted_value, holds};
 pub use operators::{BinaryOperator, UnaryOperator, ValueFault};

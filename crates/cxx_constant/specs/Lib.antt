@@ -1,0 +1,4 @@
+pub mod Constants
+pub mod Forms
+pub mod Given
+pub mod Known
