@@ -73,14 +73,14 @@ types_below_append count (n ∷ ns) two first second = (first.0, types_below_app
 
 -- ---- layers
 
-layer_kept : (old new : Held) (one : Layer) → Later old new → IsLayerBelow (length old.types) one → layer_in new.types one ≡ layer_in old.types one
+pub layer_kept : (old new : Held) (one : Layer) → Later old new → IsLayerBelow (length old.types) one → layer_in new.types one ≡ layer_in old.types one
 layer_kept old new (layer.Pointer cv) later ok = refl
 layer_kept old new layer.Reference later ok = refl
 layer_kept old new (layer.Array bound) later ok = refl
 layer_kept old new (layer.Function parameters ellipsis scope) later ok =
     (let make : List CxxType → definition.Layer = λ ts. function_layer (adjusted_types ts) ellipsis scope.0 in ap make (types_kept old new parameters later ok))
 
-layer_later : (old new : Held) (one : Layer) → Later old new → IsLayerBelow (length old.types) one → IsLayerBelow (length new.types) one
+pub layer_later : (old new : Held) (one : Layer) → Later old new → IsLayerBelow (length old.types) one → IsLayerBelow (length new.types) one
 layer_later old new (layer.Pointer cv) later ok = tt
 layer_later old new layer.Reference later ok = tt
 layer_later old new (layer.Array bound) later ok = tt

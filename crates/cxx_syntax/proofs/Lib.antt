@@ -1,2 +1,4 @@
 pub mod Loops
 pub mod Kept
+pub mod Nesting
+pub mod Layering

@@ -7,3 +7,5 @@ pub mod Making
 pub mod Looping
 pub mod Suffixes
 pub mod Outlines
+pub mod Layering
+pub mod Parameters

@@ -114,6 +114,24 @@ pub(crate) fn is_end(kind: TokenKind) -> bool
     }
 }
 
+// A fault without evidence.
+pub(crate) fn fault_at(
+    alloc: Global,
+    place: Place,
+    text: FaultText,
+) -> Result<Box<Fault>, AllocError>
+    ensures { IfOk result (λ at. Faulty at.value ≡ fault place text) }
+{
+    Ok(Box::new(
+        alloc,
+        Fault {
+            place,
+            text,
+            evidence: Listed::new(alloc),
+        },
+    )?)
+}
+
 impl<'a> Cursor<'a> {
     /// Before all tokens. A first place stands for that of a token before them.
     pub fn new(alloc: Global, bytes: &'a [u8], tokens: &'a [Token], last: Place) -> Cursor<'a>
@@ -252,14 +270,7 @@ impl<'a> Cursor<'a> {
     pub(crate) fn faulty(&self, text: FaultText) -> Result<Box<Fault>, AllocError>
         ensures { IfOk result (λ at. Faulty at.value ≡ fault (place_ahead self.now) text) }
     {
-        Ok(Box::new(
-            self.alloc,
-            Fault {
-                place: self.place(),
-                text,
-                evidence: Listed::new(self.alloc),
-            },
-        )?)
+        fault_at(self.alloc, self.place(), text)
     }
 
     // No form of the language stands there.

@@ -73,7 +73,10 @@ fn path_to(alloc: Global, name: &NameToken) -> Result<Path, AllocError>
     })
 }
 
-fn path_to_option(alloc: Global, name: &Option<NameToken>) -> Result<Option<Path>, AllocError>
+pub(crate) fn path_to_option(
+    alloc: Global,
+    name: &Option<NameToken>,
+) -> Result<Option<Path>, AllocError>
     ensures { IfOk result (λ path. arena.path_of_option path ≡ definition.path_of_option (name_of_option name.now)) }
 {
     match name {
