@@ -29,8 +29,9 @@ use cxx_tokens::{literal_type, literal_value};
 use cxx_tree::State;
 use std::alloc::AllocError;
 
+/// Whether a token is a number or a character (2.13.1, 2.13.2).
 #[tactic(auto, unfolding(cxx_reading::specs::Tokens::is_number))]
-fn is_number(kind: TokenKind) -> bool
+pub fn is_number(kind: TokenKind) -> bool
     ensures { result ≡ is_number_kind kind }
 {
     match kind {
@@ -79,8 +80,9 @@ fn literal_tree(state: &mut State, of: Base, cursor: &Cursor<'_>) -> Result<Tree
     }
 }
 
+/// A literal (2.13).
 #[tactic(auto, unfolding(cxx_reading::specs::Constants::literal_at))]
-fn literal_at(state: &mut State, cursor: &mut Cursor<'_>) -> Result<TreeId, Stop>
+pub fn literal_at(state: &mut State, cursor: &mut Cursor<'_>) -> Result<TreeId, Stop>
     ensures { IsRead tree IsTreeKnown state.old state.new cursor.new result (definition.literal_at (meaning state.old) cursor.old) }
 {
     match literal_type(cursor.spelling()) {
@@ -93,8 +95,8 @@ fn literal_at(state: &mut State, cursor: &mut Cursor<'_>) -> Result<TreeId, Stop
     }
 }
 
-// Keywords with which an expression begins (5).
-fn begins_operand(number: u8) -> bool
+/// Keywords with which an expression begins (5).
+pub fn begins_operand(number: u8) -> bool
     ensures { result ≡ definition.begins_operand number }
 {
     number == keyword::TRUE
@@ -111,7 +113,8 @@ fn begins_operand(number: u8) -> bool
                                                 || type_word(number).is_some()))))))))))
 }
 
-fn begins_unary(number: u8) -> bool
+/// What else an expression begins with (5.3).
+pub fn begins_unary(number: u8) -> bool
     ensures { result ≡ definition.begins_unary number }
 {
     number == punct::LEFT_PARENTHESIS
@@ -161,14 +164,15 @@ fn expression_text(kind: TokenKind) -> FaultText
     }
 }
 
-fn no_expression(cursor: &Cursor<'_>) -> Result<Box<Fault>, AllocError>
+/// What stands where an expression would begin.
+pub fn no_expression(cursor: &Cursor<'_>) -> Result<Box<Fault>, AllocError>
     ensures { IfOk result (λ at. Faulty at.value ≡ fault (place_ahead cursor.now) (definition.expression_text (kind_ahead cursor.now))) }
 {
     cursor.faulty(expression_text(cursor.kind()))
 }
 
-// What goes on with an operand in a constant expression (5.2, 5.6 to 5.16).
-fn continues(number: u8) -> bool
+/// What goes on with an operand in a constant expression (5.2, 5.6 to 5.16).
+pub fn continues(number: u8) -> bool
     ensures { result ≡ definition.continues number }
 {
     number == punct::LEFT_PARENTHESIS
@@ -207,7 +211,8 @@ fn continues(number: u8) -> bool
                                                                                                         == punct::QUESTION)))))))))))))))))))))))
 }
 
-fn is_member_pointer(number: u8) -> bool
+/// What selects a member by a pointer to it (5.5).
+pub fn is_member_pointer(number: u8) -> bool
     ensures { result ≡ definition.is_member_pointer number }
 {
     number == punct::DOT_STAR || number == punct::ARROW_STAR

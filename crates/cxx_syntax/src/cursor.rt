@@ -74,8 +74,9 @@ fn spelling_in(bytes: &[u8], token: Token) -> &[u8]
     front(skip(bytes, token.from as usize), len as usize)
 }
 
+/// Whether a token is the punctuator with a number.
 #[tactic(auto, unfolding(cxx_reading::specs::Tokens::is_punct))]
-pub(crate) fn is_punct(number: u8, kind: TokenKind) -> bool
+pub fn is_punct(number: u8, kind: TokenKind) -> bool
     ensures { result ≡ definition.is_punct number kind }
 {
     match kind {
@@ -84,8 +85,9 @@ pub(crate) fn is_punct(number: u8, kind: TokenKind) -> bool
     }
 }
 
+/// Whether a token is the keyword with a number.
 #[tactic(auto, unfolding(cxx_reading::specs::Tokens::is_keyword))]
-pub(crate) fn is_keyword(number: u8, kind: TokenKind) -> bool
+pub fn is_keyword(number: u8, kind: TokenKind) -> bool
     ensures { result ≡ definition.is_keyword number kind }
 {
     match kind {
@@ -94,8 +96,9 @@ pub(crate) fn is_keyword(number: u8, kind: TokenKind) -> bool
     }
 }
 
+/// Whether a token is a name.
 #[tactic(auto, unfolding(cxx_reading::specs::Tokens::is_name))]
-pub(crate) fn is_name(kind: TokenKind) -> bool
+pub fn is_name(kind: TokenKind) -> bool
     ensures { result ≡ definition.is_name kind }
 {
     match kind {
@@ -104,8 +107,9 @@ pub(crate) fn is_name(kind: TokenKind) -> bool
     }
 }
 
+/// Whether a token is the end of the unit.
 #[tactic(auto, unfolding(cxx_reading::specs::Tokens::is_end))]
-pub(crate) fn is_end(kind: TokenKind) -> bool
+pub fn is_end(kind: TokenKind) -> bool
     ensures { result ≡ definition.is_end kind }
 {
     match kind {
@@ -158,7 +162,8 @@ impl<'a> Cursor<'a> {
         }
     }
 
-    pub(crate) fn alloc(&self) -> Global {
+    /// The allocator that its readers use.
+    pub fn alloc(&self) -> Global {
         self.alloc
     }
 
@@ -266,29 +271,29 @@ impl<'a> Cursor<'a> {
         })
     }
 
-    // A fault at the token ahead.
-    pub(crate) fn faulty(&self, text: FaultText) -> Result<Box<Fault>, AllocError>
+    /// A fault at the token ahead.
+    pub fn faulty(&self, text: FaultText) -> Result<Box<Fault>, AllocError>
         ensures { IfOk result (λ at. Faulty at.value ≡ fault (place_ahead self.now) text) }
     {
         fault_at(self.alloc, self.place(), text)
     }
 
-    // No form of the language stands there.
-    pub(crate) fn refused(&self) -> Result<Box<Fault>, AllocError>
+    /// No form of the language stands there.
+    pub fn refused(&self) -> Result<Box<Fault>, AllocError>
         ensures { IfOk result (λ at. Faulty at.value ≡ fault (place_ahead self.now) says.SyntaxError) }
     {
         self.faulty(FaultText::SyntaxError)
     }
 
-    // The form that stands there is not read yet.
-    pub(crate) fn not_built(&self) -> Result<Box<Fault>, AllocError>
+    /// The form that stands there is not read yet.
+    pub fn not_built(&self) -> Result<Box<Fault>, AllocError>
         ensures { IfOk result (λ at. Faulty at.value ≡ fault (place_ahead self.now) says.NotBuilt) }
     {
         self.faulty(FaultText::NotBuilt)
     }
 
-    // Whether a name with qualifiers stands ahead (3.4.3).
-    pub(crate) fn is_qualified(&self) -> bool
+    /// Whether a name with qualifiers stands ahead (3.4.3).
+    pub fn is_qualified(&self) -> bool
         ensures { result ≡ definition.is_qualified self.now }
     {
         is_punct(punct::SCOPE, self.kind())
@@ -306,9 +311,9 @@ impl<'a> Cursor<'a> {
         }
     }
 
-    // Takes a punctuator.
+    /// Takes a punctuator.
     #[tactic(auto, unfolding(cxx_reading::specs::Tokens::punct_taken))]
-    pub(crate) fn punct(&mut self, number: u8) -> Result<(), Stop>
+    pub fn punct(&mut self, number: u8) -> Result<(), Stop>
         ensures { Takes (λ x. x) self.new result (definition.punct_taken number tt self.old) }
     {
         if !is_punct(number, self.kind()) {

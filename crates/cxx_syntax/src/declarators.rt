@@ -63,8 +63,8 @@ fn with_name(alloc: Global, name: Option<NameToken>) -> Declarator
     }
 }
 
-// The trees of both.
-pub(crate) fn joined(one: TreeIdList, two: TreeIdList) -> Result<TreeIdList, AllocError>
+/// The trees of both lists.
+pub fn joined(one: TreeIdList, two: TreeIdList) -> Result<TreeIdList, AllocError>
     ensures { IfOk result (λ all. all ≡ one ++ two) }
 {
     let mut items = one.into_vec();

@@ -19,11 +19,19 @@ mod steps;
 mod turn;
 mod words;
 
-pub use cursor::{Cursor, Spelled};
+pub use constants::{
+    begins_operand, begins_unary, continues, is_member_pointer, is_number, literal_at,
+    no_expression,
+};
+pub use cursor::{Cursor, Spelled, is_end, is_keyword, is_name, is_punct};
 pub use declarator::{Declarator, Layer, LayerList, ParameterTypes};
+pub use declarators::joined;
 pub use kinds::Kinds;
 pub use knot::{read_declarator, read_specifiers};
 pub use layers::{declared, declared_parameter, is_declared_void, refused};
 pub use name::NameToken;
+pub use nodes::{node_from, path_to, push};
 pub use parameters::specified;
 pub use specifiers::Specifiers;
+pub use turn::Turn;
+pub use words::base_of_words;

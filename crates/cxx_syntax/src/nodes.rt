@@ -32,7 +32,7 @@ pub(crate) mod production {
 }
 
 /// A node that covers what was read from one place up to another, and says nothing else yet.
-pub(crate) fn node_from(
+pub fn node_from(
     production: u8,
     spelling: Text,
     from: &Cursor<'_>,
@@ -57,8 +57,8 @@ pub(crate) fn node_from(
     }
 }
 
-// A name without qualifiers.
-fn path_to(alloc: Global, name: &NameToken) -> Result<Path, AllocError>
+/// The path of a name without qualifiers.
+pub fn path_to(alloc: Global, name: &NameToken) -> Result<Path, AllocError>
     ensures { IfOk result (λ path. path_at path ≡ path_of (name_at name.now)) }
 {
     let mut parts = Listed::new(alloc);
@@ -96,7 +96,7 @@ pub(crate) fn place_of(place: Place, name: &Option<NameToken>) -> Place
 }
 
 /// Adds a node.
-pub(crate) fn push(state: &mut State, node: Node) -> Result<TreeId, Stop>
+pub fn push(state: &mut State, node: Node) -> Result<TreeId, Stop>
     requires below { IsNodeBelow (length (state.old).types) node }
     requires children { AreTreesBelow (length (trees state.old)) node.children }
     ensures { GrowsTree state.old state.new result (tree_over (state.old).types (trees state.old) node) }

@@ -1,5 +1,5 @@
 /// What a turn of a loop leads to.
-pub(crate) enum Turn<A, B> {
+pub enum Turn<A, B> {
     More(A),
     Done(B),
 }

@@ -117,7 +117,7 @@ fn implied(sign: Option<SignWord>, size: Option<SizeWord>) -> Option<Base>
 }
 
 /// The type that the words name, in any order, where they name one (Table 7).
-pub(crate) fn base_of_words(words: TypeWords) -> Option<Base>
+pub fn base_of_words(words: TypeWords) -> Option<Base>
     ensures { result ≡ definition.base_of_words words }
 {
     match words.core {
