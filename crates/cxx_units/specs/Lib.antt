@@ -1,0 +1,4 @@
+pub mod Bodies
+pub mod Made
+pub mod Read
+pub mod Said

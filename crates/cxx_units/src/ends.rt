@@ -1,0 +1,199 @@
+//! What may stand behind a declarator, and where a declaration would begin (clauses 7, 8).
+
+ghost use Rattle.std.specs.Prelude.{◌≡◌, ◌<◌, length, if◌then◌else◌, IfOk};
+ghost use Rattle.cxx_model.specs.Stops.{Faulty, fault};
+ghost use Rattle.cxx_model.specs.declared.fault.FaultText.TheVariants as says;
+ghost use Rattle.cxx_reading.specs.Declarators.{own_parameters};
+ghost use Rattle.cxx_reading.specs.Reads.{kind_ahead, place_ahead};
+ghost use Rattle.cxx_reading.specs.Tokens as token;
+ghost use Rattle.cxx_reading.specs.Units as definition;
+ghost use Rattle.cxx_units.specs.Bodies.{body_ahead as body_ahead_at, function_end};
+ghost use Rattle.cxx_syntax.specs.Asking.{AnyKnown, itself};
+ghost use Rattle.cxx_syntax.specs.Reading.{IsRead};
+ghost use Rattle.cxx_syntax.specs.Views.{AreTreesHeld, layers_in, name_at, specifiers_of, trees_held};
+ghost use Rattle.cxx_tree.specs.Held.{meaning, type_of};
+
+use crate::trees::faulty;
+use crate::types::{is_const_type, is_reference, is_unbounded};
+use cxx_model::{
+    Fault, FaultText, LeftOut, Listed, Stop, TokenKind, TreeIdList, TypeId, keyword, punct,
+};
+use cxx_reading::StorageWord;
+use cxx_syntax::{Cursor, Layer, LayerList, NameToken, Specifiers, is_keyword, is_punct};
+use cxx_tree::State;
+use std::alloc::AllocError;
+
+pub(crate) fn ends_declarator(kind: TokenKind) -> bool
+    ensures { result ≡ definition.ends_declarator kind }
+{
+    is_punct(punct::COMMA, kind) || is_punct(punct::SEMICOLON, kind)
+}
+
+/// Behind the declarator of a synonym (7.1.3).
+#[tactic(auto, using(cxx_syntax::proofs::Kept::later_refl), unfolding(cxx_reading::specs::Units::synonym_ended))]
+pub(crate) fn synonym_ended(state: &State, cursor: &Cursor<'_>) -> Result<(), Stop>
+    ensures { IsRead itself AnyKnown state.now state.now cursor.now result (definition.synonym_ended (meaning state.now) cursor.now) }
+{
+    let _ = state;
+    if ends_declarator(cursor.kind()) {
+        return Ok(());
+    }
+    Err(Stop::Fault(cursor.refused()?))
+}
+
+// Whether the declarator itself declares a function (8.3.5).
+fn has_own_parameters(state: &State, layers: &LayerList) -> bool
+    ensures { result ≡ definition.is_some_scope (own_parameters (layers_in (state.now).types layers.now)) }
+{
+    let _ = state;
+    match layers.as_slice() {
+        [Layer::Function { .. }, ..] => true,
+        _ => false,
+    }
+}
+
+// Behind the first declarator with its own list of parameters a body may stand, which is not read yet (8.4).
+#[tactic(auto, using(cxx_syntax::proofs::Kept::later_refl))]
+fn body_ahead(state: &State, cursor: &Cursor<'_>) -> Result<(), Stop>
+    ensures { IsRead itself AnyKnown state.now state.now cursor.now result (body_ahead_at (meaning state.now) cursor.now) }
+{
+    let _ = state;
+    if is_punct(punct::LEFT_BRACE, cursor.kind()) || is_punct(punct::COLON, cursor.kind()) {
+        return Err(Stop::Fault(cursor.not_built()?));
+    }
+    if is_keyword(keyword::TRY, cursor.kind()) {
+        let form = FaultText::LeftOut(LeftOut::Exception);
+        return Err(Stop::Fault(cursor.faulty(form)?));
+    }
+    Err(Stop::Fault(cursor.refused()?))
+}
+
+/// Behind the declarator of a function.
+#[tactic(auto, using(cxx_syntax::proofs::Kept::later_refl))]
+pub(crate) fn function_ended(
+    state: &State,
+    cursor: &Cursor<'_>,
+    is_first: bool,
+    layers: &LayerList,
+) -> Result<(), Stop>
+    ensures { IsRead itself AnyKnown state.now state.now cursor.now result (function_end is_first (layers_in (state.now).types layers.now) (meaning state.now) cursor.now) }
+{
+    if ends_declarator(cursor.kind()) {
+        return Ok(());
+    }
+    if is_first && has_own_parameters(state, layers) {
+        return body_ahead(state, cursor);
+    }
+    Err(Stop::Fault(cursor.refused()?))
+}
+
+/// An object without an initializer that has to have one (8.5).
+#[tactic(auto, using(cxx_syntax::proofs::Kept::later_refl), unfolding(cxx_reading::specs::Units::uninitialized))]
+pub(crate) fn uninitialized(
+    state: &State,
+    cursor: &Cursor<'_>,
+    name: &NameToken,
+    of: TypeId,
+) -> Result<TreeIdList, Stop>
+    requires { of.0 < length (state.now).types }
+    ensures { IsRead trees_held AreTreesHeld state.now state.now cursor.now result (definition.uninitialized (name_at name.now) (type_of state.now of) (meaning state.now) cursor.now) }
+{
+    let types = state.types();
+    if is_unbounded(types, of) {
+        let fault = faulty(cursor.alloc(), name.place, FaultText::IncompleteClass)?;
+        return Err(Stop::Fault(fault));
+    }
+    if is_reference(types, of) || is_const_type(types, of) {
+        let fault = faulty(cursor.alloc(), name.place, FaultText::NoConversion)?;
+        return Err(Stop::Fault(fault));
+    }
+    Ok(Listed::new(cursor.alloc()))
+}
+
+fn is_some_storage(word: Option<StorageWord>) -> bool
+    ensures { result ≡ definition.is_some_storage word }
+{
+    word.is_some()
+}
+
+/// Without a declarator a declaration has to declare or name an enumeration (clause 7).
+#[tactic(auto, using(cxx_syntax::proofs::Kept::later_refl), unfolding(cxx_reading::specs::Units::nothing_declared))]
+pub(crate) fn nothing_declared(
+    state: &State,
+    cursor: &mut Cursor<'_>,
+    specifiers: &Specifiers,
+) -> Result<TreeIdList, Stop>
+    ensures { IsRead trees_held AreTreesHeld state.now state.now cursor.new result (definition.nothing_declared (specifiers_of state.now specifiers.now) (meaning state.now) cursor.old) }
+{
+    let _ = state;
+    if specifiers.is_enumeration && !is_some_storage(specifiers.storage) {
+        cursor.advance();
+        return Ok(Listed::new(cursor.alloc()));
+    }
+    Err(Stop::Fault(cursor.refused()?))
+}
+
+fn begins_another(number: u8) -> bool
+    ensures { result ≡ definition.begins_another number }
+{
+    number == keyword::ASM
+        || (number == keyword::EXPORT
+            || (number == keyword::NAMESPACE
+                || (number == keyword::USING || number == keyword::TEMPLATE)))
+}
+
+/// A keyword with which another declaration begins (7.3, 7.4, 14).
+pub(crate) fn another_ahead(kind: TokenKind) -> bool
+    ensures { result ≡ definition.another_ahead kind }
+{
+    match kind {
+        TokenKind::Keyword(number) => begins_another(number),
+        _ => false,
+    }
+}
+
+fn begins_unbuilt(number: u8) -> bool
+    ensures { result ≡ token.begins_unbuilt number }
+{
+    number == keyword::NAMESPACE
+        || (number == keyword::USING
+            || (number == keyword::TEMPLATE
+                || (number == keyword::CLASS
+                    || (number == keyword::STRUCT
+                        || (number == keyword::UNION
+                            || (number == keyword::TYPENAME || number == keyword::OPERATOR))))))
+}
+
+fn form_of_keyword(number: u8) -> FaultText
+    ensures { result ≡ token.form_of_keyword number }
+{
+    if number == keyword::ASM {
+        return FaultText::LeftOut(LeftOut::Asm);
+    }
+    if number == keyword::EXPORT {
+        return FaultText::LeftOut(LeftOut::Export);
+    }
+    if begins_unbuilt(number) {
+        return FaultText::NotBuilt;
+    }
+    FaultText::SyntaxError
+}
+
+fn form_of_kind(kind: TokenKind) -> FaultText
+    ensures { result ≡ token.form_of_kind kind }
+{
+    match kind {
+        TokenKind::Keyword(number) => form_of_keyword(number),
+        _ => FaultText::SyntaxError,
+    }
+}
+
+/// What stands where a declaration would begin (clause 7).
+pub(crate) fn no_declaration(cursor: &Cursor<'_>) -> Result<Box<Fault>, AllocError>
+    ensures { IfOk result (λ at. Faulty at.value ≡ fault (place_ahead cursor.now) (if token.is_qualified cursor.now then says.NotBuilt else token.form_of_kind (kind_ahead cursor.now))) }
+{
+    if cursor.is_qualified() {
+        return cursor.not_built();
+    }
+    cursor.faulty(form_of_kind(cursor.kind()))
+}

@@ -1,0 +1,204 @@
+//! The trees of declarations.
+
+ghost use Rattle.std.specs.Prelude.{◌≡◌, ◌<◌, ◌++◌, ◌∷◌, [], if◌then◌else◌, length, IfOk, codes};
+ghost use Rattle.cxx_model.specs.Facts.Declarations.{type_of_option};
+ghost use Rattle.cxx_model.specs.Facts.Fitted.{IsTypeNumberBelow};
+ghost use Rattle.cxx_model.specs.Stops.{Faulty, fault};
+ghost use Rattle.cxx_reading.specs.Labels.{label_from};
+ghost use Rattle.cxx_reading.specs.Productions as production;
+ghost use Rattle.cxx_reading.specs.Trees.{tree_of};
+ghost use Rattle.cxx_reading.specs.Units as definition;
+ghost use Rattle.cxx_syntax.specs.Making.{GrowsTree};
+ghost use Rattle.cxx_syntax.specs.Views.{AreSpecifiers, AreTreesHeld, name_at, name_of_option, specifiers_of, trees_held};
+ghost use Rattle.cxx_tree.specs.Held.{tree, trees, type_of};
+
+use crate::said::{storage_text, type_of_specifiers};
+use cxx_model::{
+    FactId, Fault, FaultText, Listed, Place, Stop, Text, TokenKind, TreeId, TreeIdList, TypeId,
+};
+use cxx_syntax::{Cursor, NameToken, Specifiers, node_from, path_to, push};
+use cxx_tree::State;
+use std::alloc::{AllocError, Global};
+
+/// The numbers of the productions.
+mod production {
+    pub const EMPTY_DECLARATION: u8 = 2;
+
+    pub const LINKAGE: u8 = 3;
+
+    pub const SIMPLE_DECLARATION: u8 = 8;
+
+    pub const DECLARATOR: u8 = 20;
+
+    pub const SPECIFIERS: u8 = 53;
+}
+
+/// A fault that rests on nothing but its place.
+pub(crate) fn faulty(alloc: Global, place: Place, text: FaultText) -> Result<Box<Fault>, AllocError>
+    ensures { IfOk result (λ at. Faulty at.value ≡ fault place text) }
+{
+    Ok(Box::new(
+        alloc,
+        Fault {
+            place,
+            text,
+            evidence: Listed::new(alloc),
+        },
+    )?)
+}
+
+/// The name of a declarator that has one.
+pub(crate) fn token_or(alloc: Global, name: Option<NameToken>) -> NameToken
+    ensures { name_at result ≡ definition.token_or (name_of_option name) }
+{
+    match name {
+        None => NameToken {
+            kind: TokenKind::End,
+            place: Place { line: 0, column: 0 },
+            spelling: Listed::new(alloc),
+        },
+        Some(name) => name,
+    }
+}
+
+/// A list of one tree.
+pub(crate) fn one_tree(alloc: Global, number: TreeId) -> Result<TreeIdList, AllocError>
+    ensures { IfOk result (λ all. all ≡ number ∷ []) }
+{
+    let mut all = Listed::new(alloc);
+    all.push(number)?;
+    Ok(all)
+}
+
+/// One tree more.
+pub(crate) fn with_tree(trees: TreeIdList, number: TreeId) -> Result<TreeIdList, AllocError>
+    ensures { IfOk result (λ all. all ≡ trees ++ number ∷ []) }
+{
+    let mut all = trees;
+    all.push(number)?;
+    Ok(all)
+}
+
+/// `;` alone (clause 7).
+pub(crate) fn empty_tree(state: &mut State, from: &Cursor<'_>) -> Result<TreeId, Stop>
+    ensures { GrowsTree state.old state.new result (definition.empty_tree from.now) }
+{
+    let mut behind = from.mark();
+    behind.advance();
+    let node = node_from(
+        production::EMPTY_DECLARATION,
+        Listed::new(from.alloc()),
+        from,
+        &behind,
+        Listed::new(from.alloc()),
+    );
+    push(state, node)
+}
+
+/// A specification of linkage with its declarations (7.5).
+pub(crate) fn linkage_tree(
+    state: &mut State,
+    inside: TreeIdList,
+    from: &Cursor<'_>,
+    to: &Cursor<'_>,
+) -> Result<TreeId, Stop>
+    requires { AreTreesHeld state.old inside }
+    ensures { GrowsTree state.old state.new result (definition.linkage_tree (trees_held state.old inside) from.now to.now) }
+{
+    let node = node_from(
+        production::LINKAGE,
+        Listed::new(from.alloc()),
+        from,
+        to,
+        inside,
+    );
+    push(state, node)
+}
+
+/// A declarator of a declaration (8), spelled `extern` where its declaration counts as if it had that word.
+pub(crate) fn declarator_tree(
+    state: &mut State,
+    is_extern: bool,
+    name: &NameToken,
+    of: TypeId,
+    number: FactId,
+    parts: TreeIdList,
+    from: &Cursor<'_>,
+    to: &Cursor<'_>,
+) -> Result<TreeId, Stop>
+    requires known { of.0 < length (state.old).types }
+    requires parts { AreTreesHeld state.old parts }
+    ensures { GrowsTree state.old state.new result (definition.declarator_tree is_extern (name_at name.now) (type_of state.old of) number.0 (trees_held state.old parts) from.now to.now) }
+{
+    let path = path_to(from.alloc(), name)?;
+    let spelling = Text::from_slice(from.alloc(), extern_text(is_extern))?;
+    let mut node = node_from(production::DECLARATOR, spelling, from, to, parts);
+    node.place = name.place;
+    node.path = Some(path);
+    node.of = Some(of);
+    node.target = Some(number);
+    push(state, node)
+}
+
+fn extern_text(is_extern: bool) -> &'static [u8]
+    ensures { result.now ≡ (if is_extern then codes "extern" else []) }
+{
+    if is_extern { b"extern" } else { b"" }
+}
+
+// The tree of specifiers that name a type.
+fn specifiers_node(
+    state: &mut State,
+    specifiers: Specifiers,
+    of: Option<TypeId>,
+    from: &Cursor<'_>,
+    to: &Cursor<'_>,
+) -> Result<TreeId, Stop>
+    requires known { IsTypeNumberBelow (length (state.old).types) of }
+    requires parts { AreTreesHeld state.old specifiers.parts }
+    ensures { GrowsTree state.old state.new result (tree_of (record (label_from production.specifiers (definition.storage_text specifiers.storage) from.now to.now) { of = type_of_option (state.old).types of }) (trees_held state.old specifiers.parts)) }
+{
+    let spelling = Text::from_slice(from.alloc(), storage_text(specifiers.storage))?;
+    let mut node = node_from(production::SPECIFIERS, spelling, from, to, specifiers.parts);
+    node.of = of;
+    push(state, node)
+}
+
+/// The specifiers of a declaration (7.1), spelled by their storage word.
+#[tactic(auto, using(cxx_syntax::proofs::Kept::trees_kept, cxx_syntax::proofs::Kept::trees_later, cxx_syntax::proofs::Kept::later_trans, cxx_syntax::proofs::Kept::later_refl))]
+pub(crate) fn specifiers_tree(
+    state: &mut State,
+    specifiers: Specifiers,
+    from: &Cursor<'_>,
+    to: &Cursor<'_>,
+) -> Result<TreeId, Stop>
+    requires { AreSpecifiers state.old specifiers }
+    ensures { GrowsTree state.old state.new result (definition.specifiers_tree (specifiers_of state.old specifiers) from.now to.now) }
+{
+    let of = type_of_specifiers(state, &specifiers)?;
+    specifiers_node(state, specifiers, of, from, to)
+}
+
+/// A declaration of declarators (clause 7).
+pub(crate) fn simple_tree(
+    state: &mut State,
+    specifiers: TreeId,
+    declarators: TreeIdList,
+    from: &Cursor<'_>,
+    to: &Cursor<'_>,
+) -> Result<TreeId, Stop>
+    requires specifiers { specifiers.0 < length (trees state.old) }
+    requires declarators { AreTreesHeld state.old declarators }
+    ensures { GrowsTree state.old state.new result (definition.simple_tree (tree state.old specifiers) (trees_held state.old declarators) from.now to.now) }
+{
+    let mut all = declarators;
+    all.push_front(specifiers)?;
+    let node = node_from(
+        production::SIMPLE_DECLARATION,
+        Listed::new(from.alloc()),
+        from,
+        to,
+        all,
+    );
+    push(state, node)
+}
