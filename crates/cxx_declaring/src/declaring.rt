@@ -4,8 +4,10 @@ ghost use Rattle.cxx_model.specs.Facts.Graph.{enumerations};
 ghost use Rattle.cxx_declare.specs.Made.{IsNameOf};
 ghost use Rattle.cxx_names.specs.Clashes.{IsPlainName};
 ghost use Rattle.cxx_reading.specs.Constants.{or_zero};
+ghost use Rattle.cxx_reading.specs.Declaring.{kind_here};
+ghost use Rattle.cxx_reading.specs.Specifiers.{path_of};
 ghost use Rattle.cxx_syntax.specs.Asking.{IsAsked, IsEnumeration, enumeration_number};
-ghost use Rattle.cxx_syntax.specs.Views.{IsConstant, name_of_option};
+ghost use Rattle.cxx_syntax.specs.Views.{IsConstant, lexeme_at, name_of_option};
 ghost use Rattle.cxx_tree.specs.Held.{meaning};
 
 use cxx_declare as declare;
@@ -27,6 +29,13 @@ fn name_of(alloc: Global, name: &Option<NameToken>) -> Result<Name, AllocError>
         Some(name) => Ok(Name::Spelled(Word::from_slice(alloc, name.spelling.as_slice())?)),
         None => Ok(Name::Unnamed),
     }
+}
+
+// What a name is where the reader stands (3.4.1).
+fn kind_of(state: &State, name: Spelled<'_>) -> Kind
+    ensures { kind_here (path_of (lexeme_at name.entry)) (meaning state.now) ≡ Ok (result, meaning state.now) }
+{
+    declare::kind(state, name.spelling)
 }
 
 // The type of an enumeration that begins.
@@ -69,7 +78,7 @@ impl Kinds for Declaring {
 
     #[tactic(auto, using(cxx_syntax::proofs::Kept::later_refl), unfolding(cxx_reading::specs::Declaring::declaring))]
     fn kind(&self, state: &mut State, name: Spelled<'_>, _room: u32) -> Result<Kind, Stop> {
-        Ok(declare::kind(state, name.spelling))
+        Ok(kind_of(state, name))
     }
 
     #[tactic(auto, using(crate::proofs::Answering::asked), unfolding(cxx_reading::specs::Declaring::declaring))]
