@@ -1,41 +1,41 @@
 -- The contract of a run follows from what is due and where it was told.
-use Rattle.std.proofs.Common.{◌≡◌, ◌≢◌, ◌⊎◌, inl, inr, ◌∙◌, ℕ, suc, ◌<◌, Bool, true, false, cond, List, [], ◌++◌, length, replicate, nat_lt, ◌∷◌, arith, refl, sym, ap, subst}
+use Rattle.std.proofs.Common.{◌≡◌, ◌≢◌, ◌⊎◌, inl, inr, ◌∙◌, ℕ, suc, ◌<◌, Bool, true, false, cond, List, [], length, replicate, nat_lt, ◌∷◌, arith, refl, sym, ap, subst}
 use Rattle.std.proofs.lemmas.Bool.{lt-ltb}
 use Rattle.std.proofs.lemmas.Bool.Decides.{nat_tests}
 use Rattle.std.proofs.lemmas.List.{length-replicate}
 use Rattle.std.specs.Prelude.{◌==◌, Option, Result, Some, None, codes, Ok, Err}
 use Rattle.cxx_edge.specs.Source.{IsLonger}
+use Rattle.cxx_form.specs.Called.{is_past_output}
 use Rattle.cxx_model.specs.declared.fault.FaultText.{FaultText}
 use Rattle.cxx_model.specs.declared.fault.FaultText.TheVariants as says
 use Rattle.cxx_model.specs.declared.options.Options.{Options}
-use Rattle.cxx_model.specs.declared.first.Reading.{Reading}
 use Rattle.cxx_model.specs.declared.limits.TheConstants as limits
 use Rattle.cxx_model.specs.declared.stop.Fault.{Fault}
 use Rattle.cxx_model.specs.declared.stop.LimitKind.{LimitKind}
 use Rattle.cxx_model.specs.declared.stop.LimitKind.TheVariants.{Bytes, Output}
-use Rattle.cxx_model.specs.First.Bound.{EachCallIsBest}
-use Rattle.cxx_model.specs.First.Plain.{plain}
-use Rattle.cxx_model.specs.First.Told.{IsChoiceText, IsToldFault, IsUndeclaredFault}
 use Rattle.cxx_model.specs.declared.token.Token.{Token}
 use Rattle.cxx_model.specs.declared.token.TokenReason.{TokenReason}
-use Rattle.cxx_model.specs.First.Reading.{reading_of}
-use Rattle.cxx_model.specs.Text.Lexemes.{Lexeme, lexemes}
-use Rattle.cxx_model.specs.Outcome.{UnitDue, Writes, Reports, Names, UnitOutcome, Whole, Broken, PastLimit, outcome_of, read_outcome, tokens_outcome, due_of, due_for}
-use Rattle.cxx_model.specs.Printing.ReadsBack.{PlainReadsBack}
-use Rattle.cxx_model.specs.Stops.{Answer as Reads, Faulty, Limited}
-use Rattle.cxx_model.specs.Text.Tokens.{Unread, BadAt, PastTokens, tokens_of}
 use Rattle.cxx_model.specs.Printing.Reports.{report, limit_report}
-use Rattle.cxx_model.proofs.FirstForm.UnitFaults.{IsNameText, token_text, token_name_text}
+use Rattle.cxx_model.specs.Stops.{Answer as Reads, Faulty, Limited}
+use Rattle.cxx_model.specs.Text.Lexemes.{Lexeme, lexemes}
+use Rattle.cxx_model.specs.Text.Tokens.{Unread, BadAt, PastTokens, tokens_of}
+use Rattle.cxx_reading.specs.Bound.{EachCallIsBest}
+use Rattle.cxx_reading.specs.Plain.{plain_text}
+use Rattle.cxx_reading.specs.Units.{CxxReading, unit_reading}
+use Rattle.cxx_told.specs.Told.{IsChoiceText, IsToldFault, IsUndeclaredFault}
 use Rattle.cxx_command.specs.declared.answers.Answer.{Answer}
 use Rattle.cxx_command.specs.declared.answers.Answer.TheVariants as answer
+use Rattle.cxx_command.specs.Again.{Difference, difference_text, read_again}
 use Rattle.cxx_command.specs.Answers.{IsInputAnswer, IsRunAnswer, DeliversAnswer}
-use Rattle.cxx_command.specs.Run.{default_options, due, AgreesWith, ForUnit, NotUnderstood, CannotRead, NoMemory, status_of_unit, IsToldTo, IsTold, Delivers, IsUnitDue, IsDue, IsWritten, IsTrueFault, IsAnswer}
+use Rattle.cxx_command.specs.Outcome.{UnitOutcome, Whole, Broken, PastLimit, outcome_of, read_outcome, tokens_outcome}
+use Rattle.cxx_command.specs.Run.{default_options, due, due_again, due_of, AgreesWith, ForUnit, NotUnderstood, CannotRead, NoMemory, status_of_unit, IsToldTo, IsTold, Delivers, IsUnitDue, IsDue, IsWritten, IsNotReadBack, IsTrueFault, IsAnswer, UnitDue, Writes, Reports, Names, Differs}
 use Rattle.cxx_command.specs.Streams.{Change, HasFailed, IsUntouched, TookAll, TookPart}
+use Rattle.cxx_command.proofs.Back.{not_read_back, reads_back}
 
 -- ---- an input past the limit
 
 pub long_due : (input : List ℕ) → limits.MOST_BYTES < length input → due input ≡ Names Bytes
-unfolding due_for outcome_of
+unfolding due outcome_of
 long_due input long = rw (lt-ltb limits.MOST_BYTES (length input) long) refl
 
 some_longer : (n : ℕ) → (xs : List ℕ) × (n < length xs)
@@ -62,57 +62,88 @@ unit_is {told} {unit} input tells found = subst (λ (x : List ℕ). due x ≡ un
 
 -- ---- a text that is written is the plain form of a whole unit
 
-written_if : (b : Bool) (text : List ℕ) (limit : UnitDue) (reading : Reading) → cond b limit (Writes (plain reading)) ≡ Writes text → (limit ≡ Writes text → ⊥) → plain reading ≡ text
-written_if true text limit reading is differs = absurd (differs is)
-written_if false text limit reading is differs = cc
+record IsPlain (o : UnitOutcome) (text : List ℕ) : Type 0 where
+  reading : CxxReading
+  whole : o ≡ Whole reading
+  printed : plain_text reading ≡ text
+  again : read_again default_options reading ≡ None
 
-writes_whole : (o : UnitOutcome) (text : List ℕ) → due_of o ≡ Writes text → (reading : Reading) × (o ≡ Whole reading) × (plain reading ≡ text)
-writes_whole (Whole reading) text is = (reading, refl, written_if _ text _ reading is (λ (e : Names Output ≡ Writes text). absurd (cc)))
+plain_by : (b : Bool) (reading : CxxReading) (found : Option Difference) (text : List ℕ) → cond b (Names Output) (due_again reading found) ≡ Writes text → (plain_text reading ≡ text) × (found ≡ None)
+plain_by true reading found text is = absurd (cc)
+plain_by false reading None text is = (cc, refl)
+plain_by false reading (Some difference) text is = absurd (cc)
+
+writes_whole : (o : UnitOutcome) (text : List ℕ) → due_of o ≡ Writes text → IsPlain o text
+writes_whole (Whole reading) text is =
+    let found = plain_by (is_past_output reading) reading (read_again default_options reading) text is in
+    record { reading = reading; whole = refl; printed = found.0; again = found.1 }
 writes_whole (Broken fault) text is = absurd (cc)
 writes_whole (PastLimit limit) text is = absurd (cc)
 
-whole_of : (input text : List ℕ) → due input ≡ Writes text → (reading : Reading) × (outcome_of default_options input ≡ Whole reading) × (plain reading ≡ text)
-unfolding due_for
+whole_of : (input text : List ℕ) → due input ≡ Writes text → IsPlain (outcome_of default_options input) text
+unfolding due
 whole_of input text is = writes_whole (outcome_of default_options input) text is
+
+-- ---- a text that differs is the plain form of a whole unit
+
+record IsOther (o : UnitOutcome) (difference : Difference) : Type 0 where
+  reading : CxxReading
+  whole : o ≡ Whole reading
+  again : read_again default_options reading ≡ Some difference
+
+other_by : (b : Bool) (reading : CxxReading) (found : Option Difference) (difference : Difference) → cond b (Names Output) (due_again reading found) ≡ Differs difference → found ≡ Some difference
+other_by true reading found difference is = absurd (cc)
+other_by false reading None difference is = absurd (cc)
+other_by false reading (Some one) difference is = let same : one ≡ difference = cc in ap (λ (d : Difference). Some d) same
+
+differs_whole : (o : UnitOutcome) (difference : Difference) → due_of o ≡ Differs difference → IsOther o difference
+differs_whole (Whole reading) difference is = record { reading = reading; whole = refl; again = other_by (is_past_output reading) reading (read_again default_options reading) difference is }
+differs_whole (Broken fault) difference is = absurd (cc)
+differs_whole (PastLimit limit) difference is = absurd (cc)
+
+other_of : (input : List ℕ) (difference : Difference) → due input ≡ Differs difference → IsOther (outcome_of default_options input) difference
+unfolding due
+other_of input difference is = differs_whole (outcome_of default_options input) difference is
 
 -- ---- a whole unit was read
 
-read_whole : (answer : Reads Reading) (reading : Reading) → read_outcome answer ≡ Whole reading → answer ≡ Ok reading
+read_whole : (answer : Reads CxxReading) (reading : CxxReading) → read_outcome answer ≡ Whole reading → answer ≡ Ok reading
 read_whole (Ok found) reading is = cc
 read_whole (Err (Faulty fault)) reading is = absurd (cc)
 read_whole (Err (Limited limit)) reading is = absurd (cc)
 
-tokens_whole : (options : Options) (bytes : List ℕ) (tokens : Result (List Token) Unread) (reading : Reading) → tokens_outcome options bytes tokens ≡ Whole reading
-    → (list : List Token) × (reading_of options (lexemes bytes list) ≡ Ok reading)
-tokens_whole options bytes (Ok list) reading is = (list, read_whole (reading_of options (lexemes bytes list)) reading is)
+tokens_whole : (options : Options) (bytes : List ℕ) (tokens : Result (List Token) Unread) (reading : CxxReading) → tokens_outcome options bytes tokens ≡ Whole reading
+    → (list : List Token) × (unit_reading options (lexemes bytes list) ≡ Ok reading)
+tokens_whole options bytes (Ok list) reading is = (list, read_whole (unit_reading options (lexemes bytes list)) reading is)
 tokens_whole options bytes (Err (BadAt place reason)) reading is = absurd (cc)
 tokens_whole options bytes (Err PastTokens) reading is = absurd (cc)
 
-unless_long : (long : Bool) (options : Options) (bytes : List ℕ) (tokens : Result (List Token) Unread) (reading : Reading) → cond long (PastLimit Bytes) (tokens_outcome options bytes tokens) ≡ Whole reading
-    → (list : List Token) × (reading_of options (lexemes bytes list) ≡ Ok reading)
+unless_long : (long : Bool) (options : Options) (bytes : List ℕ) (tokens : Result (List Token) Unread) (reading : CxxReading) → cond long (PastLimit Bytes) (tokens_outcome options bytes tokens) ≡ Whole reading
+    → (list : List Token) × (unit_reading options (lexemes bytes list) ≡ Ok reading)
 unless_long true options bytes tokens reading is = absurd (cc)
 unless_long false options bytes tokens reading is = tokens_whole options bytes tokens reading is
 
-whole_read : (options : Options) (bytes : List ℕ) (reading : Reading) → outcome_of options bytes ≡ Whole reading → (list : List Token) × (reading_of options (lexemes bytes list) ≡ Ok reading)
+whole_read : (options : Options) (bytes : List ℕ) (reading : CxxReading) → outcome_of options bytes ≡ Whole reading → (list : List Token) × (unit_reading options (lexemes bytes list) ≡ Ok reading)
 unfolding outcome_of
 whole_read options bytes reading is = unless_long (nat_lt limits.MOST_BYTES (length bytes)) options bytes (tokens_of bytes) reading is
 
 -- ---- a fault that is reported is that of a broken unit
 
-unreported : (b : Bool) (limit : LimitKind) (text : List ℕ) (fault : Fault) → cond b (Names limit) (Writes text) ≡ Reports fault → ⊥
-unreported true limit text fault is = cc
-unreported false limit text fault is = cc
+unreported : (b : Bool) (reading : CxxReading) (found : Option Difference) (fault : Fault) → cond b (Names Output) (due_again reading found) ≡ Reports fault → ⊥
+unreported true reading found fault is = cc
+unreported false reading None fault is = cc
+unreported false reading (Some difference) fault is = cc
 
 reports_broken : (o : UnitOutcome) (fault : Fault) → due_of o ≡ Reports fault → o ≡ Broken fault
-reports_broken (Whole reading) fault is = absurd (unreported _ Output (plain reading) fault is)
+reports_broken (Whole reading) fault is = absurd (unreported (is_past_output reading) reading (read_again default_options reading) fault is)
 reports_broken (Broken found) fault is = let same : found ≡ fault = cc in ap (λ (f : Fault). Broken f) same
 reports_broken (PastLimit limit) fault is = absurd (cc)
 
 broken_of : (input : List ℕ) (fault : Fault) → due input ≡ Reports fault → outcome_of default_options input ≡ Broken fault
-unfolding due_for
+unfolding due
 broken_of input fault is = reports_broken (outcome_of default_options input) fault is
 
-read_broken : (answer : Reads Reading) (fault : Fault) → read_outcome answer ≡ Broken fault → answer ≡ Err (Faulty fault)
+read_broken : (answer : Reads CxxReading) (fault : Fault) → read_outcome answer ≡ Broken fault → answer ≡ Err (Faulty fault)
 read_broken (Ok found) fault is = absurd (cc)
 read_broken (Err (Faulty found)) fault is = cc
 read_broken (Err (Limited limit)) fault is = absurd (cc)
@@ -124,14 +155,24 @@ broken_same one two is = cc
 record IsReadBroken (options : Options) (bytes : List ℕ) (tokens : Result (List Token) Unread) (fault : Fault) : Type 0 where
   list : List Token
   lists : tokens ≡ Ok list
-  stops : reading_of options (lexemes bytes list) ≡ Err (Faulty fault)
+  stops : unit_reading options (lexemes bytes list) ≡ Err (Faulty fault)
+
+token_text : (why : TokenReason) → IsChoiceText (says.BadToken why) → ⊥
+token_text why (inl e) = absurd cc
+token_text why (inr e) = absurd cc
+
+abbrev IsNameText : List ℕ → FaultText → Type 0
+IsNameText word text = text ≡ says.UndeclaredName word
+
+token_name_text : (word : List ℕ) (why : TokenReason) → IsNameText word (says.BadToken why) → ⊥
+token_name_text word why e = absurd cc
 
 -- no bad token has such a text
 abbrev NoToken : (FaultText → Type 0) → Type 0
 NoToken T = (why : TokenReason) → T (says.BadToken why) → ⊥
 
 tokens_broken : (T : FaultText → Type 0) → NoToken T → (options : Options) (bytes : List ℕ) (tokens : Result (List Token) Unread) (fault : Fault) → T fault.text → tokens_outcome options bytes tokens ≡ Broken fault → IsReadBroken options bytes tokens fault
-tokens_broken T other options bytes (Ok list) fault text is = record { list = list; lists = refl; stops = read_broken (reading_of options (lexemes bytes list)) fault is }
+tokens_broken T other options bytes (Ok list) fault text is = record { list = list; lists = refl; stops = read_broken (unit_reading options (lexemes bytes list)) fault is }
 tokens_broken T other options bytes (Err (BadAt place reason)) fault text is = absurd (other reason (subst (λ (f : Fault). T f.text) (sym (broken_same _ fault is)) text))
 tokens_broken T other options bytes (Err PastTokens) fault text is = absurd (cc)
 
@@ -146,23 +187,30 @@ read_to_fault T other options bytes fault text is = unless_long_broken (nat_lt l
 -- ---- what is known of every unit
 
 pub record Laws : Type 0 where
-  pub best : (options : Options) (tokens : List Lexeme) (reading : Reading) → reading_of options tokens ≡ Ok reading → EachCallIsBest reading
-  pub told : (options : Options) (tokens : List Lexeme) (fault : Fault) → reading_of options tokens ≡ Err (Faulty fault) → IsChoiceText fault.text → IsToldFault options tokens fault
-  pub undeclared : (options : Options) (tokens : List Lexeme) (fault : Fault) → reading_of options tokens ≡ Err (Faulty fault) → (word : List ℕ) → fault.text ≡ says.UndeclaredName word → IsUndeclaredFault options tokens fault word
-  pub back : (options : Options) (bytes : List ℕ) → PlainReadsBack options bytes
+  pub best : (options : Options) (tokens : List Lexeme) (reading : CxxReading) → unit_reading options tokens ≡ Ok reading → EachCallIsBest reading
+  pub told : (options : Options) (tokens : List Lexeme) (fault : Fault) → unit_reading options tokens ≡ Err (Faulty fault) → IsChoiceText fault.text → IsToldFault tokens fault
+  pub undeclared : (options : Options) (tokens : List Lexeme) (fault : Fault) (word : List ℕ) → unit_reading options tokens ≡ Err (Faulty fault) → fault.text ≡ says.UndeclaredName word → IsUndeclaredFault tokens fault word
 
-written_of : {K E : Type 0} (laws : Laws) (input text : List ℕ) (out : Change K) (err : Change E) → due input ≡ Writes text → TookAll out text → IsUntouched err → (reading : Reading) × IsWritten input reading out err
+written_of : {K E : Type 0} (laws : Laws) (input text : List ℕ) (out : Change K) (err : Change E) → due input ≡ Writes text → TookAll out text → IsUntouched err → (reading : CxxReading) × IsWritten input reading out err
 written_of laws input text out err is took quiet =
     let found = whole_of input text is in
-    let read = whole_read default_options input found.0 found.1 in (
-      found.0,
+    let read = whole_read default_options input found.reading found.whole in (
+      found.reading,
       record {
-        outcome = found.1;
-        written = subst (λ (t : List ℕ). TookAll out t) (sym found.2) took;
+        outcome = found.whole;
+        written = subst (λ (t : List ℕ). TookAll out t) (sym found.printed) took;
         quiet = quiet;
-        best = laws.best default_options (lexemes input read.0) found.0 read.1;
-        reads_back = laws.back default_options input found.0 found.1;
+        best = laws.best default_options (lexemes input read.0) found.reading read.1;
+        reads_back = reads_back default_options found.reading found.again;
       },
+    )
+
+unlike_of : {E : Type 0} (input : List ℕ) (difference : Difference) (err : Change E) → due input ≡ Differs difference → TookAll err (difference_text difference) → (reading : CxxReading) × IsNotReadBack input reading err
+unlike_of input difference err is took =
+    let found = other_of input difference is in
+    let back = not_read_back default_options found.reading difference found.again in (
+      found.reading,
+      record { outcome = found.whole; differs = back.0; within = back.1; difference = difference; is = found.again; told = took },
     )
 
 -- ---- what was told, by the status
@@ -200,7 +248,7 @@ true_fault laws input fault is = record {
       (read.list, read.lists, laws.told default_options (lexemes input read.list) fault read.stops text);
   undeclared = λ word text.
       let read = read_to_fault (IsNameText word) (token_name_text word) default_options input fault text (broken_of input fault is) in
-      (read.list, read.lists, laws.undeclared default_options (lexemes input read.list) fault read.stops word text);
+      (read.list, read.lists, laws.undeclared default_options (lexemes input read.list) fault word read.stops text);
 }
 
 -- ---- each case
@@ -220,6 +268,7 @@ case_writes laws words source out err status text is told = record {
   whole = λ input tells zero. written_of laws input text out err (unit_is input tells is.1) (took_all out text 0 status told.0 (λ e. absurd (omega arith))) told.1;
   broken = λ input tells one. absurd (no_other out text 0 status 1 told.0 one (λ e. omega arith) (λ e. omega arith));
   limited = λ input tells is_5. absurd (no_other out text 0 status 5 told.0 is_5 (λ e. omega arith) (λ e. omega arith));
+  unlike = λ input tells is_7. absurd (no_other out text 0 status 7 told.0 is_7 (λ e. omega arith) (λ e. omega arith));
   by_input = λ input tells understood. elim (said_or_failed out text 0 status told.0) [
     | inl said ↦ inl (said ∙ sym (ap status_of_unit (unit_is input tells is.1)))
     | inr failed ↦ inr (inr (inl (failed.0, inl failed.1)))
@@ -243,6 +292,7 @@ case_reports laws words source out err status fault is told = record {
   whole = λ input tells is_0. absurd (no_other err (report fault) 1 status 0 told.0 is_0 (λ e. omega arith) (λ e. omega arith));
   broken = λ input tells is_1. (fault, unit_is input tells is.1, took_all err (report fault) 1 status told.0 (λ e. absurd (omega arith)), true_fault laws input fault (unit_is input tells is.1));
   limited = λ input tells is_5. absurd (no_other err (report fault) 1 status 5 told.0 is_5 (λ e. omega arith) (λ e. omega arith));
+  unlike = λ input tells is_7. absurd (no_other err (report fault) 1 status 7 told.0 is_7 (λ e. omega arith) (λ e. omega arith));
   by_input = λ input tells understood. elim (said_or_failed err (report fault) 1 status told.0) [
     | inl said ↦ inl (said ∙ sym (ap status_of_unit (unit_is input tells is.1)))
     | inr failed ↦ inr (inr (inl (failed.0, inr failed.1)))
@@ -266,6 +316,7 @@ case_names words source out err status limit is told = record {
   whole = λ input tells is_0. absurd (no_other err (limit_report limit) 5 status 0 told.0 is_0 (λ e. omega arith) (λ e. omega arith));
   broken = λ input tells is_1. absurd (no_other err (limit_report limit) 5 status 1 told.0 is_1 (λ e. omega arith) (λ e. omega arith));
   limited = λ input tells is_5. (limit, unit_is input tells is.1, took_all err (limit_report limit) 5 status told.0 (λ e. absurd (omega arith)));
+  unlike = λ input tells is_7. absurd (no_other err (limit_report limit) 5 status 7 told.0 is_7 (λ e. omega arith) (λ e. omega arith));
   by_input = λ input tells understood. elim (said_or_failed err (limit_report limit) 5 status told.0) [
     | inl said ↦ inl (said ∙ sym (ap status_of_unit (unit_is input tells is.1)))
     | inr failed ↦ inr (inr (inl (failed.0, inr failed.1)))
@@ -280,6 +331,30 @@ case_names words source out err status limit is told = record {
   err_untouched = λ is_0. absurd (no_other err (limit_report limit) 5 status 0 told.0 is_0 (λ e. omega arith) (λ e. omega arith));
 }
 
+case_differs : {X S K E : Type 0} (words : List X) (source : Change S) (out : Change K) (err : Change E) (status : ℕ) (difference : Difference) → IsDue words source (ForUnit (Differs difference)) → Delivers (ForUnit (Differs difference)) out err status → IsAnswer words source out err status
+case_differs words source out err status difference is told = record {
+  what = ForUnit (Differs difference);
+  is_due = is;
+  delivered = told;
+  complete = λ input other tells understood writes sound_source sound_out sound_err. absurd (cc (unit_is input tells is.1, writes));
+  whole = λ input tells is_0. absurd (no_other err (difference_text difference) 7 status 0 told.0 is_0 (λ e. omega arith) (λ e. omega arith));
+  broken = λ input tells is_1. absurd (no_other err (difference_text difference) 7 status 1 told.0 is_1 (λ e. omega arith) (λ e. omega arith));
+  limited = λ input tells is_5. absurd (no_other err (difference_text difference) 7 status 5 told.0 is_5 (λ e. omega arith) (λ e. omega arith));
+  unlike = λ input tells is_7. unlike_of input difference err (unit_is input tells is.1) (took_all err (difference_text difference) 7 status told.0 (λ e. absurd (omega arith)));
+  by_input = λ input tells understood. elim (said_or_failed err (difference_text difference) 7 status told.0) [
+    | inl said ↦ inl (said ∙ sym (ap status_of_unit (unit_is input tells is.1)))
+    | inr failed ↦ inr (inr (inl (failed.0, inr failed.1)))
+  ];
+  not_understood = λ is_2. absurd (no_other err (difference_text difference) 7 status 2 told.0 is_2 (λ e. omega arith) (λ e. omega arith));
+  not_understood_back = λ unclear. absurd (unclear is.0);
+  unread = λ unclear. absurd (unclear is.0);
+  cannot_read = λ is_3. absurd (no_other err (difference_text difference) 7 status 3 told.0 is_3 (λ e. omega arith) (λ e. omega arith));
+  cannot_write = λ four. inr (took_part err (difference_text difference) 7 status told.0 (λ e. omega arith) four).0;
+  part = λ four. let some = took_part err (difference_text difference) 7 status told.0 (λ e. omega arith) four in ((difference_text difference), inr (some.0, some.1, told.1));
+  out_untouched = λ zero four. told.1;
+  err_untouched = λ is_0. absurd (no_other err (difference_text difference) 7 status 0 told.0 is_0 (λ e. omega arith) (λ e. omega arith));
+}
+
 case_not_understood : {X S K E : Type 0} (words : List X) (source : Change S) (out : Change K) (err : Change E) (status : ℕ) → IsDue words source (NotUnderstood) → Delivers (NotUnderstood) out err status → IsAnswer words source out err status
 case_not_understood words source out err status is told = record {
   what = NotUnderstood;
@@ -289,6 +364,7 @@ case_not_understood words source out err status is told = record {
   whole = λ input tells is_0. absurd (no_other err (codes "words not understood\n") 2 status 0 told.0 is_0 (λ e. omega arith) (λ e. omega arith));
   broken = λ input tells is_1. absurd (no_other err (codes "words not understood\n") 2 status 1 told.0 is_1 (λ e. omega arith) (λ e. omega arith));
   limited = λ input tells is_5. absurd (no_other err (codes "words not understood\n") 2 status 5 told.0 is_5 (λ e. omega arith) (λ e. omega arith));
+  unlike = λ input tells is_7. absurd (no_other err (codes "words not understood\n") 2 status 7 told.0 is_7 (λ e. omega arith) (λ e. omega arith));
   by_input = λ input tells understood. absurd (is.0 understood);
   not_understood = λ is_2. is.0;
   not_understood_back = λ unclear. elim (said_or_failed err (codes "words not understood\n") 2 status told.0) [ inl said ↦ inl said | inr failed ↦ inr failed.0 ];
@@ -309,6 +385,7 @@ case_cannot_read words source out err status is told = record {
   whole = λ input tells is_0. absurd (no_other err (codes "cannot read\n") 3 status 0 told.0 is_0 (λ e. omega arith) (λ e. omega arith));
   broken = λ input tells is_1. absurd (no_other err (codes "cannot read\n") 3 status 1 told.0 is_1 (λ e. omega arith) (λ e. omega arith));
   limited = λ input tells is_5. absurd (no_other err (codes "cannot read\n") 3 status 5 told.0 is_5 (λ e. omega arith) (λ e. omega arith));
+  unlike = λ input tells is_7. absurd (no_other err (codes "cannot read\n") 3 status 7 told.0 is_7 (λ e. omega arith) (λ e. omega arith));
   by_input = λ input tells understood. elim (said_or_failed err (codes "cannot read\n") 3 status told.0) [
     | inl said ↦ inr (inl (said, is.1))
     | inr failed ↦ inr (inr (inl (failed.0, inr failed.1)))
@@ -332,6 +409,7 @@ case_no_memory words source out err status is told = record {
   whole = λ input tells is_0. absurd (no_other err (codes "out of memory\n") 6 status 0 told.0 is_0 (λ e. omega arith) (λ e. omega arith));
   broken = λ input tells is_1. absurd (no_other err (codes "out of memory\n") 6 status 1 told.0 is_1 (λ e. omega arith) (λ e. omega arith));
   limited = λ input tells is_5. absurd (no_other err (codes "out of memory\n") 6 status 5 told.0 is_5 (λ e. omega arith) (λ e. omega arith));
+  unlike = λ input tells is_7. absurd (no_other err (codes "out of memory\n") 6 status 7 told.0 is_7 (λ e. omega arith) (λ e. omega arith));
   by_input = λ input tells understood. elim (said_or_failed err (codes "out of memory\n") 6 status told.0) [
     | inl said ↦ inr (inr (inr said))
     | inr failed ↦ inr (inr (inl (failed.0, inr failed.1)))
@@ -357,6 +435,9 @@ answered laws words source out err status (answer.Reports text) is told =
     let found = is.1.is in
     case_reports laws words source out err status found.0 (is.0, as_unit source (answer.Reports text) (Reports found.0) is.1 found.1) (subst (λ (t : List ℕ). IsTold err out t 1 status) found.2 told)
 answered laws words source out err status (answer.PassesLimit limit) is told = case_names words source out err status limit (is.0, as_unit source (answer.PassesLimit limit) (Names limit) is.1 is.1.is) told
+answered laws words source out err status (answer.DoesNotReadBack text) is told =
+    let found = is.1.is in
+    case_differs words source out err status found.0 (is.0, as_unit source (answer.DoesNotReadBack text) (Differs found.0) is.1 found.1) (subst (λ (t : List ℕ). IsTold err out t 7 status) found.2 told)
 answered laws words source out err status answer.NotUnderstood is told = case_not_understood words source out err status is told
 answered laws words source out err status answer.CannotRead is told = case_cannot_read words source out err status is told
 answered laws words source out err status answer.NoMemory is told = case_no_memory words source out err status is told

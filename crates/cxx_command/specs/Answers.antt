@@ -4,11 +4,11 @@ use Rattle.cxx_model.specs.declared.fault.FaultText.TheVariants as says
 use Rattle.cxx_model.specs.declared.place.Place.{Place}
 use Rattle.cxx_model.specs.declared.stop.Fault.{Fault}
 use Rattle.cxx_model.specs.declared.token.TokenReason.{TokenReason}
-use Rattle.cxx_model.specs.Outcome.{UnitDue, Writes, Reports, Names}
 use Rattle.cxx_model.specs.Printing.Reports.{report, limit_report}
 use Rattle.cxx_command.specs.declared.answers.Answer.{Answer}
 use Rattle.cxx_command.specs.declared.answers.Answer.TheVariants as answer
-use Rattle.cxx_command.specs.Run.{due, IsUnderstood, AgreesWith, IsTold}
+use Rattle.cxx_command.specs.Again.{Difference, difference_text}
+use Rattle.cxx_command.specs.Run.{due, AgreesWith, Differs, IsTold, IsUnderstood, Names, Reports, UnitDue, Writes}
 use Rattle.cxx_command.specs.Streams.{Change, HasFailed, IsUntouched}
 
 -- ---- what is told
@@ -17,6 +17,7 @@ abbrev pub DeliversAnswer : {K E : Type 0} → Answer → Change K → Change E 
 DeliversAnswer (answer.Writes text) out err status = IsTold out err text.items 0 status
 DeliversAnswer (answer.Reports text) out err status = IsTold err out text.items 1 status
 DeliversAnswer (answer.PassesLimit limit) out err status = IsTold err out (limit_report limit) 5 status
+DeliversAnswer (answer.DoesNotReadBack text) out err status = IsTold err out text.items 7 status
 DeliversAnswer answer.NotUnderstood out err status = IsTold err out (codes "words not understood\n") 2 status
 DeliversAnswer answer.CannotRead out err status = IsTold err out (codes "cannot read\n") 3 status
 DeliversAnswer answer.NoMemory out err status = IsTold err out (codes "out of memory\n") 6 status
@@ -32,6 +33,7 @@ abbrev pub IsUnitAnswer : UnitDue → Answer → Type 0
 IsUnitAnswer unit (answer.Writes text) = unit ≡ Writes text.items
 IsUnitAnswer unit (answer.Reports text) = (fault : Fault) × (unit ≡ Reports fault) × (text.items ≡ report fault)
 IsUnitAnswer unit (answer.PassesLimit limit) = unit ≡ Names limit
+IsUnitAnswer unit (answer.DoesNotReadBack text) = (difference : Difference) × (unit ≡ Differs difference) × (text.items ≡ difference_text difference)
 IsUnitAnswer unit answer.NotUnderstood = ⊥
 IsUnitAnswer unit answer.CannotRead = ⊥
 IsUnitAnswer unit answer.NoMemory = Unit {0}
@@ -46,6 +48,7 @@ abbrev pub IsRunAnswer : {X S : Type 0} → List X → Change S → Answer → T
 IsRunAnswer words source (answer.Writes text) = IsUnderstood words × IsInputAnswer source (answer.Writes text)
 IsRunAnswer words source (answer.Reports text) = IsUnderstood words × IsInputAnswer source (answer.Reports text)
 IsRunAnswer words source (answer.PassesLimit limit) = IsUnderstood words × IsInputAnswer source (answer.PassesLimit limit)
+IsRunAnswer words source (answer.DoesNotReadBack text) = IsUnderstood words × IsInputAnswer source (answer.DoesNotReadBack text)
 IsRunAnswer words source answer.NotUnderstood = ¬ (IsUnderstood words) × IsUntouched source
 IsRunAnswer words source answer.CannotRead = IsUnderstood words × HasFailed source
 IsRunAnswer words source answer.NoMemory = IsUnderstood words

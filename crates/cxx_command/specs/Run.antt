@@ -1,28 +1,49 @@
 -- What a run owes, and what its status says.
-use Rattle.std.specs.Prelude.{◌≡◌, ◌≢◌, ◌⊎◌, ◌++◌, ℕ, List, [], Option, Some, None, Ok, ⊤, codes}
+use Rattle.std.specs.Prelude.{◌≡◌, ◌≢◌, ◌⊎◌, ℕ, if◌then◌else◌, List, [], Option, Some, None, Ok, ⊤, codes}
 use Rattle.cxx_model.specs.declared.fault.FaultText.TheVariants as says
 use Rattle.cxx_model.specs.declared.options.Options.{Options}
-use Rattle.cxx_model.specs.declared.first.Reading.{Reading}
 use Rattle.cxx_model.specs.declared.stop.Fault.{Fault}
 use Rattle.cxx_model.specs.declared.stop.LimitKind.{LimitKind}
+use Rattle.cxx_model.specs.declared.stop.LimitKind.TheVariants.{Output}
 use Rattle.cxx_model.specs.declared.token.Token.{Token}
-use Rattle.cxx_model.specs.First.Bound.{EachCallIsBest}
-use Rattle.cxx_model.specs.First.Plain.{plain}
-use Rattle.cxx_model.specs.First.Told.{IsChoiceText, IsToldFault, IsUndeclaredFault}
 use Rattle.cxx_model.specs.Text.Lexemes.{lexemes}
-use Rattle.cxx_model.specs.Outcome.{UnitDue, Writes, Reports, Names, Whole, outcome_of, due_for}
-use Rattle.cxx_model.specs.Printing.ReadsBack.{ReadsBack, IsTooLarge}
 use Rattle.cxx_model.specs.Printing.Reports.{report, limit_report}
 use Rattle.cxx_model.specs.Text.Tokens.{tokens_of}
+use Rattle.cxx_form.specs.Called.{is_past_output}
+use Rattle.cxx_reading.specs.Bound.{EachCallIsBest}
+use Rattle.cxx_reading.specs.Plain.{plain_text}
+use Rattle.cxx_reading.specs.Units.{CxxReading}
+use Rattle.cxx_told.specs.Told.{IsChoiceText, IsToldFault, IsUndeclaredFault}
+use Rattle.cxx_command.specs.Again.{Difference, IsTooLarge, ReadsBack, difference_text, read_again}
+use Rattle.cxx_command.specs.Outcome.{UnitOutcome, Whole, Broken, PastLimit, outcome_of}
 use Rattle.cxx_command.specs.Streams.{Change, HasFailed, IsUntouched, TookAll, TookPart}
 
 -- no words choose the options: the depth of instances is 64
 abbrev pub default_options : Options
 default_options = record { depth = 64 }
 
+-- ---- what a run owes for a unit
+
+-- a text on the output, the report of a fault, the name of a limit, or how the text differs when it is read again
+pub data UnitDue : Type 0 where
+  Writes : List ℕ → UnitDue
+  Reports : Fault → UnitDue
+  Names : LimitKind → UnitDue
+  Differs : Difference → UnitDue
+
+abbrev pub due_again : CxxReading → Option Difference → UnitDue
+due_again reading None = Writes (plain_text reading)
+due_again reading (Some difference) = Differs difference
+
+-- The plain form of a whole reading, where it is not past the limit on output, and reads back or is too large to.
+abbrev pub due_of : UnitOutcome → UnitDue
+due_of (Whole reading) = if is_past_output reading then Names Output else due_again reading (read_again default_options reading)
+due_of (Broken fault) = Reports fault
+due_of (PastLimit limit) = Names limit
+
 -- what a run owes for the bytes of a unit
-abbrev pub due : List ℕ → UnitDue
-due input = due_for default_options input
+unfoldable pub due : List ℕ → UnitDue
+due input = due_of (outcome_of default_options input)
 
 -- only an empty list of words is understood
 abbrev pub IsUnderstood : {X : Type 0} → List X → Type 0
@@ -49,6 +70,7 @@ abbrev pub status_of_unit : UnitDue → ℕ
 status_of_unit (Writes text) = 0
 status_of_unit (Reports fault) = 1
 status_of_unit (Names limit) = 5
+status_of_unit (Differs difference) = 7
 
 abbrev pub status_of : Due → ℕ
 status_of (ForUnit unit) = status_of_unit unit
@@ -68,6 +90,7 @@ abbrev pub Delivers : {K E : Type 0} → Due → Change K → Change E → ℕ �
 Delivers (ForUnit (Writes text)) out err status = IsTold out err text 0 status
 Delivers (ForUnit (Reports fault)) out err status = IsTold err out (report fault) 1 status
 Delivers (ForUnit (Names limit)) out err status = IsTold err out (limit_report limit) 5 status
+Delivers (ForUnit (Differs difference)) out err status = IsTold err out (difference_text difference) 7 status
 Delivers NotUnderstood out err status = IsTold err out (codes "words not understood\n") 2 status
 Delivers CannotRead out err status = IsTold err out (codes "cannot read\n") 3 status
 Delivers NoMemory out err status = IsTold err out (codes "out of memory\n") 6 status
@@ -93,18 +116,27 @@ IsExcused source out err status = ((status ≡ 3) × HasFailed source) ⊎ ((sta
 -- ---- the whole contract of a run
 
 -- the input is this whole unit, and its plain form was written
-pub record IsWritten {K E : Type 0} (input : List ℕ) (reading : Reading) (out : Change K) (err : Change E) : Type 0 where
+pub record IsWritten {K E : Type 0} (input : List ℕ) (reading : CxxReading) (out : Change K) (err : Change E) : Type 0 where
   pub outcome : outcome_of default_options input ≡ Whole reading
-  pub written : TookAll out (plain reading)
+  pub written : TookAll out (plain_text reading)
   pub quiet : IsUntouched err
   pub best : EachCallIsBest reading
-  pub reads_back : ReadsBack default_options (plain reading) reading ⊎ IsTooLarge default_options (plain reading)
+  pub reads_back : ReadsBack default_options (plain_text reading) reading ⊎ IsTooLarge default_options (plain_text reading)
+
+-- the input is this whole unit, whose plain form neither reads back nor is too large to, as was told
+pub record IsNotReadBack {E : Type 0} (input : List ℕ) (reading : CxxReading) (err : Change E) : Type 0 where
+  pub outcome : outcome_of default_options input ≡ Whole reading
+  pub differs : ¬ (ReadsBack default_options (plain_text reading) reading)
+  pub within : ¬ (IsTooLarge default_options (plain_text reading))
+  pub difference : Difference
+  pub is : read_again default_options reading ≡ Some difference
+  pub told : TookAll err (difference_text difference)
 
 -- Where the fault is of the choice of a function, the input is tokens, and it is a true fault of a call among them. Where
--- it is an undeclared name, the input is tokens, and this name stands among them with no declaration before.
+-- it is an undeclared name, the input is tokens, and this name stands among them and means nothing that is declared.
 pub record IsTrueFault (input : List ℕ) (fault : Fault) : Type 0 where
-  pub choice : IsChoiceText fault.text → (tokens : List Token) × (tokens_of input ≡ Ok tokens) × IsToldFault default_options (lexemes input tokens) fault
-  pub undeclared : (word : List ℕ) → fault.text ≡ says.UndeclaredName word → (tokens : List Token) × (tokens_of input ≡ Ok tokens) × IsUndeclaredFault default_options (lexemes input tokens) fault word
+  pub choice : IsChoiceText fault.text → (tokens : List Token) × (tokens_of input ≡ Ok tokens) × IsToldFault (lexemes input tokens) fault
+  pub undeclared : (word : List ℕ) → fault.text ≡ says.UndeclaredName word → (tokens : List Token) × (tokens_of input ≡ Ok tokens) × IsUndeclaredFault (lexemes input tokens) fault word
 
 pub record IsAnswer {X S K E : Type 0} (words : List X) (source : Change S) (out : Change K) (err : Change E) (status : ℕ) : Type 0 where
   -- What is due is delivered. The rest follows from this, and says it status by status.
@@ -117,14 +149,16 @@ pub record IsAnswer {X S K E : Type 0} (words : List X) (source : Change S) (out
       → ¬ (HasFailed source) → ¬ (HasFailed out) → ¬ (HasFailed err) → ((status ≡ 0) × TookAll out text × IsUntouched err) ⊎ (status ≡ 6)
   -- 0: only then; the unit is whole, each of its calls names the viable function that is better than every other, and
   -- the text that was written reads back, or is too large to be read again
-  pub whole : (input : List ℕ) → Tells source input → status ≡ 0 → (reading : Reading) × IsWritten input reading out err
+  pub whole : (input : List ℕ) → Tells source input → status ≡ 0 → (reading : CxxReading) × IsWritten input reading out err
   -- 1: exactly where the unit is broken, with the report of its first fault; a call that is ambiguous or has no viable
   -- function is so among the declarations before it, and each line of its evidence is true; an undeclared name stands
-  -- where the fault is, and no declaration before it has it
+  -- where the fault is, and means nothing that is declared before it
   pub broken : (input : List ℕ) → Tells source input → status ≡ 1 → (fault : Fault) × (due input ≡ Reports fault) × TookAll err (report fault) × IsTrueFault input fault
   -- 5: exactly where a limit is passed, with its name
   pub limited : (input : List ℕ) → Tells source input → status ≡ 5 → (limit : LimitKind) × (due input ≡ Names limit) × TookAll err (limit_report limit)
-  -- 1 and 5 come where they are due, unless 3, 4 or 6 stands in their place; so does 0
+  -- 7: exactly where the unit is whole, and its plain form neither reads back nor is too large to
+  pub unlike : (input : List ℕ) → Tells source input → status ≡ 7 → (reading : CxxReading) × IsNotReadBack input reading err
+  -- 1, 5 and 7 come where they are due, unless 3, 4 or 6 stands in their place; so does 0
   pub by_input : (input : List ℕ) → Tells source input → IsUnderstood words → (status ≡ status_of_unit (due input)) ⊎ IsExcused source out err status
   -- 2: exactly where the words are not understood, unless a sink failed; the source is then as before
   pub not_understood : status ≡ 2 → ¬ (IsUnderstood words)

@@ -2,7 +2,7 @@ ghost use Rattle.std.specs.Prelude.{◌≡◌, ◌≤◌, length};
 ghost use Rattle.cxx_command.specs.Streams.{change};
 ghost use Rattle.cxx_command.specs.Answers.{IsRunAnswer};
 
-use crate::unit;
+use crate::due::answer_unit;
 use cxx_edge::{ReadFault, Source, read_all};
 use cxx_model::LimitKind;
 use cxx_model::limits::MOST_BYTES;
@@ -16,6 +16,8 @@ pub enum Answer {
     /// The report of the first fault of a broken one.
     Reports(Vec<u8>),
     PassesLimit(LimitKind),
+    /// What is said of a plain form that does not read back.
+    DoesNotReadBack(Vec<u8>),
     NotUnderstood,
     CannotRead,
     NoMemory,
@@ -29,7 +31,7 @@ pub fn read_and_answer<S: Source>(alloc: Global, words: &[String], source: &mut 
         return Answer::NotUnderstood;
     }
     match read_all(alloc, source, MOST_BYTES as usize) {
-        Ok(bytes) => unit::answer_unit(alloc, &bytes),
+        Ok(bytes) => answer_unit(alloc, &bytes),
         Err(ReadFault::TooLong) => Answer::PassesLimit(LimitKind::Bytes),
         Err(ReadFault::Failed) => Answer::CannotRead,
         Err(ReadFault::OutOfMemory) => Answer::NoMemory,

@@ -47,6 +47,7 @@ pub fn deliver<K: Sink, E: Sink>(answer: &Answer, out: &mut K, err: &mut E) -> u
         Answer::Writes(text) => tell(out, text, 0),
         Answer::Reports(text) => tell(err, text, 1),
         Answer::PassesLimit(limit) => tell(err, limit_text(*limit), 5),
+        Answer::DoesNotReadBack(text) => tell(err, text, 7),
         Answer::NotUnderstood => tell(err, b"words not understood\n", 2),
         Answer::CannotRead => tell(err, b"cannot read\n", 3),
         Answer::NoMemory => tell(err, b"out of memory\n", 6),

@@ -4,19 +4,21 @@
 ghost use Rattle.cxx_command.specs.Streams.{change};
 ghost use Rattle.cxx_command.specs.Run.{IsAnswer};
 
+mod again;
 mod answers;
 mod delivery;
+mod due;
 mod unit;
 
-use cxx_decl::{each_call_is_best, faults_are_told, undeclared_names_are_told};
 use cxx_edge::{Sink, Source};
-use cxx_read_back::plain_reads_back;
+use cxx_reading::each_call_is_best;
+use cxx_told::{choice_faults_are_told, undeclared_names_are_told};
 use std::alloc::Global;
 
 /// Does all that the program does, and gives its status: 0 where the plain form of the unit was written to `out`; else
 /// a text on `err` says why: 1 the unit is broken, 2 the words are not understood, 3 the source cannot be read, 5 a
-/// limit is passed, 6 there is no memory. 4 says that a sink failed, in place of every other status. `words` does not
-/// hold the program's name.
+/// limit is passed, 6 there is no memory, 7 the plain form, read again, does not come back as the same text with the same
+/// functions. 4 says that a sink failed, in place of every other status. `words` does not hold the program's name.
 pub fn run<S: Source, K: Sink, E: Sink>(
     alloc: Global,
     words: &[String],
@@ -28,9 +30,8 @@ pub fn run<S: Source, K: Sink, E: Sink>(
         (change K.taken K.faults out.old out.new) (change E.taken E.faults err.old err.new) result }
 {
     each_call_is_best();
-    faults_are_told();
+    choice_faults_are_told();
     undeclared_names_are_told();
-    plain_reads_back();
     let answer = answers::read_and_answer(alloc, words, source);
     delivery::deliver(&answer, out, err)
 }

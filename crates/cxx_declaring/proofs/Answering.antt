@@ -14,7 +14,7 @@ use Rattle.cxx_reading.specs.Declaring.{constant_here, declaring, elaborated_her
 use Rattle.cxx_reading.specs.Specifiers.{path_of}
 use Rattle.cxx_reading.specs.State.{CxxState}
 use Rattle.cxx_reading.specs.Trees.{CxxTree}
-use Rattle.cxx_syntax.specs.Asking.{IsAsked, IsConstantKnown, IsTypeKnown, itself}
+use Rattle.cxx_syntax.specs.Asking.{AnyKnown, IsAsked, IsConstantKnown, IsTypeKnown, itself}
 use Rattle.cxx_syntax.specs.Views.{IsConstant}
 use Rattle.cxx_syntax.proofs.Kept.{later_refl}
 use Rattle.cxx_tree.specs.Answered.{IsAnswered}
@@ -42,3 +42,12 @@ constant_asked held room given value (Ok known) same is small memory =
     record { is = (ap (λ (x : ℤ). reply_of x (meaning held)) (sym value_is), small); later = later_refl held }
 constant_asked held room given value (Err why) same is small memory =
     record { is = subst (λ (other : Stop). Stops other (reply_of (or_zero (literal_value given.label.spelling)) (meaning held))) (sym memory) tt; later = later_refl held }
+
+-- a name that is handed over by its place and its spelling
+pub named_asked : {X A : Type 0} (view : Held → X → A) (known : Held → X → Type 0) (old new : Held) (result : Result X Stop) (question : Lexeme → Answer (A × CxxState)) (name : Lexeme) (word : List ℕ) → word ≡ name.spelling → ((kind : TokenKind) → IsAnswered view known old new result (question (token kind name.place word))) → IsAsked view AnyKnown old new result (question name)
+named_asked view known old new (Ok x) question name word same answered =
+    let found = answered name.kind in
+    record { is = (subst (λ (spelling : List ℕ). question (token name.kind name.place spelling) ≡ Ok (view new x, meaning new)) same found.is.0, tt); later = found.later }
+named_asked view known old new (Err stop) question name word same answered =
+    let found = answered name.kind in
+    record { is = subst (λ (spelling : List ℕ). Stops stop (question (token name.kind name.place spelling))) same found.is; later = found.later }

@@ -1,4 +1,5 @@
 pub mod Calling
+pub mod CallLines
 pub mod InTrees
 pub mod Enumerated
 pub mod Expressing

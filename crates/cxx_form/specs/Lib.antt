@@ -1,6 +1,6 @@
 -- What the code of the plain form holds, and what that stands for.
 pub mod Books
-pub mod Calls
+pub mod Called
 pub mod Expressed
 pub mod Found
 pub mod Functions
@@ -10,6 +10,7 @@ pub mod Listed
 pub mod Names
 pub mod Numbered
 pub mod Parts
+pub mod Printed
 pub mod Rows
 pub mod Slots
 pub mod Trees

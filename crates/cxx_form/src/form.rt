@@ -1,5 +1,5 @@
 //! The plain form of a reading.
-ghost use Rattle.std.specs.Prelude.{◌≡◌, ◌<◌, ◌≤◌, length, IfOk};
+ghost use Rattle.std.specs.Prelude.{◌≡◌, ◌<◌, ◌≤◌, length, true, Err, IfOk};
 ghost use Rattle.cxx_model.specs.declared.limits.TheConstants.{MOST_OUTPUT};
 ghost use Rattle.cxx_model.specs.Facts.Fitted.{Fitted};
 ghost use Rattle.cxx_model.specs.declared.options.Options.{Options};
@@ -7,9 +7,13 @@ ghost use Rattle.cxx_reading.specs.Plain.{plain_text};
 ghost use Rattle.cxx_reading.specs.TextOrder.{lines as lines_of};
 ghost use Rattle.cxx_tree.specs.Held.{meaning};
 ghost use Rattle.cxx_form.specs.Books.{trees_of, IsBook};
+ghost use Rattle.cxx_form.specs.Called.{is_past_output};
+ghost use Rattle.cxx_form.specs.Printed.{IsPrinted};
 ghost use Rattle.cxx_form.specs.Lines.{lines_at, AreLinesBelow};
 
 use crate::book::Book;
+use crate::called::functions_text;
+use crate::calls::on_lines;
 use crate::enumerations::{declared, enumerators};
 use crate::lines::{Line, lines};
 use crate::names::tags;
@@ -19,6 +23,16 @@ use cxx_model::Listed;
 use cxx_page::{Page, PlainFault, Tags};
 use cxx_tree::State;
 use std::alloc::Global;
+
+/// What is printed of a reading.
+#[derive(Drop)]
+pub struct Printed {
+    /// Its plain form.
+    pub text: Vec<u8>,
+    /// For each call of the plain form, in its order, the line by which the plain form declares the function that the
+    /// call names.
+    pub functions: Vec<u8>,
+}
 
 // The types that a state names are those of its table.
 fn fitted(state: &State)
@@ -41,12 +55,25 @@ fn text_of(alloc: Global, book: &Book<'_>, lines: &[Line]) -> Result<Vec<u8>, Pl
     Ok(page.into_bytes())
 }
 
-/// The plain form of the reading whose state this is: a line for each enumeration, each function and each declaration
-/// of an object, each name with a number and each conversion as a cast.
-pub fn plain(alloc: Global, state: &State) -> Result<Vec<u8>, PlainFault>
-    ensures text { (options : Options) → IfOk result (λ text. text.items ≡ plain_text (record { options = options; state = meaning state.now })) }
-    ensures within { IfOk result (λ text. length text.items ≤ MOST_OUTPUT) }
-    ensures full { (options : Options) → result ≡ Err PlainFault.Limit → MOST_OUTPUT < length (plain_text (record { options = options; state = meaning state.now })) }
+// What the lines of a state print.
+fn printed_by(alloc: Global, book: &Book<'_>, lines: &[Line]) -> Result<Printed, PlainFault>
+    requires book { IsBook book.now }
+    requires is { lines_at (trees_of book.now) lines.now ≡ lines_of (meaning book.now.state.now) }
+    requires below { AreLinesBelow (length (trees_of book.now)) lines.now }
+    ensures is { (options : Options) → IfOk result (IsPrinted (record { options = options; state = meaning book.now.state.now })) }
+    ensures full { (options : Options) → result ≡ Err PlainFault.Limit → is_past_output (record { options = options; state = meaning book.now.state.now }) ≡ true }
+{
+    let text = text_of(alloc, book, lines)?;
+    let targets = on_lines(book.state, lines, alloc)?;
+    let functions = functions_text(alloc, book, targets.as_slice())?;
+    Ok(Printed { text, functions })
+}
+
+/// Prints the reading whose state this is. Its plain form has a line for each enumeration, each function and each
+/// declaration of an object, each name with a number and each conversion as a cast.
+pub fn print_reading(alloc: Global, state: &State) -> Result<Printed, PlainFault>
+    ensures is { (options : Options) → IfOk result (IsPrinted (record { options = options; state = meaning state.now })) }
+    ensures full { (options : Options) → result ≡ Err PlainFault.Limit → is_past_output (record { options = options; state = meaning state.now }) ≡ true }
 {
     let found = lines(state, alloc)?;
     let rows = enumerators(state, alloc)?;
@@ -63,5 +90,5 @@ pub fn plain(alloc: Global, state: &State) -> Result<Vec<u8>, PlainFault>
         enumerators: &rows,
     };
     fitted(state);
-    text_of(alloc, &book, found.as_slice())
+    printed_by(alloc, &book, found.as_slice())
 }

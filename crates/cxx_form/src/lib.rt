@@ -6,6 +6,7 @@
 #![tactic(auto)]
 
 mod book;
+mod called;
 mod calls;
 mod declarators;
 mod enumerations;
@@ -24,6 +25,5 @@ mod slots;
 mod text;
 mod words;
 
-pub use calls::functions;
 pub use cxx_page::PlainFault;
-pub use form::plain;
+pub use form::{Printed, print_reading};

@@ -61,8 +61,12 @@ fn write_typed(
     page.word(Role::Follows, b";")
 }
 
-// Writes the words of a function (8.3.5).
-fn write_function(book: &Book<'_>, page: &mut Page, number: FactId) -> Result<(), PlainFault>
+/// Writes the words of a function (8.3.5).
+pub(crate) fn write_function(
+    book: &Book<'_>,
+    page: &mut Page,
+    number: FactId,
+) -> Result<(), PlainFault>
     requires { IsBook book.now }
     ensures { Writes result page.new (put (function_words (names_of book.now) (facts_of book.now) number.0) page.old) }
 {

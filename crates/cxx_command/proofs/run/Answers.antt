@@ -4,5 +4,5 @@ use Rattle.cxx_command.proofs.run.Goals as goal
 
 pub returns : goal.returns
 returns g c =
-    let laws : Laws = record { best = c.each_call_is_best.ensures; told = c.faults_are_told.ensures; undeclared = c.undeclared_names_are_told.ensures; back = c.plain_reads_back.ensures } in
+    let laws : Laws = record { best = c.each_call_is_best.ensures; told = c.choice_faults_are_told.ensures; undeclared = c.undeclared_names_are_told.ensures } in
     answered laws c.args.words.now _ _ _ _ _ c.read_and_answer-answer.ensures c.deliver.ensures

@@ -1,13 +1,10 @@
 -- what is found so far and the rest are all
 use Rattle.std.proofs.Common.{◌≡◌, ◌++◌, drop, map}
 use Rattle.std.specs.Prelude.{flat_map}
-use Rattle.cxx_reading.specs.Plain.{calls_on}
 use Rattle.cxx_tree.specs.Held.{trees}
-use Rattle.cxx_form.specs.Calls.{named_at}
+use Rattle.cxx_form.specs.Called.{number_of, targets_on}
 use Rattle.cxx_form.specs.Lines.{lines_at}
-use Rattle.cxx_form.specs.Names.{names_in}
-use Rattle.cxx_form.specs.Views.{facts_in}
 use Rattle.cxx_form.proofs.calls.on_lines.Given as goal
 
 abbrev pub invariant-loop-line : goal.invariant-loop-line
-invariant-loop-line l = map (named_at l.state) l.found.items ++ flat_map (calls_on (names_in l.state) (facts_in l.state)) (lines_at (trees l.state) (drop l.line-index l.lines)) ≡ flat_map (calls_on (names_in l.state) (facts_in l.state)) (lines_at (trees l.state) l.lines)
+invariant-loop-line l = map number_of l.found.items ++ flat_map targets_on (lines_at (trees l.state) (drop l.line-index l.lines)) ≡ flat_map targets_on (lines_at (trees l.state) l.lines)

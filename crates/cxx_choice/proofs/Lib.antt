@@ -1,2 +1,0 @@
-pub mod Contests
-pub mod Loops

@@ -1,9 +1,0 @@
-use Rattle.std.proofs.Common.{◌≡◌, drop, map, not}
-use Rattle.std.specs.List.{find}
-use Rattle.cxx_model.specs.Choice.Better.{beats_if_other}
-use Rattle.cxx_model.specs.First.Candidates.{position_of, contender_beats}
-use Rattle.cxx_choice.specs.Views.{contender_at}
-use Rattle.cxx_choice.proofs.champion.counter.Given as goal
-
-abbrev pub invariant-loop-two : goal.invariant-loop-two
-invariant-loop-two l = find (λ g. not (beats_if_other position_of (contender_beats l.arguments) (contender_at l.this) g)) (map contender_at (drop l.two-index l.viable)) ≡ find (λ g. not (beats_if_other position_of (contender_beats l.arguments) (contender_at l.this) g)) (map contender_at l.viable)

@@ -1,4 +1,0 @@
-use Rattle.cxx_choice.proofs.champion.uncounted.Given as goal
-
-abbrev pub ghosts-chosen_by : goal.ghosts-chosen_by
-ghosts-chosen_by a = record { name = a.blank.name; parts = a.blank.parts }

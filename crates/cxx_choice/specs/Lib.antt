@@ -1,3 +1,0 @@
-pub mod Asymmetry
-pub mod Contests
-pub mod Views

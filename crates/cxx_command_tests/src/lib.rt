@@ -1,0 +1,5 @@
+//! Tests of whole runs, through their public call.
+#![tactic(auto)]
+
+#[cfg(test)]
+mod command;

@@ -1,0 +1,115 @@
+-- The lines that declare the functions that calls name.
+use Rattle.std.proofs.Common.{◌≡◌, ℕ, ◌<◌, ◌≤◌, ◌+◌, true, false, List, [], ◌∷◌, ◌++◌, length, drop, get_or, map, Some, None, Err, refl, ap, sym, subst, ◌∙◌, append-nil, append_assoc}
+use Rattle.std.specs.Prelude.{◌||◌, Bool}
+use Rattle.std.proofs.lemmas.Bool.{le-ltb, lt-ltb}
+use Rattle.std.proofs.lemmas.List.{at_drop_more, at_drop_all}
+use Rattle.cxx_model.specs.declared.limits.TheConstants as limits
+use Rattle.cxx_model.specs.declared.types.FactId.{FactId}
+use Rattle.cxx_page.specs.declared.fault.PlainFault.{PlainFault}
+use Rattle.cxx_page.specs.declared.fault.PlainFault.TheVariants as fault
+use Rattle.cxx_page.specs.Sheets.{and_then, blank, put_line, put_lines, Sheet, Writes}
+use Rattle.cxx_reading.specs.Plain.{function_words, names_of_text, plain_text}
+use Rattle.cxx_reading.specs.State.{CxxState}
+use Rattle.cxx_reading.specs.Units.{CxxReading}
+use Rattle.cxx_reading.specs.Words.{line_text, Word}
+use Rattle.cxx_tree.specs.Held.{meaning, Held}
+use Rattle.cxx_form.specs.declared.book.Book.{Book}
+use Rattle.cxx_form.specs.Books.{facts_of, names_of}
+use Rattle.cxx_form.specs.declared.form.Printed.{Printed}
+use Rattle.cxx_form.specs.Called.{any_long, function_text, functions_from, functions_text, is_long, is_past_output, number_of, targets}
+use Rattle.cxx_form.specs.Names.{names_in}
+use Rattle.cxx_form.specs.Printed.{IsPrinted}
+use Rattle.cxx_form.specs.Views.{facts_in}
+use Rattle.cxx_form.proofs.Whole.{too_long, written_text}
+
+-- ---- one line
+
+one_then : (words : List Word) (sheet : Sheet) → put_line words blank ≡ Some sheet → put_lines (words ∷ []) blank ≡ Some sheet
+unfolding put_lines
+one_then words sheet written = ap (λ some. and_then some (put_lines [])) written
+
+none_then : (words : List Word) → put_line words blank ≡ None → put_lines (words ∷ []) blank ≡ None
+unfolding put_lines
+none_then words none = ap (λ some. and_then some (put_lines [])) none
+
+line_written : (words : List Word) (page : Sheet) → put_line words blank ≡ Some page → page.text ≡ line_text words
+line_written words page written = written_text (words ∷ []) page (one_then words page written) ∙ append-nil (line_text words)
+
+line_long : (words : List Word) → put_line words blank ≡ None → limits.MOST_OUTPUT < length (line_text words)
+line_long words none = subst (λ (text : List ℕ). limits.MOST_OUTPUT < length text) (append-nil (line_text words)) (too_long (words ∷ []) (none_then words none))
+
+by_names : (held : Held) (number : ℕ) → line_text (function_words (names_in held) (facts_in held) number) ≡ function_text (meaning held) number
+unfolding function_text names_of_text names_in meaning
+by_names held number = refl
+
+pub text_is : (book : Book) (number : ℕ) (page new : Sheet) → page ≡ blank → put_line (function_words (names_of book) (facts_of book) number) page ≡ Some new → new.text ≡ function_text (meaning book.state.now) number
+text_is book number page new is written =
+    line_written (function_words (names_of book) (facts_of book) number) new (ap (put_line (function_words (names_of book) (facts_of book) number)) (sym is) ∙ written)
+    ∙ by_names book.state.now number
+
+pub line_over : (book : Book) (number : ℕ) (e : PlainFault) (page new : Sheet) → page ≡ blank → Writes (Err e) new (put_line (function_words (names_of book) (facts_of book) number) page) → e ≡ fault.Limit → limits.MOST_OUTPUT < length (function_text (meaning book.state.now) number)
+line_over book number fault.Limit page new is written limit =
+    subst (λ (text : List ℕ). limits.MOST_OUTPUT < length text) (by_names book.state.now number)
+    (line_long (function_words (names_of book) (facts_of book) number) (ap (put_line (function_words (names_of book) (facts_of book) number)) (sym is) ∙ written))
+line_over book number fault.OutOfMemory page new is written limit = absurd (other limit)
+  where
+    other : fault.OutOfMemory ≡ fault.Limit → ⊥
+    other same = cc
+
+-- ---- one behind another
+
+pub text_more : (state : CxxState) (numbers : List FactId) (i : ℕ) (d : FactId) (old new whole : List ℕ) → i < length numbers → new ≡ old ++ function_text state (get_or numbers i d).0 → old ++ functions_from state (map number_of (drop i numbers)) ≡ whole → new ++ functions_from state (map number_of (drop (i + 1) numbers)) ≡ whole
+text_more state numbers i d old new whole within more so =
+    let left : List ℕ = functions_from state (map number_of (drop (i + 1) numbers)) in
+    ap (λ xs. xs ++ left) more ∙ append_assoc old (function_text state (get_or numbers i d).0) left
+    ∙ ap (λ xs. old ++ xs) (sym (at_drop_more (λ (ns : List FactId). functions_from state (map number_of ns)) numbers i d within)) ∙ so
+
+pub text_all : (state : CxxState) (numbers : List FactId) (i : ℕ) (now whole : List ℕ) → length numbers ≤ i → now ++ functions_from state (map number_of (drop i numbers)) ≡ whole → now ≡ whole
+text_all state numbers i now whole past so = sym (append-nil now) ∙ ap (λ xs. now ++ xs) (sym (at_drop_all (λ (ns : List FactId). functions_from state (map number_of ns)) numbers i past)) ∙ so
+
+next_long : (state : CxxState) (numbers : List FactId) (i : ℕ) (d : FactId) → i < length numbers → any_long state (map number_of (drop i numbers)) ≡ (is_long (function_text state (get_or numbers i d).0) || any_long state (map number_of (drop (i + 1) numbers)))
+next_long state numbers i d within = at_drop_more (λ (ns : List FactId). any_long state (map number_of ns)) numbers i d within
+
+pub long_more : (state : CxxState) (numbers : List FactId) (i : ℕ) (d : FactId) (whole : Bool) → i < length numbers → is_long (function_text state (get_or numbers i d).0) ≡ false → any_long state (map number_of (drop i numbers)) ≡ whole → any_long state (map number_of (drop (i + 1) numbers)) ≡ whole
+long_more state numbers i d whole within short so = sym (next_long state numbers i d within ∙ ap (λ b. b || any_long state (map number_of (drop (i + 1) numbers))) short) ∙ so
+
+pub long_here : (state : CxxState) (numbers : List FactId) (i : ℕ) (d : FactId) (whole : Bool) → i < length numbers → is_long (function_text state (get_or numbers i d).0) ≡ true → any_long state (map number_of (drop i numbers)) ≡ whole → whole ≡ true
+long_here state numbers i d whole within long so = sym so ∙ next_long state numbers i d within ∙ ap (λ b. b || any_long state (map number_of (drop (i + 1) numbers))) long
+
+pub long_none : (state : CxxState) (numbers : List FactId) (i : ℕ) (whole : Bool) → length numbers ≤ i → any_long state (map number_of (drop i numbers)) ≡ whole → whole ≡ false
+long_none state numbers i whole past so = sym so ∙ at_drop_all (λ (ns : List FactId). any_long state (map number_of ns)) numbers i past
+
+-- ---- the whole
+
+past_text : (reading : CxxReading) → limits.MOST_OUTPUT < length (plain_text reading) → is_past_output reading ≡ true
+unfolding is_past_output
+past_text reading long = ap (λ b. b || any_long reading.state (targets reading.state)) (lt-ltb limits.MOST_OUTPUT (length (plain_text reading)) long)
+
+or_true : (b : Bool) → (b || true) ≡ true
+or_true true = refl
+or_true false = refl
+
+past_functions : (reading : CxxReading) → any_long reading.state (targets reading.state) ≡ true → is_past_output reading ≡ true
+unfolding is_past_output
+past_functions reading long = ap (λ b. is_long (plain_text reading) || b) long ∙ or_true (is_long (plain_text reading))
+
+within_both : (reading : CxxReading) → length (plain_text reading) ≤ limits.MOST_OUTPUT → any_long reading.state (targets reading.state) ≡ false → is_past_output reading ≡ false
+unfolding is_past_output
+within_both reading within short = ap (λ b. b || any_long reading.state (targets reading.state)) (le-ltb limits.MOST_OUTPUT (length (plain_text reading)) within) ∙ short
+
+pub text_past : (reading : CxxReading) (e : PlainFault) → (e ≡ fault.Limit → limits.MOST_OUTPUT < length (plain_text reading)) → e ≡ fault.Limit → is_past_output reading ≡ true
+text_past reading e full limit = past_text reading (full limit)
+
+pub functions_past : (reading : CxxReading) (numbers : List FactId) (e : PlainFault) → map number_of numbers ≡ targets reading.state → (e ≡ fault.Limit → any_long reading.state (map number_of numbers) ≡ true) → e ≡ fault.Limit → is_past_output reading ≡ true
+functions_past reading numbers e are full limit = past_functions reading (subst (λ (ns : List ℕ). any_long reading.state ns ≡ true) are (full limit))
+
+functions_are : (reading : CxxReading) → functions_from reading.state (targets reading.state) ≡ functions_text reading
+unfolding functions_text
+functions_are reading = refl
+
+pub is_printed : (reading : CxxReading) (printed : Printed) (numbers : List FactId) → map number_of numbers ≡ targets reading.state → printed.text.items ≡ plain_text reading → length printed.text.items ≤ limits.MOST_OUTPUT → printed.functions.items ≡ functions_from reading.state (map number_of numbers) → any_long reading.state (map number_of numbers) ≡ false → IsPrinted reading printed
+is_printed reading printed numbers are text within functions short = record {
+  text = text;
+  functions = functions ∙ ap (functions_from reading.state) are ∙ functions_are reading;
+  within = within_both reading (subst (λ (xs : List ℕ). length xs ≤ limits.MOST_OUTPUT) text within) (subst (λ (ns : List ℕ). any_long reading.state ns ≡ false) are short);
+}

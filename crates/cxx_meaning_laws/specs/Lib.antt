@@ -1,0 +1,2 @@
+pub mod Subsequences
+pub mod Converting

@@ -1,7 +1,0 @@
--- what is written and the rest are the whole
-use Rattle.std.proofs.Common.{◌≡◌, ◌++◌, drop}
-use Rattle.cxx_plain.specs.Texts.{casts_front}
-use Rattle.cxx_plain.proofs.words.write_casts_front.Given as goal
-
-abbrev pub invariant-loop-cast : goal.invariant-loop-cast
-invariant-loop-cast l = l.page ++ casts_front (drop l.cast-index l.casts) ≡ l.initial.page ++ casts_front l.casts

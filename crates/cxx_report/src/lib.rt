@@ -1,0 +1,6 @@
+//! The texts of reports.
+#![tactic(auto)]
+
+mod reports;
+
+pub use reports::report;

@@ -1,0 +1,7 @@
+//! Tests of reports, through their public call.
+#![tactic(auto)]
+
+#[cfg(test)]
+mod places;
+#[cfg(test)]
+mod reports;

@@ -1,0 +1,135 @@
+-- The fault of a whole reading is true of the declarations before it.
+use Rattle.std.proofs.Common.{◌≡◌, inl, inr, refl, ap, subst, ◌∙◌}
+use Rattle.std.specs.Prelude.{ℕ, zero, suc, Bool, true, false, List, Ok, Err, if◌then◌else◌}
+use Rattle.cxx_model.specs.declared.fault.FaultText.TheVariants as says
+use Rattle.cxx_model.specs.declared.limits.TheConstants as limits
+use Rattle.cxx_model.specs.declared.options.Options.{Options}
+use Rattle.cxx_model.specs.declared.stop.Fault.{Fault}
+use Rattle.cxx_model.specs.Stops.{Answer, Stopped, Faulty}
+use Rattle.cxx_model.specs.Text.Lexemes.{Lexeme}
+use Rattle.cxx_reading.specs.Reads.{Ahead, Got, Reads, More, Done, ◌>>=◌, then_read, got, give, ask, go_on, repeat, count_ahead, kind_ahead}
+use Rattle.cxx_reading.specs.State.{CxxState, first_state}
+use Rattle.cxx_reading.specs.Tokens.{is_end}
+use Rattle.cxx_reading.specs.Trees.{CxxTree}
+use Rattle.cxx_reading.specs.Units.{declaration_at, with_part, part_added, unit_step, read_as, unit_reading}
+use Rattle.cxx_told.specs.Told.{EndsIn, IsChoiceText, no_viable_function, ambiguous_call, ReadsTo, none_more, one_more, whole, StopsIn, IsGrown, IsToldFault, IsUndeclaredFault}
+use Rattle.cxx_told.proofs.Tells.{whole_stands, ends_later, ToldIn, tells_read, tells_stop, none_viable, none_best, undeclared, saying}
+use Rattle.cxx_told.proofs.TellsCalls.{Told, ToldSo}
+use Rattle.cxx_told.proofs.TellsUnits.{declaration_tells}
+
+-- the declaration in which reading stops, behind those that are read from here on
+record StopsFrom (state : CxxState) (ahead : Ahead) (fault : Fault) : Type 0 where
+  before : CxxState
+  rest : Ahead
+  reads : ReadsTo state ahead before rest
+  stands : EndsIn ahead.tokens rest.tokens
+  goes_on : is_end (kind_ahead rest) ≡ false
+  stops : declaration_at limits.MOST_NESTING before rest ≡ Err (Faulty fault)
+
+abbrev UnitAnswer : Type 0
+UnitAnswer = Answer (Got CxxState (Unit {0}))
+
+abbrev AreAnswers : UnitAnswer → UnitAnswer → Type 0
+AreAnswers one two = one ≡ two
+
+no_stop : (one : Got CxxState (Unit {0})) (why : Stopped) → AreAnswers (Ok one) (Err why) → ⊥
+no_stop one why e = cc
+
+same_stop : (one two : Stopped) → AreAnswers (Err one) (Err two) → one ≡ two
+same_stop one two e = cc
+
+-- declarations up to the last one, at most so many
+abbrev units : ℕ → Reads CxxState (Unit {0})
+units room = repeat unit_step give room tt
+
+-- what follows one declaration
+abbrev turned : ℕ → CxxTree → Reads CxxState (Unit {0})
+turned room tree = (ask (part_added tree) >>= λ added. give (More tt)) >>= go_on (repeat unit_step give room)
+
+-- a turn reads a declaration, where one is ahead
+abbrev turn : ℕ → CxxState → Ahead → Bool → UnitAnswer
+turn room state ahead ends = then_read (if ends then got (Done tt) state ahead else (declaration_at limits.MOST_NESTING >>= λ tree. ask (part_added tree) >>= λ added. give (More tt)) state ahead) (go_on (repeat unit_step give room))
+
+here : (state : CxxState) (ahead : Ahead) (fault : Fault) → is_end (kind_ahead ahead) ≡ false → declaration_at limits.MOST_NESTING state ahead ≡ Err (Faulty fault) → StopsFrom state ahead fault
+here state ahead fault goes_on stops = record { before = state; rest = ahead; reads = none_more state ahead; stands = whole_stands ahead.tokens; goes_on = goes_on; stops = stops }
+
+abbrev AreDeclarations : Answer (Got CxxState CxxTree) → Answer (Got CxxState CxxTree) → Type 0
+AreDeclarations one two = one ≡ two
+
+read_stands : (state : CxxState) (ahead : Ahead) (one : Got CxxState CxxTree) {answer : Answer (Got CxxState CxxTree)} → ToldIn IsGrown Told state ahead answer → answer ≡ Ok one → EndsIn ahead.tokens one.rest.tokens
+read_stands state ahead one (tells_read other keeps stands) e = subst (λ (g : Got CxxState CxxTree). EndsIn ahead.tokens g.rest.tokens) (by e) stands
+  where
+    by : AreDeclarations (Ok other) (Ok one) → other ≡ one
+    by e = cc
+read_stands state ahead one (tells_stop why true_of) e = absurd cc
+
+later : (state : CxxState) (ahead : Ahead) (one : Got CxxState CxxTree) (fault : Fault) → is_end (kind_ahead ahead) ≡ false → declaration_at limits.MOST_NESTING state ahead ≡ Ok one
+    → StopsFrom (with_part one.value one.state) one.rest fault → StopsFrom state ahead fault
+later state ahead one fault goes_on is from = record {
+  before = from.before;
+  rest = from.rest;
+  reads = one_more state ahead one from.before from.rest goes_on is from.reads;
+  stands = ends_later ahead.tokens one.rest.tokens from.rest.tokens (read_stands state ahead one (declaration_tells limits.MOST_NESTING state ahead) is) from.stands;
+  goes_on = from.goes_on;
+  stops = from.stops;
+}
+
+-- by what one declaration leads to
+one_stops : (room : ℕ) (state : CxxState) (ahead : Ahead) (fault : Fault) → is_end (kind_ahead ahead) ≡ false
+    → ((next : CxxState) (rest : Ahead) → units room next rest ≡ Err (Faulty fault) → StopsFrom next rest fault)
+    → (answer : Answer (Got CxxState CxxTree)) → declaration_at limits.MOST_NESTING state ahead ≡ answer
+    → AreAnswers (then_read (then_read answer (λ tree. ask (part_added tree) >>= λ added. give (More tt))) (go_on (repeat unit_step give room))) (Err (Faulty fault)) → StopsFrom state ahead fault
+one_stops room state ahead fault goes_on behind (Ok one) is e = later state ahead one fault goes_on is (behind (with_part one.value one.state) one.rest e)
+one_stops room state ahead fault goes_on behind (Err why) is e = here state ahead fault goes_on (is ∙ ap Err (same_stop why (Faulty fault) e))
+
+turn_stops : (room : ℕ) (state : CxxState) (ahead : Ahead) (fault : Fault)
+    → ((next : CxxState) (rest : Ahead) → units room next rest ≡ Err (Faulty fault) → StopsFrom next rest fault)
+    → (ends : Bool) → is_end (kind_ahead ahead) ≡ ends → AreAnswers (turn room state ahead ends) (Err (Faulty fault)) → StopsFrom state ahead fault
+turn_stops room state ahead fault behind true is e = absurd (no_stop _ _ e)
+turn_stops room state ahead fault behind false is e = one_stops room state ahead fault is behind (declaration_at limits.MOST_NESTING state ahead) refl e
+
+units_stop : (room : ℕ) (state : CxxState) (ahead : Ahead) (fault : Fault) → units room state ahead ≡ Err (Faulty fault) → StopsFrom state ahead fault
+unfolding repeat unit_step
+units_stop zero state ahead fault e = absurd (no_stop _ _ e)
+units_stop (suc room) state ahead fault e = turn_stops room state ahead fault (λ next rest e. units_stop room next rest fault e) (is_end (kind_ahead ahead)) refl e
+
+read_stops : (options : Options) (answer : UnitAnswer) (fault : Fault) → read_as options answer ≡ Err (Faulty fault) → answer ≡ Err (Faulty fault)
+read_stops options (Ok one) fault e = absurd cc
+read_stops options (Err why) fault e = ap Err (by e)
+  where
+    by : read_as options (Err why) ≡ Err (Faulty fault) → why ≡ Faulty fault
+    by e = cc
+
+unit_stops : (options : Options) (tokens : List Lexeme) (fault : Fault) → unit_reading options tokens ≡ Err (Faulty fault) → StopsIn tokens fault
+unfolding unit_reading
+unit_stops options tokens fault e =
+    let from = units_stop (count_ahead (whole tokens)) first_state (whole tokens) fault (read_stops options (repeat unit_step give (count_ahead (whole tokens)) tt first_state (whole tokens)) fault e) in
+    record { before = from.before; ahead = from.rest; reads = from.reads; stands = from.stands; goes_on = from.goes_on; stops = from.stops }
+
+-- ---- what is true of the fault
+
+stop_told : (before : CxxState) (ahead : Ahead) (fault : Fault) {answer : Answer (Got CxxState CxxTree)} → ToldIn IsGrown Told before ahead answer → answer ≡ Err (Faulty fault) → Told before ahead (Faulty fault)
+stop_told before ahead fault (tells_read one keeps stands) e = absurd cc
+stop_told before ahead fault (tells_stop why true_of) e = subst (Told before ahead) (by e) true_of
+  where
+    by : AreDeclarations (Err why) (Err (Faulty fault)) → why ≡ Faulty fault
+    by e = cc
+
+told_by : (tokens : List Lexeme) (fault : Fault) (declaration : StopsIn tokens fault) → ToldSo declaration.before declaration.ahead fault (saying fault.text)
+told_by tokens fault declaration = stop_told declaration.before declaration.ahead fault (declaration_tells limits.MOST_NESTING declaration.before declaration.ahead) declaration.stops
+
+pub fault_is_told : (options : Options) (tokens : List Lexeme) (fault : Fault) → unit_reading options tokens ≡ Err (Faulty fault) → IsChoiceText fault.text → IsToldFault tokens fault
+fault_is_told options tokens fault e (inl text) =
+    let declaration = unit_stops options tokens fault e in
+    let told : ToldSo declaration.before declaration.ahead fault none_viable = subst (ToldSo declaration.before declaration.ahead fault) (ap saying text) (told_by tokens fault declaration) in
+    record { declaration = declaration; at = told.at; grown = told.grown; is = no_viable_function told.is }
+fault_is_told options tokens fault e (inr text) =
+    let declaration = unit_stops options tokens fault e in
+    let told : ToldSo declaration.before declaration.ahead fault none_best = subst (ToldSo declaration.before declaration.ahead fault) (ap saying text) (told_by tokens fault declaration) in
+    record { declaration = declaration; at = told.at; grown = told.grown; is = ambiguous_call told.is }
+
+pub undeclared_is_told : (options : Options) (tokens : List Lexeme) (fault : Fault) (word : List ℕ) → unit_reading options tokens ≡ Err (Faulty fault) → fault.text ≡ says.UndeclaredName word → IsUndeclaredFault tokens fault word
+undeclared_is_told options tokens fault word e text =
+    let declaration = unit_stops options tokens fault e in
+    let told : ToldSo declaration.before declaration.ahead fault (undeclared word) = subst (ToldSo declaration.before declaration.ahead fault) (ap saying text) (told_by tokens fault declaration) in
+    record { declaration = declaration; at = told.at; grown = told.grown; is = told.is.is; is_text = text; bare = told.is.bare }

@@ -1,0 +1,8 @@
+mod Choices
+pub mod Faults
+mod Tells
+mod TellsCalls
+mod TellsShapes
+mod TellsSpecifiers
+mod TellsSyntax
+mod TellsUnits

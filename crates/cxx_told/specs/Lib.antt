@@ -1,0 +1,2 @@
+-- What is true of the faults of a reading.
+pub mod Told
