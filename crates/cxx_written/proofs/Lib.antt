@@ -4,6 +4,5 @@ pub mod Longest
 pub mod Ends
 pub mod ReadLines
 pub mod Names
-pub mod FirstWords
 pub mod ReadWords
 mod Rows

@@ -8,16 +8,18 @@ use Rattle.cxx_model.specs.declared.token.TokenKind.{TokenKind}
 use Rattle.cxx_model.specs.declared.place.Place.{Place}
 use Rattle.cxx_model.specs.declared.token.TokenKind.TheVariants.{Text, End}
 use Rattle.cxx_model.specs.declared.limits.TheConstants as limits
-use Rattle.cxx_model.specs.First.Words.{joined}
 use Rattle.cxx_model.specs.Text.Lexemes.{first_place, after, past, spelling_in, lexeme_of}
 use Rattle.cxx_model.specs.Text.Spelling.{Good, is_white, spelling_of}
 use Rattle.cxx_model.specs.Text.Tokens.{IsLongest, BadAt, PastTokens, Width, is_text, fresh_after, fresh_past, put, ended, tokens_from, tokens_of}
-use Rattle.cxx_model.specs.Printing.Written.{Written, written, has_gap, gap, line_of}
+use Rattle.cxx_model.specs.Printing.Written.{Written, written}
+use Rattle.cxx_reading.specs.declared.role.Role.{Role}
+use Rattle.cxx_reading.specs.declared.role.Role.TheVariants as role
+use Rattle.cxx_reading.specs.Words.{Word, has_gap, text_behind, line_text}
 use Rattle.cxx_model.proofs.Readings.{Answer, other_reason, other_joins, other_join, reads_end, reads_full, reads_spelled, reads_space}
 use Rattle.cxx_model.proofs.Shapes.{no_empty}
 use Rattle.cxx_model.proofs.Spellings.{blank_front}
-use Rattle.cxx_written.specs.Line.{IsWord, MayTouch, MayPrecede, IsLine}
-use Rattle.cxx_written.specs.ReadsAs.{ReadsAsWords, ReadsAs, end_word, text_of}
+use Rattle.cxx_written.specs.Line.{kind_in, written_of, IsWord, MayTouch, MayPrecede, IsLine}
+use Rattle.cxx_written.specs.ReadsAs.{ReadsAsWords, ReadsAs, end_word, text_of, line_as, lines_as}
 
 -- ---- one token in front
 
@@ -58,20 +60,20 @@ no_text Text h true e = absurd (h refl)
 no_text _ h true e = sym e
 
 -- the word is the longest front, wherever it stands on its line
-abbrev pub StandsBefore : Written → List ℕ → Type 0
-StandsBefore word rest = (fresh : Bool) → IsLongest fresh (word.spelling ++ rest) (record { len = length word.spelling; spells = Good word.kind })
+abbrev pub StandsBefore : Word → List ℕ → Type 0
+StandsBefore word rest = (fresh : Bool) → IsLongest fresh (word.spelling ++ rest) (record { len = length word.spelling; spells = Good (kind_in word.spelling) })
 
-pub reads_word_as : (text : List ℕ) (word : Written) (rest : List ℕ) (words : List Written) → IsWord word → StandsBefore word rest → ReadsRest text rest words → ReadsRest text (word.spelling ++ rest) (word ∷ words)
+pub reads_word_as : (text : List ℕ) (word : Word) (rest : List ℕ) (words : List Written) → IsWord word → StandsBefore word rest → ReadsRest text rest words → ReadsRest text (word.spelling ++ rest) (written_of word ∷ words)
 reads_word_as text word rest words is longest go zero before fresh at place e =
-    let other : is_text word.kind ≡ false = no_text word.kind is.no_text (is_text word.kind) refl in
-    subst (λ a. ReadsAsWords a text (word ∷ words))
-    (sym (reads_full (word.spelling ++ rest) (length word.spelling) word.kind before fresh at place (longest fresh) (other_reason before (word.spelling ++ rest) word.kind other) (other_joins before word.kind other))) tt
+    let other : is_text (kind_in word.spelling) ≡ false = no_text (kind_in word.spelling) is.no_text (is_text (kind_in word.spelling)) refl in
+    subst (λ a. ReadsAsWords a text (written_of word ∷ words))
+    (sym (reads_full (word.spelling ++ rest) (length word.spelling) (kind_in word.spelling) before fresh at place (longest fresh) (other_reason before (word.spelling ++ rest) (kind_in word.spelling) other) (other_joins before (kind_in word.spelling) other))) tt
 reads_word_as text word rest words is longest go (suc room) before fresh at place e =
-    let other : is_text word.kind ≡ false = no_text word.kind is.no_text (is_text word.kind) refl in
+    let other : is_text (kind_in word.spelling) ≡ false = no_text (kind_in word.spelling) is.no_text (is_text (kind_in word.spelling)) refl in
     let len : ℕ = length word.spelling in
-    let token : Token = record { kind = word.kind; place = place; from = at; to = at + len } in
-    subst (λ a. ReadsAsWords a text (word ∷ words)) (sym (reads_spelled word.spelling rest word.kind room before fresh at place (longest fresh) other))
-    (reads_put text (tokens_from 0 room None (fresh_past word.spelling fresh) (at + len) (past word.spelling place) rest) token word words other refl (spelled_there text at word.spelling rest e)
+    let token : Token = record { kind = kind_in word.spelling; place = place; from = at; to = at + len } in
+    subst (λ a. ReadsAsWords a text (written_of word ∷ words)) (sym (reads_spelled word.spelling rest (kind_in word.spelling) room before fresh at place (longest fresh) other))
+    (reads_put text (tokens_from 0 room None (fresh_past word.spelling fresh) (at + len) (past word.spelling place) rest) token (written_of word) words other refl (spelled_there text at word.spelling rest e)
     (go room None (fresh_past word.spelling fresh) (at + len) (past word.spelling place) (drop_past text at word.spelling rest e)))
 
 -- ---- a gap
@@ -80,37 +82,42 @@ pub reads_gap_as : (spaced : Bool) (text : List ℕ) (rest : List ℕ) (words : 
 reads_gap_as true text rest words go = reads_blank_as text 32 rest words refl go
 reads_gap_as false text rest words go = go
 
-gap_as : (text : List ℕ) (word : Written) (others : List Written) (rest : List ℕ) (words : List Written) → ReadsRest text rest words → ReadsRest text (gap word others ++ rest) words
-gap_as text word [] rest words go = go
-gap_as text word (next ∷ others) rest words go = reads_gap_as (has_gap word next) text rest words go
-
 -- ---- a word before what is printed behind it
 
-touching : (word : Written) (spelling rest : List ℕ) (next : Written) → spelling_of false spelling ≡ Some (Good next.kind) → MayTouch word spelling → StandsBefore word (spelling ++ rest)
-touching word [] rest next e touch = absurd (no_empty false next.kind e)
-touching word (b ∷ spelling) rest next e touch = λ fresh. touch.longest fresh (spelling ++ rest)
+touching : (word : Word) (spelling rest : List ℕ) (kind : TokenKind) → spelling_of false spelling ≡ Some (Good kind) → MayTouch word spelling → StandsBefore word (spelling ++ rest)
+touching word [] rest kind e touch = absurd (no_empty false kind e)
+touching word (b ∷ spelling) rest kind e touch = λ fresh. touch.longest fresh (spelling ++ rest)
 
-before_next : (spaced : Bool) (word next : Written) (rest : List ℕ) → has_gap word next ≡ spaced → IsWord word → IsWord next → (has_gap word next ≡ false → MayTouch word next.spelling)
+before_next : (spaced : Bool) (word next : Word) (rest : List ℕ) → has_gap word.role next.role ≡ spaced → IsWord word → IsWord next → (has_gap word.role next.role ≡ false → MayTouch word next.spelling)
     → StandsBefore word ((if spaced then codes " " else []) ++ (next.spelling ++ rest))
 before_next true word next rest e one two touch = λ fresh. one.before_space.longest fresh (next.spelling ++ rest)
-before_next false word next rest e one two touch = touching word next.spelling rest next two.spelled (touch e)
+before_next false word next rest e one two touch = touching word next.spelling rest (kind_in next.spelling) two.spelled (touch e)
 
-pub word_in_line : (word : Written) (others : List Written) (tail : List ℕ) → IsWord word → MayPrecede word others → IsLine others → StandsBefore word (gap word others ++ (line_of others ++ tail))
+-- what stands behind a word in its line, and behind the line
+abbrev pub rest_of : Role → List Word → List ℕ → List ℕ
+rest_of last others tail = text_behind last others ++ (10 ∷ tail)
+
+pub word_in_line : (word : Word) (others : List Word) (tail : List ℕ) → IsWord word → MayPrecede word others → IsLine others → StandsBefore word (rest_of word.role others tail)
 word_in_line word [] tail one before line = λ fresh. one.before_newline.longest fresh tail
 word_in_line word (next ∷ others) tail one before line =
-    let e : line_of (next ∷ others) ++ tail ≡ next.spelling ++ (gap next others ++ (line_of others ++ tail)) = simp append_assoc in
-    let there = before_next (has_gap word next) word next (gap next others ++ (line_of others ++ tail)) refl one line.0 before in
-    subst (λ t. StandsBefore word (gap word (next ∷ others) ++ t)) (sym e) there
+    let e : rest_of word.role (next ∷ others) tail ≡ (if has_gap word.role next.role then codes " " else []) ++ (next.spelling ++ rest_of next.role others tail) = simp append_assoc in
+    let there = before_next (has_gap word.role next.role) word next (rest_of next.role others tail) refl one line.0 before in
+    subst (λ t. StandsBefore word t) (sym e) there
 
 -- ---- a line, and lines
 
-pub reads_line_as : (text : List ℕ) (line : List Written) (tail : List ℕ) (words : List Written) → IsLine line → ReadsRest text tail words → ReadsRest text (line_of line ++ tail) (line ++ words)
-reads_line_as text [] tail words is go = reads_blank_as text 10 tail words refl go
-reads_line_as text (word ∷ others) tail words is go =
-    let split : line_of (word ∷ others) ++ tail ≡ word.spelling ++ (gap word others ++ (line_of others ++ tail)) = simp append_assoc in
-    subst (λ t. ReadsRest text t (word ∷ (others ++ words))) (sym split)
-    (reads_word_as text word (gap word others ++ (line_of others ++ tail)) (others ++ words) is.0 (word_in_line word others tail is.0 is.1 is.2)
-    (gap_as text word others (line_of others ++ tail) (others ++ words) (reads_line_as text others tail words is.2 go)))
+pub reads_behind_as : (text : List ℕ) (last : Role) (line : List Word) (tail : List ℕ) (words : List Written) → IsLine line → ReadsRest text tail words → ReadsRest text (rest_of last line tail) (line_as line ++ words)
+reads_behind_as text last [] tail words is go = reads_blank_as text 10 tail words refl go
+reads_behind_as text last (word ∷ others) tail words is go =
+    let split : rest_of last (word ∷ others) tail ≡ (if has_gap last word.role then codes " " else []) ++ (word.spelling ++ rest_of word.role others tail) = simp append_assoc in
+    subst (λ t. ReadsRest text t (written_of word ∷ (line_as others ++ words))) (sym split)
+    (reads_gap_as (has_gap last word.role) text (word.spelling ++ rest_of word.role others tail) (written_of word ∷ (line_as others ++ words))
+    (reads_word_as text word (rest_of word.role others tail) (line_as others ++ words) is.0 (word_in_line word others tail is.0 is.1 is.2) (reads_behind_as text word.role others tail words is.2 go)))
+
+pub reads_line_as : (text : List ℕ) (line : List Word) (tail : List ℕ) (words : List Written) → IsLine line → ReadsRest text tail words → ReadsRest text (line_text line ++ tail) (line_as line ++ words)
+reads_line_as text line tail words is go =
+    let split : line_text line ++ tail ≡ rest_of role.Leads line tail = append_assoc (text_behind role.Leads line) (codes "\n") tail in
+    subst (λ t. ReadsRest text t (line_as line ++ words)) (sym split) (reads_behind_as text role.Leads line tail words is go)
 
 ended_as : (text : List ℕ) (at : ℕ) (place : Place) (room : ℕ) → ReadsAsWords (ended room at place) text (end_word ∷ [])
 ended_as text at place zero = tt
@@ -122,12 +129,12 @@ ended_as text at place (suc room) =
 reads_end_as : (text : List ℕ) → ReadsRest text [] (end_word ∷ [])
 reads_end_as text room before fresh at place e = subst (λ a. ReadsAsWords a text (end_word ∷ [])) (sym (reads_end room before fresh at place)) (ended_as text at place room)
 
-pub reads_lines_as : (text : List ℕ) (lines : List (List Written)) → AllByRecursion IsLine lines → ReadsRest text (text_of lines) (joined lines ++ end_word ∷ [])
+pub reads_lines_as : (text : List ℕ) (lines : List (List Word)) → AllByRecursion IsLine lines → ReadsRest text (text_of lines) (lines_as lines ++ end_word ∷ [])
 reads_lines_as text [] all = reads_end_as text
 reads_lines_as text (line ∷ others) all =
-    let regroup : joined (line ∷ others) ++ end_word ∷ [] ≡ line ++ (joined others ++ end_word ∷ []) = append_assoc line (joined others) (end_word ∷ []) in
-    subst (λ words. ReadsRest text (line_of line ++ text_of others) words) (sym regroup) (reads_line_as text line (text_of others) (joined others ++ end_word ∷ []) all.0 (reads_lines_as text others all.1))
+    let regroup : lines_as (line ∷ others) ++ end_word ∷ [] ≡ line_as line ++ (lines_as others ++ end_word ∷ []) = append_assoc (line_as line) (lines_as others) (end_word ∷ []) in
+    subst (λ words. ReadsRest text (line_text line ++ text_of others) words) (sym regroup) (reads_line_as text line (text_of others) (lines_as others ++ end_word ∷ []) all.0 (reads_lines_as text others all.1))
 
-pub words_are_tokens : (lines : List (List Written)) → AllByRecursion IsLine lines → ReadsAs (tokens_of (text_of lines)) (text_of lines) lines
+pub words_are_tokens : (lines : List (List Word)) → AllByRecursion IsLine lines → ReadsAs (tokens_of (text_of lines)) (text_of lines) lines
 unfolding tokens_of
 words_are_tokens lines all = reads_lines_as (text_of lines) lines all limits.MOST_TOKENS None true 0 first_place refl

@@ -5,15 +5,13 @@ use Rattle.std.specs.Prelude.{◌&&◌, if◌then◌else◌}
 use Rattle.cxx_model.specs.declared.token.Token.{Token}
 use Rattle.cxx_model.specs.declared.token.TokenKind.{TokenKind}
 use Rattle.cxx_model.specs.declared.token.TokenKind.TheVariants.{Text}
-use Rattle.cxx_model.specs.First.Reading.{is_end}
-use Rattle.cxx_model.specs.First.Words.{before_end, IsSpelled, AreSpelled}
 use Rattle.cxx_model.specs.Text.Lexemes.{Lexeme, lexeme_of, lexemes}
 use Rattle.cxx_model.specs.Text.Spelling.{spelling_of}
 use Rattle.cxx_model.specs.Text.Tokens.{Width, is_fresh, is_text, join_list, tokens_of, IsTokenList, at_end, after_blank, after_token}
 use Rattle.cxx_model.specs.Printing.Written.{Written, written}
 use Rattle.cxx_model.proofs.Readings.{means_at}
 use Rattle.cxx_model.proofs.Shapes.{spells_anywhere}
-use Rattle.cxx_written.specs.ReadsAs.{end_word, IsReadWord}
+use Rattle.cxx_written.specs.ReadsAs.{end_word, IsSpelledAs, IsReadWord}
 
 -- each token is spelled as what it is, or is a string or the end
 record AreRead (bytes : List ℕ) (tokens : List Token) : Type 0 where
@@ -46,19 +44,3 @@ list_is_read bytes (after_token at len before kind tokens longest sound rest) =
 
 pub read_is_spelled : (bytes : List ℕ) (tokens : List Token) → tokens_of bytes ≡ Ok tokens → AllByRecursion IsReadWord (map written (lexemes bytes tokens))
 read_is_spelled bytes tokens e = (list_is_read bytes (means_at bytes (Ok tokens) e).0).each
-
-spelled_if_read : (token : Lexeme) → is_end token.kind ≡ false → IsReadWord (written token) → IsSpelled token
-spelled_if_read token more (inl h) = record { spelled = λ other. h.spelled }
-spelled_if_read token more (inr (inl e)) = record { spelled = λ other. let is : is_text token.kind ≡ true = ap is_text e in absurd cc }
-spelled_if_read token more (inr (inr e)) = let is : is_end token.kind ≡ true = ap (λ (w : Written). is_end w.kind) e in absurd cc
-
-spelled_if_all_read : (ahead : List Lexeme) → AllByRecursion IsReadWord (map written ahead) → AreSpelled ahead
-spelled_if_all_read [] all = tt
-spelled_if_all_read (token ∷ ahead) all = by (is_end token.kind) refl (spelled_if_all_read ahead all.1)
-  where
-    by : (ended : Bool) → is_end token.kind ≡ ended → AreSpelled ahead → AllByRecursion IsSpelled (if ended then [] else token ∷ before_end ahead)
-    by true e rest = tt
-    by false e rest = (spelled_if_read token e all.0, rest)
-
-pub tokens_are_spelled : (bytes : List ℕ) (tokens : List Token) → tokens_of bytes ≡ Ok tokens → AreSpelled (lexemes bytes tokens)
-tokens_are_spelled bytes tokens e = spelled_if_all_read (lexemes bytes tokens) (read_is_spelled bytes tokens e)

@@ -1,16 +1,10 @@
--- What the text of a word of the first form looks like.
-use Rattle.std.proofs.Common.{◌≡◌, ℕ, Bool, true, false, ◌⊎◌, inl, inr, ⊎_elim, ◌||◌, ◌==◌, List, ◌∷◌, Some, refl, sym, subst, eqb-true}
-use Rattle.std.proofs.lemmas.Bool.{or_cases}
+-- What the text of a word looks like.
+use Rattle.std.proofs.Common.{◌≡◌, ℕ, Bool, true, false, ◌⊎◌, inl, inr, ⊎_elim, List, ◌∷◌, Some, refl}
 use Rattle.std.specs.List.{list_all}
-use Rattle.std.specs.Prelude.{codes}
 use Rattle.cxx_model.specs.declared.token.TokenKind.{TokenKind}
 use Rattle.cxx_model.specs.declared.token.TokenKind.TheVariants.{Name, Keyword, Punct, Integer, Character, Text}
-use Rattle.cxx_model.specs.declared.punct.TheConstants as punct
 use Rattle.cxx_model.specs.Text.Spelling.{Good, is_word, begins_word, begins_number, is_number_rest, is_quote, word_kind, number_kind, literal, spelling_of}
 use Rattle.cxx_model.proofs.Shapes.{Shape, wordy, wide, number, quoted, operated, word_kind_is, number_kind_is, literal_is, operator_is}
-use Rattle.cxx_model.proofs.FirstForm.Words.{open_is, close_is, comma_is, semicolon_is, equals_is, less_is, greater_is}
-use Rattle.cxx_model.proofs.SpelledKinds.{IsOnlySpelling, kind_spells, only_spelling}
-use Rattle.cxx_written.specs.Line.{is_printed_punct}
 
 abbrev pub Spells : List ℕ → TokenKind → Type 0
 Spells text kind = spelling_of false text ≡ Some (Good kind)
@@ -71,44 +65,3 @@ character_text b rest (wide quote tail first second is_quote is) = inr (record {
 character_text b rest (number begins all is) = absurd (cc (number_kind_is (b ∷ rest) Character is))
 character_text b rest (quoted is_quote is) = inl (record { begins = is_quote; is = is })
 character_text b rest (operated is) = absurd (cc (operator_is b rest Character is).1)
-
--- ---- punctuators
-
--- a punctuator of the first form and its spelling
-pub data Built : List ℕ → ℕ → Type 0 where
-  built_open : Built (codes "(") punct.LEFT_PARENTHESIS
-  built_close : Built (codes ")") punct.RIGHT_PARENTHESIS
-  built_comma : Built (codes ",") punct.COMMA
-  built_semicolon : Built (codes ";") punct.SEMICOLON
-  built_equals : Built (codes "=") punct.EQUALS
-  built_less : Built (codes "<") punct.LESS
-  built_greater : Built (codes ">") punct.GREATER
-
-IsBuilt : ℕ → Type 0
-IsBuilt n = (text : List ℕ) → Spells text (Punct n) → Built text n
-
-one_of : (p q : Bool) (P : Type 0) → (p ≡ true → P) → (q ≡ true → P) → (p || q) ≡ true → P
-one_of p q P f g h = ⊎_elim f g (or_cases p q h)
-
-built_there : (k : ℕ) (text : List ℕ) → Built text k → IsOnlySpelling k text → (n : ℕ) → (n == k) ≡ true → IsBuilt n
-unfolding IsBuilt
-built_there k text built only n e = subst IsBuilt (sym (eqb-true n k e)) (λ other spells. subst (λ t. Built t k) (sym (only_spelling k text other only (kind_spells false other (Punct k) spells))) built)
-
-built_at : (n : ℕ) → is_printed_punct n ≡ true → IsBuilt n
-built_at n e =
-    one_of _ _ _
-    (one_of _ _ _
-    (one_of _ _ _
-    (one_of _ _ _
-    (one_of _ _ _
-    (one_of _ _ _ (built_there punct.LEFT_PARENTHESIS (codes "(") built_open open_is n) (built_there punct.RIGHT_PARENTHESIS (codes ")") built_close close_is n))
-    (built_there punct.COMMA (codes ",") built_comma comma_is n))
-    (built_there punct.SEMICOLON (codes ";") built_semicolon semicolon_is n))
-    (built_there punct.EQUALS (codes "=") built_equals equals_is n))
-    (built_there punct.LESS (codes "<") built_less less_is n))
-    (built_there punct.GREATER (codes ">") built_greater greater_is n)
-    e
-
-pub built_is : (n : ℕ) (text : List ℕ) → is_printed_punct n ≡ true → Spells text (Punct n) → Built text n
-unfolding IsBuilt
-built_is n text e spells = built_at n e text spells

@@ -1,4 +1,4 @@
+-- What a printed text reads as.
 pub mod Line
 pub mod Ends
 pub mod ReadsAs
-pub mod Printable

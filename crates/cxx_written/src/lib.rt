@@ -1,16 +1,14 @@
 //! What a printed text reads as: the tokens of the text of words are those words.
 //!
-//! There is no code here that runs. Each function is a law about the definitions of `cxx_model`, which its contract
-//! states and the check proves.
+//! There is no code here that runs. Each function is a law about the definitions of `cxx_model` and `cxx_reading`, which
+//! its contract states and the check proves.
 #![tactic(auto)]
 
 mod printed_lines;
 mod printed_names;
 
 pub use printed_lines::{
-    apart_words_are_a_line, each_printed_word_is_a_word, printed_lines_are_lines,
-    printed_text_is_tokens, read_tokens_are_spelled, read_words_are_spelled,
-    word_ends_before_a_byte, words_are_tokens,
+    apart_words_are_a_line, read_words_are_spelled, word_ends_before_a_byte, words_are_tokens,
 };
 pub use printed_names::{
     printed_name_gives_its_number, printed_name_gives_its_stem, printed_name_is_a_name,

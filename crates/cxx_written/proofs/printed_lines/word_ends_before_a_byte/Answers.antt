@@ -1,5 +1,5 @@
-use Rattle.cxx_written.proofs.Ends.{spelled_ends_before}
+use Rattle.cxx_written.proofs.Ends.{stands_before}
 use Rattle.cxx_written.proofs.printed_lines.word_ends_before_a_byte.Goals as goal
 
 pub returns : goal.returns
-returns c = spelled_ends_before
+returns c = stands_before
