@@ -4,5 +4,6 @@ pub mod Longest
 pub mod Ends
 pub mod ReadLines
 pub mod Names
+pub mod Numbers
 pub mod ReadWords
 mod Rows
