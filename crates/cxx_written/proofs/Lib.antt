@@ -6,4 +6,6 @@ pub mod ReadLines
 pub mod Names
 pub mod Numbers
 pub mod ReadWords
+pub mod Tails
+pub mod Printed
 mod Rows

@@ -134,7 +134,7 @@ spelled_above n h low false false e f =
     let holds : nat_le n 18446744073709551615 ≡ true = grind (arith, nat_tests) in
     spelled_by (decimal n) (codes "UL") (decimal_begins n h low) unsigned_suffix (rw (kind_by (decimal n) (codes "UL") n (decimal_begins n h low) unsigned_suffix (decimal_value n h)) (rw holds refl))
 
-decimal_of_zero : (n : ℕ) → n < 2 ^ 64 → n ≡ 0 → decimal n ≡ codes "0"
+pub decimal_of_zero : (n : ℕ) → n < 2 ^ 64 → n ≡ 0 → decimal n ≡ codes "0"
 decimal_of_zero n h = decimal_by_steps (λ n ds. n ≡ 0 → ds ≡ codes "0") one more n h
   where
     one : (n : ℕ) → n < 10 → n ≡ 0 → (48 + n) ∷ [] ≡ codes "0"
