@@ -8,4 +8,5 @@ pub mod Numbers
 pub mod ReadWords
 pub mod Tails
 pub mod Printed
+pub mod Types
 mod Rows

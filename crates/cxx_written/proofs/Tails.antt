@@ -112,7 +112,7 @@ free_none = record { tail = no_words; star = tt; ampersand = tt; less = tt }
 abbrev pub is_free : ℕ → Bool
 is_free b = not (b == 61) && (not (b == 38) && (not (b == 60) && (not (b == 58) && not (b == 37))))
 
-not_false : (p : Bool) → not p ≡ true → p ≡ false
+pub not_false : (p : Bool) → not p ≡ true → p ≡ false
 not_false true h = sym h
 not_false false h = refl
 
@@ -142,6 +142,9 @@ less_ends b h k l m = rw (h, k, l, m) refl
 
 pub star_before : (word : Word) (rest : List Word) (first : ℕ) (others : List ℕ) → word.spelling ≡ first ∷ others → (first == 61) ≡ false → MayPrecede star_word (word ∷ rest)
 star_before word rest first others is h = λ gap. touch_first star_word word.spelling first others is (may_stand_before star_word star_spelled first (star_ends first h))
+
+pub ampersand_before : (word : Word) (rest : List Word) (first : ℕ) (others : List ℕ) → word.spelling ≡ first ∷ others → (first == 61) ≡ false → (first == 38) ≡ false → MayPrecede ampersand_word (word ∷ rest)
+ampersand_before word rest first others is h k = λ gap. touch_first ampersand_word word.spelling first others is (may_stand_before ampersand_word ampersand_spelled first (ampersand_ends first h k))
 
 pub free_cons : (word : Word) (rest : List Word) (next : IsNext word) → IsOpenEnded word → is_free next.first ≡ true → IsTail rest → IsFree (word ∷ rest)
 free_cons word rest next ends free tail =
