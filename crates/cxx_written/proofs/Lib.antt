@@ -9,4 +9,5 @@ pub mod ReadWords
 pub mod Tails
 pub mod Printed
 pub mod Types
+pub mod PlainForm
 mod Rows

@@ -1,5 +1,5 @@
 -- A printed value spells an integer literal.
-use Rattle.std.proofs.Common.{◌≡◌, ◌≢◌, ◌≤◌, ◌<◌, ℕ, zero, suc, ◌+◌, ◌*◌, ◌-◌, ◌/◌, ◌^◌, ◌%◌, Bool, true, false, cond, not, ◌&&◌, ◌||◌, ◌==◌, List, [], ◌∷◌, ◌++◌, length, take, drop, Option, Some, None, refl, sym, ap, subst, ◌∙◌, arith, append_assoc}
+use Rattle.std.proofs.Common.{◌≡◌, ◌≤◌, ◌<◌, ℕ, zero, suc, ◌+◌, ◌*◌, ◌/◌, ◌^◌, ◌%◌, Bool, true, false, ◌==◌, List, [], ◌∷◌, ◌++◌, length, take, drop, Some, refl, sym, ap, subst, ◌∙◌, arith, eqb-true}
 use Rattle.std.proofs.Math.Seq.{take-append_seam, drop-append_seam}
 use Rattle.std.proofs.lemmas.Bool.{and_parts, or_left, both_ways}
 use Rattle.std.proofs.lemmas.Bool.Decides.{nat_tests}
@@ -10,11 +10,9 @@ use Rattle.std.specs.Fmt.{decimal}
 use Rattle.std.specs.List.{list_all, prefix_len, take_while}
 use Rattle.std.specs.Prelude.{codes, nat_lt, nat_le, if◌then◌else◌}
 use Rattle.cxx_model.specs.declared.token.TokenKind.TheVariants.{Integer}
-use Rattle.cxx_model.specs.Printing.Names.{is_digits}
-use Rattle.cxx_model.specs.Text.Spelling.{Good, IntegerParts, is_word, begins_word, begins_number, is_number_rest, digit_value, value_after, with_suffix, with_digits, integer_parts, integer_type, is_floating, number_by, number_kind, spelling_of}
+use Rattle.cxx_model.specs.Text.Spelling.{Good, is_word, begins_number, is_number_rest, digit_value, value_after, with_suffix, with_digits, integer_parts, number_kind, spelling_of}
 use Rattle.cxx_model.proofs.Spellings.{spells_number, number_is_black, number_begins_no_word}
 use Rattle.cxx_reading.specs.Words.{value_suffix, literal_word}
-use Rattle.cxx_written.proofs.Names.{decimal_is_digits}
 use Rattle.cxx_written.proofs.Shapes.{Spells}
 
 -- ---- the value of digits
@@ -31,6 +29,7 @@ decimal_value n h = decimal_by_steps (λ n ds. value_after 10 0 ds ≡ n) one mo
   where
     one : (n : ℕ) → n < 10 → value_after 10 0 ((48 + n) ∷ []) ≡ n
     one n h = omega (arith, digit_value_is n h)
+
     more : (n : ℕ) (ds : List ℕ) → 10 ≤ n → value_after 10 0 ds ≡ n / 10 → value_after 10 0 (ds ++ (48 + n % 10) ∷ []) ≡ n
     more n ds h e = value_of_more 0 ds (48 + n % 10) ∙ rw (e, digit_value_is (n % 10) (omega arith)) (omega arith)
 
@@ -50,6 +49,7 @@ decimal_begins n h = decimal_by_steps (λ n ds. 1 ≤ n → BeginsAbove ds) one 
   where
     one : (n : ℕ) → n < 10 → 1 ≤ n → BeginsAbove ((48 + n) ∷ [])
     one n h low = record { first = 48 + n; others = []; is = refl; digit = grind (arith, nat_tests); above = grind (arith, nat_tests); all = refl }
+
     more : (n : ℕ) (ds : List ℕ) → 10 ≤ n → (1 ≤ n / 10 → BeginsAbove ds) → 1 ≤ n → BeginsAbove (ds ++ (48 + n % 10) ∷ [])
     more n ds h go low =
         let before = go (omega arith) in
@@ -115,8 +115,8 @@ spelled_by : (ds s : List ℕ) → BeginsAbove ds → IsSuffix s → number_kind
 spelled_by ds s begins is kind =
     let begin : begins_number begins.first (begins.others ++ s) ≡ true = or_left _ _ begins.digit in
     let there : spelling_of false (begins.first ∷ (begins.others ++ s)) ≡ Some (Good Integer) =
-        spells_number false begins.first (begins.others ++ s) (number_is_black begins.first (begins.others ++ s) begin) (number_begins_no_word begins.first (begins.others ++ s) begin) begin
-        ∙ rw (digits_go_on begins.first begins.others s is begins.all) (ap Some (subst (λ t. number_kind t ≡ Good Integer) (ap (λ l. l ++ s) begins.is) kind))
+    spells_number false begins.first (begins.others ++ s) (number_is_black begins.first (begins.others ++ s) begin) (number_begins_no_word begins.first (begins.others ++ s) begin) begin
+    ∙ rw (digits_go_on begins.first begins.others s is begins.all) (ap Some (subst (λ t. number_kind t ≡ Good Integer) (ap (λ l. l ++ s) begins.is) kind))
     in
     subst (λ t. spelling_of false t ≡ Some (Good Integer)) (ap (λ l. l ++ s) (sym begins.is)) there
 
@@ -139,6 +139,7 @@ decimal_of_zero n h = decimal_by_steps (λ n ds. n ≡ 0 → ds ≡ codes "0") o
   where
     one : (n : ℕ) → n < 10 → n ≡ 0 → (48 + n) ∷ [] ≡ codes "0"
     one n h e = rw e refl
+
     more : (n : ℕ) (ds : List ℕ) → 10 ≤ n → (n / 10 ≡ 0 → ds ≡ codes "0") → n ≡ 0 → ds ++ (48 + n % 10) ∷ [] ≡ codes "0"
     more n ds h go e = absurd (omega arith)
 
@@ -152,3 +153,33 @@ zero_is_spelled = rw (decimal_of_zero 0 (omega arith) refl) zero_alone
 pub literal_is_spelled : (n : ℕ) → n < 2 ^ 64 → Spells (literal_word n).spelling Integer
 literal_is_spelled zero h = zero_is_spelled
 literal_is_spelled (suc n) h = spelled_above (suc n) h (omega arith) (nat_lt (suc n) 2147483648) (nat_lt (suc n) 9223372036854775808) refl refl
+
+-- a printed value begins with a digit
+pub record LiteralBegins (text : List ℕ) : Type 0 where
+  pub first : ℕ
+  pub others : List ℕ
+  pub is : text ≡ first ∷ others
+  pub no_minus : (first == 45) ≡ false
+  pub no_equals : (first == 61) ≡ false
+  pub no_greater : (first == 62) ≡ false
+
+digit_is_none : (b k : ℕ) → is_ascii_digit b ≡ true → is_ascii_digit k ≡ false → (b == k) ≡ false
+digit_is_none b k h other = by (b == k) refl
+  where
+    by : (same : Bool) → (b == k) ≡ same → same ≡ false
+    by false e = refl
+    by true e = let is : b ≡ k = eqb-true b k e in absurd (both_ways (is_ascii_digit k) other (subst (λ c. is_ascii_digit c ≡ true) is h))
+
+begins_by : (b : ℕ) (w s : List ℕ) (text : List ℕ) → text ≡ b ∷ w → is_ascii_digit b ≡ true → LiteralBegins (text ++ s)
+begins_by b w s text e h = record {
+  first = b;
+  others = w ++ s;
+  is = ap (λ t. t ++ s) e;
+  no_minus = digit_is_none b 45 h refl;
+  no_equals = digit_is_none b 61 h refl;
+  no_greater = digit_is_none b 62 h refl;
+}
+
+pub literal_first : (n : ℕ) → n < 2 ^ 64 → LiteralBegins (literal_word n).spelling
+literal_first zero h = begins_by 48 [] (value_suffix 0) (decimal 0) (decimal_of_zero 0 (omega arith) refl) refl
+literal_first (suc n) h = let begins = decimal_begins (suc n) h (omega arith) in begins_by begins.first begins.others (value_suffix (suc n)) (decimal (suc n)) begins.is begins.digit

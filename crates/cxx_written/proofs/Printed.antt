@@ -1,9 +1,8 @@
 -- Each word that a plain form has, among others.
-use Rattle.std.proofs.Common.{◌≡◌, ◌<◌, ◌^◌, ℕ, zero, suc, Bool, true, false, ⊎_elim, inl, inr, not, ◌&&◌, ◌||◌, ◌==◌, List, [], ◌∷◌, ◌++◌, Option, Some, None, refl, sym, ap, subst, arith, ◌∙◌}
+use Rattle.std.proofs.Common.{◌≡◌, ◌<◌, ◌^◌, ℕ, Bool, true, false, ⊎_elim, not, ◌&&◌, ◌||◌, ◌==◌, List, [], ◌∷◌, Option, Some, None, refl, ap, arith}
 use Rattle.std.proofs.lemmas.Bool.{and_parts, or_cases, both_ways}
 use Rattle.std.proofs.lemmas.Bool.Decides.{nat_tests}
 use Rattle.std.specs.Char.{is_ascii_digit}
-use Rattle.std.specs.Fmt.{decimal}
 use Rattle.std.specs.Prelude.{codes}
 use Rattle.cxx_model.specs.declared.token.TokenKind.{TokenKind}
 use Rattle.cxx_model.specs.declared.token.TokenKind.TheVariants.{Name, Integer, Character}
@@ -11,11 +10,11 @@ use Rattle.cxx_model.specs.Text.Spelling.{Spelled, Good, spelling_of, is_quote, 
 use Rattle.cxx_model.proofs.Shapes.{shape, no_empty}
 use Rattle.cxx_reading.specs.declared.role.Role.{Role}
 use Rattle.cxx_reading.specs.declared.role.Role.TheVariants as role
-use Rattle.cxx_reading.specs.Words.{Word, none_behind, none_before, takes_bracket, is_opening, keyword_word, name_word, type_name_word, open_word, close_word, open_bracket_word, close_bracket_word, comma_word, semicolon_word, literal_word, value_suffix}
-use Rattle.cxx_written.specs.Ends.{ends_before, word_ends_before}
+use Rattle.cxx_reading.specs.Words.{Word, none_behind, none_before, takes_bracket, is_opening, keyword_word, name_word, type_name_word, open_word, close_word, open_bracket_word, close_bracket_word, comma_word, semicolon_word, literal_word}
+use Rattle.cxx_written.specs.Ends.{word_ends_before}
 use Rattle.cxx_written.specs.Line.{kind_by, kind_in, MayStandBefore, IsSpelled, IsWord, IsName}
 use Rattle.cxx_written.proofs.Ends.{is_plain, plain_is_word, may_stand_before}
-use Rattle.cxx_written.proofs.Numbers.{BeginsAbove, decimal_begins, decimal_of_zero, literal_is_spelled}
+use Rattle.cxx_written.proofs.Numbers.{literal_is_spelled}
 use Rattle.cxx_written.proofs.Shapes.{Spells, word_text, integer_text, character_text}
 use Rattle.cxx_written.proofs.Tails.{is_closer, is_opener, each_closer, each_opener, IsOpenEnded, IsNext, IsTail, IsFree, tail_cons, free_cons, is_free}
 
@@ -196,6 +195,7 @@ good_name_by a b w e loose before opening =
     given_true : (p q : Bool) → q ≡ true → given p q ≡ true
     given_true true q h = h
     given_true false q h = refl
+
     given_false : (p q : Bool) → p ≡ false → given p q ≡ true
     given_false true q h = absurd (cc)
     given_false false q h = refl
@@ -223,6 +223,7 @@ number_begins_free b w h = ⊎_elim (λ d. by_digit b d) (λ d. by_dot b (and_pa
   where
     by_digit : (b : ℕ) → is_ascii_digit b ≡ true → is_free b ≡ true
     by_digit b h = grind (arith, nat_tests)
+
     by_dot : (b : ℕ) → (b == 46) ≡ true → is_free b ≡ true
     by_dot b h = grind (arith, nat_tests)
 

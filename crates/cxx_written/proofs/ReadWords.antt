@@ -5,13 +5,13 @@ use Rattle.std.specs.Prelude.{◌&&◌, if◌then◌else◌}
 use Rattle.cxx_model.specs.declared.token.Token.{Token}
 use Rattle.cxx_model.specs.declared.token.TokenKind.{TokenKind}
 use Rattle.cxx_model.specs.declared.token.TokenKind.TheVariants.{Text}
-use Rattle.cxx_model.specs.Text.Lexemes.{Lexeme, lexeme_of, lexemes}
+use Rattle.cxx_model.specs.Text.Lexemes.{lexeme_of, lexemes}
 use Rattle.cxx_model.specs.Text.Spelling.{spelling_of}
 use Rattle.cxx_model.specs.Text.Tokens.{Width, is_fresh, is_text, join_list, tokens_of, IsTokenList, at_end, after_blank, after_token}
-use Rattle.cxx_model.specs.Printing.Written.{Written, written}
+use Rattle.cxx_model.specs.Printing.Written.{written}
 use Rattle.cxx_model.proofs.Readings.{means_at}
 use Rattle.cxx_model.proofs.Shapes.{spells_anywhere}
-use Rattle.cxx_written.specs.ReadsAs.{end_word, IsSpelledAs, IsReadWord}
+use Rattle.cxx_written.specs.ReadsAs.{end_word, IsReadWord}
 
 -- each token is spelled as what it is, or is a string or the end
 record AreRead (bytes : List ℕ) (tokens : List Token) : Type 0 where

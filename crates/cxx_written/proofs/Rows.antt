@@ -3,7 +3,7 @@ use Rattle.std.proofs.Common.{◌≡◌, ℕ, true, false, List, [], ◌∷◌, 
 use Rattle.std.specs.Prelude.{codes}
 use Rattle.cxx_model.specs.Printing.Names.{stem}
 use Rattle.cxx_model.specs.Text.Spelling.{spelling_of, word_kind, keywords, operators, operator, alternatives, number_kind, digraphs}
-use Rattle.cxx_reading.specs.Words.{Word, keyword_word, name_word, open_word, close_word, less_word, greater_word, star_word, ampersand_word, minus_word, comma_word, semicolon_word, line_text}
+use Rattle.cxx_reading.specs.Words.{Word, keyword_word, name_word, open_word, close_word, greater_word, star_word, ampersand_word, minus_word, comma_word, semicolon_word, line_text}
 use Rattle.cxx_written.specs.Ends.{are_apart, word_ends_before}
 
 a_line : List Word

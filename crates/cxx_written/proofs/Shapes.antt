@@ -2,7 +2,7 @@
 use Rattle.std.proofs.Common.{◌≡◌, ℕ, Bool, true, false, ◌⊎◌, inl, inr, ⊎_elim, List, ◌∷◌, Some, refl}
 use Rattle.std.specs.List.{list_all}
 use Rattle.cxx_model.specs.declared.token.TokenKind.{TokenKind}
-use Rattle.cxx_model.specs.declared.token.TokenKind.TheVariants.{Name, Keyword, Punct, Integer, Character, Text}
+use Rattle.cxx_model.specs.declared.token.TokenKind.TheVariants.{Name, Keyword, Integer, Character, Text}
 use Rattle.cxx_model.specs.Text.Spelling.{Good, is_word, begins_word, begins_number, is_number_rest, is_quote, word_kind, number_kind, literal, spelling_of}
 use Rattle.cxx_model.proofs.Shapes.{Shape, wordy, wide, number, quoted, operated, word_kind_is, number_kind_is, literal_is, operator_is}
 

@@ -1,16 +1,11 @@
 -- Words that may follow one another in a line.
-use Rattle.std.proofs.Common.{◌≡◌, ℕ, Bool, true, false, ⊎_elim, not, ◌&&◌, ◌||◌, ◌==◌, List, [], ◌∷◌, ◌++◌, Some, refl, sym, subst, eqb-true, ◌∙◌}
-use Rattle.std.proofs.lemmas.Bool.{and_parts, or_cases, both_ways}
-use Rattle.std.specs.Prelude.{codes}
-use Rattle.cxx_model.specs.declared.token.TokenKind.{TokenKind}
-use Rattle.cxx_model.specs.declared.token.TokenKind.TheVariants.{Name}
-use Rattle.cxx_model.specs.Text.Spelling.{Good, spelling_of, word_kind, keywords, operators, operator, alternatives, digraphs}
-use Rattle.cxx_reading.specs.declared.role.Role.{Role}
-use Rattle.cxx_reading.specs.declared.role.Role.TheVariants as role
-use Rattle.cxx_reading.specs.Words.{Word, none_behind, none_before, takes_bracket, is_opening, has_gap, star_word, ampersand_word, less_word}
-use Rattle.cxx_written.specs.Ends.{ends_before, word_ends_before}
-use Rattle.cxx_written.specs.Line.{kind_in, MayStandBefore, IsSpelled, IsWord, MayTouch, MayPrecede, IsLine}
-use Rattle.cxx_written.proofs.Ends.{is_plain, plain_is_word, may_stand_before}
+use Rattle.std.proofs.Common.{◌≡◌, ℕ, Bool, true, false, ⊎_elim, not, ◌&&◌, ◌||◌, ◌==◌, List, [], ◌∷◌, refl, sym, subst, eqb-true}
+use Rattle.std.proofs.lemmas.Bool.{and_parts, or_cases}
+use Rattle.cxx_model.specs.Text.Spelling.{spelling_of, word_kind, keywords, operators, operator, alternatives, digraphs}
+use Rattle.cxx_reading.specs.Words.{Word, none_behind, none_before, takes_bracket, is_opening, star_word, ampersand_word, less_word}
+use Rattle.cxx_written.specs.Ends.{word_ends_before}
+use Rattle.cxx_written.specs.Line.{MayStandBefore, IsSpelled, IsWord, MayTouch, MayPrecede, IsLine}
+use Rattle.cxx_written.proofs.Ends.{plain_is_word, may_stand_before}
 
 -- ---- bytes
 
@@ -61,7 +56,7 @@ pub record IsNext (two : Word) : Type 0 where
   pub closes : none_before two.role ≡ true → is_closer first ≡ true
   pub opens : is_opening two.role ≡ true → is_opener first ≡ true
 
-touch_first : (one : Word) (spelling : List ℕ) (first : ℕ) (others : List ℕ) → spelling ≡ first ∷ others → MayStandBefore one first → MayTouch one spelling
+pub touch_first : (one : Word) (spelling : List ℕ) (first : ℕ) (others : List ℕ) → spelling ≡ first ∷ others → MayStandBefore one first → MayTouch one spelling
 touch_first one spelling first others is before = subst (MayTouch one) (sym is) before
 
 gap_by : (p q r s : Bool) → not (p || (q || (r && s))) ≡ false → (p || (q || (r && s))) ≡ true
@@ -145,6 +140,9 @@ star_before word rest first others is h = λ gap. touch_first star_word word.spe
 
 pub ampersand_before : (word : Word) (rest : List Word) (first : ℕ) (others : List ℕ) → word.spelling ≡ first ∷ others → (first == 61) ≡ false → (first == 38) ≡ false → MayPrecede ampersand_word (word ∷ rest)
 ampersand_before word rest first others is h k = λ gap. touch_first ampersand_word word.spelling first others is (may_stand_before ampersand_word ampersand_spelled first (ampersand_ends first h k))
+
+pub less_before : (word : Word) (rest : List Word) (first : ℕ) (others : List ℕ) → word.spelling ≡ first ∷ others → (first == 61) ≡ false → (first == 60) ≡ false → (first == 58) ≡ false → (first == 37) ≡ false → MayPrecede less_word (word ∷ rest)
+less_before word rest first others is h k l m = λ gap. touch_first less_word word.spelling first others is (may_stand_before less_word less_spelled first (less_ends first h k l m))
 
 pub free_cons : (word : Word) (rest : List Word) (next : IsNext word) → IsOpenEnded word → is_free next.first ≡ true → IsTail rest → IsFree (word ∷ rest)
 free_cons word rest next ends free tail =

@@ -1,5 +1,5 @@
 -- The words of a printed declaration may be printed in one line.
-use Rattle.std.proofs.Common.{◌≡◌, ◌<◌, ◌^◌, ℕ, Bool, true, false, not, ◌&&◌, List, [], ◌∷◌, ◌++◌, refl, sym, ap, subst, arith, append_assoc}
+use Rattle.std.proofs.Common.{◌≡◌, ◌<◌, ◌^◌, ℕ, Bool, true, false, not, List, [], ◌∷◌, ◌++◌, refl, sym, subst, arith, append_assoc}
 use Rattle.std.proofs.lemmas.Bool.{and_parts, both_ways}
 use Rattle.std.proofs.lemmas.Bool.Decides.{nat_tests}
 use Rattle.std.specs.List.{AllByRecursion}
@@ -7,16 +7,14 @@ use Rattle.std.specs.Prelude.{codes, nat_lt, if◌then◌else◌}
 use Rattle.cxx_model.specs.declared.base.Base.{Base}
 use Rattle.cxx_model.specs.declared.base.Base.TheVariants as base
 use Rattle.cxx_model.specs.declared.types.Cv.{Cv}
-use Rattle.cxx_model.specs.Text.Spelling.{spelling_of, word_kind, keywords, operators, operator, alternatives, digraphs}
+use Rattle.cxx_model.specs.Text.Spelling.{spelling_of, word_kind, keywords}
 use Rattle.cxx_model.specs.Types.Trees.{CxxType, fundamental, class_type, enumeration, pointer_to, reference_to, array_of, function_of, qualified, type_parameter, specialisation, nested_in, CxxTypes, no_types, type_then, CxxBound, unknown_bound, number_bound, formula_bound, merged}
-use Rattle.cxx_reading.specs.declared.role.Role.TheVariants as role
 use Rattle.cxx_reading.specs.Declarators.{no_cv}
-use Rattle.cxx_reading.specs.Words.{Word, Tags, keyword_word, type_name_word, open_word, close_word, open_bracket_word, close_bracket_word, comma_word, star_word, ampersand_word, others_separated, separated, one_word, two_words, base_words, cv_words, bound_words, literal_word, is_bracketed, within, declared, declared_each}
-use Rattle.cxx_written.specs.Line.{IsName, IsWord, MayPrecede}
+use Rattle.cxx_reading.specs.Words.{Word, Tags, keyword_word, type_name_word, open_word, close_word, open_bracket_word, close_bracket_word, comma_word, star_word, ampersand_word, others_separated, separated, one_word, base_words, cv_words, bound_words, literal_word, is_bracketed, within, declared, declared_each}
+use Rattle.cxx_written.specs.Line.{IsName, MayPrecede}
 use Rattle.cxx_written.specs.Printable.{is_small, is_reference, begins_derived, is_printable, are_printable}
-use Rattle.cxx_written.proofs.Ends.{may_stand_before}
-use Rattle.cxx_written.proofs.Printed.{IsGood, good_tail, good_cons, good_by, good_open, good_close, good_bracket, good_close_bracket, good_comma, good_ellipsis, good_type_name, good_literal, is_ended, ends_at_closers, ends_at_openers}
-use Rattle.cxx_written.proofs.Tails.{IsNext, IsTail, IsFree, tail_by, no_words, free_none, star_before, ampersand_before, star_is_word, ampersand_is_word, not_false}
+use Rattle.cxx_written.proofs.Printed.{IsGood, good_tail, good_cons, good_by, good_open, good_close, good_bracket, good_close_bracket, good_comma, good_ellipsis, good_type_name, good_literal, is_ended, ends_at_closers}
+use Rattle.cxx_written.proofs.Tails.{IsNext, IsTail, IsFree, tail_by, star_before, ampersand_before, star_is_word, ampersand_is_word, not_false}
 
 -- ---- keywords
 

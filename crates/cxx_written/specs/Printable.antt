@@ -5,7 +5,7 @@ use Rattle.std.specs.List.{AllByRecursion}
 use Rattle.cxx_model.specs.declared.token.TokenKind.TheVariants.{Integer, Character}
 use Rattle.cxx_model.specs.Facts.Declarations as facts
 use Rattle.cxx_model.specs.Facts.Declarations.{CxxFact, Declares}
-use Rattle.cxx_model.specs.Types.Trees.{CxxType, fundamental, class_type, enumeration, pointer_to, reference_to, array_of, function_of, qualified, type_parameter, specialisation, nested_in, CxxTypes, no_types, type_then, CxxBound, unknown_bound, number_bound, formula_bound}
+use Rattle.cxx_model.specs.Types.Trees.{CxxType, fundamental, class_type, enumeration, pointer_to, reference_to, array_of, function_of, qualified, type_parameter, specialisation, nested_in, CxxTypes, no_types, type_then, CxxBound, number_bound}
 use Rattle.cxx_reading.specs.Plain.{line_words, names_of_text, type_or_void}
 use Rattle.cxx_reading.specs.Productions as production
 use Rattle.cxx_reading.specs.TextOrder.{Line, enumeration_line, function_line, object_line, lines, name_stem, text_order}

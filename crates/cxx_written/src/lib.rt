@@ -8,7 +8,8 @@ mod printed_lines;
 mod printed_names;
 
 pub use printed_lines::{
-    apart_words_are_a_line, read_words_are_spelled, word_ends_before_a_byte, words_are_tokens,
+    apart_words_are_a_line, plain_form_is_tokens, read_words_are_spelled, word_ends_before_a_byte,
+    words_are_tokens,
 };
 pub use printed_names::{
     printed_name_gives_its_number, printed_name_gives_its_stem, printed_name_is_a_name,
