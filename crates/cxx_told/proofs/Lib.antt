@@ -1,5 +1,11 @@
 mod Choices
 pub mod Faults
+mod Passing
+mod PassesCalls
+mod PassesDeclarators
+mod PassesInitializers
+mod PassesSpecifiers
+mod PassesUnits
 mod Tells
 mod TellsCalls
 mod TellsShapes
