@@ -1,6 +1,6 @@
 -- The fault of a whole reading is true where it stops.
 use Rattle.std.proofs.Common.{◌≡◌, inl, inr, refl, ap, subst, ◌∙◌}
-use Rattle.std.specs.Prelude.{ℕ, zero, suc, Bool, true, false, List, Ok, Err, if◌then◌else◌}
+use Rattle.std.specs.Prelude.{ℕ, zero, suc, Bool, true, false, List, [], Ok, Err, if◌then◌else◌}
 use Rattle.cxx_model.specs.declared.fault.FaultText.{FaultText}
 use Rattle.cxx_model.specs.declared.fault.FaultText.TheVariants as says
 use Rattle.cxx_model.specs.declared.limits.TheConstants as limits
@@ -13,8 +13,13 @@ use Rattle.cxx_reading.specs.State.{CxxState, first_state}
 use Rattle.cxx_reading.specs.Tokens.{is_end}
 use Rattle.cxx_reading.specs.Trees.{CxxTree}
 use Rattle.cxx_reading.specs.Units.{declaration_at, with_part, part_added, unit_step, read_as, unit_reading}
-use Rattle.cxx_told.specs.Passing.{Part, a_declaration}
-use Rattle.cxx_told.specs.Told.{EndsIn, IsChoiceText, ReadsTo, none_more, one_more, whole, StopsIn, StopsAt, IsToldFault, IsUndeclaredFault}
+use Rattle.cxx_told.specs.Passing.{Part, a_declaration, some_arguments}
+use Rattle.cxx_told.specs.Told.{EndsIn, IsChoiceText, ReadsTo, none_more, one_more, whole, StopsIn, StopsAt, IsToldFault, IsUnknown, unknown_name, unknown_call, unknown_type, IsNotOfUnit, IsUndeclaredFault}
+use Rattle.cxx_told.proofs.PassesInitializers.{arguments_stop}
+use Rattle.cxx_told.proofs.Scopes.{InScopes, scopes_same, scopes_first, none_in_unit, no_type_in_unit}
+use Rattle.cxx_told.proofs.TellsCalls.{IsLater}
+use Rattle.cxx_model.specs.Facts.Declarations.{spelled}
+use Rattle.cxx_reading.specs.Seen.{declared_in}
 use Rattle.cxx_told.proofs.Tells.{Saying, choosing, undeclared, saying, whole_stands, ends_later, tells_read, tells_stop}
 use Rattle.cxx_told.proofs.Passing.{Told, ToldSo, Stops, Reached, IsChosen, IsUndeclared}
 use Rattle.cxx_told.proofs.PassesUnits.{declaration_stops}
@@ -108,6 +113,24 @@ unit_stops options tokens fault e =
     let from = units_stop (count_ahead (whole tokens)) first_state (whole tokens) fault (read_stops options (repeat unit_step give (count_ahead (whole tokens)) tt first_state (whole tokens)) fault e) in
     record { before = from.before; ahead = from.rest; reads = from.reads; stands = from.stands; goes_on = from.goes_on; stops = from.stops }
 
+-- ---- scopes
+
+-- what was read of a part comes later
+read_later : {A : Type 0} (part : Part) (state : CxxState) (ahead : Ahead) (one : Got CxxState A) {answer : Answer (Got CxxState A)} → Stops part state ahead answer → answer ≡ Ok one → IsLater state one.state
+read_later {A = A} part state ahead one (tells_read other keeps stands) e = subst (λ (g : Got CxxState A). IsLater state g.state) (by e) keeps
+  where
+    same : Answer (Got CxxState A) → Answer (Got CxxState A) → Type 0
+    same x y = x ≡ y
+
+    by : same (Ok other) (Ok one) → other ≡ one
+    by e = cc
+read_later part state ahead one (tells_stop why true_of) e = absurd cc
+
+read_scopes : (state : CxxState) (ahead : Ahead) (after : CxxState) (rest : Ahead) → ReadsTo state ahead after rest → InScopes state → InScopes after
+read_scopes state ahead after rest (none_more s a) is = is
+read_scopes state ahead after rest (one_more s a one t b goes_on read others) is =
+    read_scopes (with_part one.value one.state) one.rest t b others (scopes_same one.state (with_part one.value one.state) refl refl ((read_later (a_declaration limits.MOST_NESTING) s a one (declaration_stops limits.MOST_NESTING s a) read).scopes is))
+
 -- ---- what is true of the fault
 
 stop_told : (before : CxxState) (ahead : Ahead) (fault : Fault) {answer : Answer (Got CxxState CxxTree)} → Stops (a_declaration limits.MOST_NESTING) before ahead answer → answer ≡ Err (Faulty fault) → Told (a_declaration limits.MOST_NESTING) before ahead (Faulty fault)
@@ -136,9 +159,18 @@ fault_is_told options tokens fault e text =
     let told = told_as tokens fault declaration choosing (choosing_by fault.text text) in
     record { stop = stop_at tokens fault declaration (IsChosen fault) told; is = told.is }
 
+-- a name that means nothing is not declared in the scope of the unit
+not_of_unit : (at : CxxState) (ahead : Ahead) (fault : Fault) (word : List ℕ) (part : Part) → InScopes at → (is : IsUnknown at ahead fault word part) → IsNotOfUnit is
+not_of_unit at ahead fault word part scopes (unknown_name is_argument room is) = none_in_unit at (spelled word) scopes is.unknown
+not_of_unit at ahead fault word part scopes (unknown_call room is) =
+    subst (λ (w : List ℕ). declared_in is.call.at.graph 0 (spelled w) ≡ []) is.is_named.spelled_so
+    (none_in_unit is.call.at (spelled is.call.name.spelling) ((read_later (some_arguments room []) at (record { last = is.call.bracket.place; tokens = is.call.opened }) (record { value = is.call.arguments; state = is.call.at; rest = is.call.rest }) (arguments_stop room at (record { last = is.call.bracket.place; tokens = is.call.opened })) is.call.lists).scopes scopes) is.unknown)
+not_of_unit at ahead fault word part scopes (unknown_type room place so_far is) = no_type_in_unit at (spelled word) scopes is.unknown
+
 pub undeclared_is_told : (options : Options) (tokens : List Lexeme) (fault : Fault) (word : List ℕ) → unit_reading options tokens ≡ Err (Faulty fault) → fault.text ≡ says.UndeclaredName word → IsUndeclaredFault tokens fault word
 unfolding stop_at
 undeclared_is_told options tokens fault word e text =
     let declaration = unit_stops options tokens fault e in
     let told = told_as tokens fault declaration (undeclared word) (ap saying text) in
-    record { stop = stop_at tokens fault declaration (IsUndeclared fault word) told; is = told.is.is; is_text = text; bare = told.is.bare }
+    let scopes = told.later.scopes (read_scopes first_state (whole tokens) declaration.before declaration.ahead declaration.reads scopes_first) in
+    record { stop = stop_at tokens fault declaration (IsUndeclared fault word) told; is = told.is.is; in_unit = not_of_unit told.at told.rest fault word told.last scopes told.is.is; is_text = text; bare = told.is.bare }

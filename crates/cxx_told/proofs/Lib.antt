@@ -1,6 +1,7 @@
 mod Choices
 pub mod Faults
 mod Passing
+mod Scopes
 mod PassesCalls
 mod PassesDeclarators
 mod PassesInitializers

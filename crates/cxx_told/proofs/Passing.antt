@@ -7,9 +7,9 @@ use Rattle.cxx_reading.specs.Reads.{Ahead, Got, Reads, Asks, Turn, More, Done, t
 use Rattle.cxx_reading.specs.State.{CxxState}
 use Rattle.cxx_reading.specs.Tokens.{is_punct, punct_taken, refused}
 use Rattle.cxx_told.specs.Passing.{Gives, Part, Leads, it_begins, it_leads}
-use Rattle.cxx_told.specs.Told.{EndsIn, IsChoiceFault, IsGrown, IsUnknown, Reaches}
+use Rattle.cxx_told.specs.Told.{EndsIn, IsChoiceFault, IsUnknown, Reaches}
 use Rattle.cxx_told.proofs.Tells.{Saying, choosing, undeclared, nothing, saying, IsQuiet, Quietly, whole_stands, ends_later, ToldIn, tells_read, tells_stop, Tells, ToldBy, tells_answer, tells_refusal, from_in, then_from}
-use Rattle.cxx_told.proofs.TellsCalls.{grown_same, grown_is_kept, grown_is_told}
+use Rattle.cxx_told.proofs.TellsCalls.{IsLater, later_same, later_is_kept, later_is_told}
 
 -- ---- what is true of a stop
 
@@ -19,6 +19,7 @@ pub record Reached (part : Part) (state : CxxState) (ahead : Ahead) (P : CxxStat
   pub at : CxxState
   pub rest : Ahead
   pub reaches : Reaches part state ahead last at rest
+  pub later : IsLater state at
   pub is : P at rest last
 
 pub record IsUndeclared (fault : Fault) (word : List ℕ) (at : CxxState) (rest : Ahead) (last : Part) : Type 0 where
@@ -39,11 +40,11 @@ Told part state ahead (Limited kind) = Unit {0}
 
 -- of what was read of a part, and of what stopped it
 abbrev pub Stops : {A : Type 0} → Part → CxxState → Ahead → Answer (Got CxxState A) → Type 0
-Stops part state ahead r = ToldIn IsGrown (Told part) state ahead r
+Stops part state ahead r = ToldIn IsLater (Told part) state ahead r
 
 -- nothing is told of declarations
 abbrev pub Calm : {A : Type 0} → CxxState → Ahead → Answer (Got CxxState A) → Type 0
-Calm state ahead r = ToldIn IsGrown Quietly state ahead r
+Calm state ahead r = ToldIn IsLater Quietly state ahead r
 
 -- ---- from one part to another
 
@@ -52,45 +53,46 @@ quiet_told part state ahead (Faulty fault) quiet = subst (ToldSo part state ahea
 quiet_told part state ahead (Limited kind) quiet = tt
 
 pub it_reaches : (part : Part) (state : CxxState) (ahead : Ahead) → Reaches part state ahead part state ahead
-it_reaches part state ahead = record { passes = it_begins; stands = whole_stands ahead.tokens; grown = grown_same state state refl }
+it_reaches part state ahead = record { passes = it_begins; stands = whole_stands ahead.tokens; grown = (later_same state state refl refl).grown }
 
 -- here the reading stops
 pub told_here : (part : Part) (state : CxxState) (ahead : Ahead) (P : CxxState → Ahead → Part → Type 0) → P state ahead part → Reached part state ahead P
-told_here part state ahead P is = record { last = part; at = state; rest = ahead; reaches = it_reaches part state ahead; is = is }
+told_here part state ahead P is = record { last = part; at = state; rest = ahead; reaches = it_reaches part state ahead; later = later_same state state refl refl; is = is }
 
-reached_sooner : (part next : Part) (s t : CxxState) (ahead middle : Ahead) (P : CxxState → Ahead → Part → Type 0) → Leads part s ahead next t middle → IsGrown s t → EndsIn ahead.tokens middle.tokens → Reached next t middle P → Reached part s ahead P
-reached_sooner part next s t ahead middle P leads grown stands reached = record {
+reached_sooner : (part next : Part) (s t : CxxState) (ahead middle : Ahead) (P : CxxState → Ahead → Part → Type 0) → Leads part s ahead next t middle → IsLater s t → EndsIn ahead.tokens middle.tokens → Reached next t middle P → Reached part s ahead P
+reached_sooner part next s t ahead middle P leads later stands reached = record {
   last = reached.last;
   at = reached.at;
   rest = reached.rest;
   reaches = record {
     passes = it_leads leads reached.reaches.passes;
     stands = ends_later ahead.tokens middle.tokens reached.rest.tokens stands reached.reaches.stands;
-    grown = grown_is_kept.later s t reached.at grown reached.reaches.grown;
+    grown = (later_is_kept.later s t reached.at later reached.later).grown;
   };
+  later = later_is_kept.later s t reached.at later reached.later;
   is = reached.is;
 }
 
-so_sooner : (part next : Part) (s t : CxxState) (ahead middle : Ahead) (fault : Fault) (what : Saying) → Leads part s ahead next t middle → IsGrown s t → EndsIn ahead.tokens middle.tokens → ToldSo next t middle fault what → ToldSo part s ahead fault what
-so_sooner part next s t ahead middle fault choosing leads grown stands told = reached_sooner part next s t ahead middle (IsChosen fault) leads grown stands told
-so_sooner part next s t ahead middle fault (undeclared word) leads grown stands told = reached_sooner part next s t ahead middle (IsUndeclared fault word) leads grown stands told
-so_sooner part next s t ahead middle fault nothing leads grown stands told = tt
+so_sooner : (part next : Part) (s t : CxxState) (ahead middle : Ahead) (fault : Fault) (what : Saying) → Leads part s ahead next t middle → IsLater s t → EndsIn ahead.tokens middle.tokens → ToldSo next t middle fault what → ToldSo part s ahead fault what
+so_sooner part next s t ahead middle fault choosing leads later stands told = reached_sooner part next s t ahead middle (IsChosen fault) leads later stands told
+so_sooner part next s t ahead middle fault (undeclared word) leads later stands told = reached_sooner part next s t ahead middle (IsUndeclared fault word) leads later stands told
+so_sooner part next s t ahead middle fault nothing leads later stands told = tt
 
-told_sooner : (part next : Part) (s t : CxxState) (ahead middle : Ahead) (why : Stopped) → Leads part s ahead next t middle → IsGrown s t → EndsIn ahead.tokens middle.tokens → Told next t middle why → Told part s ahead why
-told_sooner part next s t ahead middle (Faulty fault) leads grown stands told = so_sooner part next s t ahead middle fault (saying fault.text) leads grown stands told
-told_sooner part next s t ahead middle (Limited kind) leads grown stands told = tt
+told_sooner : (part next : Part) (s t : CxxState) (ahead middle : Ahead) (why : Stopped) → Leads part s ahead next t middle → IsLater s t → EndsIn ahead.tokens middle.tokens → Told next t middle why → Told part s ahead why
+told_sooner part next s t ahead middle (Faulty fault) leads later stands told = so_sooner part next s t ahead middle fault (saying fault.text) leads later stands told
+told_sooner part next s t ahead middle (Limited kind) leads later stands told = tt
 
 -- what stops the part to which another leads
-pub leads_in : {A : Type 0} {part next : Part} {s t : CxxState} {ahead middle : Ahead} {r : Answer (Got CxxState A)} → Leads part s ahead next t middle → IsGrown s t → EndsIn ahead.tokens middle.tokens → Stops next t middle r → Stops part s ahead r
-leads_in {s = s} {t = t} {ahead = ahead} {middle = middle} leads grown stands (tells_read one keeps ends) = tells_read one (grown_is_kept.later s t one.state grown keeps) (ends_later ahead.tokens middle.tokens one.rest.tokens stands ends)
-leads_in {part = part} {next = next} {s = s} {t = t} {ahead = ahead} {middle = middle} leads grown stands (tells_stop why true_of) = tells_stop why (told_sooner part next s t ahead middle why leads grown stands true_of)
+pub leads_in : {A : Type 0} {part next : Part} {s t : CxxState} {ahead middle : Ahead} {r : Answer (Got CxxState A)} → Leads part s ahead next t middle → IsLater s t → EndsIn ahead.tokens middle.tokens → Stops next t middle r → Stops part s ahead r
+leads_in {s = s} {t = t} {ahead = ahead} {middle = middle} leads later stands (tells_read one keeps ends) = tells_read one (later_is_kept.later s t one.state later keeps) (ends_later ahead.tokens middle.tokens one.rest.tokens stands ends)
+leads_in {part = part} {next = next} {s = s} {t = t} {ahead = ahead} {middle = middle} leads later stands (tells_stop why true_of) = tells_stop why (told_sooner part next s t ahead middle why leads later stands true_of)
 
-pub grown_here : (state : CxxState) → IsGrown state state
-grown_here state = grown_same state state refl
+pub later_here : (state : CxxState) → IsLater state state
+later_here state = later_same state state refl refl
 
 -- the same where nothing was read
 pub leads_here : {A : Type 0} {part next : Part} {state : CxxState} {ahead : Ahead} {r : Answer (Got CxxState A)} → Leads part state ahead next state ahead → Stops next state ahead r → Stops part state ahead r
-leads_here {state = state} {ahead = ahead} leads stops = leads_in leads (grown_here state) (whole_stands ahead.tokens) stops
+leads_here {state = state} {ahead = ahead} leads stops = leads_in leads (later_here state) (whole_stands ahead.tokens) stops
 
 -- ---- readers in turn
 
@@ -99,19 +101,19 @@ calm (tells_read one keeps stands) = tells_read one keeps stands
 calm {part = part} {state = state} {ahead = ahead} (tells_stop why quiet) = tells_stop why (quiet_told part state ahead why quiet)
 
 -- what follows says nothing
-pub calm_from : {A : Type 0} {part : Part} {s t : CxxState} {ahead middle : Ahead} {r : Answer (Got CxxState A)} → IsGrown s t → EndsIn ahead.tokens middle.tokens → Calm t middle r → Stops part s ahead r
-calm_from {s = s} {t = t} {ahead = ahead} {middle = middle} grown stands tells = calm (from_in grown_is_told s t ahead middle grown stands tells)
+pub calm_from : {A : Type 0} {part : Part} {s t : CxxState} {ahead middle : Ahead} {r : Answer (Got CxxState A)} → IsLater s t → EndsIn ahead.tokens middle.tokens → Calm t middle r → Stops part s ahead r
+calm_from {s = s} {t = t} {ahead = ahead} {middle = middle} later stands tells = calm (from_in later_is_told s t ahead middle later stands tells)
 
-pub then_calm : {A B : Type 0} {part : Part} {state : CxxState} {ahead : Ahead} {r : Answer (Got CxxState A)} {go : A → Reads CxxState B} → Stops part state ahead r → ((x : A) → Tells IsGrown Quietly (go x)) → Stops part state ahead (then_read r go)
-then_calm {go = go} first second = then_from go first (λ one is_read grown stands. calm_from grown stands (second one.value one.state one.rest))
+pub then_calm : {A B : Type 0} {part : Part} {state : CxxState} {ahead : Ahead} {r : Answer (Got CxxState A)} {go : A → Reads CxxState B} → Stops part state ahead r → ((x : A) → Tells IsLater Quietly (go x)) → Stops part state ahead (then_read r go)
+then_calm {go = go} first second = then_from go first (λ one is_read later stands. calm_from later stands (second one.value one.state one.rest))
 
 -- a question that is answered
-pub then_asked : {A B : Type 0} {part : Part} {s t : CxxState} {ahead middle : Ahead} (go : A → Reads CxxState B) (question : Asks CxxState A) → ToldBy IsGrown Quietly t middle (question t) → IsGrown s t → EndsIn ahead.tokens middle.tokens
-    → ((answer : A × CxxState) → question t ≡ Ok answer → IsGrown s answer.1 → Stops part s ahead (go answer.0 answer.1 middle)) → Stops part s ahead (then_read (answered (question t) middle) go)
-then_asked {A = A} {part = part} {s = s} {t = t} {ahead = ahead} {middle = middle} go question tells grown stands goes = by tells goes
+pub then_asked : {A B : Type 0} {part : Part} {s t : CxxState} {ahead middle : Ahead} (go : A → Reads CxxState B) (question : Asks CxxState A) → ToldBy IsLater Quietly t middle (question t) → IsLater s t → EndsIn ahead.tokens middle.tokens
+    → ((answer : A × CxxState) → question t ≡ Ok answer → IsLater s answer.1 → Stops part s ahead (go answer.0 answer.1 middle)) → Stops part s ahead (then_read (answered (question t) middle) go)
+then_asked {A = A} {part = part} {s = s} {t = t} {ahead = ahead} {middle = middle} go question tells later stands goes = by tells goes
   where
-    by : {r : Answer (A × CxxState)} → ToldBy IsGrown Quietly t middle r → ((answer : A × CxxState) → r ≡ Ok answer → IsGrown s answer.1 → Stops part s ahead (go answer.0 answer.1 middle)) → Stops part s ahead (then_read (answered r middle) go)
-    by (tells_answer one keeps) goes = goes one refl (grown_is_kept.later s t one.1 grown keeps)
+    by : {r : Answer (A × CxxState)} → ToldBy IsLater Quietly t middle r → ((answer : A × CxxState) → r ≡ Ok answer → IsLater s answer.1 → Stops part s ahead (go answer.0 answer.1 middle)) → Stops part s ahead (then_read (answered r middle) go)
+    by (tells_answer one keeps) goes = goes one refl (later_is_kept.later s t one.1 later keeps)
     by (tells_refusal why quiet) goes = tells_stop why (quiet_told part s ahead why quiet)
 
 -- a token that has to stand ahead
@@ -133,18 +135,18 @@ which_in false x y = y refl
 
 -- what one turn leads to
 turned : {A B : Type 0} {part : Part} (after : A → Part) (again : A → Reads CxxState B) {state at : CxxState} {ahead rest : Ahead} → ((more : A) (t : CxxState) (b : Ahead) → Stops (after more) t b (again more t b))
-    → (turn : Turn A B) → ((more : A) → turn ≡ More more → Leads part state ahead (after more) at rest) → IsGrown state at → EndsIn ahead.tokens rest.tokens → Stops part state ahead (go_on again turn at rest)
-turned after again {at = at} {rest = rest} goes (More more) leads grown stands = leads_in (leads more refl) grown stands (goes more at rest)
-turned after again {at = at} {rest = rest} goes (Done result) leads grown stands = tells_read (record { value = result; state = at; rest = rest }) grown stands
+    → (turn : Turn A B) → ((more : A) → turn ≡ More more → Leads part state ahead (after more) at rest) → IsLater state at → EndsIn ahead.tokens rest.tokens → Stops part state ahead (go_on again turn at rest)
+turned after again {at = at} {rest = rest} goes (More more) leads later stands = leads_in (leads more refl) later stands (goes more at rest)
+turned after again {at = at} {rest = rest} goes (Done result) leads later stands = tells_read (record { value = result; state = at; rest = rest }) later stands
 
 -- each turn that goes on leads to the next
 pub repeat_stops : {A B : Type 0} (part : A → Part) (step : A → Reads CxxState (Turn A B)) (over : A → Reads CxxState B)
     → ((so_far more : A) (s t : CxxState) (ahead rest : Ahead) → Gives (step so_far) s ahead (More more) t rest → Leads (part so_far) s ahead (part more) t rest)
-    → ((so_far : A) (s : CxxState) (ahead : Ahead) → Stops (part so_far) s ahead (step so_far s ahead)) → ((so_far : A) → Tells IsGrown Quietly (over so_far))
+    → ((so_far : A) (s : CxxState) (ahead : Ahead) → Stops (part so_far) s ahead (step so_far s ahead)) → ((so_far : A) → Tells IsLater Quietly (over so_far))
     → (n : ℕ) (so_far : A) (s : CxxState) (ahead : Ahead) → Stops (part so_far) s ahead (repeat step over n so_far s ahead)
 unfolding repeat
 repeat_stops part step over next steps overs zero so_far s ahead = calm (overs so_far s ahead)
 repeat_stops part step over next steps overs (suc n) so_far s ahead =
-    then_from (go_on (repeat step over n)) (steps so_far s ahead) (λ one is grown stands.
+    then_from (go_on (repeat step over n)) (steps so_far s ahead) (λ one is later stands.
     turned part (repeat step over n) (repeat_stops part step over next steps overs n) one.value
-    (λ more is_more. next so_far more s one.state ahead one.rest (is ∙ ap (λ turn. got turn one.state one.rest) is_more)) grown stands)
+    (λ more is_more. next so_far more s one.state ahead one.rest (is ∙ ap (λ turn. got turn one.state one.rest) is_more)) later stands)

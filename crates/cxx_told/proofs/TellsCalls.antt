@@ -11,12 +11,14 @@ use Rattle.cxx_model.specs.Text.Lexemes.{Lexeme}
 use Rattle.cxx_model.specs.Types.Integral.{one_holds}
 use Rattle.cxx_model.specs.Types.Trees.{CxxType}
 use Rattle.cxx_meaning.specs.Conversions.Enumerations.{values_in}
-use Rattle.cxx_reading.specs.Declaring.{with_fact, added, free, free_by, declare, declare_synonym, declare_function, declare_object, define_object, define_declared, undefined, undefined_by, defined_as, with_definition, enter_parameters, entered_as, leave_parameters, declare_parameter, declare_enumeration, begun_as, declare_enumerator, declare_value, held, end_enumeration, kind_here, type_here, constant_here, declaring, most_facts, fact_here, object_here, scope_count, enumeration_count}
+use Rattle.cxx_reading.specs.Declaring.{with_fact, added, free, free_by, declare, declare_synonym, declare_function, declare_object, define_object, define_declared, undefined, undefined_by, defined_as, with_definition, enter_parameters, parameters_scope, at_scope, entered_as, leave_parameters, declare_parameter, declare_enumeration, begun_as, declare_enumerator, declare_value, held, end_enumeration, kind_here, type_here, constant_here, declaring, most_facts, fact_here, object_here, scope_count, enumeration_count}
 use Rattle.cxx_reading.specs.Reads.{Ahead}
+use Rattle.cxx_reading.specs.Seen.{parent_of}
 use Rattle.cxx_reading.specs.State.{CxxState}
 use Rattle.cxx_reading.specs.Trees.{CxxTree, CxxPath}
 use Rattle.cxx_reading.proofs.Keeps.{IsKept}
 use Rattle.cxx_told.specs.Told.{IsGrown}
+use Rattle.cxx_told.proofs.Scopes.{InScopes, scopes_same, scopes_added, scopes_entered, scopes_left}
 use Rattle.cxx_told.proofs.Tells.{IsQuiet, Quietly, quiet_is_told, IsTold, ToldBy, tells_answer, tells_refusal, Answers, KindsTell}
 
 -- ---- what a state keeps
@@ -24,25 +26,36 @@ use Rattle.cxx_told.proofs.Tells.{IsQuiet, Quietly, quiet_is_told, IsTold, ToldB
 abbrev with_facts : List CxxFact → CxxGraph → CxxGraph
 with_facts own graph = record graph { facts = graph.facts ++ own }
 
-pub grown_by : (old new : CxxState) (own : List CxxFact) → new.graph ≡ with_facts own old.graph → IsGrown old new
+-- a state keeps what is declared, and that each scope is held by an earlier one
+pub record IsLater (old new : CxxState) : Type 0 where
+  pub grown : IsGrown old new
+  pub scopes : InScopes old → InScopes new
+
+grown_by : (old new : CxxState) (own : List CxxFact) → new.graph ≡ with_facts own old.graph → IsGrown old new
 grown_by old new own declared = record { own = own; declared = declared }
 
 -- nothing more is declared
-pub grown_same : (old new : CxxState) → new.graph ≡ old.graph → IsGrown old new
+grown_same : (old new : CxxState) → new.graph ≡ old.graph → IsGrown old new
 grown_same old new same = grown_by old new [] (same ∙ ap (λ fs. record old.graph { facts = fs }) (sym (append-nil old.graph.facts)))
 
-pub grown_is_kept : IsKept IsGrown
-grown_is_kept = record {
-  same = λ s. grown_same s s refl;
-  later = λ s t u one two. grown_by s u (one.own ++ two.own) (two.declared ∙ (ap (with_facts two.own) one.declared ∙ ap (λ fs. record s.graph { facts = fs }) (append_assoc s.graph.facts one.own two.own)));
+grown_later : (s t u : CxxState) → IsGrown s t → IsGrown t u → IsGrown s u
+grown_later s t u one two = grown_by s u (one.own ++ two.own) (two.declared ∙ (ap (with_facts two.own) one.declared ∙ ap (λ fs. record s.graph { facts = fs }) (append_assoc s.graph.facts one.own two.own)))
+
+pub later_same : (old new : CxxState) → new.graph ≡ old.graph → new.here.scope ≡ old.here.scope → IsLater old new
+later_same old new same here = record { grown = grown_same old new same; scopes = scopes_same old new same here }
+
+pub later_is_kept : IsKept IsLater
+later_is_kept = record {
+  same = λ s. later_same s s refl refl;
+  later = λ s t u one two. record { grown = grown_later s t u one.grown two.grown; scopes = λ is. two.scopes (one.scopes is) };
 }
 
-pub grown_is_told : IsTold IsGrown Quietly
-grown_is_told = quiet_is_told grown_is_kept
+pub later_is_told : IsTold IsLater Quietly
+later_is_told = quiet_is_told later_is_kept
 
 -- ---- answers
 
-quietly : {A : Type 0} (state : CxxState) (ahead : Ahead) (why : Stopped) → IsQuiet why → ToldBy {A = A} IsGrown Quietly state ahead (Err why)
+quietly : {A : Type 0} (state : CxxState) (ahead : Ahead) (why : Stopped) → IsQuiet why → ToldBy {A = A} IsLater Quietly state ahead (Err why)
 quietly state ahead why quiet = tells_refusal why quiet
 
 -- an answer without a state, whose refusals say nothing of declarations
@@ -50,11 +63,11 @@ pub data QuietBy {A : Type 0} : Answer A → Type 0 where
   quiet_answer : (one : A) → QuietBy (Ok one)
   quiet_refusal : (why : Stopped) → IsQuiet why → QuietBy (Err why)
 
-by_then : {A B : Type 0} (state : CxxState) (ahead : Ahead) {first : Answer A} (go : A → Answer (B × CxxState)) → QuietBy first → ((x : A) → ToldBy IsGrown Quietly state ahead (go x)) → ToldBy IsGrown Quietly state ahead (first >>= go)
+by_then : {A B : Type 0} (state : CxxState) (ahead : Ahead) {first : Answer A} (go : A → Answer (B × CxxState)) → QuietBy first → ((x : A) → ToldBy IsLater Quietly state ahead (go x)) → ToldBy IsLater Quietly state ahead (first >>= go)
 by_then state ahead go (quiet_answer one) tells = tells one
 by_then state ahead go (quiet_refusal why quiet) tells = quietly state ahead why quiet
 
-by_answer : {A B : Type 0} (state : CxxState) (ahead : Ahead) {first : Answer (A × CxxState)} (go : A × CxxState → Answer (B × CxxState)) → ToldBy IsGrown Quietly state ahead first → ((x : A × CxxState) → IsGrown state x.1 → ToldBy IsGrown Quietly state ahead (go x)) → ToldBy IsGrown Quietly state ahead (first >>= go)
+by_answer : {A B : Type 0} (state : CxxState) (ahead : Ahead) {first : Answer (A × CxxState)} (go : A × CxxState → Answer (B × CxxState)) → ToldBy IsLater Quietly state ahead first → ((x : A × CxxState) → IsLater state x.1 → ToldBy IsLater Quietly state ahead (go x)) → ToldBy IsLater Quietly state ahead (first >>= go)
 by_answer state ahead go (tells_answer one keeps) tells = tells one keeps
 by_answer state ahead go (tells_refusal why true_of) tells = tells_refusal why true_of
 
@@ -78,88 +91,93 @@ held_quiet : (place : Place) (is_held : Bool) → QuietBy (held place is_held)
 held_quiet place true = quiet_answer tt
 held_quiet place false = quiet_refusal _ refl
 
-added_tells : (fact : CxxFact) → Answers IsGrown Quietly (added fact)
+-- a fact in the scope where the reader stands
+added_tells : (fact : CxxFact) (state : CxxState) (ahead : Ahead) → fact.scope ≡ state.here.scope → ToldBy IsLater Quietly state ahead (added fact state)
 unfolding added
-added_tells fact state ahead = by (nat_eq (length state.graph.facts + length state.graph.classes) most_facts)
+added_tells fact state ahead here = by (nat_eq (length state.graph.facts + length state.graph.classes) most_facts)
   where
-    by : (b : Bool) → ToldBy IsGrown Quietly state ahead (if b then Err (Limited Facts) else Ok (length state.graph.facts, with_fact fact state))
+    by : (b : Bool) → ToldBy IsLater Quietly state ahead (if b then Err (Limited Facts) else Ok (length state.graph.facts, with_fact fact state))
     by true = quietly state ahead (Limited Facts) refl
-    by false = tells_answer _ (grown_by state (with_fact fact state) (fact ∷ []) refl)
+    by false = tells_answer _ (record { grown = grown_by state (with_fact fact state) (fact ∷ []) refl; scopes = scopes_added state fact here })
 
-declare_tells : (fact : CxxFact) (word : List ℕ) → Answers IsGrown Quietly (declare fact word)
+declare_tells : (fact : CxxFact) (word : List ℕ) (state : CxxState) (ahead : Ahead) → fact.scope ≡ state.here.scope → ToldBy IsLater Quietly state ahead (declare fact word state)
 unfolding declare
-declare_tells fact word state ahead = by_then state ahead (λ is_free. added fact state) (free_quiet state fact word) (λ is_free. added_tells fact state ahead)
+declare_tells fact word state ahead here = by_then state ahead (λ is_free. added fact state) (free_quiet state fact word) (λ is_free. added_tells fact state ahead here)
 
-pub synonym_tells : (name : Lexeme) (of : CxxType) → Answers IsGrown Quietly (declare_synonym name of)
+pub synonym_tells : (name : Lexeme) (of : CxxType) → Answers IsLater Quietly (declare_synonym name of)
 unfolding declare_synonym
-synonym_tells name of state ahead = declare_tells _ _ state ahead
+synonym_tells name of state ahead = declare_tells _ _ state ahead refl
 
-pub function_answer_tells : (name : Lexeme) (of : CxxType) → Answers IsGrown Quietly (declare_function name of)
+pub function_answer_tells : (name : Lexeme) (of : CxxType) → Answers IsLater Quietly (declare_function name of)
 unfolding declare_function
-function_answer_tells name of state ahead = declare_tells _ _ state ahead
+function_answer_tells name of state ahead = declare_tells _ _ state ahead refl
 
-pub object_tells : (name : Lexeme) (of : CxxType) → Answers IsGrown Quietly (declare_object name of)
+pub object_tells : (name : Lexeme) (of : CxxType) → Answers IsLater Quietly (declare_object name of)
 unfolding declare_object
-object_tells name of state ahead = declare_tells _ _ state ahead
+object_tells name of state ahead = declare_tells _ _ state ahead refl
 
 -- what else an answer changes
-turned : (state old new : CxxState) → IsGrown state old → new.graph ≡ old.graph → IsGrown state new
-turned state old new grown same = grown_is_kept.later state old new grown (grown_same old new same)
+turned : (state old new : CxxState) → IsLater state old → new.graph ≡ old.graph → new.here.scope ≡ old.here.scope → IsLater state new
+turned state old new later same here = later_is_kept.later state old new later (later_same old new same here)
 
-pub define_tells : (name : Lexeme) (of : CxxType) → Answers IsGrown Quietly (define_object name of)
+pub define_tells : (name : Lexeme) (of : CxxType) → Answers IsLater Quietly (define_object name of)
 unfolding define_object
 define_tells name of state ahead =
     let fact = fact_here state (spelled name.spelling) name.place (object_here state (spelled name.spelling) of) in
-    by_then state ahead _ (free_quiet state fact name.spelling) (λ is_free. by_then state ahead _ (undefined_quiet state name.place name.spelling (length state.graph.facts) fact.what) (λ is_first. by_answer state ahead _ (added_tells fact state ahead) (λ answer grown. tells_answer (defined_as answer) (turned state answer.1 (with_definition answer.0 answer.1) grown refl))))
+    by_then state ahead _ (free_quiet state fact name.spelling) (λ is_free. by_then state ahead _ (undefined_quiet state name.place name.spelling (length state.graph.facts) fact.what) (λ is_first. by_answer state ahead _ (added_tells fact state ahead refl) (λ answer later. tells_answer (defined_as answer) (turned state answer.1 (with_definition answer.0 answer.1) later refl refl))))
 
-pub define_later_tells : (name : Lexeme) (number : ℕ) → Answers IsGrown Quietly (define_declared name number)
+pub define_later_tells : (name : Lexeme) (number : ℕ) → Answers IsLater Quietly (define_declared name number)
 unfolding define_declared
-define_later_tells name number state ahead = by_then state ahead _ (undefined_quiet state name.place name.spelling number _) (λ is_first. tells_answer (tt, with_definition number state) (grown_same state (with_definition number state) refl))
+define_later_tells name number state ahead = by_then state ahead _ (undefined_quiet state name.place name.spelling number _) (λ is_first. tells_answer (tt, with_definition number state) (later_same state (with_definition number state) refl refl))
 
-pub enter_tells : Answers IsGrown Quietly enter_parameters
-unfolding enter_parameters
-enter_tells state ahead = by_answer state ahead _ (added_tells _ state ahead) (λ answer grown. tells_answer (entered_as (scope_count state.graph) answer) (turned state answer.1 (entered_as (scope_count state.graph) answer).1 grown refl))
+pub enter_tells : Answers IsLater Quietly enter_parameters
+unfolding enter_parameters added
+enter_tells state ahead = by (nat_eq (length state.graph.facts + length state.graph.classes) most_facts)
+  where
+    by : (b : Bool) → ToldBy IsLater Quietly state ahead ((if b then Err (Limited Facts) else Ok (length state.graph.facts, with_fact (parameters_scope state) state)) >>= λ answer. Ok (entered_as (scope_count state.graph) answer))
+    by true = quietly state ahead (Limited Facts) refl
+    by false = tells_answer _ (record { grown = grown_by state (at_scope (scope_count state.graph) (with_fact (parameters_scope state) state)) (parameters_scope state ∷ []) refl; scopes = scopes_entered state })
 
-leave_tells : Answers IsGrown Quietly leave_parameters
+leave_tells : Answers IsLater Quietly leave_parameters
 unfolding leave_parameters
-leave_tells state ahead = tells_answer _ (grown_same state _ refl)
+leave_tells state ahead = tells_answer _ (record { grown = grown_same state (at_scope (parent_of state.graph state.here.scope) state) refl; scopes = scopes_left state })
 
-parameter_answer_tells : (name : Option Lexeme) (place : Place) (of : CxxType) → Answers IsGrown Quietly (declare_parameter name place of)
+parameter_answer_tells : (name : Option Lexeme) (place : Place) (of : CxxType) → Answers IsLater Quietly (declare_parameter name place of)
 unfolding declare_parameter
-parameter_answer_tells name place of state ahead = by_answer state ahead _ (declare_tells _ _ state ahead) (λ answer grown. tells_answer (tt, answer.1) grown)
+parameter_answer_tells name place of state ahead = by_answer state ahead _ (declare_tells _ _ state ahead refl) (λ answer later. tells_answer (tt, answer.1) later)
 
-enumeration_answer_tells : (name : Option Lexeme) (place : Place) → Answers IsGrown Quietly (declare_enumeration name place)
+enumeration_answer_tells : (name : Option Lexeme) (place : Place) → Answers IsLater Quietly (declare_enumeration name place)
 unfolding declare_enumeration
-enumeration_answer_tells name place state ahead = by_answer state ahead _ (declare_tells _ _ state ahead) (λ answer grown. tells_answer (begun_as (enumeration_count state.graph.facts) answer) (turned state answer.1 (begun_as (enumeration_count state.graph.facts) answer).1 grown refl))
+enumeration_answer_tells name place state ahead = by_answer state ahead _ (declare_tells _ _ state ahead refl) (λ answer later. tells_answer (begun_as (enumeration_count state.graph.facts) answer) (turned state answer.1 (begun_as (enumeration_count state.graph.facts) answer).1 later refl refl))
 
-value_answer_tells : (number : ℕ) (name : Lexeme) (value : ℤ) → Answers IsGrown Quietly (declare_value number name value)
+value_answer_tells : (number : ℕ) (name : Lexeme) (value : ℤ) → Answers IsLater Quietly (declare_value number name value)
 unfolding declare_value
 value_answer_tells number name value state ahead =
     let fact = fact_here state (spelled name.spelling) name.place (facts.enumerator number value) in
-    by_then state ahead _ (free_quiet state fact name.spelling) (λ is_free. by_then state ahead _ (held_quiet name.place (one_holds (values_in number state.graph.facts ++ value ∷ []))) (λ is_held. by_answer state ahead _ (added_tells fact state ahead) (λ answer grown. tells_answer (tt, answer.1) grown)))
+    by_then state ahead _ (free_quiet state fact name.spelling) (λ is_free. by_then state ahead _ (held_quiet name.place (one_holds (values_in number state.graph.facts ++ value ∷ []))) (λ is_held. by_answer state ahead _ (added_tells fact state ahead refl) (λ answer later. tells_answer (tt, answer.1) later)))
 
-enumerator_answer_tells : (number : ℕ) (name : Lexeme) (value : Option ℤ) → Answers IsGrown Quietly (declare_enumerator number name value)
+enumerator_answer_tells : (number : ℕ) (name : Lexeme) (value : Option ℤ) → Answers IsLater Quietly (declare_enumerator number name value)
 unfolding declare_enumerator
 enumerator_answer_tells number name value state ahead = value_answer_tells number name _ state ahead
 
-enumerated_tells : (number : ℕ) → Answers IsGrown Quietly (end_enumeration number)
+enumerated_tells : (number : ℕ) → Answers IsLater Quietly (end_enumeration number)
 unfolding end_enumeration
-enumerated_tells number state ahead = tells_answer _ (grown_same state _ refl)
+enumerated_tells number state ahead = tells_answer _ (later_same state _ refl refl)
 
-kind_tells : (path : CxxPath) → Answers IsGrown Quietly (kind_here path)
+kind_tells : (path : CxxPath) → Answers IsLater Quietly (kind_here path)
 unfolding kind_here
-kind_tells path state ahead = tells_answer _ (grown_same state state refl)
+kind_tells path state ahead = tells_answer _ (later_same state state refl refl)
 
-type_tells : (path : CxxPath) → Answers IsGrown Quietly (type_here path)
+type_tells : (path : CxxPath) → Answers IsLater Quietly (type_here path)
 unfolding type_here
-type_tells path state ahead = tells_answer _ (grown_same state state refl)
+type_tells path state ahead = tells_answer _ (later_same state state refl refl)
 
-constant_answer_tells : (tree : CxxTree) → Answers IsGrown Quietly (constant_here tree)
+constant_answer_tells : (tree : CxxTree) → Answers IsLater Quietly (constant_here tree)
 unfolding constant_here
-constant_answer_tells tree state ahead = tells_answer _ (grown_same state state refl)
+constant_answer_tells tree state ahead = tells_answer _ (later_same state state refl refl)
 
 -- every answer to a reader keeps what is declared
-pub declaring_tells : (room : ℕ) → KindsTell IsGrown Quietly (declaring room)
+pub declaring_tells : (room : ℕ) → KindsTell IsLater Quietly (declaring room)
 unfolding declaring
 declaring_tells room = record {
   kind = kind_tells;

@@ -17,60 +17,59 @@ use Rattle.cxx_model.specs.declared.token.TokenKind.{TokenKind}
 use Rattle.cxx_model.specs.declared.token.TokenKind.TheVariants.{Keyword}
 use Rattle.cxx_reading.specs.Units.{is_unbounded, declarator_tree, name_in as name_of_declarator, is_const_type, uninitialized, ends_declarator, one_tree, is_some_scope, function_ended, declared_function, synonym_ended, declared_synonym, with_declarator, declarator_ended, give_trees, is_some_storage, nothing_declared, is_linkage, is_language, linkage_step, linkages_passed, linkage_tree, linked_tree, Said, Listed}
 use Rattle.cxx_reading.specs.Reads.{Ahead, More, Done, give, count_ahead, kind_ahead, word_ahead, behind}
-use Rattle.cxx_told.specs.Told.{IsGrown}
-use Rattle.cxx_told.proofs.TellsCalls.{grown_is_told, synonym_tells, function_answer_tells}
+use Rattle.cxx_told.proofs.TellsCalls.{IsLater, later_is_told, synonym_tells, function_answer_tells}
 use Rattle.cxx_told.proofs.Tells.{saying, nothing, Tells, Quietly, quiet_in, if_in, past_in, then_in, ask_in, same_in, next_in, repeat_tells, looked_in, give_in}
 use Rattle.cxx_told.proofs.TellsSyntax.{quiet_if}
 
-pub operand_ended_tells : (tree : CxxTree) → Tells IsGrown Quietly (operand_ended tree)
+pub operand_ended_tells : (tree : CxxTree) → Tells IsLater Quietly (operand_ended tree)
 unfolding operand_ended
-operand_ended_tells tree state ahead = if_in (goes_on (kind_ahead ahead)) (quiet_in grown_is_told refl) (same_in grown_is_told (tree) state ahead)
+operand_ended_tells tree state ahead = if_in (goes_on (kind_ahead ahead)) (quiet_in later_is_told refl) (same_in later_is_told (tree) state ahead)
 
-pub type_fits_tells : (place : Place) (of : CxxType) (declarator : Declarator) → Tells IsGrown Quietly (type_fits place of declarator)
+pub type_fits_tells : (place : Place) (of : CxxType) (declarator : Declarator) → Tells IsLater Quietly (type_fits place of declarator)
 unfolding type_fits
-type_fits_tells place of declarator state ahead = if_in (is_refused (refused_in declarator.layers of)) (quiet_in grown_is_told refl) (if_in (is_arithmetic (declared_type declarator.layers of)) (same_in grown_is_told (declared_type declarator.layers of) state ahead) (quiet_in grown_is_told refl))
+type_fits_tells place of declarator state ahead = if_in (is_refused (refused_in declarator.layers of)) (quiet_in later_is_told refl) (if_in (is_arithmetic (declared_type declarator.layers of)) (same_in later_is_told (declared_type declarator.layers of) state ahead) (quiet_in later_is_told refl))
 
-pub arguments_over_tells : {A : Type 0} (so_far : List CxxTree) → Tells IsGrown Quietly (arguments_over {A = A} so_far)
+pub arguments_over_tells : {A : Type 0} (so_far : List CxxTree) → Tells IsLater Quietly (arguments_over {A = A} so_far)
 unfolding arguments_over
-arguments_over_tells so_far state ahead = if_in (begins_expression (kind_ahead ahead)) (quiet_in grown_is_told refl) (quiet_in grown_is_told refl)
+arguments_over_tells so_far state ahead = if_in (begins_expression (kind_ahead ahead)) (quiet_in later_is_told refl) (quiet_in later_is_told refl)
 
-pub argument_ended_tells : (so_far : List CxxTree) (tree : CxxTree) → Tells IsGrown Quietly (argument_ended so_far tree)
+pub argument_ended_tells : (so_far : List CxxTree) (tree : CxxTree) → Tells IsLater Quietly (argument_ended so_far tree)
 unfolding argument_ended
-argument_ended_tells so_far tree state ahead = if_in (is_punct punct.COMMA (kind_ahead ahead)) (next_in grown_is_told (More (so_far ++ tree ∷ [])) state ahead) (if_in (is_punct punct.RIGHT_PARENTHESIS (kind_ahead ahead)) (next_in grown_is_told (Done (so_far ++ tree ∷ [])) state ahead) (quiet_in grown_is_told refl))
+argument_ended_tells so_far tree state ahead = if_in (is_punct punct.COMMA (kind_ahead ahead)) (next_in later_is_told (More (so_far ++ tree ∷ [])) state ahead) (if_in (is_punct punct.RIGHT_PARENTHESIS (kind_ahead ahead)) (next_in later_is_told (Done (so_far ++ tree ∷ [])) state ahead) (quiet_in later_is_told refl))
 
-pub uninitialized_tells : (name : Lexeme) (of : CxxType) → Tells IsGrown Quietly (uninitialized name of)
+pub uninitialized_tells : (name : Lexeme) (of : CxxType) → Tells IsLater Quietly (uninitialized name of)
 unfolding uninitialized
-uninitialized_tells name of state ahead = if_in (is_unbounded of) (quiet_in grown_is_told refl) (if_in (is_reference of || is_const_type of) (quiet_in grown_is_told refl) (same_in grown_is_told ([]) state ahead))
+uninitialized_tells name of state ahead = if_in (is_unbounded of) (quiet_in later_is_told refl) (if_in (is_reference of || is_const_type of) (quiet_in later_is_told refl) (same_in later_is_told ([]) state ahead))
 
-pub one_tree_tells : (tree : CxxTree) → Tells IsGrown Quietly (one_tree tree)
-one_tree_tells tree = give_in grown_is_told (tree ∷ [])
+pub one_tree_tells : (tree : CxxTree) → Tells IsLater Quietly (one_tree tree)
+one_tree_tells tree = give_in later_is_told (tree ∷ [])
 
-pub function_ended_tells : (is_first : Bool) (declarator : Declarator) → Tells IsGrown Quietly (function_ended is_first declarator)
+pub function_ended_tells : (is_first : Bool) (declarator : Declarator) → Tells IsLater Quietly (function_ended is_first declarator)
 unfolding function_ended
-function_ended_tells is_first declarator state ahead = if_in (ends_declarator (kind_ahead ahead)) (same_in grown_is_told (tt) state ahead) (if_in (is_first && is_some_scope (own_parameters declarator.layers)) (if_in (is_punct punct.LEFT_BRACE (kind_ahead ahead) || is_punct punct.COLON (kind_ahead ahead)) (quiet_in grown_is_told refl) (if_in (is_keyword keyword.TRY (kind_ahead ahead)) (quiet_in grown_is_told refl) (quiet_in grown_is_told refl))) (quiet_in grown_is_told refl))
+function_ended_tells is_first declarator state ahead = if_in (ends_declarator (kind_ahead ahead)) (same_in later_is_told (tt) state ahead) (if_in (is_first && is_some_scope (own_parameters declarator.layers)) (if_in (is_punct punct.LEFT_BRACE (kind_ahead ahead) || is_punct punct.COLON (kind_ahead ahead)) (quiet_in later_is_told refl) (if_in (is_keyword keyword.TRY (kind_ahead ahead)) (quiet_in later_is_told refl) (quiet_in later_is_told refl))) (quiet_in later_is_told refl))
 
-pub declared_function_tells : (said : Said) (is_first : Bool) (declarator : Declarator) (from : Ahead) → Tells IsGrown Quietly (declared_function said is_first declarator from)
+pub declared_function_tells : (said : Said) (is_first : Bool) (declarator : Declarator) (from : Ahead) → Tells IsLater Quietly (declared_function said is_first declarator from)
 unfolding declared_function
-declared_function_tells said is_first declarator from state ahead = then_in grown_is_told (ask_in ahead (function_answer_tells (name_of_declarator declarator) (declared_type declarator.layers said.of) state ahead)) (λ number state ahead. then_in grown_is_told (function_ended_tells is_first declarator state ahead) (λ ended state ahead. then_in grown_is_told (looked_in grown_is_told state ahead) (λ to. give_in grown_is_told (declarator_tree said.is_extern (name_of_declarator declarator) (declared_type declarator.layers said.of) number declarator.parts from to))))
+declared_function_tells said is_first declarator from state ahead = then_in later_is_told (ask_in ahead (function_answer_tells (name_of_declarator declarator) (declared_type declarator.layers said.of) state ahead)) (λ number state ahead. then_in later_is_told (function_ended_tells is_first declarator state ahead) (λ ended state ahead. then_in later_is_told (looked_in later_is_told state ahead) (λ to. give_in later_is_told (declarator_tree said.is_extern (name_of_declarator declarator) (declared_type declarator.layers said.of) number declarator.parts from to))))
 
-pub synonym_ended_tells : Tells IsGrown Quietly synonym_ended
+pub synonym_ended_tells : Tells IsLater Quietly synonym_ended
 unfolding synonym_ended
-synonym_ended_tells state ahead = if_in (ends_declarator (kind_ahead ahead)) (same_in grown_is_told (tt) state ahead) (quiet_in grown_is_told refl)
+synonym_ended_tells state ahead = if_in (ends_declarator (kind_ahead ahead)) (same_in later_is_told (tt) state ahead) (quiet_in later_is_told refl)
 
-pub declared_synonym_tells : (said : Said) (declarator : Declarator) (from : Ahead) → Tells IsGrown Quietly (declared_synonym said declarator from)
+pub declared_synonym_tells : (said : Said) (declarator : Declarator) (from : Ahead) → Tells IsLater Quietly (declared_synonym said declarator from)
 unfolding declared_synonym
-declared_synonym_tells said declarator from state ahead = then_in grown_is_told (ask_in ahead (synonym_tells (name_of_declarator declarator) (declared_type declarator.layers said.of) state ahead)) (λ number state ahead. then_in grown_is_told (synonym_ended_tells state ahead) (λ ended state ahead. then_in grown_is_told (looked_in grown_is_told state ahead) (λ to. give_in grown_is_told (declarator_tree false (name_of_declarator declarator) (declared_type declarator.layers said.of) number declarator.parts from to))))
+declared_synonym_tells said declarator from state ahead = then_in later_is_told (ask_in ahead (synonym_tells (name_of_declarator declarator) (declared_type declarator.layers said.of) state ahead)) (λ number state ahead. then_in later_is_told (synonym_ended_tells state ahead) (λ ended state ahead. then_in later_is_told (looked_in later_is_told state ahead) (λ to. give_in later_is_told (declarator_tree false (name_of_declarator declarator) (declared_type declarator.layers said.of) number declarator.parts from to))))
 
-pub declarator_ended_tells : (so_far : Listed) (tree : CxxTree) → Tells IsGrown Quietly (declarator_ended so_far tree)
+pub declarator_ended_tells : (so_far : Listed) (tree : CxxTree) → Tells IsLater Quietly (declarator_ended so_far tree)
 unfolding declarator_ended
-declarator_ended_tells so_far tree state ahead = if_in (is_punct punct.COMMA (kind_ahead ahead)) (next_in grown_is_told (More (with_declarator tree so_far)) state ahead) (if_in (is_punct punct.SEMICOLON (kind_ahead ahead)) (next_in grown_is_told (Done (with_declarator tree so_far).trees) state ahead) (quiet_in grown_is_told refl))
+declarator_ended_tells so_far tree state ahead = if_in (is_punct punct.COMMA (kind_ahead ahead)) (next_in later_is_told (More (with_declarator tree so_far)) state ahead) (if_in (is_punct punct.SEMICOLON (kind_ahead ahead)) (next_in later_is_told (Done (with_declarator tree so_far).trees) state ahead) (quiet_in later_is_told refl))
 
-pub give_trees_tells : (so_far : Listed) → Tells IsGrown Quietly (give_trees so_far)
-give_trees_tells so_far = give_in grown_is_told so_far.trees
+pub give_trees_tells : (so_far : Listed) → Tells IsLater Quietly (give_trees so_far)
+give_trees_tells so_far = give_in later_is_told so_far.trees
 
-pub nothing_tells : (specifiers : Specifiers) → Tells IsGrown Quietly (nothing_declared specifiers)
+pub nothing_tells : (specifiers : Specifiers) → Tells IsLater Quietly (nothing_declared specifiers)
 unfolding nothing_declared
-nothing_tells specifiers state ahead = if_in (specifiers.is_enumeration && not (is_some_storage specifiers.storage)) (next_in grown_is_told ([]) state ahead) (quiet_in grown_is_told refl)
+nothing_tells specifiers state ahead = if_in (specifiers.is_enumeration && not (is_some_storage specifiers.storage)) (next_in later_is_told ([]) state ahead) (quiet_in later_is_told refl)
 
 keyword_form_quiet : (n : ℕ) → saying (form_of_keyword n) ≡ nothing
 keyword_form_quiet n = quiet_if (n == keyword.ASM) _ _ refl (quiet_if (n == keyword.EXPORT) _ _ refl (quiet_if (begins_unbuilt n) _ _ refl refl))
@@ -79,17 +78,17 @@ form_quiet : (kind : TokenKind) → saying (form_of_kind kind) ≡ nothing
 form_quiet (Keyword n) = keyword_form_quiet n
 form_quiet _ = refl
 
-pub no_declaration_tells : {A : Type 0} → Tells IsGrown Quietly (no_declaration {S = CxxState} {A = A})
+pub no_declaration_tells : {A : Type 0} → Tells IsLater Quietly (no_declaration {S = CxxState} {A = A})
 unfolding no_declaration
-no_declaration_tells state ahead = if_in (is_qualified ahead) (quiet_in grown_is_told refl) (quiet_in grown_is_told (form_quiet (kind_ahead ahead)))
+no_declaration_tells state ahead = if_in (is_qualified ahead) (quiet_in later_is_told refl) (quiet_in later_is_told (form_quiet (kind_ahead ahead)))
 
-pub linkage_step_tells : (any : Bool) → Tells IsGrown Quietly (linkage_step any)
+pub linkage_step_tells : (any : Bool) → Tells IsLater Quietly (linkage_step any)
 unfolding linkage_step
-linkage_step_tells any state ahead = if_in (not (is_linkage ahead)) (same_in grown_is_told (Done any) state ahead) (if_in (is_language (word_ahead (behind ahead))) (past_in grown_is_told (next_in grown_is_told (More true) state (behind ahead))) (quiet_in grown_is_told refl))
+linkage_step_tells any state ahead = if_in (not (is_linkage ahead)) (same_in later_is_told (Done any) state ahead) (if_in (is_language (word_ahead (behind ahead))) (past_in later_is_told (next_in later_is_told (More true) state (behind ahead))) (quiet_in later_is_told refl))
 
-pub linkages_tell : Tells IsGrown Quietly linkages_passed
+pub linkages_tell : Tells IsLater Quietly linkages_passed
 unfolding linkages_passed
-linkages_tell state ahead = repeat_tells grown_is_told linkage_step give linkage_step_tells (give_in grown_is_told) (count_ahead ahead) false state ahead
+linkages_tell state ahead = repeat_tells later_is_told linkage_step give linkage_step_tells (give_in later_is_told) (count_ahead ahead) false state ahead
 
-pub linked_tree_tells : (from : Ahead) (trees : List CxxTree) → Tells IsGrown Quietly (linked_tree from trees)
-linked_tree_tells from trees state ahead = then_in grown_is_told (looked_in grown_is_told state ahead) (λ to. give_in grown_is_told (linkage_tree trees from to))
+pub linked_tree_tells : (from : Ahead) (trees : List CxxTree) → Tells IsLater Quietly (linked_tree from trees)
+linked_tree_tells from trees state ahead = then_in later_is_told (looked_in later_is_told state ahead) (λ to. give_in later_is_told (linkage_tree trees from to))

@@ -16,13 +16,14 @@ use Rattle.cxx_model.specs.Choice.Better.{IsBest}
 use Rattle.cxx_model.specs.Facts.Declarations.{CxxFact, CxxGraph, spelled}
 use Rattle.cxx_model.specs.Stops.{Faulty}
 use Rattle.cxx_model.specs.Text.Lexemes.{Lexeme, first_place}
+use Rattle.cxx_meaning.specs.Lookups.Wanted.{names_type}
 use Rattle.cxx_reading.specs.declared.specifier.SpecifierPlace.{SpecifierPlace}
 use Rattle.cxx_reading.specs.Choosing.{Rated, rated, viable, beats, position_of, candidates, shown}
 use Rattle.cxx_reading.specs.Declarators.{Specifiers}
 use Rattle.cxx_reading.specs.Initializers.{operand_of, are_functions, arguments_opened}
 use Rattle.cxx_reading.specs.Reads.{Ahead, Got, kind_ahead}
-use Rattle.cxx_reading.specs.Seen.{Numbered, found, found_types}
-use Rattle.cxx_reading.specs.State.{CxxState, first_state}
+use Rattle.cxx_reading.specs.Seen.{Numbered, declared_in, kept, found, found_types}
+use Rattle.cxx_reading.specs.State.{CxxState, first_state, unit_scope}
 use Rattle.cxx_reading.specs.Tokens.{is_punct, is_keyword, is_name, is_end}
 use Rattle.cxx_reading.specs.Trees.{CxxTree}
 use Rattle.cxx_reading.specs.Units.{declaration_at, with_part}
@@ -156,6 +157,12 @@ pub data IsUnknown (at : CxxState) (ahead : Ahead) (fault : Fault) (word : List 
   unknown_call : (room : ℕ) → IsUnknownCall room at ahead fault word → IsUnknown at ahead fault word (an_operand false room)
   unknown_type : (room : ℕ) (place : SpecifierPlace) (so_far : Specifiers) → IsUnknownType at ahead fault word → IsUnknown at ahead fault word (some_specifiers room place so_far)
 
+-- 3.3.5: So it is not declared in the scope of the unit; behind `enum`, no type of that name is.
+abbrev pub IsNotOfUnit : {at : CxxState} {ahead : Ahead} {fault : Fault} {word : List ℕ} {part : Part} → IsUnknown at ahead fault word part → Type 0
+IsNotOfUnit {at = at} {word = word} (unknown_name is_argument room is) = declared_in at.graph unit_scope.scope (spelled word) ≡ []
+IsNotOfUnit {word = word} (unknown_call room is) = declared_in is.call.at.graph unit_scope.scope (spelled word) ≡ []
+IsNotOfUnit {at = at} {word = word} (unknown_type room place so_far is) = kept (names_type at.graph) (declared_in at.graph unit_scope.scope (spelled word)) ≡ []
+
 -- ---- the fault of a unit
 
 -- Clause 7: whole declarations are read one after another, from a state with these tokens ahead to another.
@@ -206,5 +213,6 @@ pub record IsToldFault (tokens : List Lexeme) (fault : Fault) : Type 0 where
 pub record IsUndeclaredFault (tokens : List Lexeme) (fault : Fault) (word : List ℕ) : Type 0 where
   pub stop : StopsAt tokens fault
   pub is : IsUnknown stop.at stop.ahead fault word stop.part
+  pub in_unit : IsNotOfUnit is
   pub is_text : fault.text ≡ says.UndeclaredName word
   pub bare : fault.evidence ≡ []
