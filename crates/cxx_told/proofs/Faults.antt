@@ -13,16 +13,15 @@ use Rattle.cxx_reading.specs.State.{CxxState, first_state}
 use Rattle.cxx_reading.specs.Tokens.{is_end}
 use Rattle.cxx_reading.specs.Trees.{CxxTree}
 use Rattle.cxx_reading.specs.Units.{declaration_at, with_part, part_added, unit_step, read_as, unit_reading}
-use Rattle.cxx_told.specs.Passing.{Part, a_declaration, some_arguments}
+use Rattle.cxx_told.specs.Stopping.{Part, a_declaration}
 use Rattle.cxx_told.specs.Told.{EndsIn, IsChoiceText, ReadsTo, none_more, one_more, whole, StopsIn, StopsAt, IsToldFault, IsUnknown, unknown_name, unknown_call, unknown_type, IsNotOfUnit, IsUndeclaredFault}
-use Rattle.cxx_told.proofs.PassesInitializers.{arguments_stop}
+use Rattle.cxx_told.proofs.StopsInitializers.{arguments_later}
 use Rattle.cxx_told.proofs.Scopes.{InScopes, scopes_same, scopes_first, none_in_unit, no_type_in_unit}
-use Rattle.cxx_told.proofs.TellsCalls.{IsLater}
 use Rattle.cxx_model.specs.Facts.Declarations.{spelled}
 use Rattle.cxx_reading.specs.Seen.{declared_in}
 use Rattle.cxx_told.proofs.Tells.{Saying, choosing, undeclared, saying, whole_stands, ends_later, tells_read, tells_stop}
-use Rattle.cxx_told.proofs.Passing.{Told, ToldSo, Stops, Reached, IsChosen, IsUndeclared}
-use Rattle.cxx_told.proofs.PassesUnits.{declaration_stops}
+use Rattle.cxx_told.proofs.Stopping.{whole_part, read_later, Told, ToldSo, Stops, Reached, IsChosen, IsUndeclared}
+use Rattle.cxx_told.proofs.StopsUnits.{declaration_stops}
 
 -- the declaration in which reading stops, behind those that are read from here on
 record StopsFrom (state : CxxState) (ahead : Ahead) (fault : Fault) : Type 0 where
@@ -115,37 +114,26 @@ unit_stops options tokens fault e =
 
 -- ---- scopes
 
--- what was read of a part comes later
-read_later : {A : Type 0} (part : Part) (state : CxxState) (ahead : Ahead) (one : Got CxxState A) {answer : Answer (Got CxxState A)} → Stops part state ahead answer → answer ≡ Ok one → IsLater state one.state
-read_later {A = A} part state ahead one (tells_read other keeps stands) e = subst (λ (g : Got CxxState A). IsLater state g.state) (by e) keeps
-  where
-    same : Answer (Got CxxState A) → Answer (Got CxxState A) → Type 0
-    same x y = x ≡ y
-
-    by : same (Ok other) (Ok one) → other ≡ one
-    by e = cc
-read_later part state ahead one (tells_stop why true_of) e = absurd cc
-
 read_scopes : (state : CxxState) (ahead : Ahead) (after : CxxState) (rest : Ahead) → ReadsTo state ahead after rest → InScopes state → InScopes after
 read_scopes state ahead after rest (none_more s a) is = is
 read_scopes state ahead after rest (one_more s a one t b goes_on read others) is =
-    read_scopes (with_part one.value one.state) one.rest t b others (scopes_same one.state (with_part one.value one.state) refl refl ((read_later (a_declaration limits.MOST_NESTING) s a one (declaration_stops limits.MOST_NESTING s a) read).scopes is))
+    read_scopes (with_part one.value one.state) one.rest t b others (scopes_same one.state (with_part one.value one.state) refl refl ((read_later s a one (declaration_stops limits.MOST_NESTING s a) read).scopes is))
 
 -- ---- what is true of the fault
 
-stop_told : (before : CxxState) (ahead : Ahead) (fault : Fault) {answer : Answer (Got CxxState CxxTree)} → Stops (a_declaration limits.MOST_NESTING) before ahead answer → answer ≡ Err (Faulty fault) → Told (a_declaration limits.MOST_NESTING) before ahead (Faulty fault)
+stop_told : (before : CxxState) (ahead : Ahead) (fault : Fault) {answer : Answer (Got CxxState CxxTree)} → Stops (a_declaration limits.MOST_NESTING) before ahead answer → answer ≡ Err (Faulty fault) → Told whole_part (a_declaration limits.MOST_NESTING) before ahead (Faulty fault)
 stop_told before ahead fault (tells_read one keeps stands) e = absurd cc
-stop_told before ahead fault (tells_stop why true_of) e = subst (Told (a_declaration limits.MOST_NESTING) before ahead) (by e) true_of
+stop_told before ahead fault (tells_stop why true_of) e = subst (Told whole_part (a_declaration limits.MOST_NESTING) before ahead) (by e) true_of
   where
     by : AreDeclarations (Err why) (Err (Faulty fault)) → why ≡ Faulty fault
     by e = cc
 
-told_as : (tokens : List Lexeme) (fault : Fault) (declaration : StopsIn tokens fault) (what : Saying) → saying fault.text ≡ what → ToldSo (a_declaration limits.MOST_NESTING) declaration.before declaration.ahead fault what
+told_as : (tokens : List Lexeme) (fault : Fault) (declaration : StopsIn tokens fault) (what : Saying) → saying fault.text ≡ what → ToldSo whole_part (a_declaration limits.MOST_NESTING) declaration.before declaration.ahead fault what
 told_as tokens fault declaration what is =
-    subst (ToldSo (a_declaration limits.MOST_NESTING) declaration.before declaration.ahead fault) is
+    subst (ToldSo whole_part (a_declaration limits.MOST_NESTING) declaration.before declaration.ahead fault) is
     (stop_told declaration.before declaration.ahead fault (declaration_stops limits.MOST_NESTING declaration.before declaration.ahead) declaration.stops)
 
-stop_at : (tokens : List Lexeme) (fault : Fault) (declaration : StopsIn tokens fault) (P : CxxState → Ahead → Part → Type 0) → Reached (a_declaration limits.MOST_NESTING) declaration.before declaration.ahead P → StopsAt tokens fault
+stop_at : (tokens : List Lexeme) (fault : Fault) (declaration : StopsIn tokens fault) (P : CxxState → Ahead → Part → Type 0) → Reached (a_declaration limits.MOST_NESTING) declaration.before declaration.ahead fault P → StopsAt tokens fault
 stop_at tokens fault declaration P told = record { declaration = declaration; part = told.last; at = told.at; ahead = told.rest; reaches = told.reaches }
 
 choosing_by : (text : FaultText) → IsChoiceText text → saying text ≡ choosing
@@ -164,7 +152,7 @@ not_of_unit : (at : CxxState) (ahead : Ahead) (fault : Fault) (word : List ℕ) 
 not_of_unit at ahead fault word part scopes (unknown_name is_argument room is) = none_in_unit at (spelled word) scopes is.unknown
 not_of_unit at ahead fault word part scopes (unknown_call room is) =
     subst (λ (w : List ℕ). declared_in is.call.at.graph 0 (spelled w) ≡ []) is.is_named.spelled_so
-    (none_in_unit is.call.at (spelled is.call.name.spelling) ((read_later (some_arguments room []) at (record { last = is.call.bracket.place; tokens = is.call.opened }) (record { value = is.call.arguments; state = is.call.at; rest = is.call.rest }) (arguments_stop room at (record { last = is.call.bracket.place; tokens = is.call.opened })) is.call.lists).scopes scopes) is.unknown)
+    (none_in_unit is.call.at (spelled is.call.name.spelling) ((arguments_later room at (record { last = is.call.bracket.place; tokens = is.call.opened }) (record { value = is.call.arguments; state = is.call.at; rest = is.call.rest }) is.call.lists).scopes scopes) is.unknown)
 not_of_unit at ahead fault word part scopes (unknown_type room place so_far is) = no_type_in_unit at (spelled word) scopes is.unknown
 
 pub undeclared_is_told : (options : Options) (tokens : List Lexeme) (fault : Fault) (word : List ℕ) → unit_reading options tokens ≡ Err (Faulty fault) → fault.text ≡ says.UndeclaredName word → IsUndeclaredFault tokens fault word

@@ -1,12 +1,12 @@
 mod Choices
 pub mod Faults
-mod Passing
 mod Scopes
-mod PassesCalls
-mod PassesDeclarators
-mod PassesInitializers
-mod PassesSpecifiers
-mod PassesUnits
+mod Stopping
+mod StopsCalls
+mod StopsDeclarators
+mod StopsInitializers
+mod StopsSpecifiers
+mod StopsUnits
 mod Tells
 mod TellsCalls
 mod TellsShapes

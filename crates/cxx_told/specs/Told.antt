@@ -1,5 +1,5 @@
 -- What is true of a fault that a call or a name leads to, in the words of 3.4.1, 3.4.4 and 13.3: its text and its
--- evidence say no more than holds of the declarations before it.
+-- evidence say no more than holds of what is declared where the reading stops.
 use Rattle.std.specs.Prelude.{◌≡◌, ◌≢◌, ◌⊎◌, ℕ, ◌<◌, Bool, true, false, List, [], ◌∷◌, ◌++◌, map, Ok, Err, IsTrue}
 use Rattle.std.specs.List.{Contains, AllZip}
 use Rattle.cxx_model.specs.declared.evidence.Evidence.{Evidence}
@@ -27,7 +27,7 @@ use Rattle.cxx_reading.specs.State.{CxxState, first_state, unit_scope}
 use Rattle.cxx_reading.specs.Tokens.{is_punct, is_keyword, is_name, is_end}
 use Rattle.cxx_reading.specs.Trees.{CxxTree}
 use Rattle.cxx_reading.specs.Units.{declaration_at, with_part}
-use Rattle.cxx_told.specs.Passing.{Gives, Part, a_declaration, an_operand, some_specifiers, Passes}
+use Rattle.cxx_told.specs.Stopping.{Gives, Part, a_declaration, an_operand, some_specifiers, StopsWithin}
 
 -- ---- evidence
 
@@ -189,20 +189,21 @@ pub record IsGrown (before at : CxxState) : Type 0 where
   pub own : List CxxFact
   pub declared : at.graph ≡ record before.graph { facts = before.graph.facts ++ own }
 
--- From one part of what is read the reading passes another, in a state that keeps what was declared and may have more, and
--- with the last of the tokens ahead.
-pub record Reaches (part : Part) (before : CxxState) (ahead : Ahead) (last : Part) (at : CxxState) (rest : Ahead) : Type 0 where
-  pub passes : Passes part before ahead last at rest
+-- The reading of a part stops in another, in a state that keeps what was declared and may have more, and with the last of
+-- the tokens ahead.
+pub record Reaches (fault : Fault) (part : Part) (before : CxxState) (ahead : Ahead) (last : Part) (at : CxxState) (rest : Ahead) : Type 0 where
+  pub stops : StopsWithin fault part before ahead last at rest
   pub stands : EndsIn ahead.tokens rest.tokens
   pub grown : IsGrown before at
 
--- The reading of the declaration in which it stops passes this part, in this state and with these tokens ahead.
+-- Where the reading of a unit stops: in which declaration, in which part of that, in which state, and with which tokens
+-- ahead.
 pub record StopsAt (tokens : List Lexeme) (fault : Fault) : Type 0 where
   pub declaration : StopsIn tokens fault
   pub part : Part
   pub at : CxxState
   pub ahead : Ahead
-  pub reaches : Reaches (a_declaration limits.MOST_NESTING) declaration.before declaration.ahead part at ahead
+  pub reaches : Reaches fault (a_declaration limits.MOST_NESTING) declaration.before declaration.ahead part at ahead
 
 -- 13.3: Where the reading stops a call stands, and the fault is a true one of it.
 pub record IsToldFault (tokens : List Lexeme) (fault : Fault) : Type 0 where

@@ -20,9 +20,9 @@ use Rattle.cxx_reading.specs.Specifiers.{path_of, elaborated_tree, storage_word,
 use Rattle.cxx_reading.specs.State.{CxxState}
 use Rattle.cxx_reading.specs.Syntax.{readers}
 use Rattle.cxx_reading.specs.Tokens.{is_keyword, is_name, token_in as token_of}
-use Rattle.cxx_told.specs.Passing.{Part, some_specifiers, next_specifier, specifiers_of}
+use Rattle.cxx_told.specs.Stopping.{Part, some_specifiers, next_specifier, specifiers_of}
 use Rattle.cxx_told.specs.Told.{IsUnknown, unknown_type}
-use Rattle.cxx_told.proofs.Passing.{Told, Stops, IsUndeclared, calm, then_calm, told_here, repeat_stops}
+use Rattle.cxx_told.proofs.Stopping.{Told, within_part, Stops, Inside, calm, then_calm, it_is_here, repeat_stops, whole_then_calm}
 use Rattle.cxx_told.proofs.Tells.{ToldBy, tells_answer, tells_refusal, ReadersTell, Quietly, behind_stands, ends_later, ask_from, give_in, looked_in, then_in, past_in, quiet_in, same_in, if_in, if_reads, when_in}
 use Rattle.cxx_told.proofs.TellsCalls.{IsLater, declaring_tells, later_is_told, later_same}
 use Rattle.cxx_told.proofs.TellsSpecifiers.{storage_tells, inline_tells, const_tells, volatile_tells, word_tells, named_tells, list_tells, class_tells, typed_tells}
@@ -55,15 +55,15 @@ unknown_behind room where_ so_far at last (key ∷ token ∷ tokens) is_enum nam
 
 elaborated_by_tells : (room : ℕ) (where_ : SpecifierPlace) (so_far : Specifiers) (state : CxxState) (ahead : Ahead) → is_keyword keyword.ENUM (kind_ahead ahead) ≡ true → is_name (kind_ahead (behind ahead)) ≡ true
     → (all : List Numbered) → found_types state.graph state.here.scope (spelled (token_of (behind ahead).tokens).spelling) ≡ all → (number : Option ℕ)
-    → ToldBy IsLater (Told (some_specifiers room where_ so_far)) state ahead (elaborated_by (last_part (path_of (token_of (behind ahead).tokens)).parts) all number state)
+    → ToldBy IsLater (Told within_part (some_specifiers room where_ so_far)) state ahead (elaborated_by (last_part (path_of (token_of (behind ahead).tokens)).parts) all number state)
 elaborated_by_tells room where_ so_far state ahead is_enum named all are (Some n) = tells_answer _ (later_same state state refl refl)
 elaborated_by_tells room where_ so_far state ahead is_enum named [] are None =
     let name = token_of (behind ahead).tokens in
-    tells_refusal (undeclared_at name.place name.spelling) (told_here (some_specifiers room where_ so_far) state ahead (IsUndeclared (undeclared_fault name.place name.spelling) name.spelling) (record { is = unknown_behind room where_ so_far state ahead.last ahead.tokens is_enum named are; bare = refl }))
+    tells_refusal (undeclared_at name.place name.spelling) (it_is_here (record { is = unknown_behind room where_ so_far state ahead.last ahead.tokens is_enum named are; bare = refl }))
 elaborated_by_tells room where_ so_far state ahead is_enum named (one ∷ others) are None = tells_refusal _ tt
 
 elaborated_answer_tells : (room : ℕ) (where_ : SpecifierPlace) (so_far : Specifiers) (state : CxxState) (ahead : Ahead) → is_keyword keyword.ENUM (kind_ahead ahead) ≡ true → is_name (kind_ahead (behind ahead)) ≡ true
-    → ToldBy IsLater (Told (some_specifiers room where_ so_far)) state ahead (elaborated_here (path_of (token_of (behind ahead).tokens)) state)
+    → ToldBy IsLater (Told within_part (some_specifiers room where_ so_far)) state ahead (elaborated_here (path_of (token_of (behind ahead).tokens)) state)
 unfolding elaborated_here
 elaborated_answer_tells room where_ so_far state ahead is_enum named = elaborated_by_tells room where_ so_far state ahead is_enum named _ refl _
 
@@ -71,7 +71,7 @@ elaborated_answer_tells room where_ so_far state ahead is_enum named = elaborate
 
 -- the name stands behind `enum`, which is ahead
 elaborated_stops : (room : ℕ) (where_ : SpecifierPlace) (from : Ahead) (so_far : Specifiers) (state : CxxState) (ahead : Ahead) → is_keyword keyword.ENUM (kind_ahead ahead) ≡ true → is_name (kind_ahead (behind ahead)) ≡ true
-    → Stops (some_specifiers room where_ so_far) state ahead (elaborated_step (declaring room) from (token_of (behind ahead).tokens) so_far state (behind (behind ahead)))
+    → Inside (some_specifiers room where_ so_far) state ahead (elaborated_step (declaring room) from (token_of (behind ahead).tokens) so_far state (behind (behind ahead)))
 unfolding elaborated_step declaring
 elaborated_stops room where_ from so_far state ahead is_enum named =
     let name = token_of (behind ahead).tokens in
@@ -79,12 +79,12 @@ elaborated_stops room where_ from so_far state ahead is_enum named =
     then_calm (ask_from (behind (behind ahead)) stands (elaborated_answer_tells room where_ so_far state ahead is_enum named)) (λ of state ahead. then_in later_is_told (looked_in later_is_told state ahead) (λ to. give_in later_is_told (More (record so_far { named = Some of; parts = so_far.parts ++ elaborated_tree name of from to ∷ [] }))))
 
 key_named_stops : (room : ℕ) (where_ : SpecifierPlace) (from : Ahead) (so_far : Specifiers) (state : CxxState) (ahead : Ahead) → is_keyword keyword.ENUM (kind_ahead ahead) ≡ true → is_name (kind_ahead (behind ahead)) ≡ true
-    → Stops (some_specifiers room where_ so_far) state ahead (key_named_step (declaring room) (readers declaring room) where_ from so_far (token_of (behind ahead).tokens) state (behind (behind ahead)))
+    → Inside (some_specifiers room where_ so_far) state ahead (key_named_step (declaring room) (readers declaring room) where_ from so_far (token_of (behind ahead).tokens) state (behind (behind ahead)))
 unfolding key_named_step
 key_named_stops room where_ from so_far state ahead is_enum named = if_in _ (calm (past_in later_is_told (past_in later_is_told (list_tells later_is_told (declaring_tells room) (calm_readers room) where_ from (Some (token_of (behind ahead).tokens)) so_far state (behind (behind ahead)))))) (elaborated_stops room where_ from so_far state ahead is_enum named)
 
 key_stops : (room : ℕ) (where_ : SpecifierPlace) (from : Ahead) (so_far : Specifiers) (state : CxxState) (ahead : Ahead) → is_keyword keyword.ENUM (kind_ahead ahead) ≡ true
-    → Stops (some_specifiers room where_ so_far) state ahead (key_step (declaring room) (readers declaring room) where_ from so_far state (behind ahead))
+    → Inside (some_specifiers room where_ so_far) state ahead (key_step (declaring room) (readers declaring room) where_ from so_far state (behind ahead))
 unfolding key_step
 key_stops room where_ from so_far state ahead is_enum =
     if_in _ (calm (past_in later_is_told (list_tells later_is_told (declaring_tells room) (calm_readers room) where_ from None so_far state (behind ahead)))) (
@@ -92,7 +92,7 @@ key_stops room where_ from so_far state ahead is_enum =
     when_in (is_name (kind_ahead (behind ahead))) (key_named_stops room where_ from so_far state ahead is_enum) (calm (quiet_in later_is_told refl))))
 
 enumeration_stops : (room : ℕ) (where_ : SpecifierPlace) (so_far : Specifiers) (state : CxxState) (ahead : Ahead) → is_keyword keyword.ENUM (kind_ahead ahead) ≡ true
-    → Stops (some_specifiers room where_ so_far) state ahead (enumeration_step (declaring room) (readers declaring room) where_ so_far state ahead)
+    → Inside (some_specifiers room where_ so_far) state ahead (enumeration_step (declaring room) (readers declaring room) where_ so_far state ahead)
 unfolding enumeration_step
 enumeration_stops room where_ so_far state ahead is_enum = if_in _ (calm (quiet_in later_is_told refl)) (key_stops room where_ ahead so_far state ahead is_enum)
 
@@ -101,7 +101,7 @@ unfolding is_keyword
 keyword_is kind n m e same = ap (is_keyword m) e ∙ same
 
 other_stops : (room : ℕ) (where_ : SpecifierPlace) (n : ℕ) (so_far : Specifiers) (state : CxxState) (ahead : Ahead) → kind_ahead ahead ≡ Keyword n
-    → Stops (some_specifiers room where_ so_far) state ahead (other_step (declaring room) (readers declaring room) where_ n so_far state ahead)
+    → Inside (some_specifiers room where_ so_far) state ahead (other_step (declaring room) (readers declaring room) where_ n so_far state ahead)
 unfolding other_step
 other_stops room where_ n so_far state ahead word =
     if_in _ (calm (const_tells later_is_told so_far state ahead)) (
@@ -111,23 +111,23 @@ other_stops room where_ n so_far state ahead word =
     if_in _ (calm (class_tells later_is_told so_far state ahead)) (
     if_in _ (calm (quiet_in later_is_told refl)) (calm (same_in later_is_told _ state _)))))))
 
-worded_by_stops : (part : Part) (word : Option TypeWord) (others : Reads CxxState (Turn Specifiers Specifiers)) (so_far : Specifiers) (state : CxxState) (ahead : Ahead) → Stops part state ahead (others state ahead) → Stops part state ahead (worded_by word others so_far state ahead)
+worded_by_stops : (part : Part) (word : Option TypeWord) (others : Reads CxxState (Turn Specifiers Specifiers)) (so_far : Specifiers) (state : CxxState) (ahead : Ahead) → Inside part state ahead (others state ahead) → Inside part state ahead (worded_by word others so_far state ahead)
 worded_by_stops part (Some word) others so_far state ahead stops = calm (word_tells later_is_told word so_far state ahead)
 worded_by_stops part None others so_far state ahead stops = stops
 
-stored_by_stops : (part : Part) (word : Option StorageWord) (others : Reads CxxState (Turn Specifiers Specifiers)) (where_ : SpecifierPlace) (so_far : Specifiers) (state : CxxState) (ahead : Ahead) → Stops part state ahead (others state ahead) → Stops part state ahead (stored_by word others where_ so_far state ahead)
+stored_by_stops : (part : Part) (word : Option StorageWord) (others : Reads CxxState (Turn Specifiers Specifiers)) (where_ : SpecifierPlace) (so_far : Specifiers) (state : CxxState) (ahead : Ahead) → Inside part state ahead (others state ahead) → Inside part state ahead (stored_by word others where_ so_far state ahead)
 stored_by_stops part (Some word) others where_ so_far state ahead stops = calm (storage_tells later_is_told where_ word so_far state ahead)
 stored_by_stops part None others where_ so_far state ahead stops = stops
 
 keyword_stops : (room : ℕ) (where_ : SpecifierPlace) (n : ℕ) (so_far : Specifiers) (state : CxxState) (ahead : Ahead) → kind_ahead ahead ≡ Keyword n
-    → Stops (some_specifiers room where_ so_far) state ahead (keyword_step (declaring room) (readers declaring room) where_ n so_far state ahead)
+    → Inside (some_specifiers room where_ so_far) state ahead (keyword_step (declaring room) (readers declaring room) where_ n so_far state ahead)
 unfolding keyword_step
 keyword_stops room where_ n so_far state ahead word =
     let others = other_step (declaring room) (readers declaring room) where_ n so_far in
     stored_by_stops _ (storage_word n) (worded_by (type_word n) others so_far) where_ so_far state ahead (worded_by_stops _ (type_word n) others so_far state ahead (other_stops room where_ n so_far state ahead word))
 
 step_by_stops : (room : ℕ) (where_ : SpecifierPlace) (kind : TokenKind) (so_far : Specifiers) (state : CxxState) (ahead : Ahead) → kind_ahead ahead ≡ kind
-    → Stops (some_specifiers room where_ so_far) state ahead (step_by (declaring room) (readers declaring room) where_ kind so_far state ahead)
+    → Inside (some_specifiers room where_ so_far) state ahead (step_by (declaring room) (readers declaring room) where_ kind so_far state ahead)
 step_by_stops room where_ (Keyword n) so_far state ahead word = keyword_stops room where_ n so_far state ahead word
 step_by_stops room where_ Name so_far state ahead word = calm (named_tells later_is_told (declaring_tells room) so_far state ahead)
 step_by_stops room where_ (Punct n) so_far state ahead word = calm (if_reads _ (named_tells later_is_told (declaring_tells room) so_far) (λ state ahead. same_in later_is_told _ state _) state ahead)
@@ -136,7 +136,7 @@ step_by_stops room where_ Character so_far state ahead word = calm (same_in late
 step_by_stops room where_ Text so_far state ahead word = calm (same_in later_is_told _ state _)
 step_by_stops room where_ End so_far state ahead word = calm (same_in later_is_told _ state _)
 
-specifier_stops : (room : ℕ) (where_ : SpecifierPlace) (so_far : Specifiers) (state : CxxState) (ahead : Ahead) → Stops (some_specifiers room where_ so_far) state ahead (specifier_step (declaring room) (readers declaring room) where_ so_far state ahead)
+specifier_stops : (room : ℕ) (where_ : SpecifierPlace) (so_far : Specifiers) (state : CxxState) (ahead : Ahead) → Inside (some_specifiers room where_ so_far) state ahead (specifier_step (declaring room) (readers declaring room) where_ so_far state ahead)
 unfolding specifier_step
 specifier_stops room where_ so_far state ahead = step_by_stops room where_ (kind_ahead ahead) so_far state ahead refl
 
@@ -145,5 +145,5 @@ specifier_stops room where_ so_far state ahead = step_by_stops room where_ (kind
 pub specifiers_stop : (room : ℕ) (where_ : SpecifierPlace) (state : CxxState) (ahead : Ahead) → Stops (some_specifiers room where_ no_specifiers) state ahead (specifiers_of room where_ state ahead)
 unfolding specifiers_at
 specifiers_stop room where_ state ahead =
-    then_calm (repeat_stops (some_specifiers room where_) (specifier_step (declaring room) (readers declaring room) where_) give (λ so_far more s t ahead rest is. next_specifier is) (specifier_stops room where_) (λ so_far. give_in later_is_told so_far) (count_ahead ahead) no_specifiers state ahead)
+    whole_then_calm (repeat_stops (some_specifiers room where_) (specifier_step (declaring room) (readers declaring room) where_) give (λ so_far s ahead fault is. is) (λ so_far more s t ahead rest is. next_specifier is) (specifier_stops room where_) (λ so_far. give_in later_is_told so_far) (count_ahead ahead) no_specifiers state ahead)
     (typed_tells later_is_told where_)
