@@ -1,6 +1,8 @@
 -- What is true of what stops a part of a declaration: it is true where the reading of that part stops.
 use Rattle.std.proofs.Common.{◌≡◌, refl, sym, ap, subst, ◌∙◌}
 use Rattle.std.specs.Prelude.{ℕ, zero, suc, Bool, true, false, List, [], Ok, if◌then◌else◌, Err}
+use Rattle.cxx_model.specs.declared.fault.FaultText.TheVariants as says
+use Rattle.cxx_model.specs.declared.place.Place.{Place}
 use Rattle.cxx_model.specs.declared.stop.Fault.{Fault}
 use Rattle.cxx_model.specs.Stops.{Answer, Stopped, Faulty, Limited}
 use Rattle.cxx_reading.specs.Reads.{Ahead, Got, Reads, Asks, Turn, More, Done, then_read, got, answered, go_on, repeat, kind_ahead, behind}
@@ -38,6 +40,10 @@ ReachedBy within_part part state ahead fault P = Within part state ahead fault P
 pub record IsUndeclared (fault : Fault) (word : List ℕ) (at : CxxState) (rest : Ahead) (last : Part) : Type 0 where
   pub is : IsUnknown at rest fault word last
   pub bare : fault.evidence ≡ []
+
+-- 3.4.1
+abbrev pub undeclared_fault : Place → List ℕ → Fault
+undeclared_fault place word = record { place = place; text = says.UndeclaredName word; evidence = [] }
 
 abbrev pub IsChosen : Fault → CxxState → Ahead → Part → Type 0
 IsChosen fault at rest last = IsChoiceFault at rest fault last

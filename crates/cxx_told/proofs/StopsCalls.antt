@@ -6,7 +6,6 @@ use Rattle.cxx_model.specs.declared.fault.FaultText.TheVariants as says
 use Rattle.cxx_model.specs.declared.limits.TheConstants as limits
 use Rattle.cxx_model.specs.declared.place.Place.{Place}
 use Rattle.cxx_model.specs.declared.punct.TheConstants as punct
-use Rattle.cxx_model.specs.declared.stop.Fault.{Fault}
 use Rattle.cxx_model.specs.declared.stop.LimitKind.TheVariants.{Candidates}
 use Rattle.cxx_model.specs.declared.types.ClassId.{ClassId}
 use Rattle.cxx_model.specs.Facts.Declarations.{spelled}
@@ -24,12 +23,9 @@ use Rattle.cxx_reading.specs.Trees.{CxxTree}
 use Rattle.cxx_told.specs.Stopping.{an_operand}
 use Rattle.cxx_told.specs.Told.{AreTies, IsCall, meant, IsCalled, no_viable_function, ambiguous_call, IsUnknown, unknown_name, unknown_call}
 use Rattle.cxx_told.proofs.Choices.{viable_rise, ties_hold, refusals_hold}
-use Rattle.cxx_told.proofs.Stopping.{Told, within_part, Inside, calm, it_is_here}
+use Rattle.cxx_told.proofs.Stopping.{Told, within_part, Inside, calm, it_is_here, undeclared_fault}
 use Rattle.cxx_told.proofs.Tells.{ToldBy, tells_answer, tells_refusal, tells_stop, quiet_in}
 use Rattle.cxx_told.proofs.TellsCalls.{IsLater, later_same, later_is_kept, later_is_told}
-
-abbrev undeclared_fault : Place → List ℕ → Fault
-undeclared_fault place word = record { place = place; text = says.UndeclaredName word; evidence = [] }
 
 -- ---- a name
 

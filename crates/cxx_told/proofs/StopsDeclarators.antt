@@ -18,7 +18,7 @@ use Rattle.cxx_told.specs.Stopping.{Gives, begun, specifiers_of, declarator_of, 
 use Rattle.cxx_told.specs.Told.{EndsIn}
 use Rattle.cxx_told.proofs.Stopping.{Stops, Inside, later_here, calm, calm_from, leads_in, leads_here, then_calm, then_asked, which_in, repeat_stops, whole_calm, whole_stops}
 use Rattle.cxx_told.proofs.StopsSpecifiers.{calm_readers, specifiers_stop}
-use Rattle.cxx_told.proofs.Tells.{Quietly, Tells, whole_stands, behind_stands, ends_later, if_in, quiet_in, same_in, next_in, past_in, then_in, then_from, ask_in, give_in, looked_in, tokens_in, punct_in, returned_in, unit_is_told}
+use Rattle.cxx_told.proofs.Tells.{Quietly, Tells, whole_stands, behind_stands, if_in, quiet_in, same_in, next_in, past_in, then_in, then_from, ask_in, give_in, looked_in, tokens_in, punct_in, returned_in, unit_is_told, past_stands}
 use Rattle.cxx_told.proofs.TellsCalls.{IsLater, declaring_tells, enter_tells, later_is_told}
 use Rattle.cxx_told.proofs.TellsShapes.{abstract_tells}
 use Rattle.cxx_told.proofs.TellsSyntax.{no_declarator_tells, cv_tells, array_tells, exceptions_tell, parameter_fits_tells, list_ended_tells, parameter_ended_tells, parameters_over_tells, turn_result_tells}
@@ -31,9 +31,6 @@ pub record InnerStops (room : ℕ) : Type 0 where
       → Inside (a_declarator room naming) state ahead ((readers declaring room).grouped naming after (behind rest))
   pub parameters : (so_far : Suffixed) (state after : CxxState) (ahead rest : Ahead) → is_punct punct.LEFT_PARENTHESIS (kind_ahead ahead) ≡ true → Holds room so_far state ahead after rest → IsLater state after → EndsIn ahead.tokens rest.tokens
       → Inside (some_suffixes room so_far) state ahead ((readers declaring room).parameters after (behind rest))
-
-past_stands : (ahead rest : Ahead) → EndsIn ahead.tokens rest.tokens → EndsIn ahead.tokens (behind rest).tokens
-past_stands ahead rest stands = ends_later ahead.tokens rest.tokens (behind rest).tokens stands (behind_stands rest)
 
 -- ---- suffixes
 

@@ -20,13 +20,10 @@ use Rattle.cxx_told.specs.Told.{EndsIn}
 use Rattle.cxx_told.proofs.Stopping.{Stops, Inside, later_here, calm, leads_in, leads_here, then_calm, then_punct, repeat_stops, whole_calm, whole_stops, read_later}
 use Rattle.cxx_told.proofs.StopsCalls.{name_refused_stops, call_tells}
 use Rattle.cxx_told.proofs.StopsDeclarators.{type_id_stops}
-use Rattle.cxx_told.proofs.Tells.{behind_stands, ends_later, if_in, when_in, quiet_in, next_in, then_in, then_from, ask_from, punct_in, looked_in, give_in}
+use Rattle.cxx_told.proofs.Tells.{ends_later, if_in, when_in, quiet_in, next_in, then_in, then_from, ask_from, punct_in, looked_in, give_in, twice_behind}
 use Rattle.cxx_told.proofs.TellsCalls.{IsLater, later_is_told}
 use Rattle.cxx_told.proofs.TellsSyntax.{literal_tells, no_expression_tells}
 use Rattle.cxx_told.proofs.TellsUnits.{operand_ended_tells, type_fits_tells, arguments_over_tells, argument_ended_tells}
-
-twice_behind : (ahead : Ahead) → EndsIn ahead.tokens (behind (behind ahead)).tokens
-twice_behind ahead = ends_later ahead.tokens (behind ahead).tokens (behind (behind ahead)).tokens (behind_stands ahead) (behind_stands (behind ahead))
 
 -- ---- casts
 

@@ -1,10 +1,8 @@
 -- Where the reading of specifiers stops: what it says of a name behind `enum` is true.
 use Rattle.std.proofs.Common.{◌≡◌, refl, ap, ◌∙◌}
 use Rattle.std.specs.Prelude.{ℕ, true, ◌==◌, List, [], ◌∷◌, ◌++◌, Option, Some, None}
-use Rattle.cxx_model.specs.declared.fault.FaultText.TheVariants as says
 use Rattle.cxx_model.specs.declared.keyword.TheConstants as keyword
 use Rattle.cxx_model.specs.declared.place.Place.{Place}
-use Rattle.cxx_model.specs.declared.stop.Fault.{Fault}
 use Rattle.cxx_model.specs.declared.token.TokenKind.{TokenKind}
 use Rattle.cxx_model.specs.declared.token.TokenKind.TheVariants.{Name, Keyword, Punct, Integer, Character, Text, End}
 use Rattle.cxx_model.specs.Facts.Declarations.{spelled}
@@ -22,8 +20,8 @@ use Rattle.cxx_reading.specs.Syntax.{readers}
 use Rattle.cxx_reading.specs.Tokens.{is_keyword, is_name, token_in as token_of}
 use Rattle.cxx_told.specs.Stopping.{Part, some_specifiers, next_specifier, specifiers_of}
 use Rattle.cxx_told.specs.Told.{IsUnknown, unknown_type}
-use Rattle.cxx_told.proofs.Stopping.{Told, within_part, Stops, Inside, calm, then_calm, it_is_here, repeat_stops, whole_then_calm}
-use Rattle.cxx_told.proofs.Tells.{ToldBy, tells_answer, tells_refusal, ReadersTell, Quietly, behind_stands, ends_later, ask_from, give_in, looked_in, then_in, past_in, quiet_in, same_in, if_in, if_reads, when_in}
+use Rattle.cxx_told.proofs.Stopping.{Told, within_part, Stops, Inside, calm, then_calm, it_is_here, repeat_stops, whole_then_calm, undeclared_fault}
+use Rattle.cxx_told.proofs.Tells.{ToldBy, tells_answer, tells_refusal, ReadersTell, Quietly, ask_from, give_in, looked_in, then_in, past_in, quiet_in, same_in, if_in, if_reads, when_in, twice_behind}
 use Rattle.cxx_told.proofs.TellsCalls.{IsLater, declaring_tells, later_is_told, later_same}
 use Rattle.cxx_told.proofs.TellsSpecifiers.{storage_tells, inline_tells, const_tells, volatile_tells, word_tells, named_tells, list_tells, class_tells, typed_tells}
 use Rattle.cxx_told.proofs.TellsSyntax.{readers_tell}
@@ -33,9 +31,6 @@ pub calm_readers : (room : ℕ) → ReadersTell IsLater Quietly (readers declari
 calm_readers room = readers_tell later_is_told declaring declaring_tells room
 
 -- ---- a name behind `enum`
-
-abbrev undeclared_fault : Place → List ℕ → Fault
-undeclared_fault place word = record { place = place; text = says.UndeclaredName word; evidence = [] }
 
 unknown_behind : (room : ℕ) (where_ : SpecifierPlace) (so_far : Specifiers) (at : CxxState) (last : Place) (tokens : List Lexeme) → is_keyword keyword.ENUM (kind_of tokens) ≡ true → is_name (kind_ahead (behind (record { last = last; tokens = tokens }))) ≡ true
     → found_types at.graph at.here.scope (spelled (token_of (behind (record { last = last; tokens = tokens })).tokens).spelling) ≡ []
@@ -75,8 +70,7 @@ elaborated_stops : (room : ℕ) (where_ : SpecifierPlace) (from : Ahead) (so_far
 unfolding elaborated_step declaring
 elaborated_stops room where_ from so_far state ahead is_enum named =
     let name = token_of (behind ahead).tokens in
-    let stands = ends_later ahead.tokens (behind ahead).tokens (behind (behind ahead)).tokens (behind_stands ahead) (behind_stands (behind ahead)) in
-    then_calm (ask_from (behind (behind ahead)) stands (elaborated_answer_tells room where_ so_far state ahead is_enum named)) (λ of state ahead. then_in later_is_told (looked_in later_is_told state ahead) (λ to. give_in later_is_told (More (record so_far { named = Some of; parts = so_far.parts ++ elaborated_tree name of from to ∷ [] }))))
+    then_calm (ask_from (behind (behind ahead)) (twice_behind ahead) (elaborated_answer_tells room where_ so_far state ahead is_enum named)) (λ of state ahead. then_in later_is_told (looked_in later_is_told state ahead) (λ to. give_in later_is_told (More (record so_far { named = Some of; parts = so_far.parts ++ elaborated_tree name of from to ∷ [] }))))
 
 key_named_stops : (room : ℕ) (where_ : SpecifierPlace) (from : Ahead) (so_far : Specifiers) (state : CxxState) (ahead : Ahead) → is_keyword keyword.ENUM (kind_ahead ahead) ≡ true → is_name (kind_ahead (behind ahead)) ≡ true
     → Inside (some_specifiers room where_ so_far) state ahead (key_named_step (declaring room) (readers declaring room) where_ from so_far (token_of (behind ahead).tokens) state (behind (behind ahead)))

@@ -22,14 +22,11 @@ use Rattle.cxx_told.proofs.Stopping.{Stops, Inside, calm, calm_from, leads_in, l
 use Rattle.cxx_told.proofs.StopsDeclarators.{a_declarator_stops}
 use Rattle.cxx_told.proofs.StopsInitializers.{initial_stops}
 use Rattle.cxx_told.proofs.StopsSpecifiers.{specifiers_stop}
-use Rattle.cxx_told.proofs.Tells.{tells_stop, behind_stands, ends_later, if_in, quiet_in, same_in, next_in, then_in, then_from, looked_in, give_in}
+use Rattle.cxx_told.proofs.Tells.{tells_stop, if_in, quiet_in, same_in, next_in, then_in, then_from, looked_in, give_in, past_stands}
 use Rattle.cxx_told.proofs.TellsCalls.{IsLater, later_is_told, object_tells, define_tells, define_later_tells}
 use Rattle.cxx_told.proofs.TellsUnits.{uninitialized_tells, one_tree_tells, declared_function_tells, declared_synonym_tells, declarator_ended_tells, give_trees_tells, nothing_tells, no_declaration_tells, linkages_tell, linked_tree_tells}
 
 -- ---- the initializer of an object
-
-past_stands : (ahead rest : Ahead) → EndsIn ahead.tokens rest.tokens → EndsIn ahead.tokens (behind rest).tokens
-past_stands ahead rest stands = ends_later ahead.tokens rest.tokens (behind rest).tokens stands (behind_stands rest)
 
 equals_stops : {part : Part} {state : CxxState} {ahead : Ahead} (after : CxxState) (rest : Ahead) (room : ℕ) (of : CxxType) → Leads part state ahead (an_operand false room) after (behind rest) → IsLater state after → EndsIn ahead.tokens rest.tokens → Inside part state ahead (equals_part room of after rest)
 unfolding equals_part initializer_at

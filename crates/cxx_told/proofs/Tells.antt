@@ -57,6 +57,12 @@ behind_stands ahead = by ahead.last ahead.tokens
     by last [] = whole_stands []
     by last (token ∷ tokens) = record { first = token ∷ []; parts = refl }
 
+pub past_stands : (ahead rest : Ahead) → EndsIn ahead.tokens rest.tokens → EndsIn ahead.tokens (behind rest).tokens
+past_stands ahead rest stands = ends_later ahead.tokens rest.tokens (behind rest).tokens stands (behind_stands rest)
+
+pub twice_behind : (ahead : Ahead) → EndsIn ahead.tokens (behind (behind ahead)).tokens
+twice_behind ahead = ends_later ahead.tokens (behind ahead).tokens (behind (behind ahead)).tokens (behind_stands ahead) (behind_stands (behind ahead))
+
 -- ---- the law
 
 -- what is kept of a state holds of it and itself, and from one to a third; what is true of a stop is so from before on
