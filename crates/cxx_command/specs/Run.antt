@@ -132,8 +132,9 @@ pub record IsNotReadBack {E : Type 0} (input : List ℕ) (reading : CxxReading) 
   pub is : read_again default_options reading ≡ Some difference
   pub told : TookAll err (difference_text difference)
 
--- Where the fault is of the choice of a function, the input is tokens, and it is a true fault of a call among them. Where
--- it is an undeclared name, the input is tokens, and this name stands among them and means nothing that is declared.
+-- Where the fault is of the choice of a function, the input is tokens, the reading of these stops at a call, and the fault
+-- is a true one of it. Where it is an undeclared name, the input is tokens, and the reading of these stops at this name,
+-- which means nothing that is declared there.
 pub record IsTrueFault (input : List ℕ) (fault : Fault) : Type 0 where
   pub choice : IsChoiceText fault.text → (tokens : List Token) × (tokens_of input ≡ Ok tokens) × IsToldFault (lexemes input tokens) fault
   pub undeclared : (word : List ℕ) → fault.text ≡ says.UndeclaredName word → (tokens : List Token) × (tokens_of input ≡ Ok tokens) × IsUndeclaredFault (lexemes input tokens) fault word
@@ -151,8 +152,8 @@ pub record IsAnswer {X S K E : Type 0} (words : List X) (source : Change S) (out
   -- the text that was written reads back, or is too large to be read again
   pub whole : (input : List ℕ) → Tells source input → status ≡ 0 → (reading : CxxReading) × IsWritten input reading out err
   -- 1: exactly where the unit is broken, with the report of its first fault; a call that is ambiguous or has no viable
-  -- function is so among the declarations before it, and each line of its evidence is true; an undeclared name stands
-  -- where the fault is, and means nothing that is declared before it
+  -- function is so among what is declared where the reading stops, and each line of its evidence is true; an undeclared
+  -- name stands where the fault is, and means nothing that is declared there
   pub broken : (input : List ℕ) → Tells source input → status ≡ 1 → (fault : Fault) × (due input ≡ Reports fault) × TookAll err (report fault) × IsTrueFault input fault
   -- 5: exactly where a limit is passed, with its name
   pub limited : (input : List ℕ) → Tells source input → status ≡ 5 → (limit : LimitKind) × (due input ≡ Names limit) × TookAll err (limit_report limit)

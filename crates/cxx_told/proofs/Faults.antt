@@ -1,6 +1,7 @@
--- The fault of a whole reading is true of the declarations before it.
+-- The fault of a whole reading is true where it stops.
 use Rattle.std.proofs.Common.{◌≡◌, inl, inr, refl, ap, subst, ◌∙◌}
-use Rattle.std.specs.Prelude.{ℕ, zero, suc, Bool, true, false, List, Ok, Err, if◌then◌else◌}
+use Rattle.std.specs.Prelude.{ℕ, zero, suc, Bool, true, false, List, [], Ok, Err, if◌then◌else◌}
+use Rattle.cxx_model.specs.declared.fault.FaultText.{FaultText}
 use Rattle.cxx_model.specs.declared.fault.FaultText.TheVariants as says
 use Rattle.cxx_model.specs.declared.limits.TheConstants as limits
 use Rattle.cxx_model.specs.declared.options.Options.{Options}
@@ -12,10 +13,15 @@ use Rattle.cxx_reading.specs.State.{CxxState, first_state}
 use Rattle.cxx_reading.specs.Tokens.{is_end}
 use Rattle.cxx_reading.specs.Trees.{CxxTree}
 use Rattle.cxx_reading.specs.Units.{declaration_at, with_part, part_added, unit_step, read_as, unit_reading}
-use Rattle.cxx_told.specs.Told.{EndsIn, IsChoiceText, no_viable_function, ambiguous_call, ReadsTo, none_more, one_more, whole, StopsIn, IsGrown, IsToldFault, IsUndeclaredFault}
-use Rattle.cxx_told.proofs.Tells.{whole_stands, ends_later, ToldIn, tells_read, tells_stop, none_viable, none_best, undeclared, saying}
-use Rattle.cxx_told.proofs.TellsCalls.{Told, ToldSo}
-use Rattle.cxx_told.proofs.TellsUnits.{declaration_tells}
+use Rattle.cxx_told.specs.Stopping.{Part, a_declaration}
+use Rattle.cxx_told.specs.Told.{EndsIn, IsChoiceText, ReadsTo, none_more, one_more, whole, StopsIn, StopsAt, IsToldFault, IsUnknown, unknown_name, unknown_call, unknown_type, IsNotOfUnit, IsUndeclaredFault}
+use Rattle.cxx_told.proofs.StopsInitializers.{arguments_later}
+use Rattle.cxx_told.proofs.Scopes.{InScopes, scopes_same, scopes_first, none_in_unit, no_type_in_unit}
+use Rattle.cxx_model.specs.Facts.Declarations.{spelled}
+use Rattle.cxx_reading.specs.Seen.{declared_in}
+use Rattle.cxx_told.proofs.Tells.{Saying, choosing, undeclared, saying, whole_stands, ends_later, tells_read, tells_stop}
+use Rattle.cxx_told.proofs.Stopping.{whole_part, read_later, Told, ToldSo, Stops, Reached, IsChosen, IsUndeclared}
+use Rattle.cxx_told.proofs.StopsUnits.{declaration_stops}
 
 -- the declaration in which reading stops, behind those that are read from here on
 record StopsFrom (state : CxxState) (ahead : Ahead) (fault : Fault) : Type 0 where
@@ -56,7 +62,7 @@ here state ahead fault goes_on stops = record { before = state; rest = ahead; re
 abbrev AreDeclarations : Answer (Got CxxState CxxTree) → Answer (Got CxxState CxxTree) → Type 0
 AreDeclarations one two = one ≡ two
 
-read_stands : (state : CxxState) (ahead : Ahead) (one : Got CxxState CxxTree) {answer : Answer (Got CxxState CxxTree)} → ToldIn IsGrown Told state ahead answer → answer ≡ Ok one → EndsIn ahead.tokens one.rest.tokens
+read_stands : (state : CxxState) (ahead : Ahead) (one : Got CxxState CxxTree) {answer : Answer (Got CxxState CxxTree)} → Stops (a_declaration limits.MOST_NESTING) state ahead answer → answer ≡ Ok one → EndsIn ahead.tokens one.rest.tokens
 read_stands state ahead one (tells_read other keeps stands) e = subst (λ (g : Got CxxState CxxTree). EndsIn ahead.tokens g.rest.tokens) (by e) stands
   where
     by : AreDeclarations (Ok other) (Ok one) → other ≡ one
@@ -69,7 +75,7 @@ later state ahead one fault goes_on is from = record {
   before = from.before;
   rest = from.rest;
   reads = one_more state ahead one from.before from.rest goes_on is from.reads;
-  stands = ends_later ahead.tokens one.rest.tokens from.rest.tokens (read_stands state ahead one (declaration_tells limits.MOST_NESTING state ahead) is) from.stands;
+  stands = ends_later ahead.tokens one.rest.tokens from.rest.tokens (read_stands state ahead one (declaration_stops limits.MOST_NESTING state ahead) is) from.stands;
   goes_on = from.goes_on;
   stops = from.stops;
 }
@@ -106,30 +112,53 @@ unit_stops options tokens fault e =
     let from = units_stop (count_ahead (whole tokens)) first_state (whole tokens) fault (read_stops options (repeat unit_step give (count_ahead (whole tokens)) tt first_state (whole tokens)) fault e) in
     record { before = from.before; ahead = from.rest; reads = from.reads; stands = from.stands; goes_on = from.goes_on; stops = from.stops }
 
+-- ---- scopes
+
+read_scopes : (state : CxxState) (ahead : Ahead) (after : CxxState) (rest : Ahead) → ReadsTo state ahead after rest → InScopes state → InScopes after
+read_scopes state ahead after rest (none_more s a) is = is
+read_scopes state ahead after rest (one_more s a one t b goes_on read others) is =
+    read_scopes (with_part one.value one.state) one.rest t b others (scopes_same one.state (with_part one.value one.state) refl refl ((read_later s a one (declaration_stops limits.MOST_NESTING s a) read).scopes is))
+
 -- ---- what is true of the fault
 
-stop_told : (before : CxxState) (ahead : Ahead) (fault : Fault) {answer : Answer (Got CxxState CxxTree)} → ToldIn IsGrown Told before ahead answer → answer ≡ Err (Faulty fault) → Told before ahead (Faulty fault)
+stop_told : (before : CxxState) (ahead : Ahead) (fault : Fault) {answer : Answer (Got CxxState CxxTree)} → Stops (a_declaration limits.MOST_NESTING) before ahead answer → answer ≡ Err (Faulty fault) → Told whole_part (a_declaration limits.MOST_NESTING) before ahead (Faulty fault)
 stop_told before ahead fault (tells_read one keeps stands) e = absurd cc
-stop_told before ahead fault (tells_stop why true_of) e = subst (Told before ahead) (by e) true_of
+stop_told before ahead fault (tells_stop why true_of) e = subst (Told whole_part (a_declaration limits.MOST_NESTING) before ahead) (by e) true_of
   where
     by : AreDeclarations (Err why) (Err (Faulty fault)) → why ≡ Faulty fault
     by e = cc
 
-told_by : (tokens : List Lexeme) (fault : Fault) (declaration : StopsIn tokens fault) → ToldSo declaration.before declaration.ahead fault (saying fault.text)
-told_by tokens fault declaration = stop_told declaration.before declaration.ahead fault (declaration_tells limits.MOST_NESTING declaration.before declaration.ahead) declaration.stops
+told_as : (tokens : List Lexeme) (fault : Fault) (declaration : StopsIn tokens fault) (what : Saying) → saying fault.text ≡ what → ToldSo whole_part (a_declaration limits.MOST_NESTING) declaration.before declaration.ahead fault what
+told_as tokens fault declaration what is =
+    subst (ToldSo whole_part (a_declaration limits.MOST_NESTING) declaration.before declaration.ahead fault) is
+    (stop_told declaration.before declaration.ahead fault (declaration_stops limits.MOST_NESTING declaration.before declaration.ahead) declaration.stops)
+
+stop_at : (tokens : List Lexeme) (fault : Fault) (declaration : StopsIn tokens fault) (P : CxxState → Ahead → Part → Type 0) → Reached (a_declaration limits.MOST_NESTING) declaration.before declaration.ahead fault P → StopsAt tokens fault
+stop_at tokens fault declaration P told = record { declaration = declaration; part = told.last; at = told.at; ahead = told.rest; reaches = told.reaches }
+
+choosing_by : (text : FaultText) → IsChoiceText text → saying text ≡ choosing
+choosing_by text (inl is) = ap saying is
+choosing_by text (inr is) = ap saying is
 
 pub fault_is_told : (options : Options) (tokens : List Lexeme) (fault : Fault) → unit_reading options tokens ≡ Err (Faulty fault) → IsChoiceText fault.text → IsToldFault tokens fault
-fault_is_told options tokens fault e (inl text) =
+unfolding stop_at
+fault_is_told options tokens fault e text =
     let declaration = unit_stops options tokens fault e in
-    let told : ToldSo declaration.before declaration.ahead fault none_viable = subst (ToldSo declaration.before declaration.ahead fault) (ap saying text) (told_by tokens fault declaration) in
-    record { declaration = declaration; at = told.at; grown = told.grown; is = no_viable_function told.is }
-fault_is_told options tokens fault e (inr text) =
-    let declaration = unit_stops options tokens fault e in
-    let told : ToldSo declaration.before declaration.ahead fault none_best = subst (ToldSo declaration.before declaration.ahead fault) (ap saying text) (told_by tokens fault declaration) in
-    record { declaration = declaration; at = told.at; grown = told.grown; is = ambiguous_call told.is }
+    let told = told_as tokens fault declaration choosing (choosing_by fault.text text) in
+    record { stop = stop_at tokens fault declaration (IsChosen fault) told; is = told.is }
+
+-- a name that means nothing is not declared in the scope of the unit
+not_of_unit : (at : CxxState) (ahead : Ahead) (fault : Fault) (word : List ℕ) (part : Part) → InScopes at → (is : IsUnknown at ahead fault word part) → IsNotOfUnit is
+not_of_unit at ahead fault word part scopes (unknown_name is_argument room is) = none_in_unit at (spelled word) scopes is.unknown
+not_of_unit at ahead fault word part scopes (unknown_call room is) =
+    subst (λ (w : List ℕ). declared_in is.call.at.graph 0 (spelled w) ≡ []) is.is_named.spelled_so
+    (none_in_unit is.call.at (spelled is.call.name.spelling) ((arguments_later room at (record { last = is.call.bracket.place; tokens = is.call.opened }) (record { value = is.call.arguments; state = is.call.at; rest = is.call.rest }) is.call.lists).scopes scopes) is.unknown)
+not_of_unit at ahead fault word part scopes (unknown_type room place so_far is) = no_type_in_unit at (spelled word) scopes is.unknown
 
 pub undeclared_is_told : (options : Options) (tokens : List Lexeme) (fault : Fault) (word : List ℕ) → unit_reading options tokens ≡ Err (Faulty fault) → fault.text ≡ says.UndeclaredName word → IsUndeclaredFault tokens fault word
+unfolding stop_at
 undeclared_is_told options tokens fault word e text =
     let declaration = unit_stops options tokens fault e in
-    let told : ToldSo declaration.before declaration.ahead fault (undeclared word) = subst (ToldSo declaration.before declaration.ahead fault) (ap saying text) (told_by tokens fault declaration) in
-    record { declaration = declaration; at = told.at; grown = told.grown; is = told.is.is; is_text = text; bare = told.is.bare }
+    let told = told_as tokens fault declaration (undeclared word) (ap saying text) in
+    let scopes = told.later.scopes (read_scopes first_state (whole tokens) declaration.before declaration.ahead declaration.reads scopes_first) in
+    record { stop = stop_at tokens fault declaration (IsUndeclared fault word) told; is = told.is.is; in_unit = not_of_unit told.at told.rest fault word told.last scopes told.is.is; is_text = text; bare = told.is.bare }

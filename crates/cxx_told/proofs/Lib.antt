@@ -1,5 +1,12 @@
 mod Choices
 pub mod Faults
+mod Scopes
+mod Stopping
+mod StopsCalls
+mod StopsDeclarators
+mod StopsInitializers
+mod StopsSpecifiers
+mod StopsUnits
 mod Tells
 mod TellsCalls
 mod TellsShapes

@@ -5,17 +5,14 @@ use Rattle.std.specs.Prelude.{ℕ, zero, suc, ℤ, Bool, true, false, List, [], 
 use Rattle.std.proofs.lemmas.List.{append_assoc}
 use Rattle.cxx_model.specs.declared.fault.FaultText.{FaultText}
 use Rattle.cxx_model.specs.declared.fault.FaultText.TheVariants as says
-use Rattle.cxx_model.specs.declared.keyword.TheConstants as keyword
 use Rattle.cxx_model.specs.declared.place.Place.{Place}
 use Rattle.cxx_model.specs.Stops.{Answer, Stopped, Faulty, Limited}
 use Rattle.cxx_model.specs.Text.Lexemes.{Lexeme}
 use Rattle.cxx_model.specs.Types.Trees.{CxxType}
-use Rattle.cxx_reading.specs.declared.specifier.Naming.{Naming}
 use Rattle.cxx_reading.specs.Kinds.{Kinds, Readers}
 use Rattle.cxx_reading.specs.Reads.{Ahead, Got, Reads, Asks, Turn, More, Done, then_read, got, give, answered, go_on, repeat, looked, taken, beside, tokens, behind, kind_ahead}
 use Rattle.cxx_reading.specs.Shapes.{returned}
-use Rattle.cxx_reading.specs.Specifiers.{path_of}
-use Rattle.cxx_reading.specs.Tokens.{token_taken, punct_taken, is_punct, is_keyword, is_name, token_in as token_of}
+use Rattle.cxx_reading.specs.Tokens.{token_taken, punct_taken, is_punct}
 use Rattle.cxx_reading.specs.Trees.{CxxPath, CxxTree}
 use Rattle.cxx_reading.proofs.Keeps.{IsKept}
 use Rattle.cxx_told.specs.Told.{EndsIn}
@@ -24,14 +21,13 @@ use Rattle.cxx_told.specs.Told.{EndsIn}
 
 -- what a fault says of the declarations before it
 pub data Saying : Type 0 where
-  none_viable : Saying
-  none_best : Saying
+  choosing : Saying
   undeclared : List ℕ → Saying
   nothing : Saying
 
 abbrev pub saying : FaultText → Saying
-saying says.NoViableFunction = none_viable
-saying says.AmbiguousCall = none_best
+saying says.NoViableFunction = choosing
+saying says.AmbiguousCall = choosing
 saying (says.UndeclaredName word) = undeclared word
 saying _ = nothing
 
@@ -60,6 +56,12 @@ behind_stands ahead = by ahead.last ahead.tokens
     by : (last : Place) (tokens : List Lexeme) → EndsIn tokens (behind (record { last = last; tokens = tokens })).tokens
     by last [] = whole_stands []
     by last (token ∷ tokens) = record { first = token ∷ []; parts = refl }
+
+pub past_stands : (ahead rest : Ahead) → EndsIn ahead.tokens rest.tokens → EndsIn ahead.tokens (behind rest).tokens
+past_stands ahead rest stands = ends_later ahead.tokens rest.tokens (behind rest).tokens stands (behind_stands rest)
+
+pub twice_behind : (ahead : Ahead) → EndsIn ahead.tokens (behind (behind ahead)).tokens
+twice_behind ahead = ends_later ahead.tokens (behind ahead).tokens (behind (behind ahead)).tokens (behind_stands ahead) (behind_stands (behind ahead))
 
 -- ---- the law
 
@@ -146,21 +148,24 @@ unfolding repeat
 repeat_tells is step over steps overs zero so_far state ahead = overs so_far state ahead
 repeat_tells is step over steps overs (suc n) so_far state ahead = then_in is (steps so_far state ahead) (go_on_tells is (repeat step over n) (repeat_tells is step over steps overs n))
 
--- ---- readers of tokens alone
+-- ---- readers that say nothing of declarations
+
+abbrev pub Quietly : {S : Type 0} → S → Ahead → Stopped → Type 0
+Quietly s ahead why = IsQuiet why
+
+pub quiet_is_told : {S : Type 0} {kept : S → S → Type 0} → IsKept kept → IsTold kept (Quietly {S = S})
+quiet_is_told keeps = record {
+  keeps = keeps;
+  quiet = λ s ahead why quiet. quiet;
+  sooner = λ s t ahead rest why first stands quiet. quiet;
+}
 
 abbrev pub Always : Unit {0} → Unit {0} → Type 0
 Always s t = Unit {0}
 
-abbrev pub Quietly : Unit {0} → Ahead → Stopped → Type 0
-Quietly s ahead why = IsQuiet why
-
--- what stops a reader of tokens alone says nothing of declarations
+-- so do readers of tokens alone
 pub unit_is_told : IsTold Always Quietly
-unit_is_told = record {
-  keeps = record { same = λ s. tt; later = λ s t u one two. tt };
-  quiet = λ s ahead why quiet. quiet;
-  sooner = λ s t ahead rest why first stands quiet. quiet;
-}
+unit_is_told = quiet_is_told (record { same = λ s. tt; later = λ s t u one two. tt })
 
 pub tokens_in : {S A : Type 0} {kept : S → S → Type 0} {told : S → Ahead → Stopped → Type 0} → IsTold kept told → {read : Reads (Unit {0}) A} → Tells Always Quietly read → (state : S) (ahead : Ahead) → ToldIn kept told state ahead (tokens read state ahead)
 tokens_in {S = S} {A = A} {kept = kept} {told = told} is {read = read} tells state ahead = by (tells tt ahead)
@@ -171,11 +176,10 @@ tokens_in {S = S} {A = A} {kept = kept} {told = told} is {read = read} tells sta
 
 -- ---- what is asked
 
+-- all but for the name behind `enum`
 pub record KindsTell {S : Type 0} (kept : S → S → Type 0) (told : S → Ahead → Stopped → Type 0) (asks : Kinds S) : Type 0 where
   pub kind : (path : CxxPath) → Answers kept told (asks.kind path)
   pub type_named : (path : CxxPath) → Answers kept told (asks.type_named path)
-  -- behind `enum`, which is ahead, stands the name that is asked for
-  pub elaborated : (state : S) (ahead : Ahead) → is_keyword keyword.ENUM (kind_ahead ahead) ≡ true → is_name (kind_ahead (behind ahead)) ≡ true → ToldBy kept told state ahead (asks.elaborated (path_of (token_of (behind ahead).tokens)) state)
   pub enumeration : (name : Option Lexeme) (place : Place) → Answers kept told (asks.enumeration name place)
   pub enumerator : (number : ℕ) (name : Lexeme) (value : Option ℤ) → Answers kept told (asks.enumerator number name value)
   pub enumerated : (number : ℕ) → Answers kept told (asks.enumerated number)
@@ -184,12 +188,9 @@ pub record KindsTell {S : Type 0} (kept : S → S → Type 0) (told : S → Ahea
   pub parameter : (name : Option Lexeme) (place : Place) (of : CxxType) → Answers kept told (asks.parameter name place of)
   pub leave_parameters : Answers kept told asks.leave_parameters
 
+-- those in which no name is looked up that has to be declared
 pub record ReadersTell {S : Type 0} (kept : S → S → Type 0) (told : S → Ahead → Stopped → Type 0) (inner : Readers S) : Type 0 where
-  pub pointed : (naming : Naming) → Tells kept told (inner.pointed naming)
-  pub referred : (naming : Naming) → Tells kept told (inner.referred naming)
-  pub grouped : (naming : Naming) → Tells kept told (inner.grouped naming)
   pub bound : (is_first : Bool) → Tells kept told (inner.bound is_first)
-  pub parameters : Tells kept told inner.parameters
   pub enumerators : (number : ℕ) → Tells kept told (inner.enumerators number)
   pub holds_parameters : Tells kept told inner.holds_parameters
 

@@ -1,6 +1,6 @@
 -- What is true of a fault that a call or a name leads to, in the words of 3.4.1, 3.4.4 and 13.3: its text and its
--- evidence say no more than holds of the declarations before it.
-use Rattle.std.specs.Prelude.{◌≡◌, ◌≢◌, ◌⊎◌, ℕ, ◌<◌, true, false, List, [], ◌∷◌, ◌++◌, map, Ok, Err, IsTrue}
+-- evidence say no more than holds of what is declared where the reading stops.
+use Rattle.std.specs.Prelude.{◌≡◌, ◌≢◌, ◌⊎◌, ℕ, ◌<◌, Bool, true, false, List, [], ◌∷◌, ◌++◌, map, Ok, Err, IsTrue}
 use Rattle.std.specs.List.{Contains, AllZip}
 use Rattle.cxx_model.specs.declared.evidence.Evidence.{Evidence}
 use Rattle.cxx_model.specs.declared.evidence.Evidence.TheVariants.{DoesNotBeat, Refused}
@@ -16,14 +16,18 @@ use Rattle.cxx_model.specs.Choice.Better.{IsBest}
 use Rattle.cxx_model.specs.Facts.Declarations.{CxxFact, CxxGraph, spelled}
 use Rattle.cxx_model.specs.Stops.{Faulty}
 use Rattle.cxx_model.specs.Text.Lexemes.{Lexeme, first_place}
+use Rattle.cxx_meaning.specs.Lookups.Wanted.{names_type}
+use Rattle.cxx_reading.specs.declared.specifier.SpecifierPlace.{SpecifierPlace}
 use Rattle.cxx_reading.specs.Choosing.{Rated, rated, viable, beats, position_of, candidates, shown}
+use Rattle.cxx_reading.specs.Declarators.{Specifiers}
 use Rattle.cxx_reading.specs.Initializers.{operand_of, are_functions, arguments_opened}
 use Rattle.cxx_reading.specs.Reads.{Ahead, Got, kind_ahead}
-use Rattle.cxx_reading.specs.Seen.{found, found_types}
-use Rattle.cxx_reading.specs.State.{CxxState, first_state}
+use Rattle.cxx_reading.specs.Seen.{Numbered, declared_in, kept, found, found_types}
+use Rattle.cxx_reading.specs.State.{CxxState, first_state, unit_scope}
 use Rattle.cxx_reading.specs.Tokens.{is_punct, is_keyword, is_name, is_end}
 use Rattle.cxx_reading.specs.Trees.{CxxTree}
 use Rattle.cxx_reading.specs.Units.{declaration_at, with_part}
+use Rattle.cxx_told.specs.Stopping.{Gives, Part, a_declaration, an_operand, some_specifiers, StopsWithin}
 
 -- ---- evidence
 
@@ -65,52 +69,55 @@ pub record EndsIn (all last : List Lexeme) : Type 0 where
   pub first : List Lexeme
   pub parts : all ≡ first ++ last
 
--- 5.2.2: A call stands among the tokens: a name, a bracket and arguments, with the bracket that closes them. Once these are
--- read, reading stands here.
-pub record IsCall (at : CxxState) (ahead : List Lexeme) : Type 0 where
+-- 5.2.2: A call stands ahead: a name, a bracket and arguments, with the bracket that closes them. The arguments are read
+-- from this state, with room for so many brackets, and then reading stands in another.
+pub record IsCall (room : ℕ) (before : CxxState) (ahead : Ahead) : Type 0 where
   pub name : Lexeme
   pub bracket : Lexeme
   pub opened : List Lexeme
-  pub stands : EndsIn ahead (name ∷ bracket ∷ opened)
+  pub stands : ahead.tokens ≡ name ∷ bracket ∷ opened
   pub named : is_name name.kind ≡ true
   pub opens : is_punct punct.LEFT_PARENTHESIS bracket.kind ≡ true
-  pub room : ℕ
-  pub sooner : CxxState
   pub arguments : List CxxTree
+  pub at : CxxState
   pub rest : Ahead
-  pub lists : arguments_opened room sooner (record { last = bracket.place; tokens = opened }) ≡ Ok (record { value = arguments; state = at; rest = rest })
+  pub lists : Gives (arguments_opened room) before (record { last = bracket.place; tokens = opened }) arguments at rest
+
+-- what the called name means where its arguments are read
+abbrev pub meant : {room : ℕ} {before : CxxState} {ahead : Ahead} → IsCall room before ahead → List Numbered
+meant call = found call.at.graph call.at.here.scope (spelled call.name.spelling)
 
 -- 13.3.1: The called name is declared, and means functions alone. These are all functions of that name, with the sequences
 -- of the arguments.
-pub record IsCalled (at : CxxState) (ahead : List Lexeme) : Type 0 where
-  pub call : IsCall at ahead
-  pub declared : found at.graph at.here.scope (spelled call.name.spelling) ≢ []
-  pub functions : are_functions (found at.graph at.here.scope (spelled call.name.spelling)) ≡ true
+pub record IsCalled (room : ℕ) (before : CxxState) (ahead : Ahead) : Type 0 where
+  pub call : IsCall room before ahead
+  pub declared : meant call ≢ []
+  pub functions : are_functions (meant call) ≡ true
   pub all : List Rated
-  pub rated_so : rated at.graph (map operand_of call.arguments) (candidates (found at.graph at.here.scope (spelled call.name.spelling))) ≡ Ok all
+  pub rated_so : rated call.at.graph (map operand_of call.arguments) (candidates (meant call)) ≡ Ok all
 
 -- 13.3.2: functions of that name are declared, and each candidate is refused for its reason
-pub record IsNoViableFunction (at : CxxState) (ahead : List Lexeme) (fault : Fault) : Type 0 where
-  pub called : IsCalled at ahead
+pub record IsNoViableFunction (room : ℕ) (before : CxxState) (ahead : Ahead) (fault : Fault) : Type 0 where
+  pub called : IsCalled room before ahead
   pub is_at : called.call.name.place ≡ fault.place
   pub is_text : fault.text ≡ says.NoViableFunction
   pub none_viable : viable called.all ≡ []
   pub refused : AreRefusals called.all fault.evidence
 
 -- 13.3.3: some function is viable and none is better than every other viable one, as its line shows
-pub record IsAmbiguousCall (at : CxxState) (ahead : List Lexeme) (fault : Fault) : Type 0 where
-  pub called : IsCalled at ahead
+pub record IsAmbiguousCall (room : ℕ) (before : CxxState) (ahead : Ahead) (fault : Fault) : Type 0 where
+  pub called : IsCalled room before ahead
   pub is_at : called.call.name.place ≡ fault.place
   pub is_text : fault.text ≡ says.AmbiguousCall
   pub some_viable : Rated
   pub is_viable : Contains (viable called.all) some_viable
-  pub none_best : (f : Rated) → ¬ (IsBest position_of (beats at.graph) (viable called.all) f)
-  pub tied : AreTies at.graph (viable called.all) fault.evidence
+  pub none_best : (f : Rated) → ¬ (IsBest position_of (beats called.call.at.graph) (viable called.all) f)
+  pub tied : AreTies called.call.at.graph (viable called.all) fault.evidence
 
--- 13.3: a true fault of a call among these tokens
-pub data IsChoiceFault (at : CxxState) (ahead : List Lexeme) (fault : Fault) : Type 0 where
-  no_viable_function : IsNoViableFunction at ahead fault → IsChoiceFault at ahead fault
-  ambiguous_call : IsAmbiguousCall at ahead fault → IsChoiceFault at ahead fault
+-- 13.3: a true fault of the call that initializes an object, in this state and with these tokens ahead
+pub data IsChoiceFault (before : CxxState) (ahead : Ahead) (fault : Fault) : Part → Type 0 where
+  no_viable_function : (room : ℕ) → IsNoViableFunction room before ahead fault → IsChoiceFault before ahead fault (an_operand false room)
+  ambiguous_call : (room : ℕ) → IsAmbiguousCall room before ahead fault → IsChoiceFault before ahead fault (an_operand false room)
 
 -- ---- the fault of one name
 
@@ -120,28 +127,41 @@ pub record IsNamed (token : Lexeme) (fault : Fault) (word : List ℕ) : Type 0 w
   pub spelled_so : token.spelling ≡ word
   pub is_at : token.place ≡ fault.place
 
--- 3.4.1: a name stands among the tokens, and nothing is declared that it means
-pub record IsUnknownName (at : CxxState) (ahead : List Lexeme) (fault : Fault) (word : List ℕ) : Type 0 where
+-- 3.4.1: a name stands ahead, and nothing is declared that it means
+pub record IsUnknownName (at : CxxState) (ahead : Ahead) (fault : Fault) (word : List ℕ) : Type 0 where
   pub token : Lexeme
   pub behind : List Lexeme
-  pub stands : EndsIn ahead (token ∷ behind)
+  pub stands : ahead.tokens ≡ token ∷ behind
   pub is_named : IsNamed token fault word
   pub unknown : found at.graph at.here.scope (spelled word) ≡ []
 
--- 3.4.4: a name stands behind `enum` among the tokens, and no type is declared that it means
-pub record IsUnknownType (at : CxxState) (ahead : List Lexeme) (fault : Fault) (word : List ℕ) : Type 0 where
+-- 3.4.1: a call stands ahead, and where its arguments are read nothing is declared that its name means
+pub record IsUnknownCall (room : ℕ) (before : CxxState) (ahead : Ahead) (fault : Fault) (word : List ℕ) : Type 0 where
+  pub call : IsCall room before ahead
+  pub is_named : IsNamed call.name fault word
+  pub unknown : meant call ≡ []
+
+-- 3.4.4: a name stands behind `enum` ahead, and no type is declared that it means
+pub record IsUnknownType (at : CxxState) (ahead : Ahead) (fault : Fault) (word : List ℕ) : Type 0 where
   pub key : Lexeme
   pub token : Lexeme
   pub behind : List Lexeme
-  pub stands : EndsIn ahead (key ∷ token ∷ behind)
+  pub stands : ahead.tokens ≡ key ∷ token ∷ behind
   pub is_key : is_keyword keyword.ENUM key.kind ≡ true
   pub is_named : IsNamed token fault word
   pub unknown : found_types at.graph at.here.scope (spelled word) ≡ []
 
--- 3.4: a name that is not declared where a reading stands
-pub data IsUnknown (at : CxxState) (ahead : List Lexeme) (fault : Fault) (word : List ℕ) : Type 0 where
-  unknown_name : IsUnknownName at ahead fault word → IsUnknown at ahead fault word
-  unknown_type : IsUnknownType at ahead fault word → IsUnknown at ahead fault word
+-- 3.4: a name that is not declared, in an initializer, an argument, a call or behind `enum`
+pub data IsUnknown (at : CxxState) (ahead : Ahead) (fault : Fault) (word : List ℕ) : Part → Type 0 where
+  unknown_name : (is_argument : Bool) (room : ℕ) → IsUnknownName at ahead fault word → IsUnknown at ahead fault word (an_operand is_argument room)
+  unknown_call : (room : ℕ) → IsUnknownCall room at ahead fault word → IsUnknown at ahead fault word (an_operand false room)
+  unknown_type : (room : ℕ) (place : SpecifierPlace) (so_far : Specifiers) → IsUnknownType at ahead fault word → IsUnknown at ahead fault word (some_specifiers room place so_far)
+
+-- 3.3.5: So it is not declared in the scope of the unit; behind `enum`, no type of that name is.
+abbrev pub IsNotOfUnit : {at : CxxState} {ahead : Ahead} {fault : Fault} {word : List ℕ} {part : Part} → IsUnknown at ahead fault word part → Type 0
+IsNotOfUnit {at = at} {word = word} (unknown_name is_argument room is) = declared_in at.graph unit_scope.scope (spelled word) ≡ []
+IsNotOfUnit {word = word} (unknown_call room is) = declared_in is.call.at.graph unit_scope.scope (spelled word) ≡ []
+IsNotOfUnit {at = at} {word = word} (unknown_type room place so_far is) = kept (names_type at.graph) (declared_in at.graph unit_scope.scope (spelled word)) ≡ []
 
 -- ---- the fault of a unit
 
@@ -169,18 +189,31 @@ pub record IsGrown (before at : CxxState) : Type 0 where
   pub own : List CxxFact
   pub declared : at.graph ≡ record before.graph { facts = before.graph.facts ++ own }
 
--- 13.3: The declaration in which reading stops had declared so much of its own, and the fault is a true one of a call.
-pub record IsToldFault (tokens : List Lexeme) (fault : Fault) : Type 0 where
-  pub declaration : StopsIn tokens fault
-  pub at : CxxState
-  pub grown : IsGrown declaration.before at
-  pub is : IsChoiceFault at declaration.ahead.tokens fault
+-- The reading of a part stops in another, in a state that keeps what was declared and may have more, and with the last of
+-- the tokens ahead.
+pub record Reaches (fault : Fault) (part : Part) (before : CxxState) (ahead : Ahead) (last : Part) (at : CxxState) (rest : Ahead) : Type 0 where
+  pub stops : StopsWithin fault part before ahead last at rest
+  pub stands : EndsIn ahead.tokens rest.tokens
+  pub grown : IsGrown before at
 
--- 3.4: The declaration in which reading stops had declared so much of its own, and a name in it is not declared.
-pub record IsUndeclaredFault (tokens : List Lexeme) (fault : Fault) (word : List ℕ) : Type 0 where
+-- Where the reading of a unit stops: in which declaration, in which part of that, in which state, and with which tokens
+-- ahead.
+pub record StopsAt (tokens : List Lexeme) (fault : Fault) : Type 0 where
   pub declaration : StopsIn tokens fault
+  pub part : Part
   pub at : CxxState
-  pub grown : IsGrown declaration.before at
-  pub is : IsUnknown at declaration.ahead.tokens fault word
+  pub ahead : Ahead
+  pub reaches : Reaches fault (a_declaration limits.MOST_NESTING) declaration.before declaration.ahead part at ahead
+
+-- 13.3: Where the reading stops a call stands, and the fault is a true one of it.
+pub record IsToldFault (tokens : List Lexeme) (fault : Fault) : Type 0 where
+  pub stop : StopsAt tokens fault
+  pub is : IsChoiceFault stop.at stop.ahead fault stop.part
+
+-- 3.4: Where the reading stops a name stands, and it is not declared.
+pub record IsUndeclaredFault (tokens : List Lexeme) (fault : Fault) (word : List ℕ) : Type 0 where
+  pub stop : StopsAt tokens fault
+  pub is : IsUnknown stop.at stop.ahead fault word stop.part
+  pub in_unit : IsNotOfUnit is
   pub is_text : fault.text ≡ says.UndeclaredName word
   pub bare : fault.evidence ≡ []
