@@ -1,0 +1,7 @@
+-- Which function a call means, among all functions of one name (13.3), as long as there are no classes.
+pub mod Candidates
+pub mod Sequences
+pub mod Viability
+pub mod Choices
+pub mod Calls
+pub mod Words

@@ -1,0 +1,2 @@
+//! Which function a call means (13.3), over a graph and a table of types, as long as there are no classes.
+#![tactic(auto)]
