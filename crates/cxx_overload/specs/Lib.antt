@@ -5,3 +5,5 @@ pub mod Viability
 pub mod Choices
 pub mod Calls
 pub mod Words
+pub mod Views
+pub mod Gathering
