@@ -7,3 +7,7 @@ pub mod Calls
 pub mod Words
 pub mod Views
 pub mod Gathering
+pub mod Asking
+pub mod Contests
+pub mod Asymmetry
+pub mod Decisions

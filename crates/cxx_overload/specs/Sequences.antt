@@ -34,9 +34,9 @@ sequence_of graph operand (parameter ∷ others) ellipsis = do
   found ← standard_sequence graph operand parameter
   Ok (found_sequence found)
 
-abbrev pub behind : List CxxType → List CxxType
+abbrev pub behind : {A : Type 0} → List A → List A
 behind [] = []
-behind (parameter ∷ others) = others
+behind (first ∷ others) = others
 
 -- one for each argument
 abbrev pub sequences_of : CxxGraph → List CxxOperand → List CxxType → Bool → Asked (List CxxSequence)
