@@ -37,7 +37,7 @@ all_from : {X : Type 0} (p : X → Bool) (xs : List X) → ((k : ℕ) (y : X) �
 all_from p [] h = refl
 all_from p (x ∷ xs) h = ap (λ b. b && list_all p xs) (h 0 x refl) ∙ all_from p xs (λ k y e. h (suc k) y e)
 
-there_below : {X : Type 0} (xs : List X) (k : ℕ) (y : X) → slice_get xs k ≡ Some y → k < length xs
+pub there_below : {X : Type 0} (xs : List X) (k : ℕ) (y : X) → slice_get xs k ≡ Some y → k < length xs
 there_below [] k y e = absurd cc
 there_below (x ∷ xs) zero y e = omega arith
 there_below (x ∷ xs) (suc k) y e = let h = there_below xs k y e in omega arith
@@ -64,7 +64,7 @@ missed_step p x xs true is none later k y e = absurd cc
 missed_step p x xs false is none later zero y e = let same : x ≡ y = cc in ap p (sym same) ∙ is
 missed_step p x xs false is none later (suc k) y e = later none k y e
 
-missed : {X : Type 0} (p : X → Bool) (xs : List X) → find p xs ≡ None → (k : ℕ) (y : X) → slice_get xs k ≡ Some y → p y ≡ false
+pub missed : {X : Type 0} (p : X → Bool) (xs : List X) → find p xs ≡ None → (k : ℕ) (y : X) → slice_get xs k ≡ Some y → p y ≡ false
 missed p [] none k y e = absurd cc
 missed p (x ∷ xs) none k y e = missed_step p x xs (p x) refl none (λ none k y e. missed p xs none k y e) k y e
 

@@ -11,3 +11,4 @@ pub mod Asking
 pub mod Contests
 pub mod Asymmetry
 pub mod Decisions
+pub mod Narrow

@@ -10,6 +10,7 @@ mod champion;
 mod contender;
 mod conversion;
 mod decision;
+pub mod laws;
 mod order;
 mod rating;
 
