@@ -1,13 +1,11 @@
 -- The contender that the definition chooses is the best of the contest, and a counter is the first other that one does
 -- not beat.
-use Rattle.std.proofs.Common.{◌≡◌, ◌≢◌, ℕ, zero, suc, ◌+◌, ◌<◌, ◌≤◌, Bool, true, false, not, cond, ◌&&◌, ◌||◌, eqb, List, [], ◌∷◌, length, Option, Some, None, refl, sym, ◌∙◌, ap, subst, ◌⊎◌, inl, inr, arith, Ok, Err, drop, get_or, ◌++◌, append_assoc, add-one}
+use Rattle.std.proofs.Common.{◌≡◌, ◌≢◌, ℕ, zero, suc, ◌+◌, ◌<◌, ◌≤◌, Bool, true, false, not, cond, ◌&&◌, ◌||◌, eqb, List, [], ◌∷◌, length, Option, Some, None, refl, sym, ◌∙◌, ap, ◌⊎◌, inl, inr, arith, drop, get_or, ◌++◌, append_assoc, add-one}
 use Rattle.std.specs.Option.{option_map}
 use Rattle.std.proofs.lemmas.Option.{slice_get-map, slice_get-get_or}
 use Rattle.std.specs.List.{slice_get, find, list_all, filter, filter_map, cons_option}
 use Rattle.cxx_model.specs.declared.evidence.Evidence.{Evidence}
 use Rattle.cxx_model.specs.Types.Trees.{CxxType}
-use Rattle.cxx_meaning.specs.Conversions.Asking.{Asked, ◌>>=◌}
-use Rattle.cxx_meaning.specs.Conversions.Standard.{CxxOperand, CxxStandard}
 use Rattle.cxx_overload.specs.declared.contender.Contender.{Contender}
 use Rattle.cxx_overload.specs.Views.{with_option}
 use Rattle.std.proofs.lemmas.Bool.{cases_order}

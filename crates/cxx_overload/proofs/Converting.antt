@@ -1,8 +1,7 @@
 -- How the conversions of arguments are gathered.
-use Rattle.std.proofs.Common.{◌≡◌, ℕ, zero, suc, ◌+◌, ◌<◌, ◌≤◌, Bool, true, false, cond, List, [], ◌∷◌, ◌++◌, length, map, Option, Some, None, Ok, Err, refl, sym, ap, ◌∙◌, subst, arith, append_assoc, get_or, drop, drop-cons, add-one}
+use Rattle.std.proofs.Common.{◌≡◌, ℕ, zero, suc, ◌+◌, ◌<◌, Bool, true, false, cond, List, [], ◌∷◌, ◌++◌, length, Option, Some, None, Ok, Err, refl, sym, ap, ◌∙◌, subst, arith, append_assoc, get_or, drop, drop-cons, add-one}
 use Rattle.std.specs.Option.{option_map}
 use Rattle.std.proofs.lemmas.List.{append-nil}
-use Rattle.std.proofs.Common.{length-append}
 use Rattle.cxx_model.specs.declared.sequence.Operand.{Operand}
 use Rattle.cxx_model.specs.declared.stop.Wait.{Wait}
 use Rattle.cxx_model.specs.declared.stop.Wait.TheVariants as wait
@@ -12,9 +11,8 @@ use Rattle.cxx_model.specs.Types.Numbers.{type_at, AreTypesBelow}
 use Rattle.cxx_model.specs.Types.Trees.{CxxType}
 use Rattle.cxx_meaning.specs.declared.steps.SequenceSteps.{SequenceSteps}
 use Rattle.cxx_meaning.specs.Conversions.Asking.{Asked, ◌>>=◌, Waits}
-use Rattle.cxx_meaning.specs.Conversions.Standard.{CxxOperand, sequence_by, standard_sequence, steps_between}
+use Rattle.cxx_meaning.specs.Conversions.Standard.{sequence_by, standard_sequence, steps_between}
 use Rattle.cxx_overload.specs.declared.conversion.Conversion.{Conversion}
-use Rattle.cxx_overload.specs.declared.conversion.Conversion.TheVariants.{Standard, Ellipsis, Missing}
 use Rattle.cxx_overload.specs.Asking.{after, conversion_beyond, conversion_of, first_missing, is_missing, joined}
 use Rattle.cxx_overload.specs.Sequences.{CxxSequence, behind, found_sequence, sequence_of, sequences_of}
 use Rattle.cxx_standard.specs.Views.{operand_at}

@@ -25,10 +25,9 @@ use Rattle.cxx_model.specs.Types.Numbers.{AreTypesBelow, IsNodeBelow}
 use Rattle.cxx_model.specs.Types.Trees.{CxxType, fundamental, function_of}
 use Rattle.cxx_model.proofs.TypeTrees.{types_later}
 use Rattle.cxx_reading.specs.Seen.{Numbered}
-use Rattle.cxx_overload.specs.declared.candidate.Candidate.{Candidate}
 use Rattle.cxx_overload.specs.Candidates.{CxxCandidate, candidate_by, candidate_by_what, candidate_of, candidates, candidates_from, candidates_within, defaults_after, defaults_behind, put, within_limit}
 use Rattle.cxx_overload.specs.Gathering.{AreNumbered, place_among, changed, seen, seen_by, seen_fact, seen_number, so_far, with_candidate, with_defaults, with_later, Sees}
-use Rattle.cxx_overload.specs.Views.{candidate_at, IsCandidateBelow, with_fact, numbered_in}
+use Rattle.cxx_overload.specs.Views.{IsCandidateBelow, with_fact, numbered_in}
 
 pub fact_below : (count : ℕ) (facts : List Fact) (number : ℕ) (fact : Fact) → AreFactsBelow count facts → slice_get facts number ≡ Some fact → IsFactBelow count fact
 fact_below count [] number fact below is = absurd cc

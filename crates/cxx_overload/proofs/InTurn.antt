@@ -1,5 +1,5 @@
 -- How candidates are rated, one after another, where the conversions of all stand in one list.
-use Rattle.std.proofs.Common.{◌≡◌, ℕ, zero, suc, ◌+◌, ◌<◌, ◌≤◌, Bool, true, false, cond, List, [], ◌∷◌, ◌++◌, length, map, Option, Some, None, Ok, Err, refl, sym, ap, ◌∙◌, subst, arith, append_assoc, get_or, drop, drop-cons, add-one, length-append}
+use Rattle.std.proofs.Common.{◌≡◌, ℕ, zero, suc, ◌+◌, ◌<◌, ◌≤◌, List, [], ◌∷◌, ◌++◌, length, map, Option, Some, None, Ok, Err, refl, sym, ap, ◌∙◌, subst, arith, get_or, drop, drop-cons, add-one, length-append}
 use Rattle.std.specs.List.{All}
 use Rattle.std.proofs.lemmas.List.{append-nil, drop-append-le}
 use Rattle.std.proofs.lemmas.List.Elements.{All-append}
@@ -25,7 +25,7 @@ use Rattle.cxx_overload.specs.Choices.{position_of}
 use Rattle.cxx_overload.specs.Gathering.{AreNumbered, place_among}
 use Rattle.cxx_overload.specs.Sequences.{CxxSequence, behind, sequences_of}
 use Rattle.cxx_overload.specs.Viability.{by_count, by_sequences, first_without, misfit, put_aside, rated, rated_one, Rated as RatedMeant}
-use Rattle.cxx_overload.specs.Views.{candidate_at, kept_where, listed_at, operands_at, rated_at, row_at, sequence_at, Grows, IsCandidateBelow, IsRatedBelow}
+use Rattle.cxx_overload.specs.Views.{candidate_at, kept_where, listed_at, operands_at, rated_at, row_at, sequence_at, Grows, IsRatedBelow}
 use Rattle.cxx_overload.proofs.Converting.{after_step, after_stop, count_operands}
 
 -- ---- rows in one list

@@ -1,10 +1,10 @@
 -- The choice of a function in words.
-use Rattle.std.proofs.Common.{◌≡◌, ◌≢◌, ℕ, zero, suc, ◌+◌, ◌<◌, ◌≤◌, Bool, true, false, not, cond, ◌&&◌, ◌||◌, eqb, List, [], ◌∷◌, length, Option, Some, None, refl, sym, ◌∙◌, ap, subst, arith}
-use Rattle.std.specs.List.{slice_get, find, filter, filter_map, cons_option}
+use Rattle.std.proofs.Common.{◌≡◌, ◌≢◌, ℕ, zero, suc, ◌<◌, Bool, true, false, not, cond, ◌||◌, eqb, List, [], ◌∷◌, length, Option, Some, None, refl, sym, ◌∙◌, ap, subst, arith}
+use Rattle.std.specs.List.{slice_get, find, filter_map, cons_option}
 use Rattle.std.specs.Option.{option_map}
 use Rattle.std.proofs.lemmas.Option.{slice_get-get_or, get_or_from_slice_get}
 use Rattle.cxx_model.specs.declared.evidence.Evidence.{Evidence}
-use Rattle.cxx_model.specs.declared.evidence.Evidence.TheVariants.{DoesNotBeat, Refused}
+use Rattle.cxx_model.specs.declared.evidence.Evidence.TheVariants.{DoesNotBeat}
 use Rattle.cxx_model.specs.declared.overload.Outcome.{Outcome}
 use Rattle.cxx_model.specs.declared.overload.Outcome.TheVariants.{Viable, NotViable}
 use Rattle.cxx_model.specs.Choice.Better.{beats_if_other, counter, IsBest}
@@ -12,11 +12,11 @@ use Rattle.cxx_model.specs.Facts.Declarations.{CxxGraph}
 use Rattle.cxx_model.proofs.Champion.{best_is_best, eqb_of_other}
 use Rattle.cxx_champion.specs.Contests as contests
 use Rattle.cxx_champion.specs.declared.Verdict.TheVariants.{Best}
-use Rattle.cxx_overload.specs.Choices.{CxxChoice, beats, choice, choice_by, chosen, chosen_one, none_viable, ambiguous, position_of, refusal, refusal_by, refusals, shown, tie, ties}
+use Rattle.cxx_overload.specs.Choices.{beats, choice, choice_by, chosen, chosen_one, none_viable, ambiguous, position_of, refusal, refusal_by, refusals, shown, tie, ties}
 use Rattle.cxx_overload.specs.Contests.{wins_at}
 use Rattle.cxx_overload.specs.Gathering.{AreNumbered}
 use Rattle.cxx_overload.specs.Viability.{Rated, is_viable, viable}
-use Rattle.cxx_overload.specs.Words.{AreRefused, IsRefused, IsTied, ShowsTie, ShowTies}
+use Rattle.cxx_overload.specs.Words.{AreRefused, IsTied, ShowsTie, ShowTies}
 use Rattle.cxx_overload.proofs.Contests.{apart, below_there, chosen_by_verdict, eqb_same, missed, there_below, viable_numbered, wins_of}
 
 -- ---- the chosen one

@@ -1,15 +1,13 @@
 -- Functions that have neither an ellipsis nor default arguments.
-use Rattle.std.proofs.Common.{◌≡◌, ℕ, zero, suc, ◌+◌, ◌-◌, ◌<◌, ◌≤◌, Bool, true, false, not, cond, nat_lt, ◌&&◌, ◌||◌, eqb, List, [], ◌∷◌, length, map, Option, Some, None, Ok, Err, refl, sym, ◌∙◌, ap, arith}
-use Rattle.std.specs.List.{find, filter, filter_map, cons_option, list_all, list_any}
+use Rattle.std.proofs.Common.{◌≡◌, ℕ, suc, ◌≤◌, Bool, true, false, not, cond, nat_lt, ◌&&◌, ◌||◌, eqb, List, [], ◌∷◌, length, map, Option, Some, None, Ok, Err, refl, sym, ◌∙◌, ap, arith}
+use Rattle.std.specs.List.{find, filter_map, cons_option, list_all, list_any}
 use Rattle.std.specs.Option.{option_map}
-use Rattle.cxx_model.specs.declared.evidence.Evidence.{Evidence}
 use Rattle.cxx_model.specs.declared.evidence.Evidence.TheVariants.{DoesNotBeat}
-use Rattle.cxx_model.specs.declared.evidence.Reason.TheVariants.{TooFewArguments, TooManyArguments, NoConversion}
+use Rattle.cxx_model.specs.declared.evidence.Reason.TheVariants.{TooFewArguments, TooManyArguments}
 use Rattle.cxx_model.specs.declared.overload.Outcome.{Outcome}
 use Rattle.cxx_model.specs.declared.overload.Outcome.TheVariants.{Viable, NotViable}
 use Rattle.cxx_model.specs.declared.place.Place.{Place}
-use Rattle.cxx_model.specs.declared.sequence.Order.{Order}
-use Rattle.cxx_model.specs.Choice.Better.{beats_if_other, best, compared, counter, is_better, is_better_order, is_worse_order}
+use Rattle.cxx_model.specs.Choice.Better.{beats_if_other, compared, counter, is_better, is_better_order, is_worse_order}
 use Rattle.cxx_model.specs.Facts.Declarations as declares
 use Rattle.cxx_model.specs.Facts.Declarations.{CxxGraph, Declares}
 use Rattle.cxx_model.specs.Types.Trees.{CxxType, CxxTypes, fundamental, function_of, no_types, type_then}
@@ -18,10 +16,10 @@ use Rattle.cxx_meaning.specs.Conversions.Standard.{CxxOperand, CxxStandard, stan
 use Rattle.cxx_reading.specs.Choosing as narrow
 use Rattle.cxx_reading.specs.Seen.{Numbered}
 use Rattle.cxx_overload.specs.Candidates.{CxxCandidate, candidate_by, candidate_by_what, candidate_of, candidates, candidates_from, defaults_behind, each_type, put}
-use Rattle.cxx_overload.specs.Choices.{CxxChoice, beats, choice, choice_by, chosen, none_viable, ambiguous, position_of, refusal, refusal_by, refusals, shown, tie, ties}
+use Rattle.cxx_overload.specs.Choices.{beats, choice, choice_by, chosen, none_viable, ambiguous, position_of, refusal, refusal_by, refusals, shown, tie, ties}
 use Rattle.cxx_overload.specs.Narrow.{IsPlain, ArePlain, narrowed, widened, widened_choice, widened_rating, widened_viable}
-use Rattle.cxx_overload.specs.Sequences.{CxxSequence, behind, found_sequence, order_between, sequence_of, sequences_of}
-use Rattle.cxx_overload.specs.Viability.{Rated, by_count, by_sequences, first_without, is_viable, least_arguments, misfit, put_aside, rated, rated_one, viable}
+use Rattle.cxx_overload.specs.Sequences.{found_sequence, order_between, sequences_of}
+use Rattle.cxx_overload.specs.Viability.{Rated, by_count, by_sequences, first_without, is_viable, least_arguments, rated, rated_one, viable}
 use Rattle.cxx_overload.specs.Views.{kept_where}
 
 -- ---- candidates

@@ -12,7 +12,7 @@ use Rattle.cxx_meaning.specs.Conversions.Standard.{CxxOperand, CxxStandard, stan
 use Rattle.cxx_overload.specs.Asking.{joined}
 use Rattle.cxx_overload.specs.Candidates.{CxxCandidate}
 use Rattle.cxx_overload.specs.Sequences.{CxxSequence, by_standard, by_ellipsis, no_sequence, behind, found_sequence, sequence_beyond, sequence_of, sequences_of}
-use Rattle.cxx_overload.specs.Viability.{Rated, by_count, by_sequences, first_without, least_arguments, misfit, rated_one}
+use Rattle.cxx_overload.specs.Viability.{Rated, by_count, by_sequences, first_without, rated_one}
 use Rattle.cxx_overload.specs.Words.{CanBeCalled, Holds, IsConverted, IsFirstReason, IsNotConverted, IsOutcome, order_number}
 use Rattle.cxx_overload.proofs.Contests.{below_there, there_below}
 

@@ -1,8 +1,7 @@
 -- Answers that are gathered one after another, each of which may need a class first (14.7.1).
-use Rattle.std.specs.Prelude.{◌≡◌, ℕ, suc, Bool, true, false, if◌then◌else◌, List, [], ◌∷◌, ◌++◌, Option, Some, None, Result, Ok, Err}
+use Rattle.std.specs.Prelude.{ℕ, suc, Bool, true, false, if◌then◌else◌, List, [], ◌∷◌, ◌++◌, Option, Some, None, Ok}
 use Rattle.cxx_meaning.specs.declared.steps.SequenceSteps.{SequenceSteps}
-use Rattle.cxx_model.specs.declared.stop.Wait.{Wait}
-use Rattle.cxx_meaning.specs.Conversions.Asking.{Asked, ◌>>=◌, Waits}
+use Rattle.cxx_meaning.specs.Conversions.Asking.{Asked, ◌>>=◌}
 use Rattle.cxx_overload.specs.declared.conversion.Conversion.{Conversion}
 use Rattle.cxx_overload.specs.declared.conversion.Conversion.TheVariants as conversion
 

@@ -7,7 +7,6 @@ use Rattle.cxx_model.specs.Facts.Declarations.{CxxGraph}
 use Rattle.cxx_model.proofs.Asymmetric.{better_asymmetric, turned}
 use Rattle.cxx_meaning.specs.Conversions.Order.{order_of}
 use Rattle.cxx_meaning.specs.Conversions.Order as order
-use Rattle.cxx_meaning.specs.Conversions.Standard.{CxxStandard}
 use Rattle.cxx_standard.proofs.Turning.{order_turned}
 use Rattle.cxx_overload.specs.Choices.{beats}
 use Rattle.cxx_overload.specs.Sequences.{CxxSequence, by_standard, by_ellipsis, no_sequence, order_between}

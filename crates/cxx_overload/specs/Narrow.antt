@@ -1,12 +1,10 @@
 -- What the choice among functions that have neither an ellipsis nor default arguments is, in the terms of the definitions
 -- for such functions alone.
-use Rattle.std.specs.Prelude.{◌≡◌, ℕ, zero, false, List, [], ◌∷◌, map, Option, Some, None}
-use Rattle.cxx_model.specs.declared.overload.Outcome.{Outcome}
-use Rattle.cxx_model.specs.declared.overload.Outcome.TheVariants.{Viable, NotViable}
+use Rattle.std.specs.Prelude.{◌≡◌, false, List, [], ◌∷◌, map}
 use Rattle.cxx_reading.specs.Choosing as narrow
 use Rattle.cxx_overload.specs.Candidates.{CxxCandidate}
 use Rattle.cxx_overload.specs.Choices.{CxxChoice, chosen_one, none_viable, ambiguous}
-use Rattle.cxx_overload.specs.Sequences.{CxxSequence, found_sequence}
+use Rattle.cxx_overload.specs.Sequences.{found_sequence}
 use Rattle.cxx_overload.specs.Viability.{Rated}
 use Rattle.cxx_overload.specs.Views.{kept_where}
 

@@ -247,9 +247,7 @@ fn without_best<'r, 't, L: Ledger>(
 {
     match viable {
         [] => Ok(Choice::NoneViable(refusals(alloc, types, operands, ratings)?)),
-        [_, ..] => Ok(Choice::Ambiguous(ties(
-            alloc, graph, types, operands, viable, steps,
-        )?)),
+        [_, ..] => Ok(Choice::Ambiguous(ties(alloc, graph, types, operands, viable, steps)?)),
     }
 }
 

@@ -174,13 +174,5 @@ pub fn decide<'t>(
     ensures is { Gives (decision_at types.now place operands.now) result (decided place (operands_at types.now operands.now) (graph_at types.now graph.now) (numbered_in (graph_at types.now graph.now) found.now)) }
     ensures below { IfOk result (IsDecisionBelow (length types.now) (length operands.now)) }
 {
-    decide_by::<Brand>(
-        alloc,
-        graph,
-        types,
-        place,
-        operands,
-        found,
-        Blank::new(1),
-    )
+    decide_by::<Brand>(alloc, graph, types, place, operands, found, Blank::new(1))
 }

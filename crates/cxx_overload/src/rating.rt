@@ -42,7 +42,10 @@ fn misfit(types: &TypeTable, arguments: usize, candidate: &Candidate) -> Option<
     ensures { result ≡ misfit_of arguments (candidate_at types.now candidate.now) }
 {
     let _ = types;
-    let least = candidate.parameters.len().saturating_sub(candidate.defaults as usize);
+    let least = candidate
+        .parameters
+        .len()
+        .saturating_sub(candidate.defaults as usize);
     if arguments < least {
         return Some(Reason::TooFewArguments);
     }

@@ -1,4 +1,3 @@
-use Rattle.std.proofs.Common.{arith}
 use Rattle.std.proofs.lemmas.Result.{err_from_is_err_and}
 use Rattle.cxx_overload.proofs.Converting.{conversion_means, conversion_waits, empty_means}
 use Rattle.cxx_overload.proofs.conversion.conversion_to.Goals as goal
