@@ -8,3 +8,5 @@ pub mod InWords
 pub mod Reasons
 pub mod Numbers
 pub mod Narrowed
+pub mod Deciding
+pub mod Keeping

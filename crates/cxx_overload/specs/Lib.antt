@@ -12,3 +12,5 @@ pub mod Contests
 pub mod Asymmetry
 pub mod Decisions
 pub mod Narrow
+pub mod Decided
+pub mod Kept

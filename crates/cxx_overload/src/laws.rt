@@ -1,19 +1,23 @@
 //! What a reader expects of the choice of a function, as contracts of functions that do nothing.
 
-ghost use Rattle.std.specs.Prelude.{◌≡◌, ◌≢◌, ◌↔◌, ℕ, true, false, map, List, [], Ok};
+ghost use Rattle.std.specs.Prelude.{◌≡◌, ◌≢◌, ◌↔◌, ℕ, true, false, map, List, [], Ok, Err};
 ghost use Rattle.cxx_model.specs.declared.evidence.Evidence.{Evidence};
+ghost use Rattle.cxx_model.specs.declared.place.Place.{Place};
 ghost use Rattle.cxx_model.specs.declared.types.FactId.{FactId};
 ghost use Rattle.cxx_model.specs.Choice.Better.{IsBest};
 ghost use Rattle.cxx_model.specs.Facts.Declarations.{CxxGraph, CxxName};
 ghost use Rattle.cxx_meaning.specs.Conversions.Standard.{CxxOperand};
 ghost use Rattle.cxx_reading.specs.Choosing as narrow;
 ghost use Rattle.cxx_reading.specs.Seen.{Numbered, declared_in};
+ghost use Rattle.cxx_model.specs.Stops.{Stopped};
+ghost use Rattle.cxx_overload.specs.Calls.{CxxDecision, decided};
 ghost use Rattle.cxx_overload.specs.Candidates.{CxxCandidate, candidates};
 ghost use Rattle.cxx_overload.specs.Choices.{ambiguous, beats, choice, chosen_one, none_viable, position_of, ties};
 ghost use Rattle.cxx_overload.specs.Gathering.{AreNumbered};
 ghost use Rattle.cxx_overload.specs.Narrow.{ArePlain, narrowed, widened_choice, widened_rating};
 ghost use Rattle.cxx_overload.specs.Viability.{Rated, rated, rated_one, viable};
 ghost use Rattle.cxx_overload.specs.Views.{numbered_in};
+ghost use Rattle.cxx_overload.specs.Decided.{IsDecided, IsUndecided};
 ghost use Rattle.cxx_overload.specs.Words.{AreRefused, IsOutcome, IsTied};
 
 /// A function is viable where it can be called with the arguments, and else the reason is the first that holds (13.3.2).
@@ -50,6 +54,16 @@ pub fn ambiguous_is_tied()
 /// Where some function is viable and none is the best, a call is ambiguous.
 pub fn tied_is_ambiguous()
     ensures { (graph : CxxGraph) (all : List Rated) → viable all ≢ [] → ((one : Rated) → IsBest position_of (beats graph) (viable all) one → ⊥) → choice graph all ≡ ambiguous (ties graph (viable all)) }
+{}
+
+/// A call that is decided means the viable function that is better than every other viable one.
+pub fn decision_is_best()
+    ensures { (place : Place) (operands : List CxxOperand) (graph : CxxGraph) (declared : List Numbered) (decision : CxxDecision) → decided place operands graph declared ≡ Ok decision → IsDecided place operands graph declared decision }
+{}
+
+/// One that is not has too many candidates, none that is viable, or none that is the best, or it needs a class.
+pub fn undecided_has_its_cause()
+    ensures { (place : Place) (operands : List CxxOperand) (graph : CxxGraph) (declared : List Numbered) (why : Stopped) → decided place operands graph declared ≡ Err why → IsUndecided place operands graph declared why }
 {}
 
 /// The numbers of the declarations of a name in a scope stand for these declarations (3.3).

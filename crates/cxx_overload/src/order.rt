@@ -45,7 +45,7 @@ fn standard(
 }
 
 /// How an argument is converted, with the parameters from its own on.
-fn sequence(
+pub(crate) fn sequence(
     types: &TypeTable,
     operand: Operand,
     conversion: Conversion,
