@@ -1,5 +1,5 @@
 -- The answer to the question of a call, in words.
-use Rattle.std.proofs.Common.{◌≡◌, ◌<◌, ℕ, Bool, true, false, cond, nat_lt, List, length, Result, Ok, Err, refl, sym, ◌∙◌, ap, arith, ◌⊎◌, inl, inr}
+use Rattle.std.proofs.Common.{◌≡◌, Bool, true, false, cond, nat_lt, List, length, Result, Ok, Err, refl, ap, inl, inr}
 use Rattle.std.proofs.lemmas.Bool.{ltb-true}
 use Rattle.cxx_model.specs.declared.limits.TheConstants as limits
 use Rattle.cxx_model.specs.declared.place.Place.{Place}
@@ -10,9 +10,9 @@ use Rattle.cxx_model.specs.Stops.{Answer, Stopped, Limited, ◌>>=◌}
 use Rattle.cxx_meaning.specs.Conversions.Standard.{CxxOperand}
 use Rattle.cxx_reading.specs.Seen.{Numbered}
 use Rattle.cxx_overload.specs.Calls.{CxxDecision, call_of, decided, decided_among, decided_by, decided_rated}
-use Rattle.cxx_overload.specs.Candidates.{CxxCandidate, candidates, candidates_from, candidates_within, within_limit}
-use Rattle.cxx_overload.specs.Choices.{CxxChoice, chosen_one, none_viable, ambiguous, choice, position_of}
-use Rattle.cxx_overload.specs.Decided.{IsAmbiguous, IsDecided, IsUndecided, NeedsClass, NoneViable, TooMany}
+use Rattle.cxx_overload.specs.Candidates.{candidates, candidates_within}
+use Rattle.cxx_overload.specs.Choices.{CxxChoice, chosen_one, none_viable, ambiguous, choice}
+use Rattle.cxx_overload.specs.Decided.{IsDecided, IsUndecided}
 use Rattle.cxx_overload.specs.Gathering.{AreNumbered, place_among}
 use Rattle.cxx_overload.specs.Viability.{Rated, rated}
 use Rattle.cxx_overload.proofs.Gathering.{candidates_numbered}

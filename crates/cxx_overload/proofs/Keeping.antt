@@ -1,5 +1,5 @@
 -- How the sequences that are kept are gathered.
-use Rattle.std.proofs.Common.{◌≡◌, List, [], ◌∷◌, ◌++◌, refl, sym, ap, ◌∙◌, append_assoc}
+use Rattle.std.proofs.Common.{◌≡◌, List, [], ◌∷◌, ◌++◌, sym, ap, append_assoc}
 use Rattle.std.proofs.lemmas.List.{append-nil}
 use Rattle.cxx_meaning.specs.Conversions.Standard.{CxxStandard}
 use Rattle.cxx_overload.specs.Calls.{standards}
