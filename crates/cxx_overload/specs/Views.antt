@@ -1,0 +1,131 @@
+-- What the values of the code stand for, given the types of a table.
+use Rattle.std.specs.Prelude.{◌≡◌, ◌≤◌, ℕ, ◌+◌, ◌<◌, List, [], ◌∷◌, ◌++◌, length, map, drop, Option, Some, None}
+use Rattle.std.specs.List.{All, slice_get}
+use Rattle.cxx_meaning.specs.declared.steps.SequenceSteps.{SequenceSteps}
+use Rattle.cxx_model.specs.declared.overload.Outcome.{Outcome}
+use Rattle.cxx_model.specs.declared.overload.Outcome.TheVariants.{Viable, NotViable}
+use Rattle.cxx_model.specs.declared.sequence.Operand.{Operand}
+use Rattle.cxx_model.specs.declared.sequence.Sequence.{Sequence}
+use Rattle.cxx_model.specs.declared.sequence.Sequence.TheVariants as sequence
+use Rattle.cxx_model.specs.declared.types.FactId.{FactId}
+use Rattle.cxx_model.specs.declared.types.TypeId.{TypeId}
+use Rattle.cxx_model.specs.Facts.Declarations.{CxxFact, CxxGraph}
+use Rattle.cxx_model.specs.Types.Numbers.{type_at, types_at, AreTypesBelow}
+use Rattle.cxx_model.specs.Types.Trees.{CxxType}
+use Rattle.cxx_meaning.specs.Conversions.Standard.{CxxOperand, sequence_by}
+use Rattle.cxx_reading.specs.Seen.{Numbered}
+use Rattle.cxx_standard.specs.Views.{operand_at, sequence_at as standard_sequence_at, IsSequenceBelow}
+use Rattle.cxx_overload.specs.declared.candidate.Candidate.{Candidate}
+use Rattle.cxx_overload.specs.declared.conversion.Conversion.{Conversion}
+use Rattle.cxx_overload.specs.declared.conversion.Conversion.TheVariants as conversion
+use Rattle.cxx_overload.specs.declared.rating.Rated.{Rated}
+use Rattle.cxx_overload.specs.declared.rating.Ratings.{Ratings}
+use Rattle.cxx_overload.specs.Candidates.{CxxCandidate, each_type}
+use Rattle.cxx_overload.specs.Sequences.{CxxSequence, by_standard, by_ellipsis, no_sequence, behind}
+use Rattle.cxx_overload.specs.Viability.{Rated as RatedMeant}
+
+-- ---- declarations
+
+abbrev pub with_fact : ℕ → Option CxxFact → List Numbered → List Numbered
+with_fact number None others = others
+with_fact number (Some fact) others = record { number = number; fact = fact } ∷ others
+
+-- the declarations that have some numbers
+abbrev pub numbered_in : CxxGraph → List FactId → List Numbered
+numbered_in graph [] = []
+numbered_in graph (n ∷ numbers) = with_fact n.0 (slice_get graph.facts n.0) (numbered_in graph numbers)
+
+-- each declaration stands in the graph under its number
+abbrev pub AreOf : CxxGraph → List Numbered → Type 0
+AreOf graph [] = Unit {0}
+AreOf graph (one ∷ others) = (slice_get graph.facts one.number ≡ Some one.fact) × AreOf graph others
+
+-- ---- candidates
+
+-- the types to which some numbers lead
+abbrev pub listed_at : List CxxType → List TypeId → List CxxType
+listed_at types numbers = each_type (types_at types numbers)
+
+abbrev pub candidate_at : List CxxType → Candidate → CxxCandidate
+candidate_at types one = record { position = one.position; number = one.number.0; place = one.place; result = type_at types one.result.0; parameters = listed_at types one.parameters.now; ellipsis = one.ellipsis; defaults = one.defaults }
+
+-- the numbers of its types are below a count
+pub record IsCandidateBelow (count : ℕ) (one : Candidate) : Type 0 where
+  pub result : one.result.0 < count
+  pub parameters : AreTypesBelow count one.parameters.now
+
+-- ---- arguments
+
+abbrev pub operands_at : List CxxType → List Operand → List CxxOperand
+operands_at types [] = []
+operands_at types (one ∷ others) = operand_at types one ∷ operands_at types others
+
+abbrev pub AreOperandsBelow : ℕ → List Operand → Type 0
+AreOperandsBelow count [] = Unit {0}
+AreOperandsBelow count (one ∷ others) = (one.of.0 < count) × AreOperandsBelow count others
+
+-- ---- sequences
+
+abbrev pub sequence_found : List CxxType → Sequence → CxxSequence
+sequence_found types (sequence.Standard one) = by_standard (standard_sequence_at types one)
+sequence_found types sequence.Ellipsis = by_ellipsis
+sequence_found types _ = no_sequence
+
+abbrev pub IsSequenceFoundBelow : ℕ → Sequence → Type 0
+IsSequenceFoundBelow count (sequence.Standard one) = IsSequenceBelow count one
+IsSequenceFoundBelow count _ = Unit {0}
+
+abbrev pub standard_at : List CxxType → Operand → SequenceSteps → List TypeId → CxxSequence
+standard_at types operand steps [] = by_ellipsis
+standard_at types operand steps (parameter ∷ others) = by_standard (sequence_by (operand_at types operand) (type_at types parameter.0) steps)
+
+-- how an argument is converted, with the parameters from its own on
+abbrev pub sequence_at : List CxxType → Operand → Conversion → List TypeId → CxxSequence
+sequence_at types operand (conversion.Standard steps) parameters = standard_at types operand steps parameters
+sequence_at types operand conversion.Ellipsis parameters = by_ellipsis
+sequence_at types operand conversion.Missing parameters = no_sequence
+
+-- how each argument is converted to its parameter, as far as the conversions go
+abbrev pub row_at : List CxxType → List Operand → List TypeId → List Conversion → List CxxSequence
+row_at types [] parameters conversions = []
+row_at types (operand ∷ operands) parameters [] = []
+row_at types (operand ∷ operands) parameters (one ∷ others) = sequence_at types operand one parameters ∷ row_at types operands (behind parameters) others
+
+-- ---- candidates with their sequences
+
+abbrev pub kept_where : Outcome → List CxxSequence → List CxxSequence
+kept_where Viable sequences = sequences
+kept_where (NotViable reason) sequences = []
+
+-- a candidate, where the conversions of all viable ones stand in one list
+abbrev pub rated_at : List CxxType → List Operand → List Conversion → Rated → RatedMeant
+rated_at types operands conversions one = record {
+  candidate = candidate_at types one.candidate;
+  outcome = one.outcome;
+  sequences = kept_where one.outcome (row_at types operands one.candidate.parameters.now (drop one.row conversions));
+}
+
+abbrev pub ratings_at : List CxxType → List Operand → Ratings → List RatedMeant
+ratings_at types operands ratings = map (rated_at types operands ratings.conversions.items) ratings.all.items
+
+-- there is a conversion for each of so many arguments
+abbrev pub HasRow : ℕ → ℕ → Rated → Type 0
+HasRow arguments conversions one = one.row + arguments ≤ conversions
+
+-- the numbers in it are below a count, and its conversions are there
+pub record IsRatedBelow (count arguments conversions : ℕ) (one : Rated) : Type 0 where
+  pub candidate : IsCandidateBelow count one.candidate
+  pub row : one.outcome ≡ Viable → HasRow arguments conversions one
+
+-- the same for all of them
+abbrev pub AreRatingsBelow : ℕ → ℕ → Ratings → Type 0
+AreRatingsBelow count arguments ratings = All (IsRatedBelow count arguments (length ratings.conversions.items)) ratings.all.items
+
+-- a list, and what may stand behind it
+abbrev pub Grows : {A : Type 0} → List A → List A → Type 0
+Grows {A = A} old new = (more : List A) × (new ≡ old ++ more)
+
+-- a list with what is there at its end
+abbrev pub with_option : {A : Type 0} → List A → Option A → List A
+with_option xs None = xs
+with_option xs (Some x) = xs ++ x ∷ []

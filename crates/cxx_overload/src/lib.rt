@@ -1,0 +1,24 @@
+//! Which function a call means (13.3), over a graph and a table of types, as long as there are no classes.
+//!
+//! `candidates` takes the functions from the declarations that lookup found, `rate` asks how the arguments are converted
+//! to the parameters of each and whether it is viable, and `choose` gives the best viable one, or what shows that none
+//! is. `decide` is all three.
+#![tactic(auto)]
+
+mod candidate;
+mod champion;
+mod contender;
+mod conversion;
+mod decision;
+mod kept;
+pub mod laws;
+mod order;
+mod rating;
+
+pub use candidate::{Candidate, candidates};
+pub use champion::{Choice, choose, chosen, ties};
+pub use contender::{Contender, contenders, refusals};
+pub use conversion::Conversion;
+pub use decision::{Decision, decide};
+pub use kept::standard_sequences;
+pub use rating::{Rated, Ratings, rate};
