@@ -1,0 +1,5 @@
+-- The words of expressions and of initializers in the plain form, and the calls that are listed of them.
+pub mod Productions
+pub mod Forms
+pub mod Phrases
+pub mod Calls

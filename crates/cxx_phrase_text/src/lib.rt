@@ -1,0 +1,7 @@
+//! Expressions and initializers in the plain form.
+//!
+//! A tree is written as the definition of its words has it: each conversion as a cast, parentheses round those operands
+//! alone that want them, and each name by the number that it has in the text.
+#![tactic(auto)]
+
+mod form;
