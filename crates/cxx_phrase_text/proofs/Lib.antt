@@ -1,1 +1,4 @@
 mod PhraseRows
+pub mod Casting
+pub mod Standings
+pub mod Parts

@@ -1,5 +1,6 @@
 -- The calls of an expression that are listed, in the order of the text.
-use Rattle.std.specs.Prelude.{ℕ, ◌-◌, List, [], ◌∷◌, ◌++◌, flat_map, length, map, slice_index_or, Option, Some, None}
+use Rattle.std.specs.Prelude.{ℕ, ◌-◌, List, [], ◌∷◌, ◌++◌, flat_map, length, map, Option, Some, None}
+use Rattle.std.specs.List.{slice_get}
 use Rattle.cxx_reading.specs.Plain.{target_or}
 use Rattle.cxx_reading.specs.Trees.{CxxTree, CxxTrees, no_trees, tree_then, Label}
 use Rattle.cxx_phrase_text.specs.declared.form.Form.{Form}
@@ -22,13 +23,17 @@ own_calls label = by label.call
 abbrev pub all_of : List (List CallOfText) → List CallOfText
 all_of parts = flat_map (λ calls. calls) parts
 
+abbrev pub calls_or_none : Option (List CallOfText) → List CallOfText
+calls_or_none None = []
+calls_or_none (Some calls) = calls
+
 -- The calls of an expression of a form, given those of its parts: they stand before it. What a size measures is not
 -- written (5.3.3), nor is a type of a cast that has trees.
 abbrev pub calls_as : Form → Label → List (List CallOfText) → List CallOfText
 calls_as form.Spelled label parts = []
 calls_as form.Name label parts = []
 calls_as form.Zero label parts = []
-calls_as form.Cast label parts = slice_index_or parts (length parts - 1) []
+calls_as form.Cast label parts = calls_or_none (slice_get parts (length parts - 1))
 calls_as _ label parts = all_of parts ++ own_calls label
 
 -- The arguments of a call that are default arguments are parts of it, so their calls stand at each use.

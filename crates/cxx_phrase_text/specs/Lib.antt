@@ -3,3 +3,7 @@ pub mod Productions
 pub mod Forms
 pub mod Phrases
 pub mod Calls
+pub mod Apart
+pub mod Named
+pub mod Listed
+pub mod Written

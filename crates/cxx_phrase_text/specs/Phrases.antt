@@ -1,5 +1,6 @@
 -- The words of an expression in the plain form: each conversion is a cast, and parentheses stand where they are wanted.
-use Rattle.std.specs.Prelude.{ℕ, ◌-◌, Bool, true, false, not, ◌&&◌, ◌==◌, if◌then◌else◌, List, [], ◌∷◌, ◌++◌, drop, length, map, slice_index_or, Option, Some, None, codes}
+use Rattle.std.specs.Prelude.{ℕ, ◌-◌, Bool, true, false, not, ◌&&◌, ◌==◌, if◌then◌else◌, List, [], ◌∷◌, ◌++◌, drop, length, map, Option, Some, None, codes}
+use Rattle.std.specs.List.{slice_get}
 use Rattle.cxx_model.specs.declared.base.Base.{Base}
 use Rattle.cxx_model.specs.declared.base.Base.TheVariants as base
 use Rattle.cxx_model.specs.declared.sequence.ConstantKind.{ConstantKind}
@@ -33,8 +34,12 @@ operation words = record { standing = standing.Operation; words = words }
 abbrev pub nothing : Phrase
 nothing = primary []
 
+abbrev pub phrase_or_nothing : Option Phrase → Phrase
+phrase_or_nothing None = nothing
+phrase_or_nothing (Some phrase) = phrase
+
 abbrev pub part : List Phrase → ℕ → Phrase
-part parts n = slice_index_or parts n nothing
+part parts n = phrase_or_nothing (slice_get parts n)
 
 abbrev pub last_part : List Phrase → Phrase
 last_part parts = part parts (length parts - 1)
@@ -67,7 +72,7 @@ abbrev pub callee_words : (ℕ → List ℕ) → Option ℕ → List Phrase → 
 callee_words name (Some number) parts = name_word (name number) ∷ []
 callee_words name None parts = operand (part parts 0)
 
-abbrev pub arguments : Option ℕ → List Phrase → List Phrase
+abbrev pub arguments : {A : Type 0} → Option ℕ → List A → List A
 arguments (Some number) parts = parts
 arguments None parts = drop 1 parts
 
@@ -130,10 +135,14 @@ is_character_base base.UnsignedChar = true
 is_character_base base.WideChar = true
 is_character_base _ = false
 
+abbrev pub is_plain_character : CxxType → Bool
+is_plain_character (fundamental of) = is_character_base of
+is_plain_character _ = false
+
+-- 3.9.3: cv words aside
 abbrev pub is_character : CxxType → Bool
-is_character (fundamental of) = is_character_base of
-is_character (qualified cv (fundamental of)) = is_character_base of
-is_character _ = false
+is_character (qualified cv of) = is_plain_character of
+is_character of = is_plain_character of
 
 -- 8.5.2: an array that a string initializes
 abbrev pub holds_string : CxxType → Bool
@@ -158,6 +167,10 @@ is_one_string _ = false
 abbrev pub has_braces : CxxType → Bool → Bool
 has_braces of is_one_string = is_array of && not (is_one_string && holds_string of)
 
+-- whether a list in braces is written as one
+abbrev pub is_braced : Label → Bool → Bool
+is_braced label is_one_string = spells_brace label.spelling && has_braces (type_or_void label.of) is_one_string
+
 abbrev pub braced : Bool → List Phrase → Phrase
 braced true parts = primary (keyword_word (codes "{") ∷ (elements parts ++ keyword_word (codes "}") ∷ []))
 braced false parts = part parts 0
@@ -177,7 +190,7 @@ phrase_as form.Prefix tags name label is_one_string parts = operation (prefix_wo
 phrase_as form.Cast tags name label is_one_string parts = primary (cast_words tags (cast_keyword label.spelling) (type_or_void label.of) (last_part parts).words)
 phrase_as form.Infix tags name label is_one_string parts = record { standing = infix_standing label.spelling; words = operand (part parts 0) ++ (infix_word label.spelling ∷ operand (part parts 1)) }
 phrase_as form.Conditional tags name label is_one_string parts = operation (conditional_words parts)
-phrase_as form.Initial tags name label is_one_string parts = braced (spells_brace label.spelling && has_braces (type_or_void label.of) is_one_string) parts
+phrase_as form.Initial tags name label is_one_string parts = braced (is_braced label is_one_string) parts
 
 -- The words of a tree depend on the labels in it, on the names of classes and enumerations, and on the name that each
 -- declaration has in the text.

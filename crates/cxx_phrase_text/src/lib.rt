@@ -5,3 +5,9 @@
 #![tactic(auto)]
 
 mod form;
+mod names;
+mod production;
+mod standing;
+mod words;
+
+pub use names::Names;
