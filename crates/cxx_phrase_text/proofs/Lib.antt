@@ -1,4 +1,5 @@
 mod PhraseRows
 pub mod Casting
-pub mod Standings
+pub mod Listing
 pub mod Parts
+pub mod Standings

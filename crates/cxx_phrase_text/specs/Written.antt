@@ -1,5 +1,6 @@
 -- Expressions by their numbers, part by part as they are written.
 use Rattle.std.specs.Prelude.{ℕ, true, List, [], ◌∷◌, ◌++◌, map, codes, Option}
+use Rattle.std.specs.Option.{option_map}
 use Rattle.cxx_model.specs.declared.tree.Node.{Node}
 use Rattle.cxx_model.specs.declared.types.TreeId.{TreeId}
 use Rattle.cxx_model.specs.Types.Trees.{CxxType}
@@ -10,7 +11,7 @@ use Rattle.cxx_tree.specs.Arena.{label_at, tree_in, trees_in}
 use Rattle.cxx_phrase_text.specs.declared.form.Form.{Form}
 use Rattle.cxx_phrase_text.specs.Listed.{listed_words}
 use Rattle.cxx_phrase_text.specs.Named.{NamedState, trees_of}
-use Rattle.cxx_phrase_text.specs.Phrases.{Phrase, arguments, callee_words, element, initializer_words, is_one_string, operand, phrase_as, phrase_of}
+use Rattle.cxx_phrase_text.specs.Phrases.{Phrase, arguments, callee_words, element, initializer_words, is_one_string, operand, phrase_as, phrase_of, phrase_or_nothing}
 
 -- the expression with a number
 unfoldable pub phrase_at : NamedState → TreeId → Phrase
@@ -18,6 +19,10 @@ phrase_at named number = phrase_of named.tags named.name (tree_in (trees_of name
 
 abbrev pub phrases_at : NamedState → List TreeId → List Phrase
 phrases_at named numbers = map (phrase_at named) numbers
+
+-- an expression that may be missing
+abbrev pub phrase_found : NamedState → Option TreeId → Phrase
+phrase_found named number = phrase_or_nothing (option_map (phrase_at named) number)
 
 -- the expression of a node, whose form is given
 abbrev pub phrase_in : NamedState → Form → Node → Phrase

@@ -4,10 +4,12 @@
 //! alone that want them, and each name by the number that it has in the text.
 #![tactic(auto)]
 
+mod expressions;
 mod form;
 mod names;
 mod production;
 mod standing;
 mod words;
 
+pub use expressions::write_expression;
 pub use names::Names;

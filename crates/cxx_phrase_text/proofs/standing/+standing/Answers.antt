@@ -18,12 +18,12 @@ first_standing-standing-requires t c =
 pub first_standing-returns-in-Some : goal.first_standing-returns-in-Some
 first_standing-returns-in-Some t c tags name =
     let named : NamedState = record { held = c.args.state.now; tags = tags; name = name } in
-    c.standing.ensures tags name ∙ ap (λ (p : Phrase). p.standing) (sym (part_is named c.args.parts.now 0 _ (sym c.in-Some.is ∙ c.child.ensures.is)))
+    c.standing.ensures tags name ∙ ap (λ (p : Phrase). p.standing) (part_is named c.args.parts.now 0 _ (sym c.in-Some.is ∙ c.child.ensures.is))
 
 pub first_standing-returns-in-None : goal.first_standing-returns-in-None
 first_standing-returns-in-None t c tags name =
     let named : NamedState = record { held = c.args.state.now; tags = tags; name = name } in
-    ap (λ (p : Phrase). p.standing) (sym (part_is named c.args.parts.now 0 _ (sym c.in-None.is ∙ c.child.ensures.is)))
+    ap (λ (p : Phrase). p.standing) (part_is named c.args.parts.now 0 _ (sym c.in-None.is ∙ c.child.ensures.is))
 
 pub standing-returns : goal.standing-returns
 standing-returns t c tags name =
