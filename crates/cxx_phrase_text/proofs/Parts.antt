@@ -1,6 +1,6 @@
 -- The parts of an expression, by the nodes of their trees.
-use Rattle.std.proofs.Common.{◌≡◌, ℕ, zero, suc, ◌<◌, ◌-◌, Bool, true, false, not, List, [], ◌∷◌, ◌++◌, length, get_or, map, Option, Some, None, option_map, refl, ap, sym, subst, ◌∙◌, arith}
-use Rattle.std.specs.Prelude.{IfSome, codes, drop}
+use Rattle.std.proofs.Common.{◌≡◌, ℕ, zero, suc, ◌<◌, ◌-◌, Bool, true, false, not, List, [], ◌∷◌, ◌++◌, length, get_or, map, Option, Some, None, refl, ap, sym, subst, ◌∙◌, arith}
+use Rattle.std.specs.Prelude.{IfSome, codes}
 use Rattle.std.specs.List.{slice_get}
 use Rattle.std.proofs.lemmas.Option.{slice_get-map}
 use Rattle.std.proofs.lemmas.List.{append-nil, length-map}
@@ -17,7 +17,7 @@ use Rattle.cxx_phrase_text.specs.declared.form.Standing.{Standing}
 use Rattle.cxx_phrase_text.specs.Forms.{form_of}
 use Rattle.cxx_phrase_text.specs.Listed.{listed_words}
 use Rattle.cxx_phrase_text.specs.Named.{trees_of, type_for, NamedState}
-use Rattle.cxx_phrase_text.specs.Phrases.{arguments, braced, callee_words, call_words, cast_keyword, cast_words, element, elements, is_braced, is_comma, is_one_string, is_primary, last_part, operand, part, phrase_as, phrase_of, phrase_or_nothing, phrases, Phrase}
+use Rattle.cxx_phrase_text.specs.Phrases.{arguments, braced, callee_words, call_words, cast_keyword, cast_words, element, elements, is_braced, is_comma, is_one_string, is_primary, last_part, part, phrase_as, phrase_of, phrase_or_nothing, phrases, Phrase}
 use Rattle.cxx_phrase_text.specs.Written.{brace_parts, call_parts, cast_parts, element_at, elements_at, operand_at, phrase_at, phrase_found, phrase_in, phrases_at, zero_parts}
 use Rattle.cxx_phrase_text.proofs.Casting.{cast_is, zero_is}
 use Rattle.cxx_phrase_text.proofs.Listing.{all_listed}
@@ -35,6 +35,7 @@ child_within count (one ∷ parts) zero (Some number) all is = by (some_same is)
   where
     some_same : Some number ≡ Some one → number ≡ one
     some_same same = cc
+
     by : number ≡ one → number.0 < count
     by same = rw same all.0
 child_within count (one ∷ parts) (suc i) found all is = child_within count parts i found all.1 is

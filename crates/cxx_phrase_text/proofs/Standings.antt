@@ -1,5 +1,5 @@
 -- Whether trees are one string, and how a tree stands.
-use Rattle.std.proofs.Common.{◌≡◌, ◌≤◌, ℕ, false, List, [], ◌∷◌, length, refl, arith}
+use Rattle.std.proofs.Common.{◌≡◌, ◌≤◌, false, List, [], ◌∷◌, length, refl, arith}
 use Rattle.cxx_model.specs.declared.types.TreeId.{TreeId}
 use Rattle.cxx_reading.specs.Trees.{in_turn, CxxTree}
 use Rattle.cxx_tree.specs.Arena.{trees_in}

@@ -27,13 +27,16 @@ abbrev pub calls_or_none : Option (List CallOfText) → List CallOfText
 calls_or_none None = []
 calls_or_none (Some calls) = calls
 
+abbrev pub last_calls : List (List CallOfText) → List CallOfText
+last_calls parts = calls_or_none (slice_get parts (length parts - 1))
+
 -- The calls of an expression of a form, given those of its parts: they stand before it. What a size measures is not
 -- written (5.3.3), nor is a type of a cast that has trees.
 abbrev pub calls_as : Form → Label → List (List CallOfText) → List CallOfText
 calls_as form.Spelled label parts = []
 calls_as form.Name label parts = []
 calls_as form.Zero label parts = []
-calls_as form.Cast label parts = calls_or_none (slice_get parts (length parts - 1))
+calls_as form.Cast label parts = last_calls parts
 calls_as _ label parts = all_of parts ++ own_calls label
 
 -- The arguments of a call that are default arguments are parts of it, so their calls stand at each use.

@@ -6,4 +6,5 @@ pub mod Calls
 pub mod Apart
 pub mod Named
 pub mod Listed
+pub mod Listing
 pub mod Written

@@ -13,22 +13,13 @@ ghost use Rattle.cxx_phrase_text.specs.Written.{brace_parts, call_parts, cast_pa
 
 use crate::form::{Form, form_of, is_comma, is_primary};
 use crate::names::Names;
-use crate::standing::{child, is_braced, standing};
+use crate::standing::{child, is_braced, last_child, standing, target_or};
 use crate::words::{
     write_cast_front, write_closed, write_comma_unless, write_infix_word, write_opened, write_zero,
 };
 use cxx_model::{FactId, Node, TreeId, TypeId};
 use cxx_page::{Page, PlainFault};
 use cxx_reading::Role;
-
-fn target_or(target: Option<FactId>) -> FactId
-    ensures { result.0 ≡ target_or_of (number_of_option target) }
-{
-    match target {
-        Some(target) => target,
-        None => FactId(0),
-    }
-}
 
 // Writes an expression, in parentheses or not.
 #[cycle(words)]
@@ -256,14 +247,6 @@ fn write_call<N: Names>(
 {
     write_callee(names, page, target, parts, end)?;
     write_arguments(names, page, arguments(target, parts), end)
-}
-
-// The last part, where there is one.
-fn last_child(parts: &[TreeId]) -> Option<TreeId>
-    ensures is { result ≡ slice_get parts.now (length parts.now - 1) }
-    ensures below { (count : ℕ) → AreTreesBelow count parts.now → IfSome result (λ number. number.0 < count) }
-{
-    child(parts, parts.len().saturating_sub(1))
 }
 
 // Writes the last part.

@@ -1,20 +1,20 @@
 //! How expressions stand as parts of others.
-ghost use Rattle.std.specs.Prelude.{◌≡◌, ◌<◌, ℕ, List, length, IfSome};
+ghost use Rattle.std.specs.Prelude.{◌≡◌, ◌<◌, ◌-◌, ℕ, List, length, IfSome};
 ghost use Rattle.std.specs.List.{slice_get};
 ghost use Rattle.cxx_model.specs.Facts.Declarations.{type_of_option};
 ghost use Rattle.cxx_model.specs.Facts.Fitted.{IsTypeNumberBelow};
 ghost use Rattle.cxx_model.specs.Types.Numbers.{type_at};
-ghost use Rattle.cxx_reading.specs.Plain.{type_or_void};
+ghost use Rattle.cxx_reading.specs.Plain.{target_or as target_or_of, type_or_void};
 ghost use Rattle.cxx_reading.specs.Trees.{in_turn};
 ghost use Rattle.cxx_reading.specs.Words.{Tags};
-ghost use Rattle.cxx_tree.specs.Arena.{label_at, operand_of_option, trees_in, AreTreesBelow};
+ghost use Rattle.cxx_tree.specs.Arena.{label_at, number_of_option, operand_of_option, trees_in, AreTreesBelow};
 ghost use Rattle.cxx_tree.specs.Held.{trees};
 ghost use Rattle.cxx_phrase_text.specs.Phrases as phrases;
 ghost use Rattle.cxx_phrase_text.specs.Written.{phrase_at, phrase_in, phrases_at};
 
 use crate::form::{Form, Standing, form_of};
 use crate::words::spells_comma;
-use cxx_model::{Base, ConstantKind, Node, Operand, TreeId, TypeId, TypeNode};
+use cxx_model::{Base, ConstantKind, FactId, Node, Operand, TreeId, TypeId, TypeNode};
 use cxx_tree::State;
 use cxx_types::TypeTable;
 
@@ -133,6 +133,24 @@ pub(crate) fn child(parts: &[TreeId], index: usize) -> Option<TreeId>
     ensures below { (count : ℕ) → AreTreesBelow count parts.now → IfSome result (λ number. number.0 < count) }
 {
     find(parts, index)
+}
+
+/// The last part, where there is one.
+pub(crate) fn last_child(parts: &[TreeId]) -> Option<TreeId>
+    ensures is { result ≡ slice_get parts.now (length parts.now - 1) }
+    ensures below { (count : ℕ) → AreTreesBelow count parts.now → IfSome result (λ number. number.0 < count) }
+{
+    child(parts, parts.len().saturating_sub(1))
+}
+
+/// The declaration that a name means.
+pub(crate) fn target_or(target: Option<FactId>) -> FactId
+    ensures { result.0 ≡ target_or_of (number_of_option target) }
+{
+    match target {
+        Some(target) => target,
+        None => FactId(0),
+    }
 }
 
 // How an operator stands that has operands on both sides.

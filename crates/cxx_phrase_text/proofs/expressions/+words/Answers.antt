@@ -1,4 +1,4 @@
-use Rattle.std.proofs.Common.{◌≡◌, ◌∙◌, ◌++◌, ap, sym, subst, rules, get_or, map, Option, true, List}
+use Rattle.std.proofs.Common.{◌∙◌, ◌++◌, ap, subst, rules, get_or, map, Option, true, List}
 use Rattle.cxx_model.specs.declared.types.TreeId.{TreeId}
 use Rattle.cxx_page.specs.Sheets.{put, Sheet, Writes}
 use Rattle.cxx_page.specs.Sides.{comma_unless}
