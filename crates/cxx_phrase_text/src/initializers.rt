@@ -6,8 +6,8 @@ ghost use Rattle.cxx_reading.specs.Words.{keyword_word};
 ghost use Rattle.cxx_phrase_text.specs.Named.{trees_of};
 ghost use Rattle.cxx_phrase_text.specs.Written.{element_at, initializer_at};
 
-use crate::expressions::write_element;
 use crate::names::Names;
+use crate::operands::write_element;
 use cxx_model::TreeId;
 use cxx_page::{Page, PlainFault};
 use cxx_reading::Role;

@@ -90,6 +90,7 @@ fn is_string(state: &State, operand: Option<Operand>) -> bool
 }
 
 // Whether some trees are one string (2.13.4).
+#[tactic(auto, using(crate::proofs::Standings::several))]
 fn is_one_string(state: &State, parts: &[TreeId], end: TreeId) -> bool
     requires known { end.0 < length (trees state.now) }
     requires earlier { AreTreesBelow end.0 parts.now }
