@@ -3,7 +3,7 @@ use Rattle.std.specs.Prelude.{ℕ, ◌≡◌, refl, true, false, List, [], ◌�
 use Rattle.cxx_model.specs.declared.base.Base.TheVariants as base
 use Rattle.cxx_model.specs.declared.sequence.ConstantKind.TheVariants as constant
 use Rattle.cxx_model.specs.Text.Lexemes.{nowhere}
-use Rattle.cxx_model.specs.Types.Trees.{CxxType, fundamental, enumeration, pointer_to, array_of, function_of, qualified, no_types, type_then, number_bound}
+use Rattle.cxx_model.specs.Types.Trees.{CxxType, fundamental, enumeration, pointer_to, reference_to, array_of, function_of, qualified, no_types, type_then, number_bound}
 use Rattle.cxx_reading.specs.Declarators.{no_cv}
 use Rattle.cxx_reading.specs.Trees.{CxxTree, Label, tree_of}
 use Rattle.cxx_reading.specs.Words.{Tags, line_text}
@@ -200,6 +200,12 @@ operand_of_a_cast_stands_last = refl
 
 element_of_a_string : text ((subscript (string (codes "\"ab\" \"c\"")) (literal (codes "1")))) ≡ codes "\"ab\" \"c\" [1]\n"
 element_of_a_string = refl
+
+cast_to_a_reference : text (cast (codes "static_cast") (reference_to int) a) ≡ codes "static_cast<int &>(a__1)\n"
+cast_to_a_reference = refl
+
+cast_to_void : text (cast (codes "static_cast") (fundamental base.Void) (call 0 2 [])) ≡ codes "static_cast<void>(f__3())\n"
+cast_to_void = refl
 
 bits : text ((infix_ (codes "^") (prefix (codes "~") a) (infix_ (codes "<<") b (literal (codes "3"))))) ≡ codes "(~a__1) ^ (b__2 << 3)\n"
 bits = refl
