@@ -1,0 +1,38 @@
+-- The numbers of the productions of expressions, beside those that a reading has already.
+use Rattle.std.specs.Prelude.{ℕ}
+
+-- 5.1: a name, qualified or not
+abbrev pub name : ℕ
+name = 36
+
+-- 5.1
+abbrev pub parenthesis : ℕ
+parenthesis = 39
+
+-- 5.2.3: of a type that is no class, without an argument
+abbrev pub functional_cast : ℕ
+functional_cast = 41
+
+-- 5.2.1
+abbrev pub subscript : ℕ
+subscript = 44
+
+-- 5.2.6
+abbrev pub postfix_step : ℕ
+postfix_step = 45
+
+-- 5.3.1, 5.3.2
+abbrev pub prefix : ℕ
+prefix = 46
+
+-- 5.6 to 5.15
+abbrev pub binary : ℕ
+binary = 50
+
+-- 5.16
+abbrev pub conditional : ℕ
+conditional = 51
+
+-- 5.17, 5.18
+abbrev pub assignment : ℕ
+assignment = 52
