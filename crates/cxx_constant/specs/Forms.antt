@@ -161,9 +161,10 @@ form_by graph label operands =
     if nat_eq label.production production.NAME then value_form (value_of_name graph.facts label.target) else (
     if nat_eq label.production production.QUALIFIED_NAME then value_form (value_of_name graph.facts label.target) else (
     if nat_eq label.production production.SIZE then size_form graph (measured label.of operands) else (
+    if nat_eq label.production production.PARENTHESIS then form.Cast else (
     if nat_eq label.production reading.cast then cast_form label.of else (
     if nat_eq label.production production.FUNCTIONAL_CAST then functional_form label.of operands else
-    operator_form label operands)))))
+    operator_form label operands))))))
 
 -- What an expression is, given its operands. One that is of no integral type and no enumeration is no constant.
 unfoldable pub form_of : CxxGraph → Label → List Label → Form
