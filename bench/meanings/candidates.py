@@ -32,11 +32,9 @@ reference, has the sides of clang++, and need not list a candidate of two pointe
 operand gives it; where it has but one candidate for [] there is no ambiguity and no list.
 Where an operand is no class, only the best candidates are listed: each must be one of 13.6.
 
-No row is written for which a compiler differs beyond this, or with which the crate's table does not agree: that has for unary *
-no pointers to functions (13.6 p7), and for unary + none to functions and void (13.6 p8).
+No row is written for which a compiler differs beyond this.
 
-Usage: candidates.py FOLDER-OF-THE-CRATE
-With SHOW_LEFT in the environment it says what the compilers list for the rows that the crate's table leaves out."""
+Usage: candidates.py FOLDER-OF-THE-CRATE"""
 import os, random, re, subprocess, sys, tempfile
 
 CLANG = ["clang++", "-std=c++98", "-w", "-ferror-limit=0", "-fshow-overloads=all", "-fno-caret-diagnostics", "-fsyntax-only"]
@@ -256,7 +254,7 @@ def expected(unit, operator, operands):
         # p23
         if operator in ("&&", "||"):
             out += [("b", "b")]
-    return out, pointers, objects
+    return out, objects
 
 
 # ---- the compilers
@@ -453,13 +451,7 @@ def main():
         changes = operator in ("++", "--") or operator[-1] == "=" and operator not in ("<=", ">=", "==", "!=")
         if changes and r.random() < 0.8:
             operands[0] = operands[0].rstrip("k") if operands[0][0].isupper() else operands[0]
-        candidates, pointers, objects = expected(unit, operator, operands)
-        if n == 1 and (operator == "*" and any(is_function(t[:-1]) for t in pointers) or operator == "+" and len(pointers) != len(objects)):
-            left["the crate's table"] = left.get("the crate's table", 0) + 1
-            if "SHOW_LEFT" in os.environ:
-                confirmed, differs = judged(unit, operator, operands, candidates, objects)
-                sys.stderr.write(f"{unit.shown()}: {operator} of {', '.join(plain(declared(t)) for t in operands)}: {[text_of(one) for one in candidates if one[0][-1] == '*']} {confirmed} {differs}\n")
-            continue
+        candidates, objects = expected(unit, operator, operands)
         row = " ".join(unit.words() + ["?" + operator] + ["@" + t for t in operands] + ["=" + "".join("".join(one) + "," for one in candidates)])
         if row in seen:
             continue

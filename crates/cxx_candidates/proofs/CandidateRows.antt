@@ -18,7 +18,7 @@ use Rattle.cxx_candidates.specs.Candidates.{CxxLetters, binary_candidates, unary
 use Rattle.cxx_candidates.specs.Sources.{built_in_candidates, conversions, conversions_of, kinds_of_class, letters, needed}
 
 abbrev none : CxxLetters
-none = record { pointers = []; objects = []; enumerations = [] }
+none = record { pointers = []; objects = []; functions = []; enumerations = [] }
 
 -- ++a
 count_1 : length (unary_candidates none punct.INCREMENT) ≡ 28

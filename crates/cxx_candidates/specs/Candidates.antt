@@ -41,10 +41,11 @@ condition = fundamental base.Bool ∷ []
 abbrev pub distances : List CxxType
 distances = fundamental base.Long ∷ []
 
--- What the operands of an operator may become: pointers, those among them to objects, and enumerations.
+-- What the operands of an operator may become: pointers, those among them to objects and those to functions, and enumerations.
 pub record CxxLetters : Type 0 where
   pub pointers : List CxxType
   pub objects : List CxxType
+  pub functions : List CxxType
   pub enumerations : List CxxType
 
 -- ---- lists of parameters
@@ -90,9 +91,13 @@ changing_same ts = flat_map (λ t. changing (t ∷ []) t) ts
 abbrev pub stepped : List CxxType → List CxxType → CxxLetters → List (List CxxType)
 stepped numbers others letters = changing_alone others numbers ++ changing_alone others letters.objects
 
+-- 13.6 p6, p7: `*` of one operand
+abbrev pub followed : CxxLetters → List (List CxxType)
+followed letters = alone letters.objects ++ alone letters.functions
+
 -- 13.6 p8, p9: `+` of one operand
 abbrev pub kept : CxxLetters → List (List CxxType)
-kept letters = alone promoted_arithmetic ++ alone letters.objects
+kept letters = alone promoted_arithmetic ++ alone letters.pointers
 
 -- 13.6 p12, p13: `+`
 abbrev pub sums : CxxLetters → List (List CxxType)
@@ -128,7 +133,7 @@ abbrev pub unary_by : CxxLetters → Option UnaryFamily → List (List CxxType)
 unary_by letters None = []
 unary_by letters (Some unary.Increment) = stepped (stepped_numbers false) [] letters
 unary_by letters (Some unary.Decrement) = stepped (stepped_numbers true) [] letters
-unary_by letters (Some unary.Follow) = alone letters.objects
+unary_by letters (Some unary.Follow) = followed letters
 unary_by letters (Some unary.Plus) = kept letters
 unary_by letters (Some unary.Minus) = alone promoted_arithmetic
 unary_by letters (Some unary.Complement) = alone promoted_integral

@@ -75,11 +75,12 @@ abbrev pub AreShapesKnown : Graph → ℕ → List Shape → Type 0
 AreShapesKnown graph count shapes = All (IsShapeKnown graph count) shapes
 
 abbrev pub letters_at : List CxxType → Letters → CxxLetters
-letters_at types one = record { pointers = slots_at types one.pointers.now; objects = slots_at types one.objects.now; enumerations = slots_at types one.enumerations.now }
+letters_at types one = record { pointers = slots_at types one.pointers.now; objects = slots_at types one.objects.now; functions = slots_at types one.functions.now; enumerations = slots_at types one.enumerations.now }
 
 pub record AreLettersKnown (graph : Graph) (count : ℕ) (one : Letters) : Type 0 where
   pub pointers : AreSlotsKnown graph count one.pointers.now
   pub objects : AreSlotsKnown graph count one.objects.now
+  pub functions : AreSlotsKnown graph count one.functions.now
   pub enumerations : AreSlotsKnown graph count one.enumerations.now
 
 -- ---- conversion functions

@@ -112,7 +112,7 @@ abbrev pub is_object : CxxType → Bool
 is_object t = not (is_void (kind_of t)) && not (is_function t)
 
 abbrev pub letters_of : List CxxType → List ℕ → CxxLetters
-letters_of ts ns = record { pointers = map pointer_to ts; objects = map pointer_to (filter is_object ts); enumerations = map enumeration ns }
+letters_of ts ns = record { pointers = map pointer_to ts; objects = map pointer_to (filter is_object ts); functions = map pointer_to (filter is_function ts); enumerations = map enumeration ns }
 
 unfoldable pub letters : List CxxKind → CxxLetters
 letters kinds = letters_of (pointees kinds) (enumerations kinds)

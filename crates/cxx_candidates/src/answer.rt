@@ -7,6 +7,7 @@ ghost use Rattle.cxx_model.specs.Types.Trees.{enumeration, pointer_to};
 ghost use Rattle.cxx_builtin.specs.Built.{list_at};
 ghost use Rattle.cxx_builtin.specs.Plans.{operands_at, AreOperandsBelow};
 ghost use Rattle.cxx_candidates.specs.Shapes.{number_of, numbers_at, AreAdded, AreFoundKnown, AreNumbersKnown, ArePointeesKnown, letters_at, Adds, AreLettersKnown, AreShaped, AreSlots, GivesCandidates, MakesLists};
+ghost use Rattle.cxx_meaning.specs.Conversions.Kinds.{is_function as is_function_type};
 ghost use Rattle.cxx_meaning.specs.Conversions.Pointers.{is_void as is_void_kind};
 ghost use Rattle.cxx_candidates.specs.Sources as definition;
 ghost use Rattle.cxx_standard.specs.Views.{kind_at, IsKindInRange};
@@ -185,6 +186,24 @@ fn objects_among(
     Ok(list)
 }
 
+// Those of some types that are of functions.
+fn functions_among(
+    alloc: Global,
+    types: &TypeTable,
+    pointees: &[TypeId],
+) -> Result<Vec<TypeId>, OutOfMemory>
+    requires known { ArePointeesKnown (length types.now) pointees.now }
+    ensures is { IfOk result (λ functions. list_at types.now functions.items ≡ filter is_function_type (list_at types.now pointees.now)) }
+    ensures known { IfOk result (λ functions. ArePointeesKnown (length types.now) functions.items) }
+{
+    let mut list = Vec::new(alloc);
+    for of in pointees {
+        let keeps = is_function(types, *of);
+        keep_type(&mut list, keeps, *of)?;
+    }
+    Ok(list)
+}
+
 // ---- candidates
 
 fn add_for_two(
@@ -273,12 +292,15 @@ fn shapes_by(
     ensures { IfOk result (λ list. AreShaped graph.now types.now list.items (definition.candidates_by (definition.letters_of (list_at types.now found.now.pointees.items) (numbers_at found.now.enumerations.items)) operator (operands_at types.now operands.now))) }
 {
     let objects = objects_among(alloc, graph, types, found.pointees.as_slice())?;
+    let functions = functions_among(alloc, types, found.pointees.as_slice())?;
     let pointers = pointer_slots(alloc, graph, types, found.pointees.as_slice())?;
     let objects = pointer_slots(alloc, graph, types, objects.as_slice())?;
+    let functions = pointer_slots(alloc, graph, types, functions.as_slice())?;
     let enumerations = enumeration_slots(alloc, graph, types, found.enumerations.as_slice())?;
     let letters = Letters {
         pointers: pointers.as_slice(),
         objects: objects.as_slice(),
+        functions: functions.as_slice(),
         enumerations: enumerations.as_slice(),
     };
     let list = shapes_from(alloc, graph, types, letters, operator, operands)?;

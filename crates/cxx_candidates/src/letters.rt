@@ -21,11 +21,12 @@ use cxx_standard::{TypeKind, value_kind};
 use cxx_types::TypeTable;
 use std::alloc::Global;
 
-/// Pointers, those among them to objects, and enumerations.
+/// Pointers, those among them to objects and those to functions, and enumerations.
 #[derive(Clone, Copy)]
 pub(crate) struct Letters<'s> {
     pub pointers: &'s [Slot],
     pub objects: &'s [Slot],
+    pub functions: &'s [Slot],
     pub enumerations: &'s [Slot],
 }
 

@@ -101,6 +101,21 @@ fn add_stepped(
     Ok(())
 }
 
+/// `*` of one operand.
+fn add_followed(
+    graph: &Graph,
+    types: &TypeTable,
+    list: &mut Vec<Shape>,
+    letters: Letters<'_>,
+) -> Result<(), OutOfMemory>
+    requires { AreLettersKnown graph.now (length types.now) letters }
+    ensures { OnOk result (Adds graph.now types.now list.old.items list.new.items (definition.followed (letters_at types.now letters.entry))) }
+{
+    add_alone(graph, types, list, letters.objects)?;
+    add_alone(graph, types, list, letters.functions)?;
+    Ok(())
+}
+
 /// `+` of one operand.
 fn add_kept(
     graph: &Graph,
@@ -112,7 +127,7 @@ fn add_kept(
     ensures { OnOk result (Adds graph.now types.now list.old.items list.new.items (definition.kept (letters_at types.now letters.entry))) }
 {
     add_alone(graph, types, list, &PROMOTED_ARITHMETIC)?;
-    add_alone(graph, types, list, letters.objects)?;
+    add_alone(graph, types, list, letters.pointers)?;
     Ok(())
 }
 
@@ -335,7 +350,7 @@ fn add_unary_by(
         Some(UnaryFamily::Decrement) => {
             add_stepped(graph, types, list, &ARITHMETIC_BUT_BOOL, None, letters)
         }
-        Some(UnaryFamily::Follow) => add_alone(graph, types, list, letters.objects),
+        Some(UnaryFamily::Follow) => add_followed(graph, types, list, letters),
         Some(UnaryFamily::Plus) => add_kept(graph, types, list, letters),
         Some(UnaryFamily::Minus) => add_alone(graph, types, list, &PROMOTED_ARITHMETIC),
         Some(UnaryFamily::Complement) => add_alone(graph, types, list, &PROMOTED_INTEGRAL),

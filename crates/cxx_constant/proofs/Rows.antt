@@ -62,7 +62,8 @@ to of operand = node 48 (codes "") (fundamental of) (Some (fundamental of)) None
 abbrev size : CxxType → CxxTree
 size t = node 47 (codes "sizeof") (fundamental base.UnsignedLong) (Some t) None []
 
--- enum E { below = -1, above = 5 }; const int n = 7; int x;
+-- enum E { below = -1, above = 5 }; const int n = 7; int x; extern const int late; const int late = 9; using ::n;
+-- using ::above; using ::late; template<int p>
 abbrev put : List ℕ → Declares → CxxFact
 put word what = record { place = nowhere; scope = 0; name = spelled word; access = Public; what = what }
 
@@ -72,7 +73,10 @@ const_int = qualified (record { is_const = true; is_volatile = false }) (fundame
 abbrev graph : CxxGraph
 graph = record {
   facts = put (codes "") (facts.scope None kind.Space) ∷ put (codes "E") (facts.enumeration 0) ∷ put (codes "below") (facts.enumerator 0 (negsuc 0)) ∷ put (codes "above") (facts.enumerator 0 (pos 5))
-      ∷ put (codes "n") (facts.object const_int member.Free false (Some (pos 7)) None) ∷ put (codes "x") (facts.object (fundamental base.Int) member.Free false None None) ∷ [];
+      ∷ put (codes "n") (facts.object const_int member.Free false (Some (pos 7)) None) ∷ put (codes "x") (facts.object (fundamental base.Int) member.Free false None None)
+      ∷ put (codes "late") (facts.object const_int member.Free false None None) ∷ put (codes "late") (facts.object const_int member.Free false (Some (pos 9)) (Some (record { 0 = 6 })))
+      ∷ put (codes "n") (facts.using (record { 0 = 4 })) ∷ put (codes "above") (facts.using (record { 0 = 3 })) ∷ put (codes "late") (facts.using (record { 0 = 6 }))
+      ∷ put (codes "p") (facts.value_parameter 0 0 (fundamental base.Int)) ∷ [];
   classes = [];
   patterns = [];
 }
@@ -128,6 +132,16 @@ names : (value (binary base.Int (codes "+") (to base.Int above) (int (codes "1")
 unfolding value
 names = (refl, refl)
 
+-- late, by its first declaration and by its second
+defined_later : (value (named const_int 6) ≡ Ok (pos 9)) × (value (named const_int 7) ≡ Ok (pos 9))
+unfolding value
+defined_later = (refl, refl)
+
+-- n, above and late by using-declarations
+used : (value (named const_int 8) ≡ Ok (pos 7)) × (value (named (enumeration 0) 9) ≡ Ok (pos 5)) × (value (named const_int 10) ≡ Ok (pos 9))
+unfolding value
+used = (refl, refl, refl)
+
 -- sizeof(int) * 2, sizeof(long) - 9, sizeof(&n)
 sizes : (value (binary base.UnsignedLong (codes "*") (size (fundamental base.Int)) (to base.UnsignedLong (int (codes "2")))) ≡ Ok (pos 8))
     × (value (binary base.UnsignedLong (codes "-") (size (fundamental base.Long)) (to base.UnsignedLong (int (codes "9")))) ≡ Ok (pos 18446744073709551615))
@@ -173,3 +187,15 @@ no_constants : (value (binary base.Bool (codes "&&") (to base.Bool (int (codes "
     × (value (cast base.Int fraction) ≡ Err (not_constant fraction)) × (value comma ≡ Err (not_constant comma))
 unfolding value
 no_constants = (refl, refl, refl, refl)
+
+abbrev parameter : CxxTree
+parameter = named (fundamental base.Int) 11
+
+-- 5.2.5: `.` is told by its production, whatever object stands before it
+abbrev member_named : CxxTree
+member_named = node 42 (codes ".") const_int None (Some 4) (x ∷ [])
+
+-- p, and `n` behind `.`
+not_named : (value parameter ≡ Err (not_constant parameter)) × (value member_named ≡ Err (not_constant member_named))
+unfolding value
+not_named = (refl, refl)

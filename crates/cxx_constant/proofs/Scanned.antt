@@ -1,16 +1,22 @@
 -- The value of an object, by its declarations one after another.
-use Rattle.std.proofs.Common.{◌≡◌, ℕ, zero, suc, ◌+◌, ◌<◌, ◌≤◌, ℤ, Bool, true, false, ◌&&◌, List, [], ◌∷◌, length, Option, Some, None, option_map, refl, ap, ◌∙◌, arith}
+use Rattle.std.proofs.Common.{◌≡◌, ℕ, zero, suc, ◌+◌, ◌<◌, ◌≤◌, ℤ, Bool, true, false, ◌&&◌, List, [], ◌∷◌, ◌++◌, length, drop, Option, Some, None, option_map, refl, ap, sym, ◌∙◌, arith}
 use Rattle.std.specs.Prelude.{if◌then◌else◌, nat_eq, nat_lt}
 use Rattle.std.specs.List.{slice_get}
 use Rattle.std.proofs.lemmas.Bool.Decides.{nat_tests}
 use Rattle.cxx_model.specs.declared.facts.Access.{Access}
+use Rattle.cxx_model.specs.declared.facts.Entity.{Entity}
+use Rattle.cxx_model.specs.declared.facts.Entity.TheVariants as entity
 use Rattle.cxx_model.specs.declared.facts.Fact.{Fact}
+use Rattle.cxx_model.specs.declared.facts.Name.{Name}
+use Rattle.cxx_model.specs.declared.facts.ScopeKind.TheVariants as kind
 use Rattle.cxx_model.specs.declared.place.Place.{Place}
+use Rattle.cxx_model.specs.declared.types.ScopeId.{ScopeId}
 use Rattle.cxx_model.specs.Facts.Declarations as facts
-use Rattle.cxx_model.specs.Facts.Declarations.{CxxFact, CxxName, Declares, fact_at, facts_at}
+use Rattle.cxx_model.specs.Facts.Declarations.{CxxFact, CxxName, Declares, declares_at, fact_at, facts_at}
+use Rattle.cxx_model.specs.Facts.Graph.{EachMayFollow, Graph, InRange, MayFollow}
 use Rattle.cxx_model.specs.Facts.Entities.{first_or, is_seen, object_said, object_value, value_said, ObjectSaid}
 use Rattle.cxx_model.specs.Types.Trees.{CxxType}
-use Rattle.cxx_constant.specs.Given.{first_given, or_given}
+use Rattle.cxx_constant.specs.Given.{first_given, given, or_given}
 
 seen : (all : List CxxFact) (cut number : ℕ) (fact : CxxFact) → number < cut → is_seen all cut number fact ≡ true
 seen all cut number fact within = let e : nat_lt number cut ≡ true = grind (arith, nat_tests) in rw e refl
@@ -58,3 +64,37 @@ fact_is types (fact ∷ all) (suc n) = fact_is types all n
 pub length_facts : (types : List CxxType) (all : List Fact) → length (facts_at types all) ≡ length all
 length_facts types [] = refl
 length_facts types (fact ∷ all) = ap (λ n. suc n) (length_facts types all)
+
+-- ---- before the first declaration of an object
+
+within : {A : Type 0} (xs : List A) (i : ℕ) (x : A) → slice_get xs i ≡ Some x → i < length xs
+within [] i x e = absurd (cc)
+within (y ∷ ys) zero x e = omega arith
+within (y ∷ ys) (suc i) x e = let less = within ys i x e in omega (arith, less)
+
+other : (entity number : ℕ) (value : Option ℤ) → number < entity → (if nat_eq number entity then value else None) ≡ None
+other entity number value less = let e : nat_eq number entity ≡ false = grind (arith, nat_tests) in rw e refl
+
+last_length : {A : Type 0} (xs : List A) (x : A) → length (xs ++ x ∷ []) ≡ suc (length xs)
+last_length [] x = refl
+last_length (y ∷ ys) x = ap suc (last_length ys x)
+
+-- what stands before an object declares it not: it names none that is later
+earlier : (types : List CxxType) (graph : Graph) (number : ℕ) (before : List Fact) (place : Place) (scope : ScopeId) (name : Name) (rights : Access) (what : Entity) → length before < number → MayFollow (record graph { facts = before }) (record { place = place; scope = scope; name = name; access = rights; what = what }) → given number (length before) (declares_at types what) ≡ None
+earlier types graph number [] place scope name rights (entity.Object of member is_mutable value first) less h = (let no : entity.Object of member is_mutable value first ≡ entity.Scope None kind.Space = h.0 in absurd cc)
+earlier types graph number (x ∷ xs) place scope name rights (entity.Object of member is_mutable value None) less h = other number (length (x ∷ xs)) value less
+earlier types graph number (x ∷ xs) place scope name rights (entity.Object of member is_mutable value (Some first)) less h = (let below = within (x ∷ xs) first.0 h.1.0 h.1.1 in other number first.0 value (omega (arith, below, less)))
+earlier types graph number before place scope name rights _ less h = refl
+
+from_first : (types : List CxxType) (graph : Graph) (number k : ℕ) (before later : List Fact) → EachMayFollow graph before later → length before + k ≡ number → first_given number (length before) (facts_at types later) ≡ first_given number number (facts_at types (drop k later))
+from_first types graph number zero before later follows e = (let same : length before ≡ number = omega (arith, e) in ap (λ n. first_given number n (facts_at types later)) same)
+from_first types graph number (suc k) before [] follows e = refl
+from_first types graph number (suc k) before (fact ∷ later) follows e =
+    let longer = last_length before fact in
+    let next : length (before ++ fact ∷ []) + k ≡ number = omega (arith, e, longer) in
+    ap (λ own. or_given own (first_given number (suc (length before)) (facts_at types later))) (earlier types graph number before fact.place fact.scope fact.name fact.access fact.what (omega (arith, e)) follows.0)
+    ∙ ap (λ n. first_given number n (facts_at types later)) (sym longer)
+    ∙ from_first types graph number k (before ++ fact ∷ []) later follows.1 next
+
+pub skipped : (types : List CxxType) (graph : Graph) (number : ℕ) → InRange graph → first_given number number (facts_at types (drop number graph.facts)) ≡ first_given number 0 (facts_at types graph.facts)
+skipped types graph number range = sym (from_first types graph number number [] graph.facts range.facts (omega arith))

@@ -95,9 +95,10 @@ by_wide graph label operands =
     (if_wide (nat_eq label.production production.NAME) _ _ (value_wide (value_of_name graph.facts label.target))
     (if_wide (nat_eq label.production production.QUALIFIED_NAME) _ _ (value_wide (value_of_name graph.facts label.target))
     (if_wide (nat_eq label.production production.SIZE) _ _ (size_wide graph (measured label.of operands))
+    (if_wide (nat_eq label.production production.PARENTHESIS) form.Cast _ tt
     (if_wide (nat_eq label.production reading.cast) _ _ (cast_wide label.of)
     (if_wide (nat_eq label.production production.FUNCTIONAL_CAST) _ _ (functional_wide label.of operands)
-    (operator_wide label operands))))))
+    (operator_wide label operands)))))))
 
 pub form_wide : (graph : CxxGraph) (label : Label) (operands : List Label) → IsFormWide (form_of graph label operands)
 unfolding form_of

@@ -5,7 +5,7 @@ use Rattle.cxx_model.specs.declared.base.Base.{Base}
 use Rattle.cxx_model.specs.declared.punct.TheConstants as punct
 use Rattle.cxx_model.specs.Facts.Declarations as facts
 use Rattle.cxx_model.specs.Facts.Declarations.{CxxFact, CxxGraph, Declares}
-use Rattle.cxx_model.specs.Facts.Entities.{first_or, object_value}
+use Rattle.cxx_model.specs.Facts.Entities.{Meant, first_or, meant_by, object_value}
 use Rattle.cxx_model.specs.Text.Spelling.{alternatives, first_of, literal_value, number_beside, number_in, operators}
 use Rattle.cxx_model.specs.Types.Trees.{CxxType}
 use Rattle.cxx_meaning.specs.declared.size.SizeReason.{SizeReason}
@@ -62,15 +62,20 @@ value_of_literal spelling =
     if bytes_eq spelling (codes "false") then Some (pos 0) else
     literal_value spelling)
 
--- 7.2: an enumerator has its value; 5.19: so has a const object that a constant expression initializes, once that was read
+-- 7.2: an enumerator has its value; 5.19: so has a const object that a constant expression initializes, once that was read.
+-- A value parameter of a template has none there (14.6.2.3).
 abbrev pub value_declared : List CxxFact → ℕ → Declares → Option ℤ
 value_declared all number (facts.enumerator n value) = Some value
 value_declared all number (facts.object of member is_mutable value first) = object_value all (first_or number first) (length all)
 value_declared all number _ = None
 
+abbrev pub value_meant : List CxxFact → Meant → Option ℤ
+value_meant all meant = value_declared all meant.number meant.what
+
+-- 7.3.3: a using-declaration stands for its target
 abbrev pub value_of_fact : List CxxFact → ℕ → Option CxxFact → Option ℤ
 value_of_fact all number None = None
-value_of_fact all number (Some fact) = value_declared all number fact.what
+value_of_fact all number (Some fact) = value_meant all (meant_by all number fact.what)
 
 -- the value of what a name was bound to
 abbrev pub value_of_name : List CxxFact → Option ℕ → Option ℤ
@@ -156,9 +161,10 @@ form_by graph label operands =
     if nat_eq label.production production.NAME then value_form (value_of_name graph.facts label.target) else (
     if nat_eq label.production production.QUALIFIED_NAME then value_form (value_of_name graph.facts label.target) else (
     if nat_eq label.production production.SIZE then size_form graph (measured label.of operands) else (
+    if nat_eq label.production production.PARENTHESIS then form.Cast else (
     if nat_eq label.production reading.cast then cast_form label.of else (
     if nat_eq label.production production.FUNCTIONAL_CAST then functional_form label.of operands else
-    operator_form label operands)))))
+    operator_form label operands))))))
 
 -- What an expression is, given its operands. One that is of no integral type and no enumeration is no constant.
 unfoldable pub form_of : CxxGraph → Label → List Label → Form

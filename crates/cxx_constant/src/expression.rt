@@ -18,7 +18,7 @@ use cxx_types::TypeTable;
 
 /// The value of an integral constant expression, by the number of its tree (5.19). The facts of the graph were noted. A
 /// fault names the first part from the left that is no constant or gives no value. No memory is taken. A name of an object
-/// takes time in proportion to the count of the declarations.
+/// takes time in proportion to the count of the declarations from its first one to the one that gives its value.
 #[tactic(auto, unfolding(crate::specs::Known::part_at, crate::specs::Constants::constant))]
 pub fn constant(
     layouts: &Layouts,

@@ -9,7 +9,7 @@ use cxx_model::Base;
 pub(crate) enum Form {
     /// A literal, an enumerator, a const object or a size, with its value.
     Value(Result<i128, ValueFault>),
-    /// 5.2.9, and what nothing spells (clause 4)
+    /// 5.2.9, what nothing spells (clause 4), and brackets (5.1): the value of what stands in it, as its type has it
     Cast,
     Unary(UnaryOperator, Base),
     Binary(BinaryOperator, Base),

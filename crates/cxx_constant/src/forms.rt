@@ -248,6 +248,7 @@ fn form_by(known: &Known<'_>, node: &Node, operands: &[TreeId]) -> Form
             value_form(value_of_name(known.graph, node.target))
         }
         production::SIZE => size_form(known, measured(known, node.of, operands)),
+        production::PARENTHESIS => Form::Cast,
         production::CAST => cast_form(known, node.of),
         production::FUNCTIONAL_CAST => functional_form(known, node.of, operands),
         _ => operator_form(known, node, operands),

@@ -3,7 +3,7 @@ ghost use Rattle.std.specs.Prelude.{◌≡◌, List};
 ghost use Rattle.std.specs.List.{slice_get};
 ghost use Rattle.std.specs.Option.{option_copied};
 ghost use Rattle.cxx_model.specs.Facts.Declarations.{declares_at, facts_at};
-ghost use Rattle.cxx_model.specs.Facts.Entities.{first_or as first_number_or};
+ghost use Rattle.cxx_model.specs.Facts.Entities.{first_or as first_number_or, meant_by};
 ghost use Rattle.cxx_model.specs.Types.Trees.{CxxType};
 ghost use Rattle.cxx_tree.specs.Arena.{number_of_option};
 ghost use Rattle.cxx_constant.specs.Forms as definition;
@@ -37,12 +37,13 @@ fn value_given(entity: FactId, number: FactId, what: Entity) -> Option<i128>
     }
 }
 
-// The value of an object, by the number of its first declaration.
+// The value of an object, by the number of its first declaration. None of those before it declares the object.
+#[tactic(auto, using(crate::proofs::Scanned::skipped))]
 fn value_of_object(graph: &Graph, entity: FactId) -> Option<i128>
     ensures { (types : List CxxType) → result ≡ first_given entity.0 0 (facts_at types graph.now.facts) }
 {
     let facts = graph.facts();
-    for number in 0..graph.length() {
+    for number in entity.0..graph.length() {
         let fact = &facts[number as usize];
         if let Some(value) = value_given(entity, FactId(number), fact.what) {
             return Some(value);
@@ -69,8 +70,23 @@ fn fact(graph: &Graph, number: FactId) -> Option<&Fact>
     graph.facts().get(number.0 as usize)
 }
 
+// The value of what a declaration stands for: one of a using-declaration is its target (7.3.3).
+#[tactic(auto, using(crate::proofs::Scanned::fact_is))]
+fn value_meant(graph: &Graph, number: FactId, what: Entity) -> Option<i128>
+    ensures { (types : List CxxType) → result ≡ definition.value_meant (facts_at types graph.now.facts) (meant_by (facts_at types graph.now.facts) number.0 (declares_at types what)) }
+{
+    match what {
+        Entity::Using { target } => match fact(graph, target) {
+            None => None,
+            Some(fact) => value_declared(graph, target, fact.what),
+        },
+        _ => value_declared(graph, number, what),
+    }
+}
+
 /// The value of what a name was bound to: of an enumerator (7.2), or of a const object once a constant expression that
-/// initializes it was read (5.19). It goes over the declarations.
+/// initializes it was read (5.19). For an object it goes over the declarations from the first of the object to the one that
+/// gives the value.
 #[tactic(auto, using(crate::proofs::Scanned::fact_is))]
 pub(crate) fn value_of_name(graph: &Graph, target: Option<FactId>) -> Option<i128>
     ensures { (types : List CxxType) → result ≡ definition.value_of_name (facts_at types graph.now.facts) (number_of_option target) }
@@ -79,7 +95,7 @@ pub(crate) fn value_of_name(graph: &Graph, target: Option<FactId>) -> Option<i12
         None => None,
         Some(number) => match fact(graph, number) {
             None => None,
-            Some(fact) => value_declared(graph, number, fact.what),
+            Some(fact) => value_meant(graph, number, fact.what),
         },
     }
 }

@@ -9,6 +9,9 @@ pub(crate) const NAME: u8 = 36;
 /// 5.1, 3.4.3
 pub(crate) const QUALIFIED_NAME: u8 = 37;
 
+/// 5.1
+pub(crate) const PARENTHESIS: u8 = 39;
+
 /// 5.2.3
 pub(crate) const FUNCTIONAL_CAST: u8 = 41;
 

@@ -8,4 +8,4 @@ pub returns : goal.returns
 returns c =
     let types = c.args.types.now in
     let letters = c.args.letters in
-    then_adds c.args.graph.now types c.args.list.now.items c.add_alone.new.list.items c.add_alone-2.new.list.items (definition.alone definition.promoted_arithmetic) (definition.alone (slots_at types letters.objects.now)) c.in_ok-add_alone.ensures c.in_ok-add_alone-2.ensures
+    then_adds c.args.graph.now types c.args.list.now.items c.add_alone.new.list.items c.add_alone-2.new.list.items (definition.alone definition.promoted_arithmetic) (definition.alone (slots_at types letters.pointers.now)) c.in_ok-add_alone.ensures c.in_ok-add_alone-2.ensures
