@@ -1,5 +1,5 @@
 -- What a `(` begins where an operand may stand, told by what stands behind it (5.1, 5.4, 8.2, 13.3.1.1.1).
-use Rattle.std.specs.Prelude.{ℕ, zero, suc, Bool, true, false, if◌then◌else◌, Option, Some, None}
+use Rattle.std.specs.Prelude.{ℕ, suc, Bool, true, false, if◌then◌else◌, Option, Some, None}
 use Rattle.cxx_model.specs.declared.punct.TheConstants as punct
 use Rattle.cxx_model.specs.declared.stop.LimitKind.TheVariants.{Nesting}
 use Rattle.cxx_model.specs.Text.Lexemes.{Lexeme}
@@ -7,7 +7,7 @@ use Rattle.cxx_phrases.specs.declared.shape.TypeShape.{TypeShape}
 use Rattle.cxx_phrases.specs.declared.shape.TypeShape.TheVariants as shape
 use Rattle.cxx_phrases.specs.Operators.{begins_expression}
 use Rattle.cxx_phrases.specs.Phrases.{Inner}
-use Rattle.cxx_reading.specs.Reads.{Reads, Ahead, Turn, More, Done, ◌>>=◌, got, give, limited, kind_ahead, behind, repeat}
+use Rattle.cxx_reading.specs.Reads.{Reads, Turn, More, Done, ◌>>=◌, got, give, limited, kind_ahead, behind, repeat}
 use Rattle.cxx_reading.specs.Shapes.{look, past}
 use Rattle.cxx_reading.specs.Tokens.{is_punct, is_plain_name, token_taken}
 

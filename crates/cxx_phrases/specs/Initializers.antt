@@ -1,5 +1,5 @@
 -- How initializers are read (8.5), and expressions of each level.
-use Rattle.std.specs.Prelude.{ℕ, ◌==◌, if◌then◌else◌, List, [], ◌∷◌, ◌++◌}
+use Rattle.std.specs.Prelude.{◌==◌, if◌then◌else◌, List, [], ◌∷◌, ◌++◌}
 use Rattle.cxx_model.specs.declared.punct.TheConstants as punct
 use Rattle.cxx_model.specs.declared.stop.LimitKind.TheVariants.{Nesting}
 use Rattle.cxx_model.specs.declared.tree.Form.{Form}

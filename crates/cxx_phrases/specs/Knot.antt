@@ -1,5 +1,5 @@
 -- The readers of expressions over those of declarators, and inside one another.
-use Rattle.std.specs.Prelude.{ℕ, zero, suc, Bool, true, false, if◌then◌else◌, List, ◌++◌}
+use Rattle.std.specs.Prelude.{ℕ, zero, suc, Bool, if◌then◌else◌, List, ◌++◌}
 use Rattle.cxx_model.specs.declared.fault.FaultText.TheVariants as says
 use Rattle.cxx_model.specs.declared.punct.TheConstants as punct
 use Rattle.cxx_model.specs.Types.Trees.{CxxType}
@@ -13,7 +13,6 @@ use Rattle.cxx_reading.specs.declared.specifier.SpecifierPlace.TheVariants as wh
 use Rattle.cxx_reading.specs.Declarators.{Specifiers, Declarator, declared_type, refused_in, is_refused}
 use Rattle.cxx_reading.specs.Kinds.{Kinds, Readers}
 use Rattle.cxx_reading.specs.Reads.{Reads, Asks, ◌>>=◌, got, give, fault_at, kind_ahead, behind}
-use Rattle.cxx_reading.specs.Shapes as shapes
 use Rattle.cxx_reading.specs.Shapes.{Run, no_type, a_type, surely, Outline, Fits, fits, fits_not, fits_surely, run_passed, prefix_passed, suffixes_by}
 use Rattle.cxx_reading.specs.Specifiers.{specifiers_at}
 use Rattle.cxx_reading.specs.Syntax.{declarator_at, readers, specified_type}

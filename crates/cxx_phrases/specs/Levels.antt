@@ -1,5 +1,5 @@
 -- Expressions by how loosely their operators bind (5.5 to 5.19).
-use Rattle.std.specs.Prelude.{ℕ, zero, suc, if◌then◌else◌, List}
+use Rattle.std.specs.Prelude.{ℕ, zero, suc, if◌then◌else◌}
 use Rattle.cxx_model.specs.declared.fault.FaultText.TheVariants as says
 use Rattle.cxx_model.specs.declared.fault.LeftOut.TheVariants as form
 use Rattle.cxx_model.specs.declared.keyword.TheConstants as keyword
@@ -10,7 +10,7 @@ use Rattle.cxx_phrases.specs.Operands.{operand_at}
 use Rattle.cxx_phrases.specs.Operators.{outermost, is_of_level, selects_member, is_assignment, operator_ahead}
 use Rattle.cxx_phrases.specs.Phrases.{Phrases, Inner}
 use Rattle.cxx_phrases.specs.Productions as phrase
-use Rattle.cxx_reading.specs.Reads.{Reads, Ahead, Turn, More, Done, ◌>>=◌, got, give, fault_at, ask, looked, taken, tokens, kind_ahead, place_ahead, count_ahead, behind, repeat}
+use Rattle.cxx_reading.specs.Reads.{Reads, Ahead, Turn, More, Done, ◌>>=◌, got, give, fault_at, ask, looked, taken, tokens, kind_ahead, place_ahead, count_ahead, repeat}
 use Rattle.cxx_reading.specs.Tokens.{is_punct, is_keyword, punct_taken}
 use Rattle.cxx_reading.specs.Trees.{CxxTree}
 

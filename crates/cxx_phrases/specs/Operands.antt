@@ -1,5 +1,5 @@
 -- Postfix and unary expressions and casts (5.2 to 5.4): the operands of binary operators.
-use Rattle.std.specs.Prelude.{ℕ, Bool, true, false, if◌then◌else◌, List, [], ◌∷◌, Option, Some, None, codes}
+use Rattle.std.specs.Prelude.{Bool, true, false, if◌then◌else◌, List, [], ◌∷◌, Option, Some, None, codes}
 use Rattle.cxx_model.specs.declared.keyword.TheConstants as keyword
 use Rattle.cxx_model.specs.declared.punct.TheConstants as punct
 use Rattle.cxx_model.specs.declared.tree.Kind.{Kind}
@@ -15,7 +15,7 @@ use Rattle.cxx_phrases.specs.Forms.{called_tree, subscript_tree, step_tree, pref
 use Rattle.cxx_phrases.specs.Operators.{is_prefix, is_step, is_member_access, operator_ahead}
 use Rattle.cxx_phrases.specs.Phrases.{Phrases, Inner}
 use Rattle.cxx_phrases.specs.Primary.{called_at, parenthesis_at, primary_at}
-use Rattle.cxx_reading.specs.Reads.{Reads, Ahead, Turn, More, Done, ◌>>=◌, got, give, ask, looked, taken, tokens, kind_ahead, place_ahead, count_ahead, behind, repeat}
+use Rattle.cxx_reading.specs.Reads.{Reads, Ahead, Turn, More, Done, ◌>>=◌, got, give, ask, looked, taken, tokens, kind_ahead, count_ahead, repeat}
 use Rattle.cxx_reading.specs.Shapes.{look, past}
 use Rattle.cxx_reading.specs.Specifiers.{path_of}
 use Rattle.cxx_reading.specs.Tokens.{is_punct, is_keyword, punct_taken, not_built}

@@ -1,5 +1,5 @@
 -- What is asked while an expression is read, and the readers of what stands in it.
-use Rattle.std.specs.Prelude.{ℕ, List, [], Option, None}
+use Rattle.std.specs.Prelude.{ℕ, List, Option}
 use Rattle.cxx_model.specs.declared.stop.LimitKind.TheVariants.{Nesting}
 use Rattle.cxx_model.specs.declared.tree.Kind.{Kind}
 use Rattle.cxx_model.specs.Types.Trees.{CxxType}

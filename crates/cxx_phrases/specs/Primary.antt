@@ -1,5 +1,5 @@
 -- Primary expressions, and what stands before a bracket of arguments (5.1, 5.2.2, 5.2.3, 5.2.9 to 5.2.11).
-use Rattle.std.specs.Prelude.{ℕ, Bool, if◌then◌else◌, List, [], Option, Some, None}
+use Rattle.std.specs.Prelude.{ℕ, if◌then◌else◌, List, [], Option, Some, None}
 use Rattle.cxx_model.specs.declared.base.Base.{Base}
 use Rattle.cxx_model.specs.declared.punct.TheConstants as punct
 use Rattle.cxx_model.specs.declared.tree.Kind.{Kind}
@@ -17,8 +17,8 @@ use Rattle.cxx_reading.specs.Tokens.{is_punct, is_plain_name, path_ahead, token_
 use Rattle.cxx_reading.specs.Trees.{CxxTree}
 
 -- 2.13
-unfoldable pub literal_at : {S : Type 0} → Phrases S → Reads S CxxTree
-literal_at asks = do
+unfoldable pub literal_part : {S : Type 0} → Phrases S → Reads S CxxTree
+literal_part asks = do
   from ← looked
   token ← taken
   to ← looked
@@ -48,8 +48,8 @@ named_call asks inner = do
   called_at asks inner [] from name
 
 -- the name of no type
-unfoldable pub value_at : {S : Type 0} → Phrases S → Inner S → Reads S CxxTree
-value_at asks inner state ahead =
+unfoldable pub value_name_at : {S : Type 0} → Phrases S → Inner S → Reads S CxxTree
+value_name_at asks inner state ahead =
     if is_punct punct.LEFT_PARENTHESIS (kind_ahead (behind ahead)) then named_call asks inner state ahead else name_at asks state ahead
 
 -- 5.2.3: behind a type
@@ -73,7 +73,7 @@ type_name_at asks inner = do
 
 abbrev pub named_by : {S : Type 0} → Phrases S → Inner S → Kind → Reads S CxxTree
 named_by asks inner kind.OfType = type_name_at asks inner
-named_by asks inner _ = value_at asks inner
+named_by asks inner _ = value_name_at asks inner
 
 -- a name without qualifiers
 unfoldable pub named_at : {S : Type 0} → Phrases S → Inner S → Reads S CxxTree
@@ -132,7 +132,7 @@ word_by asks inner None = no_expression
 
 unfoldable pub primary_at : {S : Type 0} → Phrases S → Inner S → Reads S CxxTree
 primary_at asks inner state ahead =
-    if is_literal (kind_ahead ahead) then literal_at asks state ahead else (
+    if is_literal (kind_ahead ahead) then literal_part asks state ahead else (
     if is_plain_name ahead then named_at asks inner state ahead else (
     if is_cast_word (kind_ahead ahead) then cast_word_at asks inner state ahead else
     word_by asks inner (base_of_kind (kind_ahead ahead)) state ahead))
