@@ -188,7 +188,6 @@ initializer : List ℕ → Row
 unfolding spelling_of keywords alternatives operators digraphs word_kind number_kind operator literal hash slash percent literal_type literal_value tokens_of tokens_from front longest_within initializer_row
 initializer bytes = initializer_row bytes (tokens_of bytes)
 
-
 -- ---- precedence (5.6 to 5.18)
 
 row_1 : row level.Whole 9 (codes "a + b * c") ≡ Read (codes " +[ a *[ b c]]") 10

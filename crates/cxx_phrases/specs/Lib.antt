@@ -10,3 +10,5 @@ pub mod Operands
 pub mod Levels
 pub mod Initializers
 pub mod Knot
+pub mod Views
+pub mod Making
