@@ -1,3 +1,3 @@
 mod Rows
 pub mod Kept
-pub mod Levels
+pub mod Binary

@@ -22,11 +22,16 @@ use Rattle.cxx_reading.specs.Trees.{CxxTree}
 -- ---- types (8.1)
 
 -- 8.3.1, 8.3.2, 8.3.4: a type of which there is none is refused at its last token
-unfoldable pub type_id_fits : {S : Type 0} → Specifiers → Declarator → Reads S (CxxType × List CxxTree)
-type_id_fits specifiers declarator state ahead =
-    if is_refused (refused_in declarator.layers (specified_type specifiers))
+unfoldable pub type_declared : {S : Type 0} → CxxType → Declarator → Reads S CxxType
+type_declared of declarator state ahead =
+    if is_refused (refused_in declarator.layers of)
     then fault_at ahead.last says.OperandsDoNotFit state ahead
-    else got (declared_type declarator.layers (specified_type specifiers), specifiers.parts ++ declarator.parts) state ahead
+    else got (declared_type declarator.layers of) state ahead
+
+unfoldable pub type_id_fits : {S : Type 0} → Specifiers → Declarator → Reads S (CxxType × List CxxTree)
+type_id_fits specifiers declarator = do
+  of ← type_declared (specified_type specifiers) declarator
+  give (of, specifiers.parts ++ declarator.parts)
 
 unfoldable pub type_id_at : {S : Type 0} → Kinds S → Readers S → Reads S (CxxType × List CxxTree)
 type_id_at asks inner = do

@@ -16,28 +16,49 @@ use cxx_model::{LimitKind, Stop, punct};
 use cxx_syntax::{Cursor, Spelled, Turn, is_punct};
 use cxx_tree::State;
 
-// Brackets that open, one behind another, no more than there is room for.
-#[tactic(auto, using(cxx_syntax::proofs::Loops::turn, cxx_syntax::proofs::Loops::no_turn), unfolding(crate::specs::Brackets::opened_passed, crate::specs::Brackets::opened_step, crate::specs::Brackets::opened_over))]
-fn opened_passed(cursor: &mut Cursor<'_>, room: u32) -> Result<u32, Stop>
-    ensures { Takes (λ x. x) cursor.new result (definition.opened_passed room tt cursor.old) }
+// One more bracket, where one stands.
+#[tactic(auto, unfolding(crate::specs::Brackets::opened_step))]
+fn opened_step(cursor: &mut Cursor<'_>, count: u64) -> Result<Turn<u64, u64>, Stop>
+    requires { count < 2 ^ 63 }
+    ensures is { Takes (turn_at (λ x. x) (λ x. x)) cursor.new result (definition.opened_step count tt cursor.old) }
+    ensures few { IfOk result (λ turn. IsTurn (λ n. n ≤ count + 1) (λ x. Unit {0}) turn) }
 {
-    let mut count = 0;
-    for _turn in 0..room {
-        if !is_punct(punct::LEFT_PARENTHESIS, cursor.kind()) {
-            return Ok(count);
-        }
-        cursor.advance();
-        count += 1;
+    if !is_punct(punct::LEFT_PARENTHESIS, cursor.kind()) {
+        return Ok(Turn::Done(count));
     }
+    cursor.advance();
+    Ok(Turn::More(count + 1))
+}
+
+// No more brackets than there is room for.
+#[tactic(auto, unfolding(crate::specs::Brackets::opened_over))]
+fn opened_over(cursor: &Cursor<'_>, count: u64) -> Result<u64, Stop>
+    ensures { Takes (λ x. x) cursor.now result (definition.opened_over count tt cursor.now) }
+{
     if is_punct(punct::LEFT_PARENTHESIS, cursor.kind()) {
         return Err(Stop::Limit(LimitKind::Nesting));
     }
     Ok(count)
 }
 
+// Brackets that open, one behind another.
+#[tactic(auto, using(cxx_syntax::proofs::Loops::turn, cxx_syntax::proofs::Loops::no_turn), unfolding(crate::specs::Brackets::opened_passed))]
+fn opened_passed(cursor: &mut Cursor<'_>, room: u32) -> Result<u64, Stop>
+    ensures { Takes (λ x. x) cursor.new result (definition.opened_passed room tt cursor.old) }
+{
+    let mut count = 0;
+    for _turn in 0..room {
+        match opened_step(cursor, count)? {
+            Turn::More(next) => count = next,
+            Turn::Done(all) => return Ok(all),
+        }
+    }
+    opened_over(cursor, count)
+}
+
 // Whether so many brackets close.
 #[tactic(auto, using(cxx_syntax::proofs::Loops::turn, cxx_syntax::proofs::Loops::no_turn), unfolding(crate::specs::Brackets::closed_passed, crate::specs::Brackets::closed_step))]
-fn closed_passed(cursor: &mut Cursor<'_>, count: u32) -> Result<bool, Stop>
+fn closed_passed(cursor: &mut Cursor<'_>, count: u64) -> Result<bool, Stop>
     ensures { Takes (λ x. x) cursor.new result (definition.closed_passed count tt cursor.old) }
 {
     for _turn in 0..count {
@@ -52,7 +73,7 @@ fn closed_passed(cursor: &mut Cursor<'_>, count: u32) -> Result<bool, Stop>
 #[tactic(auto, unfolding(crate::specs::Brackets::name_closed))]
 fn name_closed<'a>(
     cursor: &mut Cursor<'a>,
-    count: u32,
+    count: u64,
     name: Spelled<'a>,
 ) -> Result<Option<Spelled<'a>>, Stop>
     ensures { Takes name_in cursor.new result (definition.name_closed count (lexeme_at name.entry) tt cursor.old) }
@@ -67,7 +88,7 @@ fn name_closed<'a>(
 }
 
 #[tactic(auto, unfolding(crate::specs::Brackets::name_opened))]
-fn name_opened<'a>(cursor: &mut Cursor<'a>, count: u32) -> Result<Option<Spelled<'a>>, Stop>
+fn name_opened<'a>(cursor: &mut Cursor<'a>, count: u64) -> Result<Option<Spelled<'a>>, Stop>
     ensures { Takes name_in cursor.new result (definition.name_opened count tt cursor.old) }
 {
     if !is_plain_name(cursor) {

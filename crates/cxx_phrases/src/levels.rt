@@ -148,7 +148,7 @@ fn operations_part<P: Phrases>(
 
 // An expression of operators up to a level (5.6 to 5.15).
 #[cycle(binary)]
-#[tactic(auto, using(crate::proofs::Levels::binary_zero, crate::proofs::Levels::binary_more))]
+#[tactic(auto, using(crate::proofs::Binary::binary_zero, crate::proofs::Binary::binary_more))]
 fn binary_at<P: Phrases>(
     phrases: &P,
     state: &mut State,

@@ -205,17 +205,17 @@ fn called_or_not<'a, P: Phrases>(
     phrases: &P,
     state: &mut State,
     cursor: &mut Cursor<'a>,
-    rest: Cursor<'a>,
+    rest: &Cursor<'a>,
     name: Spelled<'_>,
 ) -> Result<TreeId, Stop>
     requires ready { P.is_ready phrases.now }
-    ensures { IsRead tree IsTreeKnown state.old state.new cursor.new result (definition.called_or_not (P.asks phrases.now) (P.inner phrases.now) cursor.old (lexeme_at name.entry) (meaning state.old) rest) }
+    ensures { IsRead tree IsTreeKnown state.old state.new cursor.new result (definition.called_or_not (P.asks phrases.now) (P.inner phrases.now) cursor.old (lexeme_at name.entry) (meaning state.old) rest.now) }
 {
     match phrases.kind(state, name)? {
         Kind::OfType => cast_or_parenthesis(phrases, state, cursor),
         _ => {
             let from = cursor.mark();
-            *cursor = rest;
+            *cursor = rest.mark();
             called_part(phrases, state, cursor, &from, name)
         }
     }
@@ -233,7 +233,7 @@ fn bracket_at<P: Phrases>(
 {
     let mut rest = cursor.mark();
     match called_name(&mut rest, phrases.room())? {
-        Some(name) => called_or_not(phrases, state, cursor, rest, name),
+        Some(name) => called_or_not(phrases, state, cursor, &rest, name),
         None => cast_or_parenthesis(phrases, state, cursor),
     }
 }

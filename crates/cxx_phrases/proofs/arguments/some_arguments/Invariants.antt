@@ -9,5 +9,5 @@ use Rattle.cxx_phrases.proofs.arguments.some_arguments.Given as goal
 
 abbrev pub invariant-loop-turn : goal.invariant-loop-turn
 invariant-loop-turn g l =
-    let inner = g.P.Phrases.inner l.fn.phrases.now in
+    let inner = g.P.Phrases.inner l.fn.phrases in
     IsTurning (repeat (argument_step inner) arguments_over (limits.MOST_ARGUMENTS - l._turn) (trees_held l.state l.so_far) (meaning l.state) l.cursor) (some_arguments inner (meaning l.fn.state) l.fn.cursor) (AreTreesHeld l.state l.so_far) l.fn.state l.state

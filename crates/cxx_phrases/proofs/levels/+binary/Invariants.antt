@@ -23,6 +23,6 @@ decreases-binary_at g l = 5 * l.level + 4
 
 abbrev pub invariant-operations_at-loop-turn : goal.invariant-operations_at-loop-turn
 invariant-operations_at-loop-turn g l =
-    let asks = g.P.Phrases.asks l.fn.phrases.now in
-    let below = binary_at asks (g.P.Phrases.inner l.fn.phrases.now) (l.fn.level - 1) in
-    IsTurning (repeat (operation_step asks below l.fn.level l.fn.from.now) give (l._turn-end - l._turn) (tree l.state l.so_far) (meaning l.state) l.cursor) (operations_at asks below l.fn.level l.fn.from.now (tree l.fn.state l.fn.first) (meaning l.fn.state) l.fn.cursor) (IsTreeKnown l.state l.so_far) l.fn.state l.state
+    let asks = g.P.Phrases.asks l.fn.phrases in
+    let below = binary_at asks (g.P.Phrases.inner l.fn.phrases) (l.fn.level - 1) in
+    IsTurning (repeat (operation_step asks below l.fn.level l.fn.from) give (l._turn-end - l._turn) (tree l.state l.so_far) (meaning l.state) l.cursor) (operations_at asks below l.fn.level l.fn.from (tree l.fn.state l.fn.first) (meaning l.fn.state) l.fn.cursor) (IsTreeKnown l.state l.so_far) l.fn.state l.state

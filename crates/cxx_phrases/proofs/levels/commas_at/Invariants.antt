@@ -8,6 +8,6 @@ use Rattle.cxx_phrases.proofs.levels.commas_at.Given as goal
 
 abbrev pub invariant-loop-turn : goal.invariant-loop-turn
 invariant-loop-turn g l =
-    let asks = g.P.Phrases.asks l.fn.phrases.now in
-    let inner = g.P.Phrases.inner l.fn.phrases.now in
-    IsTurning (repeat (comma_step asks inner l.fn.from.now) give (l._turn-end - l._turn) (tree l.state l.so_far) (meaning l.state) l.cursor) (commas_at asks inner l.fn.from.now (tree l.fn.state l.fn.first) (meaning l.fn.state) l.fn.cursor) (IsTreeKnown l.state l.so_far) l.fn.state l.state
+    let asks = g.P.Phrases.asks l.fn.phrases in
+    let inner = g.P.Phrases.inner l.fn.phrases in
+    IsTurning (repeat (comma_step asks inner l.fn.from) give (l._turn-end - l._turn) (tree l.state l.so_far) (meaning l.state) l.cursor) (commas_at asks inner l.fn.from (tree l.fn.state l.fn.first) (meaning l.fn.state) l.fn.cursor) (IsTreeKnown l.state l.so_far) l.fn.state l.state
