@@ -1,5 +1,5 @@
 -- A tree that was read stays the same while the state grows.
-use Rattle.std.specs.Prelude.{◌≡◌, ◌<◌, ◌≤◌, length}
+use Rattle.std.specs.Prelude.{◌≡◌, ◌≤◌, length}
 use Rattle.std.proofs.Common.{arith}
 use Rattle.cxx_model.specs.declared.types.TreeId.{TreeId}
 use Rattle.cxx_syntax.specs.Asking.{IsTreeKnown}

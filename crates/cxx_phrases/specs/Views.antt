@@ -1,6 +1,5 @@
 -- What the readers of the code answer, given the types and trees of a state.
-use Rattle.std.specs.Prelude.{ℕ, ◌<◌, length, List, Option, Some, None}
-use Rattle.cxx_model.specs.declared.tree.Form.{Form}
+use Rattle.std.specs.Prelude.{◌<◌, length, List, Option, Some, None}
 use Rattle.cxx_model.specs.declared.types.TreeId.{TreeId}
 use Rattle.cxx_model.specs.declared.types.TypeId.{TypeId}
 use Rattle.cxx_model.specs.Facts.Declarations.{type_of_option}
