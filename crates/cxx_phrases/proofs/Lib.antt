@@ -1,0 +1,3 @@
+mod Rows
+pub mod Kept
+pub mod Binary

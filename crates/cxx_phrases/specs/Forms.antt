@@ -1,0 +1,68 @@
+-- The trees of expressions as they are read, before it is asked what they mean.
+use Rattle.std.specs.Prelude.{ℕ, List, [], ◌∷◌, ◌++◌, Option, Some, codes}
+use Rattle.cxx_model.specs.declared.place.Place.{Place}
+use Rattle.cxx_model.specs.Text.Lexemes.{Lexeme}
+use Rattle.cxx_model.specs.Types.Trees.{CxxType}
+use Rattle.cxx_phrases.specs.Productions as phrase
+use Rattle.cxx_reading.specs.Labels.{label_from}
+use Rattle.cxx_reading.specs.Productions as production
+use Rattle.cxx_reading.specs.Reads.{Ahead, word_ahead}
+use Rattle.cxx_reading.specs.Specifiers.{path_of}
+use Rattle.cxx_reading.specs.Tokens.{path_ahead}
+use Rattle.cxx_reading.specs.Trees.{CxxTree, tree_of}
+
+-- 2.13
+abbrev pub literal_tree : Ahead → Ahead → CxxTree
+literal_tree from to = tree_of (label_from production.literal (word_ahead from) from to) []
+
+-- 5.1
+abbrev pub name_tree : Ahead → Ahead → CxxTree
+name_tree from to = tree_of (record (label_from phrase.name [] from to) { path = Some (path_ahead from) }) []
+
+-- 5.1
+abbrev pub parenthesis_tree : CxxTree → Ahead → Ahead → CxxTree
+parenthesis_tree inside from to = tree_of (label_from phrase.parenthesis [] from to) (inside ∷ [])
+
+-- 5.2.2: a call by a name; the spelling tells whether the name stands in brackets
+abbrev pub call_tree : List ℕ → Lexeme → List CxxTree → Ahead → Ahead → CxxTree
+call_tree spelling name arguments from to = tree_of (record (label_from production.call spelling from to) { place = name.place; path = Some (path_of name) }) arguments
+
+-- 5.2.2: a call of what is no name
+abbrev pub called_tree : CxxTree → List CxxTree → Ahead → Ahead → CxxTree
+called_tree function arguments from to = tree_of (label_from production.call [] from to) (function ∷ arguments)
+
+-- 5.2.3
+abbrev pub functional_tree : CxxType → List CxxTree → Ahead → Ahead → CxxTree
+functional_tree of arguments from to = tree_of (record (label_from phrase.functional_cast [] from to) { of = Some of }) arguments
+
+-- 5.2.1
+abbrev pub subscript_tree : Place → CxxTree → CxxTree → Ahead → Ahead → CxxTree
+subscript_tree place object index from to = tree_of (record (label_from phrase.subscript [] from to) { place = place }) (object ∷ index ∷ [])
+
+-- 5.2.6
+abbrev pub step_tree : List ℕ → Place → CxxTree → Ahead → Ahead → CxxTree
+step_tree spelling place operand from to = tree_of (record (label_from phrase.postfix_step spelling from to) { place = place }) (operand ∷ [])
+
+-- 5.3.1, 5.3.2
+abbrev pub prefix_tree : List ℕ → CxxTree → Ahead → Ahead → CxxTree
+prefix_tree spelling operand from to = tree_of (label_from phrase.prefix spelling from to) (operand ∷ [])
+
+-- 5.3.3
+abbrev pub size_tree : Option CxxType × List CxxTree → Ahead → Ahead → CxxTree
+size_tree sized from to = tree_of (record (label_from phrase.size [] from to) { of = sized.0 }) sized.1
+
+-- 5.2.9 to 5.2.11, 5.4: the operand stands behind the trees of the type
+abbrev pub cast_tree : List ℕ → CxxType × List CxxTree → CxxTree → Ahead → Ahead → CxxTree
+cast_tree spelling of operand from to = tree_of (record (label_from production.cast spelling from to) { of = Some of.0 }) (of.1 ++ operand ∷ [])
+
+-- 5.6 to 5.18: an operator between two operands
+abbrev pub operator_tree : ℕ → List ℕ → Place → CxxTree → CxxTree → Ahead → Ahead → CxxTree
+operator_tree number spelling place left right from to = tree_of (record (label_from number spelling from to) { place = place }) (left ∷ right ∷ [])
+
+-- 5.16
+abbrev pub conditional_tree : Place → CxxTree → CxxTree → CxxTree → Ahead → Ahead → CxxTree
+conditional_tree place condition one other from to = tree_of (record (label_from phrase.conditional (codes "?") from to) { place = place }) (condition ∷ one ∷ other ∷ [])
+
+-- 8.5.1
+abbrev pub braces_tree : List CxxTree → Ahead → Ahead → CxxTree
+braces_tree parts from to = tree_of (label_from production.initializer (codes "{") from to) parts

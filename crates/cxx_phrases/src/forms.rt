@@ -1,0 +1,308 @@
+//! The trees of expressions, handed over when their last token was read.
+
+ghost use Rattle.std.specs.Prelude.{◌≡◌, ◌<◌, length};
+ghost use Rattle.cxx_phrases.specs.Forms as form;
+ghost use Rattle.cxx_phrases.specs.Views.{IsSized, IsWritten, sized_of, written_of};
+ghost use Rattle.cxx_syntax.specs.Asking.{IsAsked, IsTreeKnown};
+ghost use Rattle.cxx_syntax.specs.Making.{GrowsTree};
+ghost use Rattle.cxx_syntax.specs.Views.{AreTreesHeld, lexeme_at, trees_held};
+ghost use Rattle.cxx_tree.specs.Held.{meaning, tree, type_of};
+
+use crate::lists::{one_tree, three_trees, two_trees, with_tree};
+use crate::names::{path_ahead, path_of};
+use crate::phrases::Phrases;
+use crate::production;
+use cxx_model::{Listed, Place, Stop, Text, TreeId, TreeIdList, TypeId};
+use cxx_syntax::{Cursor, Spelled, joined, node_from, push};
+use cxx_tree::State;
+
+/// A literal (2.13).
+#[tactic(auto, using(cxx_syntax::proofs::Kept::later_trans, cxx_syntax::proofs::Kept::later_refl, crate::proofs::Kept::tree_kept, crate::proofs::Kept::tree_later))]
+pub(crate) fn literal_asked<P: Phrases>(
+    phrases: &P,
+    state: &mut State,
+    from: &Cursor<'_>,
+    to: &Cursor<'_>,
+) -> Result<TreeId, Stop>
+    requires ready { P.is_ready phrases.now }
+    ensures { IsAsked tree IsTreeKnown state.old state.new result ((P.asks phrases.now).whole (form.literal_tree from.now to.now) (meaning state.old)) }
+{
+    let spelling = Text::from_slice(from.alloc(), from.spelling())?;
+    let children = Listed::new(from.alloc());
+    let node = node_from(production::LITERAL, spelling, from, to, children);
+    phrases.whole(state, node)
+}
+
+/// A name that is not called (5.1).
+#[tactic(auto, using(cxx_syntax::proofs::Kept::later_trans, cxx_syntax::proofs::Kept::later_refl, crate::proofs::Kept::tree_kept, crate::proofs::Kept::tree_later))]
+pub(crate) fn name_asked<P: Phrases>(
+    phrases: &P,
+    state: &mut State,
+    from: &Cursor<'_>,
+    to: &Cursor<'_>,
+) -> Result<TreeId, Stop>
+    requires ready { P.is_ready phrases.now }
+    ensures { IsAsked tree IsTreeKnown state.old state.new result ((P.asks phrases.now).whole (form.name_tree from.now to.now) (meaning state.old)) }
+{
+    let path = path_ahead(from)?;
+    let spelling = Listed::new(from.alloc());
+    let children = Listed::new(from.alloc());
+    let mut node = node_from(production::NAME, spelling, from, to, children);
+    node.path = Some(path);
+    phrases.whole(state, node)
+}
+
+/// A parenthesis (5.1).
+#[tactic(auto, using(cxx_syntax::proofs::Kept::later_trans, cxx_syntax::proofs::Kept::later_refl, crate::proofs::Kept::tree_kept, crate::proofs::Kept::tree_later))]
+pub(crate) fn parenthesis_asked<P: Phrases>(
+    phrases: &P,
+    state: &mut State,
+    inside: TreeId,
+    from: &Cursor<'_>,
+    to: &Cursor<'_>,
+) -> Result<TreeId, Stop>
+    requires ready { P.is_ready phrases.now }
+    requires inside { IsTreeKnown state.old inside }
+    ensures { IsAsked tree IsTreeKnown state.old state.new result ((P.asks phrases.now).whole (form.parenthesis_tree (tree state.old inside) from.now to.now) (meaning state.old)) }
+{
+    let spelling = Listed::new(from.alloc());
+    let children = one_tree(from.alloc(), inside)?;
+    let node = node_from(production::PARENTHESIS, spelling, from, to, children);
+    phrases.whole(state, node)
+}
+
+/// A call by a name; the spelling tells whether the name stands in brackets (5.2.2).
+#[tactic(auto, using(cxx_syntax::proofs::Kept::later_trans, cxx_syntax::proofs::Kept::later_refl, crate::proofs::Kept::tree_kept, crate::proofs::Kept::tree_later))]
+pub(crate) fn call_asked<P: Phrases>(
+    phrases: &P,
+    state: &mut State,
+    spelling: &[u8],
+    name: Spelled<'_>,
+    arguments: TreeIdList,
+    from: &Cursor<'_>,
+    to: &Cursor<'_>,
+) -> Result<TreeId, Stop>
+    requires ready { P.is_ready phrases.now }
+    requires arguments { AreTreesHeld state.old arguments }
+    ensures { IsAsked tree IsTreeKnown state.old state.new result ((P.asks phrases.now).whole (form.call_tree spelling.now (lexeme_at name.entry) (trees_held state.old arguments) from.now to.now) (meaning state.old)) }
+{
+    let path = path_of(from.alloc(), name)?;
+    let spelling = Text::from_slice(from.alloc(), spelling)?;
+    let mut node = node_from(production::CALL, spelling, from, to, arguments);
+    node.place = name.place;
+    node.path = Some(path);
+    phrases.whole(state, node)
+}
+
+/// A call of what is no name (5.2.2).
+#[tactic(auto, using(cxx_syntax::proofs::Kept::later_trans, cxx_syntax::proofs::Kept::later_refl, crate::proofs::Kept::tree_kept, crate::proofs::Kept::tree_later, cxx_syntax::proofs::Kept::trees_append, cxx_syntax::proofs::Kept::trees_below_append))]
+pub(crate) fn called_asked<P: Phrases>(
+    phrases: &P,
+    state: &mut State,
+    function: TreeId,
+    arguments: TreeIdList,
+    from: &Cursor<'_>,
+    to: &Cursor<'_>,
+) -> Result<TreeId, Stop>
+    requires ready { P.is_ready phrases.now }
+    requires function { IsTreeKnown state.old function }
+    requires arguments { AreTreesHeld state.old arguments }
+    ensures { IsAsked tree IsTreeKnown state.old state.new result ((P.asks phrases.now).whole (form.called_tree (tree state.old function) (trees_held state.old arguments) from.now to.now) (meaning state.old)) }
+{
+    let spelling = Listed::new(from.alloc());
+    let children = joined(one_tree(from.alloc(), function)?, arguments)?;
+    let node = node_from(production::CALL, spelling, from, to, children);
+    phrases.whole(state, node)
+}
+
+/// A type with arguments (5.2.3).
+#[tactic(auto, using(cxx_syntax::proofs::Kept::later_trans, cxx_syntax::proofs::Kept::later_refl, crate::proofs::Kept::tree_kept, crate::proofs::Kept::tree_later))]
+pub(crate) fn functional_asked<P: Phrases>(
+    phrases: &P,
+    state: &mut State,
+    of: TypeId,
+    arguments: TreeIdList,
+    from: &Cursor<'_>,
+    to: &Cursor<'_>,
+) -> Result<TreeId, Stop>
+    requires ready { P.is_ready phrases.now }
+    requires of { of.0 < length (state.old).types }
+    requires arguments { AreTreesHeld state.old arguments }
+    ensures { IsAsked tree IsTreeKnown state.old state.new result ((P.asks phrases.now).whole (form.functional_tree (type_of state.old of) (trees_held state.old arguments) from.now to.now) (meaning state.old)) }
+{
+    let spelling = Listed::new(from.alloc());
+    let mut node = node_from(production::FUNCTIONAL_CAST, spelling, from, to, arguments);
+    node.of = Some(of);
+    phrases.whole(state, node)
+}
+
+/// A subscript (5.2.1).
+#[tactic(auto, using(cxx_syntax::proofs::Kept::later_trans, cxx_syntax::proofs::Kept::later_refl, crate::proofs::Kept::tree_kept, crate::proofs::Kept::tree_later))]
+pub(crate) fn subscript_asked<P: Phrases>(
+    phrases: &P,
+    state: &mut State,
+    place: Place,
+    object: TreeId,
+    index: TreeId,
+    from: &Cursor<'_>,
+    to: &Cursor<'_>,
+) -> Result<TreeId, Stop>
+    requires ready { P.is_ready phrases.now }
+    requires object { IsTreeKnown state.old object }
+    requires index { IsTreeKnown state.old index }
+    ensures { IsAsked tree IsTreeKnown state.old state.new result ((P.asks phrases.now).whole (form.subscript_tree place (tree state.old object) (tree state.old index) from.now to.now) (meaning state.old)) }
+{
+    let spelling = Listed::new(from.alloc());
+    let children = two_trees(from.alloc(), object, index)?;
+    let mut node = node_from(production::SUBSCRIPT, spelling, from, to, children);
+    node.place = place;
+    phrases.whole(state, node)
+}
+
+/// A postfix operator (5.2.6).
+#[tactic(auto, using(cxx_syntax::proofs::Kept::later_trans, cxx_syntax::proofs::Kept::later_refl, crate::proofs::Kept::tree_kept, crate::proofs::Kept::tree_later))]
+pub(crate) fn step_asked<P: Phrases>(
+    phrases: &P,
+    state: &mut State,
+    spelling: Text,
+    place: Place,
+    operand: TreeId,
+    from: &Cursor<'_>,
+    to: &Cursor<'_>,
+) -> Result<TreeId, Stop>
+    requires ready { P.is_ready phrases.now }
+    requires operand { IsTreeKnown state.old operand }
+    ensures { IsAsked tree IsTreeKnown state.old state.new result ((P.asks phrases.now).whole (form.step_tree spelling place (tree state.old operand) from.now to.now) (meaning state.old)) }
+{
+    let children = one_tree(from.alloc(), operand)?;
+    let mut node = node_from(production::POSTFIX_STEP, spelling, from, to, children);
+    node.place = place;
+    phrases.whole(state, node)
+}
+
+/// A prefix operator (5.3.1, 5.3.2).
+#[tactic(auto, using(cxx_syntax::proofs::Kept::later_trans, cxx_syntax::proofs::Kept::later_refl, crate::proofs::Kept::tree_kept, crate::proofs::Kept::tree_later))]
+pub(crate) fn prefix_asked<P: Phrases>(
+    phrases: &P,
+    state: &mut State,
+    spelling: Text,
+    operand: TreeId,
+    from: &Cursor<'_>,
+    to: &Cursor<'_>,
+) -> Result<TreeId, Stop>
+    requires ready { P.is_ready phrases.now }
+    requires operand { IsTreeKnown state.old operand }
+    ensures { IsAsked tree IsTreeKnown state.old state.new result ((P.asks phrases.now).whole (form.prefix_tree spelling (tree state.old operand) from.now to.now) (meaning state.old)) }
+{
+    let children = one_tree(from.alloc(), operand)?;
+    let node = node_from(production::PREFIX, spelling, from, to, children);
+    phrases.whole(state, node)
+}
+
+/// A size (5.3.3).
+#[tactic(auto, using(cxx_syntax::proofs::Kept::later_trans, cxx_syntax::proofs::Kept::later_refl, crate::proofs::Kept::tree_kept, crate::proofs::Kept::tree_later))]
+pub(crate) fn size_asked<P: Phrases>(
+    phrases: &P,
+    state: &mut State,
+    of: Option<TypeId>,
+    parts: TreeIdList,
+    from: &Cursor<'_>,
+    to: &Cursor<'_>,
+) -> Result<TreeId, Stop>
+    requires ready { P.is_ready phrases.now }
+    requires sized { IsSized state.old (of, parts) }
+    ensures { IsAsked tree IsTreeKnown state.old state.new result ((P.asks phrases.now).whole (form.size_tree (sized_of state.old (of, parts)) from.now to.now) (meaning state.old)) }
+{
+    let spelling = Listed::new(from.alloc());
+    let mut node = node_from(production::SIZE, spelling, from, to, parts);
+    node.of = of;
+    phrases.whole(state, node)
+}
+
+/// A cast (5.2.9 to 5.2.11, 5.4).
+#[tactic(auto, using(cxx_syntax::proofs::Kept::later_trans, cxx_syntax::proofs::Kept::later_refl, crate::proofs::Kept::tree_kept, crate::proofs::Kept::tree_later, cxx_syntax::proofs::Kept::trees_append, cxx_syntax::proofs::Kept::trees_below_append))]
+pub(crate) fn cast_asked<P: Phrases>(
+    phrases: &P,
+    state: &mut State,
+    spelling: &[u8],
+    of: TypeId,
+    parts: TreeIdList,
+    operand: TreeId,
+    from: &Cursor<'_>,
+    to: &Cursor<'_>,
+) -> Result<TreeId, Stop>
+    requires ready { P.is_ready phrases.now }
+    requires written { IsWritten state.old (of, parts) }
+    requires operand { IsTreeKnown state.old operand }
+    ensures { IsAsked tree IsTreeKnown state.old state.new result ((P.asks phrases.now).whole (form.cast_tree spelling.now (written_of state.old (of, parts)) (tree state.old operand) from.now to.now) (meaning state.old)) }
+{
+    let spelling = Text::from_slice(from.alloc(), spelling)?;
+    let children = with_tree(parts, operand)?;
+    let mut node = node_from(production::CAST, spelling, from, to, children);
+    node.of = Some(of);
+    phrases.whole(state, node)
+}
+
+/// An operator between two operands, by the number of its production (5.6 to 5.18).
+#[tactic(auto, using(cxx_syntax::proofs::Kept::later_trans, cxx_syntax::proofs::Kept::later_refl, crate::proofs::Kept::tree_kept, crate::proofs::Kept::tree_later))]
+pub(crate) fn operator_asked<P: Phrases>(
+    phrases: &P,
+    state: &mut State,
+    number: u8,
+    spelling: Text,
+    place: Place,
+    left: TreeId,
+    right: TreeId,
+    from: &Cursor<'_>,
+    to: &Cursor<'_>,
+) -> Result<TreeId, Stop>
+    requires ready { P.is_ready phrases.now }
+    requires left { IsTreeKnown state.old left }
+    requires right { IsTreeKnown state.old right }
+    ensures { IsAsked tree IsTreeKnown state.old state.new result ((P.asks phrases.now).whole (form.operator_tree number spelling place (tree state.old left) (tree state.old right) from.now to.now) (meaning state.old)) }
+{
+    let children = two_trees(from.alloc(), left, right)?;
+    let mut node = node_from(number, spelling, from, to, children);
+    node.place = place;
+    phrases.whole(state, node)
+}
+
+/// A conditional expression (5.16).
+#[tactic(auto, using(cxx_syntax::proofs::Kept::later_trans, cxx_syntax::proofs::Kept::later_refl, crate::proofs::Kept::tree_kept, crate::proofs::Kept::tree_later))]
+pub(crate) fn conditional_asked<P: Phrases>(
+    phrases: &P,
+    state: &mut State,
+    place: Place,
+    condition: TreeId,
+    one: TreeId,
+    other: TreeId,
+    from: &Cursor<'_>,
+    to: &Cursor<'_>,
+) -> Result<TreeId, Stop>
+    requires ready { P.is_ready phrases.now }
+    requires condition { IsTreeKnown state.old condition }
+    requires one { IsTreeKnown state.old one }
+    requires other { IsTreeKnown state.old other }
+    ensures { IsAsked tree IsTreeKnown state.old state.new result ((P.asks phrases.now).whole (form.conditional_tree place (tree state.old condition) (tree state.old one) (tree state.old other) from.now to.now) (meaning state.old)) }
+{
+    let spelling = Text::from_slice(from.alloc(), b"?")?;
+    let children = three_trees(from.alloc(), condition, one, other)?;
+    let mut node = node_from(production::CONDITIONAL, spelling, from, to, children);
+    node.place = place;
+    phrases.whole(state, node)
+}
+
+/// Braces inside of braces (8.5.1).
+pub(crate) fn braces_tree(
+    state: &mut State,
+    parts: TreeIdList,
+    from: &Cursor<'_>,
+    to: &Cursor<'_>,
+) -> Result<TreeId, Stop>
+    requires { AreTreesHeld state.old parts }
+    ensures { GrowsTree state.old state.new result (form.braces_tree (trees_held state.old parts) from.now to.now) }
+{
+    let spelling = Text::from_slice(from.alloc(), b"{")?;
+    let node = node_from(production::INITIALIZER, spelling, from, to, parts);
+    push(state, node)
+}
