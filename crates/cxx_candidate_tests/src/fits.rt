@@ -1,20 +1,30 @@
-//! Whether a declaration may stand in a unit.
+//! Whether what is declared may stand in a unit.
 
-ghost use Rattle.std.specs.Prelude.{◌≡◌, ◌<◌, ◌≤◌, ◌+◌, ◌∷◌, [], true, false, length, IfOk, IsTrue};
+ghost use Rattle.std.specs.Prelude.{◌≡◌, ◌<◌, ◌≤◌, ◌+◌, ◌∷◌, [], true, false, length, IsTrue};
 ghost use Rattle.cxx_builtin.specs.Plans.{AreOperandsBelow};
-ghost use Rattle.cxx_model.specs.Facts.Fitted.{IsEntityBelow, IsNameBelow};
+ghost use Rattle.cxx_candidate_tests.specs.Units.{IsPartKnown};
+ghost use Rattle.cxx_model.specs.Facts.Fitted.{IsEntityBelow, IsFactBelow, IsNameBelow};
 ghost use Rattle.cxx_model.specs.Facts.Graph.{IsEntityInRange, IsKindInRange, enumerations, is_complete};
-ghost use Rattle.cxx_candidate_tests.specs.Units.{IsUnit};
 
-use crate::stopped::Stopped;
-use crate::unit::{Unit, add};
+use crate::parts::Part;
 use cxx_graph::Graph;
 use cxx_model::{ClassId, Entity, Fact, Name, Operand, ScopeId, ScopeKind, TypeId};
+use cxx_types::TypeTable;
 
 pub(crate) fn is_class(graph: &Graph, class: ClassId) -> bool
     ensures { IsTrue result → class.0 < length graph.now.classes }
 {
     (class.0 as usize) < graph.class_count()
+}
+
+fn enumerates(fact: &Fact) -> usize
+    ensures is { result ≡ enumerations (fact.now ∷ []) }
+    ensures one { result ≤ 1 }
+{
+    match fact.what {
+        Entity::Enumeration { .. } => 1,
+        _ => 0,
+    }
 }
 
 /// How many enumerations there are (7.2).
@@ -29,22 +39,12 @@ pub(crate) fn enumeration_count(graph: &Graph) -> usize
     count
 }
 
-fn enumerates(fact: &Fact) -> usize
-    ensures is { result ≡ enumerations (fact.now ∷ []) }
-    ensures one { result ≤ 1 }
-{
-    match fact.what {
-        Entity::Enumeration { .. } => 1,
-        _ => 0,
-    }
-}
-
-fn is_kind(unit: &Unit, kind: ScopeKind) -> bool
-    ensures { IsTrue result → IsKindInRange unit.now.graph kind }
+fn is_kind(graph: &Graph, kind: ScopeKind) -> bool
+    ensures { IsTrue result → IsKindInRange graph.now kind }
 {
     match kind {
         ScopeKind::Space => true,
-        ScopeKind::Class(class) => is_class(&unit.graph, class),
+        ScopeKind::Class(class) => is_class(graph, class),
         _ => false,
     }
 }
@@ -62,94 +62,86 @@ fn is_base(graph: &Graph, class: ClassId, parent: ClassId) -> bool
         && !graph.complete(class)
 }
 
-// Whether there are as many scopes.
-fn is_scope(unit: &Unit, scope: ScopeId) -> bool
-    ensures { IsTrue result → scope.0 < unit.now.scopes }
-{
-    scope.0 < unit.scopes
-}
-
-// Whether what an entity names is there; declarations behind a first one are not among the rows.
-fn names(unit: &Unit, fact: &Fact) -> bool
-    requires { IsUnit unit.now }
-    ensures { IsTrue result → IsEntityInRange unit.now.graph fact.now fact.now.what }
+/// Whether what a fact names is there; declarations behind a first one are not among the rows.
+pub(crate) fn is_in_range(graph: &Graph, fact: &Fact) -> bool
+    ensures { IsTrue result → IsEntityInRange graph.now fact.now fact.now.what }
 {
     match fact.what {
         Entity::Scope {
             parent: Some(parent),
             kind,
-        } => parent == fact.scope && is_kind(unit, kind),
+        } => parent == fact.scope && is_kind(graph, kind),
         Entity::Function { first: None, .. } => true,
-        Entity::Class { class, .. } => is_class(&unit.graph, class),
-        Entity::Complete { class } => is_class(&unit.graph, class),
-        Entity::Ancestor { class, parent, .. } => is_base(&unit.graph, class, parent),
-        Entity::Enumeration { number } => number.0 as usize == enumeration_count(&unit.graph),
+        Entity::Class { class, .. } => is_class(graph, class),
+        Entity::Complete { class } => is_class(graph, class),
+        Entity::Ancestor { class, parent, .. } => is_base(graph, class, parent),
+        Entity::Enumeration { number } => number.0 as usize == enumeration_count(graph),
         _ => false,
     }
 }
 
-pub(crate) fn is_type(unit: &Unit, of: TypeId) -> bool
-    requires { IsUnit unit.now }
-    ensures { IsTrue result → of.0 < length unit.now.types }
+/// Whether a number is that of one of the types, of which there are at least so many.
+fn is_type(types: &TypeTable, known: u64, of: TypeId) -> bool
+    requires { known ≤ length types.now }
+    ensures { IsTrue result → of.0 < length types.now }
 {
-    of.0 < unit.known
+    let _ = types;
+    of.0 < known
 }
 
-// Whether the type that an entity names is there.
-fn is_typed(unit: &Unit, what: Entity) -> bool
-    requires { IsUnit unit.now }
-    ensures { IsTrue result → IsEntityBelow (length unit.now.types) what }
+fn is_typed(types: &TypeTable, known: u64, what: Entity) -> bool
+    requires { known ≤ length types.now }
+    ensures { IsTrue result → IsEntityBelow (length types.now) what }
 {
     match what {
-        Entity::Object { of, .. } => is_type(unit, of),
-        Entity::Function { of, .. } => is_type(unit, of),
-        Entity::Parameter { of, .. } => is_type(unit, of),
-        Entity::Synonym { of } => is_type(unit, of),
+        Entity::Object { .. } | Entity::Parameter { .. } | Entity::Synonym { .. } => false,
+        Entity::Function { of, .. } => is_type(types, known, of),
         _ => true,
     }
 }
 
-fn is_name(unit: &Unit, name: &Name) -> bool
-    requires { IsUnit unit.now }
-    ensures { IsTrue result → IsNameBelow (length unit.now.types) name.now }
+fn is_name(types: &TypeTable, known: u64, name: &Name) -> bool
+    requires { known ≤ length types.now }
+    ensures { IsTrue result → IsNameBelow (length types.now) name.now }
 {
     match name {
-        Name::Conversion(of) => is_type(unit, *of),
+        Name::Conversion(of) => is_type(types, known, *of),
         _ => true,
     }
 }
 
-fn fits(unit: &Unit, fact: &Fact) -> bool
-    requires { IsUnit unit.now }
-    ensures scope { IsTrue result → fact.now.scope.0 < unit.now.scopes }
-    ensures names { IsTrue result → IsEntityInRange unit.now.graph fact.now fact.now.what }
-    ensures name { IsTrue result → IsNameBelow (length unit.now.types) fact.now.name }
-    ensures typed { IsTrue result → IsEntityBelow (length unit.now.types) fact.now.what }
+/// Whether the types that a fact names are there.
+pub(crate) fn is_below(types: &TypeTable, known: u64, fact: &Fact) -> bool
+    requires { known ≤ length types.now }
+    ensures { IsTrue result → IsFactBelow (length types.now) fact.now }
 {
-    is_scope(unit, fact.scope)
-        && names(unit, fact)
-        && is_name(unit, &fact.name)
-        && is_typed(unit, fact.what)
+    is_name(types, known, &fact.name) && is_typed(types, known, fact.what)
 }
 
-/// One more fact, where it may stand in the unit.
-pub(crate) fn put(unit: Unit, fact: Fact) -> Result<Unit, Stopped>
-    requires { IsUnit unit }
-    ensures { IfOk result IsUnit }
+/// Whether what a part of a type names is there.
+pub(crate) fn is_part(graph: &Graph, types: &TypeTable, known: u64, part: Part) -> bool
+    requires { known ≤ length types.now }
+    ensures { IsTrue result → IsPartKnown graph.now (length types.now) part }
 {
-    if !fits(&unit, &fact) {
-        return Err(Stopped::IllRow);
+    match part {
+        Part::Plain(_) => true,
+        Part::Class(class) => is_class(graph, class),
+        Part::Enumeration(number) => (number.0 as usize) < enumeration_count(graph),
+        Part::PointerTo(of) => is_type(types, known, of),
+        Part::ReferenceTo(of) => is_type(types, known, of),
+        Part::ArrayOf(of) => is_type(types, known, of),
+        Part::FunctionTo(of) => is_type(types, known, of),
+        Part::Words(_, of) => is_type(types, known, of),
     }
-    add(unit, fact)
 }
 
 /// Whether the types of operands are there.
-pub(crate) fn are_typed(unit: &Unit, operands: &[Operand]) -> bool
-    requires { IsUnit unit.now }
-    ensures { IsTrue result → AreOperandsBelow (length unit.now.types) operands.now }
+pub(crate) fn are_typed(types: &TypeTable, known: u64, operands: &[Operand]) -> bool
+    requires { known ≤ length types.now }
+    ensures { IsTrue result → AreOperandsBelow (length types.now) operands.now }
 {
     match operands {
         [] => true,
-        [one, others @ ..] => is_type(unit, one.of) && are_typed(unit, others),
+        [one, others @ ..] => is_type(types, known, one.of) && are_typed(types, known, others),
     }
 }

@@ -2,21 +2,20 @@
 //! are compared, and where they are others the line is printed with them.
 #![tactic(auto)]
 
-ghost use Rattle.std.specs.Prelude.{IfOk};
-ghost use Rattle.cxx_candidate_tests.specs.Units.{IsUnit};
-
 mod asking;
 mod fits;
-mod kinds;
+mod graphs;
+mod letters;
+mod parts;
 mod rows;
 mod stopped;
 mod texts;
 mod unit;
 
-use crate::asking::{asked, operator_of};
-use crate::rows::{step, typed};
+use crate::asking::operator_of;
+use crate::rows::{declare, typed};
 use crate::stopped::Stopped;
-use crate::unit::{Unit, start};
+use crate::unit::Unit;
 use cxx_model::{ConstantKind, Listed, Operand, OperandList, TypeId};
 use std::alloc::Global;
 use std::io;
@@ -28,14 +27,18 @@ struct Tally {
     otherwise: u64,
 }
 
-fn counted(tally: Tally, holds: bool) -> Tally {
-    Tally {
-        asked: tally.asked.saturating_add(1),
-        otherwise: if holds {
-            tally.otherwise
-        } else {
-            tally.otherwise.saturating_add(1)
-        },
+/// A line that is read: what is declared so far, and the operator that was begun last with its operands.
+#[derive(Drop)]
+struct Row {
+    unit: Unit,
+    operator: u8,
+    operands: OperandList,
+}
+
+fn counted(tally: &mut Tally, holds: bool) {
+    tally.asked = tally.asked.saturating_add(1);
+    if !holds {
+        tally.otherwise = tally.otherwise.saturating_add(1);
     }
 }
 
@@ -50,52 +53,55 @@ fn operand(of: TypeId) -> Operand {
 // Whether the candidates are those of a row; else they are added to a text.
 fn has_candidates(
     alloc: Global,
-    unit: Unit,
-    operator: u8,
-    operands: &OperandList,
+    row: &mut Row,
     expected: &[u8],
     report: &mut String,
-) -> Result<(Unit, bool), Stopped>
-    requires { IsUnit unit }
-    ensures { IfOk result (λ made. IsUnit made.0) }
-{
-    let (unit, text) = asked(alloc, unit, operator, operands)?;
+) -> Result<bool, Stopped> {
+    let text = row.unit.candidates(alloc, row.operator, &row.operands)?;
     let holds = text.as_bytes() == expected;
     if !holds {
         report.push(' ')?;
         report.push_str(text.as_str())?;
     }
-    Ok((unit, holds))
+    Ok(holds)
+}
+
+fn step(
+    alloc: Global,
+    row: &mut Row,
+    tally: &mut Tally,
+    word: &[u8],
+    report: &mut String,
+) -> Result<(), Stopped> {
+    match word {
+        [b'?', spelling @ ..] => {
+            row.operator = operator_of(spelling)?;
+            row.operands = Listed::new(alloc);
+        }
+        [b'@', letters @ ..] => {
+            let of = typed(&mut row.unit, letters)?;
+            row.operands.push(operand(of))?;
+        }
+        [b'=', expected @ ..] => {
+            let holds = has_candidates(alloc, row, expected, report)?;
+            counted(tally, holds);
+        }
+        other => declare(alloc, &mut row.unit, other)?,
+    }
+    Ok(())
 }
 
 // Reads a line; the candidates in place of those that it says are added to a text.
-fn read(alloc: Global, tally: Tally, line: &str, report: &mut String) -> Result<Tally, Stopped> {
-    let mut tally = tally;
-    let mut unit = start(alloc)?;
-    let mut operator: u8 = 0;
-    let mut operands = Listed::new(alloc);
+fn read(alloc: Global, tally: &mut Tally, line: &str, report: &mut String) -> Result<(), Stopped> {
+    let mut row = Row {
+        unit: Unit::start(alloc)?,
+        operator: 0,
+        operands: Listed::new(alloc),
+    };
     for word in line.split_whitespace() {
-        match word.as_bytes() {
-            [b'?', spelling @ ..] => {
-                operator = operator_of(spelling)?;
-                operands = Listed::new(alloc);
-            }
-            [b'@', letters @ ..] => {
-                let (with_type, of) = typed(unit, letters)?;
-                unit = with_type;
-                operands.push(operand(of))?;
-            }
-            [b'=', expected @ ..] => {
-                let (with_types, holds) = has_candidates(
-                    alloc, unit, operator, &operands, expected, report,
-                )?;
-                unit = with_types;
-                tally = counted(tally, holds);
-            }
-            other => unit = step(alloc, unit, other)?,
-        }
+        step(alloc, &mut row, tally, word.as_bytes(), report)?;
     }
-    Ok(tally)
+    Ok(())
 }
 
 fn main(rt: HostRuntime) -> io::Result<()> {
@@ -110,8 +116,8 @@ fn main(rt: HostRuntime) -> io::Result<()> {
             continue;
         }
         let mut report = String::new(alloc);
-        match read(alloc, tally, line.as_str(), &mut report) {
-            Ok(now) => tally = now,
+        match read(alloc, &mut tally, line.as_str(), &mut report) {
+            Ok(()) => {}
             Err(Stopped::IllRow) => println!(rt; "ill row: {line}")?,
             Err(Stopped::OutOfMemory) => println!(rt; "out of memory: {line}")?,
         }

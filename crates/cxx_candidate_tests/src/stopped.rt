@@ -1,9 +1,9 @@
 use cxx_graph::AddFault;
 use cxx_model::OutOfMemory;
-use std::alloc::{AllocError, AllocFailed};
+use std::alloc::AllocError;
 
 /// Why rows are not read to their end.
-#[derive(Debug, Drop)]
+#[derive(Drop)]
 pub(crate) enum Stopped {
     /// What is written is no row, or names what is not there.
     IllRow,
@@ -24,12 +24,6 @@ impl From<AddFault> for Stopped {
 
 impl From<AllocError> for Stopped {
     fn from(_error: AllocError) -> Stopped {
-        Stopped::OutOfMemory
-    }
-}
-
-impl<T: Drop> From<AllocFailed<T>> for Stopped {
-    fn from(_error: AllocFailed<T>) -> Stopped {
         Stopped::OutOfMemory
     }
 }

@@ -1,33 +1,14 @@
 //! Types and candidates as texts (src/rows.rt says how they are written).
 
-ghost use Rattle.std.specs.Prelude.{◌<◌, length};
-ghost use Rattle.cxx_model.specs.Types.Numbers.{AreTypesBelow};
+ghost use Rattle.std.specs.Prelude.{◌<◌, length, IfSome};
+ghost use Rattle.cxx_model.specs.Types.Numbers.{AreTypesBelow, IsNodeBelow};
 ghost use Rattle.cxx_candidates.specs.Shapes.{AreListsBelow};
 
+use crate::letters::letter_of;
 use crate::stopped::Stopped;
-use cxx_model::{Base, ClassId, Cv, TypeId, TypeIdList, TypeTree};
+use cxx_model::{ClassId, Cv, TypeId, TypeIdList, TypeNode};
 use cxx_types::TypeTable;
 use std::alloc::Global;
-
-fn letter_of(base: Base) -> char {
-    match base {
-        Base::Void => 'v',
-        Base::Bool => 'b',
-        Base::Char => 'c',
-        Base::SignedChar => 'a',
-        Base::UnsignedChar => 'h',
-        Base::Short => 's',
-        Base::UnsignedShort => 't',
-        Base::Int => 'i',
-        Base::Unsigned => 'j',
-        Base::Long => 'l',
-        Base::UnsignedLong => 'm',
-        Base::WideChar => 'w',
-        Base::Float => 'f',
-        Base::Double => 'd',
-        Base::LongDouble => 'e',
-    }
-}
 
 fn push_class(text: &mut String, class: ClassId) -> Result<(), Stopped> {
     let letter = b'A' + (class.0 % 26) as u8;
@@ -45,80 +26,80 @@ fn push_words(text: &mut String, cv: Cv) -> Result<(), Stopped> {
     Ok(())
 }
 
-fn push_tree(text: &mut String, tree: &TypeTree) -> Result<(), Stopped> {
-    match tree {
-        TypeTree::Plain(base) => text.push(letter_of(*base))?,
-        TypeTree::Class(class) => push_class(text, *class)?,
-        TypeTree::Enum(number) => text.push(char::from(b'0' + (number.0 % 10) as u8))?,
-        TypeTree::Pointer(of) => {
-            push_tree(text, of)?;
-            text.push('*')?;
-        }
-        TypeTree::Reference(of) => {
-            push_tree(text, of)?;
-            text.push('&')?;
-        }
-        TypeTree::Array(of, _) => {
-            push_tree(text, of)?;
-            text.push('[')?;
-        }
-        TypeTree::Qualified(cv, of) => {
-            push_tree(text, of)?;
-            push_words(text, *cv)?;
-        }
-        TypeTree::Function(signature) => {
-            push_tree(text, &signature.result)?;
-            text.push('(')?;
-        }
-        TypeTree::Parameter(_, _) => text.push('?')?,
-        TypeTree::Special(_, _) => text.push('?')?,
-        TypeTree::Nested(_, _) => text.push('?')?,
+// The type inside of one.
+fn inner(node: &TypeNode, end: TypeId) -> Option<TypeId>
+    requires { IsNodeBelow end.0 node.now }
+    ensures { IfSome result (λ of. of.0 < end.0) }
+{
+    let _ = end;
+    match node {
+        TypeNode::Pointer(of) => Some(*of),
+        TypeNode::Reference(of) => Some(*of),
+        TypeNode::Array(of, _) => Some(*of),
+        TypeNode::Qualified(_, of) => Some(*of),
+        TypeNode::Function { result, .. } => Some(*result),
+        _ => None,
+    }
+}
+
+// What stands in the text for the outermost part of a type.
+fn push_part(text: &mut String, node: &TypeNode) -> Result<(), Stopped> {
+    match node {
+        TypeNode::Plain(base) => text.push(letter_of(*base))?,
+        TypeNode::Class(class) => push_class(text, *class)?,
+        TypeNode::Enum(number) => text.push(char::from(b'0' + (number.0 % 10) as u8))?,
+        TypeNode::Pointer(_) => text.push('*')?,
+        TypeNode::Reference(_) => text.push('&')?,
+        TypeNode::Array(_, _) => text.push('[')?,
+        TypeNode::Function { .. } => text.push('(')?,
+        TypeNode::Qualified(cv, _) => push_words(text, *cv)?,
+        _ => text.push('?')?,
     }
     Ok(())
 }
 
-fn push_type(alloc: Global, types: &TypeTable, text: &mut String, of: TypeId) -> Result<(), Stopped>
+fn push_type(types: &TypeTable, text: &mut String, of: TypeId) -> Result<(), Stopped>
     requires { of.0 < length types.now }
 {
-    let tree = types.tree_of(alloc, of)?;
-    push_tree(text, &tree)
+    let node = types.node(of);
+    if let Some(inside) = inner(node, of) {
+        push_type(types, text, inside)?;
+    }
+    push_part(text, node)
 }
 
-fn push_candidate(
-    alloc: Global,
-    types: &TypeTable,
-    text: &mut String,
-    list: &[TypeId],
-) -> Result<(), Stopped>
+fn push_candidate(types: &TypeTable, text: &mut String, list: &[TypeId]) -> Result<(), Stopped>
     requires { AreTypesBelow (length types.now) list.now }
 {
     match list {
         [] => Ok(()),
         [one, others @ ..] => {
-            push_type(alloc, types, text, *one)?;
-            push_candidate(alloc, types, text, others)
+            push_type(types, text, *one)?;
+            push_candidate(types, text, others)
         }
     }
 }
 
 /// The parameters of each candidate, with `,` behind each.
-pub(crate) fn push_candidates(
+pub(crate) fn text_of(
     alloc: Global,
     types: &TypeTable,
-    text: &mut String,
     lists: &[TypeIdList],
-) -> Result<(), Stopped>
+) -> Result<String, Stopped>
     requires { AreListsBelow (length types.now) lists.now }
 {
+    let mut text = String::new(alloc);
     for list in lists {
-        push_candidate(alloc, types, text, list.as_slice())?;
+        push_candidate(types, &mut text, list.as_slice())?;
         text.push(',')?;
     }
-    Ok(())
+    Ok(text)
 }
 
 /// `!` and the class that must be complete first.
-pub(crate) fn push_needed(text: &mut String, class: ClassId) -> Result<(), Stopped> {
+pub(crate) fn text_of_needed(alloc: Global, class: ClassId) -> Result<String, Stopped> {
+    let mut text = String::new(alloc);
     text.push('!')?;
-    push_class(text, class)
+    push_class(&mut text, class)?;
+    Ok(text)
 }

@@ -1,8 +1,0 @@
-use Rattle.std.proofs.Common.{◌<◌, length, rules}
-use Rattle.cxx_candidate_tests.proofs.Growing.{typed}
-use Rattle.cxx_candidate_tests.proofs.kinds.with_array.Goals as goal
-
-pub returns : goal.returns
-returns c =
-    let known : c.args.of.0 < length c.args.unit.types = search rules in
-    typed c.args.unit c.array_of.new.self c.in_ok-number.number _ c.raised.result c.requires c.in_ok-number.ensures (c.requires.fitted.names c.args.of.0 known, tt) c.raised.ensures
