@@ -1,0 +1,8 @@
+pub mod Each
+mod InitialRows
+pub mod Kept
+pub mod Letters
+pub mod NodeKept
+mod Rows
+mod Sample
+pub mod Splits

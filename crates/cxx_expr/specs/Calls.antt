@@ -1,0 +1,151 @@
+-- Calls (5.2.2).
+use Rattle.std.specs.Prelude.{ℕ, zero, suc, ◌+◌, ◌-◌, Bool, not, ◌&&◌, ◌||◌, nat_eq, nat_lt, if◌then◌else◌, List, [], ◌∷◌, ◌++◌, length, Option, Some, None, Err}
+use Rattle.cxx_model.specs.declared.fault.FaultText.TheVariants as says
+use Rattle.cxx_model.specs.declared.place.Place.{Place}
+use Rattle.cxx_model.specs.Stops.{Stopped, fault, not_built_at}
+use Rattle.cxx_model.specs.Types.Trees.{CxxType, function_of}
+use Rattle.cxx_meaning.specs.Conversions.BuiltIn.{operand_kind}
+use Rattle.cxx_meaning.specs.Conversions.Kinds.{CxxKind, pointing}
+use Rattle.cxx_meaning.specs.Lookups.Wanted.{is_function}
+use Rattle.cxx_reading.specs.Choosing.{each_type}
+use Rattle.cxx_reading.specs.Initializers.{operand_of}
+use Rattle.cxx_reading.specs.Reads.{Asks}
+use Rattle.cxx_reading.specs.Seen.{Numbered}
+use Rattle.cxx_reading.specs.State.{CxxState}
+use Rattle.cxx_reading.specs.Trees.{CxxTree, Label, children_of, tree_of}
+use Rattle.cxx_expr.specs.declared.production.TheConstants as production
+use Rattle.cxx_expr.specs.Asking.{◌>>=◌, give}
+use Rattle.cxx_expr.specs.Converting.{convert_each}
+use Rattle.cxx_expr.specs.Names.{named, path_in, values_among, word_in}
+use Rattle.cxx_expr.specs.Operands.{is_none, is_of_class, judged_each, result_operand}
+use Rattle.cxx_expr.specs.Operators.{misshapen}
+use Rattle.cxx_expr.specs.Questions.{CxxChosen, CxxQuestion, Questions}
+
+-- ---- default arguments
+
+-- one more behind other arguments
+unfoldable pub fallback_more : Questions → ℕ → ℕ → List CxxTree → Asks CxxState (List CxxTree)
+fallback_more q target index done = do
+  next ← q.fallback target index
+  give (done ++ next ∷ [])
+
+-- 8.3.6: the default arguments of so many parameters, the first of which has an index
+unfoldable pub fallbacks : Questions → ℕ → ℕ → List CxxTree → ℕ → Asks CxxState (List CxxTree)
+fallbacks q target index done zero = give done
+fallbacks q target index done (suc count) = do
+  more ← fallback_more q target index done
+  fallbacks q target (index + 1) more count
+
+-- ---- a call of a function by its name (13.3.1.1.1)
+
+abbrev pub chosen_tree : CxxTree → CxxChosen → List CxxTree → CxxTree
+chosen_tree tree chosen arguments = tree_of (record tree.label { operand = Some (result_operand chosen.result); target = Some chosen.target; call = Some chosen.number }) arguments
+
+-- what the call is once it is known which function it means
+unfoldable pub chosen_call : Questions → CxxTree → List CxxTree → CxxChosen → Asks CxxState CxxTree
+chosen_call q tree arguments chosen = do
+  noted ← q.bound tree.label.place chosen.target
+  given ← convert_each q tree.label.place chosen.parameters [] arguments
+  all ← fallbacks q chosen.target (length arguments) given (length chosen.parameters - length arguments)
+  give (chosen_tree tree chosen all)
+
+-- 3.4.2: the name, where it does not stand in brackets
+abbrev pub bare_word : List ℕ → List ℕ → Option (List ℕ)
+bare_word [] word = Some word
+bare_word (b ∷ brackets) word = None
+
+abbrev pub question : Questions → Label → List Numbered → List CxxTree → CxxState → CxxQuestion
+question q label functions arguments state = record { place = label.place; word = bare_word label.spelling (word_in label).word; functions = functions; operands = judged_each q arguments state }
+
+unfoldable pub function_call : Questions → CxxTree → List Numbered → List CxxTree → Asks CxxState CxxTree
+function_call q tree functions arguments state = (q.call (question q tree.label functions arguments state) >>= chosen_call q tree arguments) state
+
+-- ---- a call of what an expression gives
+
+-- the type of a function
+pub record Signature : Type 0 where
+  pub result : CxxType
+  pub parameters : List CxxType
+  pub ellipsis : Bool
+
+abbrev pub signature_of : CxxType → Option Signature
+signature_of (function_of result parameters ellipsis cv) = Some (record { result = result; parameters = each_type parameters; ellipsis = ellipsis })
+signature_of _ = None
+
+-- 5.2.2: the function that is called, or to which a pointer points
+abbrev pub signature_by : CxxKind → Option Signature
+signature_by (pointing of) = signature_of of
+signature_by _ = None
+
+abbrev pub fits_count : Signature → ℕ → Bool
+fits_count signature count = not (nat_lt count (length signature.parameters)) && (signature.ellipsis || nat_eq count (length signature.parameters))
+
+-- over what is called and the arguments behind it
+abbrev pub through_tree : CxxTree → CxxType → List CxxTree → CxxTree
+through_tree tree result parts = tree_of (record tree.label { place = tree.label.start; operand = Some (result_operand result) }) parts
+
+unfoldable pub through_signature : Questions → CxxTree → CxxTree → List CxxTree → Signature → Asks CxxState CxxTree
+through_signature q tree callee arguments signature = do
+  parts ← convert_each q tree.label.start signature.parameters (callee ∷ []) arguments
+  give (through_tree tree signature.result parts)
+
+abbrev pub through_counted : Questions → CxxTree → CxxTree → List CxxTree → Signature → Asks CxxState CxxTree
+through_counted q tree callee arguments signature state =
+    if fits_count signature (length arguments) then through_signature q tree callee arguments signature state else
+    Err (fault tree.label.start says.NoConversion)
+
+-- the operator of a class that is called is not read yet; else there is nothing to call
+abbrev pub no_callee : Place → CxxTree → Stopped
+no_callee start callee = if is_of_class callee then not_built_at start else fault start says.OperandsDoNotFit
+
+abbrev pub through_by : Questions → CxxTree → CxxTree → List CxxTree → Option Signature → Asks CxxState CxxTree
+through_by q tree callee arguments (Some signature) state = through_counted q tree callee arguments signature state
+through_by q tree callee arguments None state = Err (no_callee tree.label.start callee)
+
+-- The place of such a call is that of the first token of what is called.
+unfoldable pub through : Questions → CxxTree → CxxTree → List CxxTree → Asks CxxState CxxTree
+through q tree callee arguments = through_by q tree callee arguments (signature_by (operand_kind (operand_of callee)))
+
+-- ---- a call by a name
+
+-- The name reaches up to the arguments.
+abbrev pub behind_called : Label → List CxxTree → ℕ
+behind_called label [] = label.last
+behind_called label (tree ∷ trees) = tree.label.first
+
+-- the name that is called, with the brackets round it, as an expression
+abbrev pub called_label : Label → List CxxTree → Label
+called_label label arguments = record label { production = production.NAME; spelling = []; last = behind_called label arguments }
+
+-- the call, where the name is an expression of its own
+abbrev pub without_name : CxxTree → CxxTree
+without_name tree = record { label = record tree.label { spelling = []; path = None }; children = tree.children }
+
+unfoldable pub value_call : Questions → CxxTree → List Numbered → List CxxTree → Asks CxxState CxxTree
+value_call q tree all arguments = do
+  callee ← named q (called_label tree.label arguments) all
+  through q (without_name tree) callee arguments
+
+abbrev pub called_first : Questions → CxxTree → List Numbered → List CxxTree → List Numbered → Asks CxxState CxxTree
+called_first q tree all arguments [] state = value_call q tree all arguments state
+called_first q tree all arguments (one ∷ others) state = if is_function state.graph one.fact.what then function_call q tree (one ∷ others) arguments state else value_call q tree all arguments state
+
+-- A name that has these declarations is called: a function among them hides the types, and is looked for by its arguments.
+unfoldable pub called : Questions → CxxTree → List CxxTree → List Numbered → Asks CxxState CxxTree
+called q tree arguments all state = called_first q tree all arguments (values_among state.graph all) state
+
+unfoldable pub name_call : Questions → CxxTree → List CxxTree → Asks CxxState CxxTree
+name_call q tree arguments = q.name (path_in tree.label) >>= called q tree arguments
+
+-- ---- both
+
+abbrev pub split_first : List CxxTree → Option (CxxTree × List CxxTree)
+split_first [] = None
+split_first (callee ∷ arguments) = Some (callee, arguments)
+
+abbrev pub expression_call : Questions → CxxTree → Option (CxxTree × List CxxTree) → Asks CxxState CxxTree
+expression_call q tree None state = misshapen tree state
+expression_call q tree (Some parts) state = through q tree parts.0 parts.1 state
+
+unfoldable pub call : Questions → CxxTree → Asks CxxState CxxTree
+call q tree state = if is_none tree.label.path then expression_call q tree (split_first (children_of tree)) state else name_call q tree (children_of tree) state

@@ -1,0 +1,68 @@
+-- Implicit conversions of expressions (clause 4, 8.5, 8.5.3).
+use Rattle.std.specs.Prelude.{Bool, ◌||◌, if◌then◌else◌, List, [], ◌∷◌, ◌++◌, Option, Some, None, Ok, Err}
+use Rattle.cxx_model.specs.declared.fault.FaultText.TheVariants as says
+use Rattle.cxx_model.specs.declared.place.Place.{Place}
+use Rattle.cxx_model.specs.declared.sequence.Second.{Second}
+use Rattle.cxx_model.specs.Stops.{fault, not_built_at}
+use Rattle.cxx_model.specs.Types.Same.{same_type}
+use Rattle.cxx_model.specs.Types.Trees.{CxxType, unqualified}
+use Rattle.cxx_meaning.specs.Conversions.Asking.{Asked}
+use Rattle.cxx_meaning.specs.Conversions.Sizes.{referred}
+use Rattle.cxx_meaning.specs.Conversions.Standard.{CxxStandard, standard_sequence}
+use Rattle.cxx_reading.specs.Initializers.{conversion_tree, operand_of}
+use Rattle.cxx_reading.specs.Reads.{Asks}
+use Rattle.cxx_reading.specs.State.{CxxState}
+use Rattle.cxx_reading.specs.Trees.{CxxTree}
+use Rattle.cxx_expr.specs.Asking.{◌>>=◌, give}
+use Rattle.cxx_expr.specs.Operands.{is_none, judged_to}
+use Rattle.cxx_expr.specs.Questions.{Questions}
+
+-- A conversion stands where there is a promotion or conversion: to the type, or what it refers to, cv words aside. What
+-- makes a value, adds cv words or binds a reference changes nothing.
+abbrev pub by_step : CxxType → CxxTree → Option Second → CxxTree
+by_step of tree None = tree
+by_step of tree (Some step) = conversion_tree (unqualified (referred of)) tree
+
+abbrev pub by_sequence : Place → CxxType → CxxTree → Asked (Option CxxStandard) → Asks CxxState CxxTree
+by_sequence place of tree (Ok (Some sequence)) state = Ok (by_step of tree sequence.second, state)
+by_sequence place of tree (Ok None) state = Err (fault place says.NoConversion)
+by_sequence place of tree (Err class) state = Err (not_built_at place)
+
+abbrev pub sequence_to : Questions → CxxType → CxxTree → CxxState → Asked (Option CxxStandard)
+sequence_to q of tree state = standard_sequence state.graph (judged_to q of tree state) of
+
+-- an expression of another type
+unfoldable pub convert_known : Questions → Place → CxxType → CxxTree → Asks CxxState CxxTree
+convert_known q place of tree state = by_sequence place of tree (sequence_to q of tree state) state
+
+-- an expression that is of the type, or that depends on parameters of templates, stays what it is
+abbrev pub stays : CxxType → CxxTree → Bool
+stays of tree = is_none tree.label.operand || same_type (operand_of tree).of of
+
+-- 13.3.3.1: an expression as it is converted to a type, asked at a place
+unfoldable pub convert : Questions → Place → CxxType → CxxTree → Asks CxxState CxxTree
+convert q place of tree state = if stays of tree then Ok (tree, state) else convert_known q place of tree state
+
+-- ---- one after another
+
+abbrev pub types_after : List CxxType → List CxxType
+types_after [] = []
+types_after (of ∷ types) = types
+
+-- the next expression, where a type is left for it; what an ellipsis takes stays what it is
+abbrev pub convert_next : Questions → Place → List CxxType → CxxTree → Asks CxxState CxxTree
+convert_next q place [] tree = give tree
+convert_next q place (of ∷ types) tree = convert q place of tree
+
+-- the same behind those that are converted
+unfoldable pub convert_more : Questions → Place → List CxxType → List CxxTree → CxxTree → Asks CxxState (List CxxTree)
+convert_more q place types done tree = do
+  next ← convert_next q place types tree
+  give (done ++ next ∷ [])
+
+-- each expression in turn
+unfoldable pub convert_each : Questions → Place → List CxxType → List CxxTree → List CxxTree → Asks CxxState (List CxxTree)
+convert_each q place types done [] = give done
+convert_each q place types done (tree ∷ trees) = do
+  more ← convert_more q place types done tree
+  convert_each q place (types_after types) more trees

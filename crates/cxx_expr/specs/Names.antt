@@ -1,0 +1,154 @@
+-- What a name means in an expression (3.3.7, 3.4, 5.1, 7.2).
+use Rattle.std.specs.Prelude.{ℕ, ℤ, Bool, true, false, ◌&&◌, nat_eq, if◌then◌else◌, ◌-◌, List, [], ◌∷◌, length, Option, Some, None, Ok, Err}
+use Rattle.std.specs.List.{slice_get}
+use Rattle.cxx_model.specs.declared.base.Base.{Base}
+use Rattle.cxx_model.specs.declared.evidence.Evidence.TheVariants.{Found}
+use Rattle.cxx_model.specs.declared.fault.FaultText.TheVariants as says
+use Rattle.cxx_model.specs.declared.fault.LeftOut.TheVariants as form
+use Rattle.cxx_model.specs.declared.place.Place.{Place}
+use Rattle.cxx_model.specs.declared.sequence.ConstantKind.TheVariants as constant
+use Rattle.cxx_model.specs.Facts.Declarations as facts
+use Rattle.cxx_model.specs.Facts.Declarations.{CxxFact, CxxGraph, Declares}
+use Rattle.cxx_model.specs.Facts.Entities.{first_or}
+use Rattle.cxx_model.specs.Stops.{Stopped, Faulty, fault, undeclared_at}
+use Rattle.cxx_model.specs.Types.Integral.{promoted_of_values}
+use Rattle.cxx_model.specs.Types.Trees.{CxxType, enumeration, fundamental}
+use Rattle.cxx_meaning.specs.Conversions.Sizes.{referred}
+use Rattle.cxx_meaning.specs.Conversions.Standard.{CxxOperand}
+use Rattle.cxx_meaning.specs.Lookups.Wanted.{hides_types}
+use Rattle.cxx_reading.specs.Declaring.{no_part}
+use Rattle.cxx_reading.specs.Reads.{Asks}
+use Rattle.cxx_reading.specs.Seen.{Numbered, kept}
+use Rattle.cxx_reading.specs.State.{CxxState}
+use Rattle.cxx_reading.specs.Trees.{CxxPath, CxxPathPart, CxxTree, Label, tree_of}
+use Rattle.cxx_expr.specs.Asking.{◌>>=◌, give, stop}
+use Rattle.cxx_expr.specs.Operands.{object_operand}
+use Rattle.cxx_expr.specs.Questions.{Questions}
+
+-- ---- what is meant
+
+-- the entity that a name means, by its first declaration, and what the name gives
+pub record Means : Type 0 where
+  pub target : ℕ
+  pub operand : CxxOperand
+
+-- the type that an object or a function has by a declaration
+abbrev pub type_declared : Declares → Option CxxType
+type_declared (facts.object of kind is_mutable value first) = Some of
+type_declared (facts.function of kind flags defaults first) = Some of
+type_declared _ = None
+
+abbrev pub type_by_fact : Option CxxFact → Option CxxType
+type_by_fact None = None
+type_by_fact (Some fact) = type_declared fact.what
+
+abbrev pub or_own : CxxType → Option CxxType → CxxType
+or_own own None = own
+or_own own (Some of) = of
+
+-- 3.5: An object or a function has the type of its first declaration. A reference is what it refers to.
+abbrev pub type_of_first : CxxGraph → ℕ → CxxType → CxxType
+type_of_first graph target own = referred (or_own own (type_by_fact (slice_get graph.facts target)))
+
+abbrev pub means_object : CxxGraph → ℕ → CxxType → Means
+means_object graph target own = record { target = target; operand = object_operand (type_of_first graph target own) }
+
+-- 7.2: An enumerator is of its enumeration. While the list of that is read, it is of the first type that holds its value.
+abbrev pub is_open_list : Option ℕ → ℕ → Bool
+is_open_list None n = false
+is_open_list (Some m) n = nat_eq m n
+
+abbrev pub base_or_list : ℕ → Option Base → CxxType
+base_or_list n None = enumeration n
+base_or_list n (Some of) = fundamental of
+
+abbrev pub enumerator_type : Option ℕ → ℕ → ℤ → CxxType
+enumerator_type list n value = if is_open_list list n then base_or_list n (promoted_of_values (value ∷ [])) else enumeration n
+
+abbrev pub means_enumerator : Option ℕ → ℕ → ℕ → ℤ → Means
+means_enumerator list number n value = record { target = number; operand = record { of = enumerator_type list n value; lvalue = false; constant = constant.No } }
+
+-- ---- functions
+
+-- whether a declaration is one of the function with this first declaration
+abbrev pub is_function_with : ℕ → ℕ → Declares → Bool
+is_function_with target number (facts.function of kind flags defaults first) = nat_eq (first_or number first) target
+is_function_with target number _ = false
+
+abbrev pub are_one_function : ℕ → List Numbered → Bool
+are_one_function target [] = true
+are_one_function target (one ∷ others) = is_function_with target one.number one.fact.what && are_one_function target others
+
+-- 13.4: where a name means several functions, or a template of them, it depends on its use which it means
+abbrev pub several_at : Place → Stopped
+several_at place = fault place (says.LeftOut form.AddressOfSeveralFunctions)
+
+-- ---- by the declarations
+
+-- 3.3.7: what hides the types of its scope
+abbrev pub values_among : CxxGraph → List Numbered → List Numbered
+values_among graph all = kept (hides_types graph) all
+
+abbrev pub wrong_kind_at : CxxPathPart → Place → Stopped
+wrong_kind_at part other = Faulty (record { place = part.place; text = says.WrongKindOfName part.word; evidence = Found other ∷ [] })
+
+-- why a name means no value, by its declarations
+abbrev pub no_value_at : CxxPathPart → List Numbered → Stopped
+no_value_at part [] = undeclared_at part.place part.word
+no_value_at part (one ∷ others) = wrong_kind_at part one.fact.place
+
+abbrev pub means_function : Place → CxxGraph → ℕ → CxxType → List Numbered → Asks CxxState Means
+means_function place graph target own all state = if are_one_function target all then Ok (means_object graph target own, state) else Err (several_at place)
+
+abbrev pub means_first : Place → CxxGraph → Option ℕ → List Numbered → ℕ → Declares → Asks CxxState Means
+means_first place graph list all number (facts.object of kind is_mutable value first) = give (means_object graph (first_or number first) of)
+means_first place graph list all number (facts.enumerator n value) = give (means_enumerator list number n value)
+means_first place graph list all number (facts.function of kind flags defaults first) = means_function place graph (first_or number first) of all
+means_first place graph list all number _ = stop (several_at place)
+
+abbrev pub means_value : CxxPathPart → Place → List Numbered → List Numbered → Asks CxxState Means
+means_value part place all [] state = Err (no_value_at part all)
+means_value part place all (one ∷ others) state = means_first place state.graph state.here.enumeration (one ∷ others) one.number one.fact.what state
+
+-- what a name means that has these declarations
+unfoldable pub meant_by : CxxPathPart → Place → List Numbered → Asks CxxState Means
+meant_by part place all state = means_value part place all (values_among state.graph all) state
+
+-- ---- the tree
+
+abbrev pub no_path : CxxPath
+no_path = record { global = false; parts = [] }
+
+abbrev pub path_or : Option CxxPath → CxxPath
+path_or None = no_path
+path_or (Some path) = path
+
+-- the name that is written
+abbrev pub path_in : Label → CxxPath
+path_in label = path_or label.path
+
+abbrev pub part_or : Option CxxPathPart → CxxPathPart
+part_or None = no_part
+part_or (Some part) = part
+
+abbrev pub last_part : CxxPath → Option CxxPathPart
+last_part path = slice_get path.parts (length path.parts - 1)
+
+-- the last word of it, that is looked up
+abbrev pub word_in : Label → CxxPathPart
+word_in label = part_or (last_part (path_in label))
+
+abbrev pub named_tree : Label → Means → CxxTree
+named_tree label means = tree_of (record label { operand = Some means.operand; target = Some means.target }) []
+
+-- A name that has these declarations, as an expression: what it means, which is noted.
+unfoldable pub named : Questions → Label → List Numbered → Asks CxxState CxxTree
+named q label all = do
+  means ← meant_by (word_in label) label.place all
+  noted ← q.bound label.place means.target
+  give (named_tree label means)
+
+unfoldable pub name : Questions → CxxTree → Asks CxxState CxxTree
+name q tree = do
+  all ← q.name (path_in tree.label)
+  named q tree.label all

@@ -1,0 +1,74 @@
+-- What the values of the code stand for, given the types and the facts of a state.
+use Rattle.std.specs.Prelude.{ℕ, ◌<◌, Bool, true, false, List, [], ◌∷◌, length, Option, Some, None, Result}
+use Rattle.std.specs.List.{slice_get}
+use Rattle.cxx_model.specs.declared.place.Place.{Place}
+use Rattle.cxx_model.specs.declared.sequence.Operand.{Operand}
+use Rattle.cxx_model.specs.declared.types.FactId.{FactId}
+use Rattle.cxx_model.specs.declared.types.TypeId.{TypeId}
+use Rattle.cxx_model.specs.Facts.Declarations.{CxxFact, CxxGraph}
+use Rattle.cxx_model.specs.Types.Numbers.{AreTypesBelow, type_at}
+use Rattle.cxx_model.specs.Types.Trees.{CxxType}
+use Rattle.cxx_meaning.specs.declared.size.SizeReason.{SizeReason}
+use Rattle.cxx_meaning.specs.Conversions.Standard.{CxxOperand}
+use Rattle.cxx_reading.specs.Seen.{Numbered}
+use Rattle.cxx_standard.specs.Views.{operand_at}
+use Rattle.cxx_tree.specs.Held.{Held, meaning}
+use Rattle.cxx_expr.specs.declared.questions.Chosen.{Chosen}
+use Rattle.cxx_expr.specs.Calls.{bare_word}
+use Rattle.cxx_expr.specs.Questions.{CxxChosen, CxxQuestion}
+
+-- ---- declarations
+
+abbrev pub with_fact : ℕ → Option CxxFact → List Numbered → List Numbered
+with_fact number None others = others
+with_fact number (Some fact) others = record { number = number; fact = fact } ∷ others
+
+-- the declarations that have some numbers
+abbrev pub numbered_in : CxxGraph → List FactId → List Numbered
+numbered_in graph [] = []
+numbered_in graph (n ∷ numbers) = with_fact n.0 (slice_get graph.facts n.0) (numbered_in graph numbers)
+
+abbrev pub numbered : Held → List FactId → List Numbered
+numbered held numbers = numbered_in (meaning held).graph numbers
+
+-- each number is that of a declaration
+abbrev pub AreFactsBelow : ℕ → List FactId → Type 0
+AreFactsBelow count [] = Unit {0}
+AreFactsBelow count (n ∷ numbers) = (n.0 < count) × AreFactsBelow count numbers
+
+abbrev pub AreFactsKnown : Held → List FactId → Type 0
+AreFactsKnown held numbers = AreFactsBelow (length held.graph.facts) numbers
+
+-- ---- lists of types and operands
+
+abbrev pub types_in : List CxxType → List TypeId → List CxxType
+types_in types [] = []
+types_in types (n ∷ others) = type_at types n.0 ∷ types_in types others
+
+abbrev pub operands_in : List CxxType → List Operand → List CxxOperand
+operands_in types [] = []
+operands_in types (operand ∷ others) = operand_at types operand ∷ operands_in types others
+
+abbrev pub AreOperandsBelow : ℕ → List Operand → Type 0
+AreOperandsBelow count [] = Unit {0}
+AreOperandsBelow count (operand ∷ others) = (operand.of.0 < count) × AreOperandsBelow count others
+
+-- ---- questions
+
+abbrev pub question_of : Held → Place → List ℕ → List ℕ → List FactId → List Operand → CxxQuestion
+question_of held place brackets word functions operands = record { place = place; word = bare_word brackets word; functions = numbered held functions; operands = operands_in held.types operands }
+
+abbrev pub chosen_of : Held → Chosen → CxxChosen
+chosen_of held chosen = record { target = chosen.target.0; parameters = types_in held.types chosen.parameters; result = type_at held.types chosen.result.0; ellipsis = chosen.ellipsis; number = chosen.number }
+
+-- the types of the function are there
+pub record IsChosen (held : Held) (chosen : Chosen) : Type 0 where
+  pub parameters : AreTypesBelow (length held.types) chosen.parameters
+  pub result : chosen.result.0 < length held.types
+
+-- the first declaration of an entity
+abbrev pub fact_number : Held → FactId → ℕ
+fact_number held number = number.0
+
+abbrev pub sized_in : Held → Result ℕ SizeReason → Result ℕ SizeReason
+sized_in held found = found

@@ -1,0 +1,22 @@
+//! What one expression means whose parts were read (clause 5), and how objects are initialized (8.5): the definitions, and
+//! the code for literals, operators, casts, sizes and conversions. Names, calls and initializers have no code yet.
+#![tactic(auto)]
+
+mod casts;
+pub mod conditional;
+mod converting;
+mod faults;
+mod literals;
+mod nodes;
+mod operands;
+mod operators;
+pub mod production;
+mod questions;
+mod sizes;
+
+pub use casts::{cast, functional};
+pub use converting::convert;
+pub use literals::literal;
+pub use operators::{binary, prefix, step, subscript};
+pub use questions::{Chosen, Questions};
+pub use sizes::size;

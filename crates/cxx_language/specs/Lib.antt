@@ -1,0 +1,7 @@
+-- The reading of a unit with expressions, and its plain form.
+pub mod Readers
+pub mod Answers
+pub mod Known
+pub mod Objects
+pub mod Units
+pub mod Text
