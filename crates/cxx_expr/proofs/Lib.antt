@@ -1,3 +1,4 @@
+pub mod Chained
 pub mod Each
 mod InitialRows
 pub mod Kept
