@@ -137,7 +137,8 @@ fn conditional_built<Q: Questions>(
     arms(alloc, questions, state, node, one, two, condition)
 }
 
-pub(crate) fn is_class(kind: TypeKind) -> bool
+/// Whether a type is a class.
+pub fn is_class(kind: TypeKind) -> bool
     ensures { (types : List CxxType) → result ≡ is_class_kind (kind_at types kind) }
 {
     match kind {
@@ -147,7 +148,7 @@ pub(crate) fn is_class(kind: TypeKind) -> bool
 }
 
 /// Whether an expression is of a class.
-pub(crate) fn is_of_class(state: &State, number: TreeId) -> bool
+pub fn is_of_class(state: &State, number: TreeId) -> bool
     requires { number.0 < length (trees state.now) }
     ensures { result ≡ operands.is_of_class (tree state.now number) }
 {

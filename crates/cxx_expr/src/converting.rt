@@ -27,7 +27,7 @@ use cxx_tree::State;
 use std::alloc::Global;
 
 /// Adds a node.
-pub(crate) fn push(state: &mut State, node: Node) -> Result<TreeId, Stop>
+pub fn push(state: &mut State, node: Node) -> Result<TreeId, Stop>
     requires below { IsNodeBelow (length (state.old).types) node }
     requires children { AreTreesHeld state.old node.children }
     ensures { GrowsTree state.old state.new result (tree_over (state.old).types (trees state.old) node) }
@@ -160,8 +160,8 @@ pub fn convert<Q: Questions>(
     convert_known(alloc, questions, state, place, of, number)
 }
 
-// The types behind the first one.
-pub(crate) fn types_after(types: &[TypeId]) -> &[TypeId]
+/// The types behind the first one.
+pub fn types_after(types: &[TypeId]) -> &[TypeId]
     ensures is { (all : List CxxType) → types_in all result.now ≡ definition.types_after (types_in all types.now) }
     ensures below { (count : ℕ) → AreTypesBelow count types.now → AreTypesBelow count result.now }
 {
@@ -215,7 +215,7 @@ fn convert_more<Q: Questions>(
 
 /// Each expression in turn, converted to its type, behind those that are converted.
 #[tactic(auto, using(crate::proofs::Kept::later_refl, crate::proofs::Kept::later_trans, crate::proofs::Kept::types_later, crate::proofs::Kept::there_at, crate::proofs::Each::each_ends, crate::proofs::Each::each_fails))]
-pub(crate) fn convert_each<Q: Questions>(
+pub fn convert_each<Q: Questions>(
     alloc: Global,
     questions: &Q,
     state: &mut State,

@@ -8,7 +8,7 @@ use cxx_model::{Fault, FaultText, Listed, Place};
 use std::alloc::{AllocError, Global};
 
 /// A fault that rests on nothing but its place.
-pub(crate) fn fault(alloc: Global, place: Place, text: FaultText) -> Result<Box<Fault>, AllocError>
+pub fn fault(alloc: Global, place: Place, text: FaultText) -> Result<Box<Fault>, AllocError>
     ensures { IfOk result (λ at. Faulty at.value ≡ fault_of place text) }
 {
     Ok(Box::new(
@@ -21,7 +21,8 @@ pub(crate) fn fault(alloc: Global, place: Place, text: FaultText) -> Result<Box<
     )?)
 }
 
-pub(crate) fn not_built_at(alloc: Global, place: Place) -> Result<Box<Fault>, AllocError>
+/// What is not read yet.
+pub fn not_built_at(alloc: Global, place: Place) -> Result<Box<Fault>, AllocError>
     ensures { IfOk result (λ at. Faulty at.value ≡ not_built place) }
 {
     fault(alloc, place, FaultText::NotBuilt)

@@ -4,12 +4,12 @@
 
 mod casts;
 pub mod conditional;
-mod converting;
-mod faults;
+pub mod converting;
+pub mod faults;
 mod literals;
-mod nodes;
-mod operands;
-mod operators;
+pub mod nodes;
+pub mod operands;
+pub mod operators;
 pub mod production;
 mod questions;
 mod sizes;

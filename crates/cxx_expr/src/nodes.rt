@@ -13,7 +13,7 @@ use cxx_model::{Node, Operand, Stop, TreeId, TreeIdList};
 use cxx_tree::State;
 
 /// A node with what it gives, over its parts as they are converted.
-pub(crate) fn given_over(
+pub fn given_over(
     state: &mut State,
     node: Node,
     operand: Operand,
@@ -44,7 +44,7 @@ fn only(state: &State, numbers: &[TreeId]) -> Option<TreeId>
 
 /// The one part of a node.
 #[tactic(auto, using(crate::proofs::NodeKept::children_are))]
-pub(crate) fn only_child(state: &State, node: &Node) -> Option<TreeId>
+pub fn only_child(state: &State, node: &Node) -> Option<TreeId>
     requires { IsNodeHeld state.now node.now }
     ensures is { one_tree state.now result ≡ definition.only (children_of (node_tree state.now node.now)) }
     ensures known { IsOneKnown state.now result }
@@ -66,7 +66,7 @@ fn both(state: &State, numbers: &[TreeId]) -> Option<(TreeId, TreeId)>
 
 /// The two parts of a node.
 #[tactic(auto, using(crate::proofs::NodeKept::children_are))]
-pub(crate) fn both_children(state: &State, node: &Node) -> Option<(TreeId, TreeId)>
+pub fn both_children(state: &State, node: &Node) -> Option<(TreeId, TreeId)>
     requires { IsNodeHeld state.now node.now }
     ensures is { two_trees state.now result ≡ definition.both (children_of (node_tree state.now node.now)) }
     ensures known { AreTwoKnown state.now result }
@@ -88,7 +88,7 @@ fn all_three(state: &State, numbers: &[TreeId]) -> Option<(TreeId, TreeId, TreeI
 
 /// The three parts of a node.
 #[tactic(auto, using(crate::proofs::NodeKept::children_are))]
-pub(crate) fn three_children(state: &State, node: &Node) -> Option<(TreeId, TreeId, TreeId)>
+pub fn three_children(state: &State, node: &Node) -> Option<(TreeId, TreeId, TreeId)>
     requires { IsNodeHeld state.now node.now }
     ensures is { three_trees state.now result ≡ definition.all_three (children_of (node_tree state.now node.now)) }
     ensures known { AreThreeKnown state.now result }

@@ -23,7 +23,8 @@ use cxx_types::TypeTable;
 
 // ---- types
 
-pub(crate) fn plain_type(state: &mut State, base: Base) -> Result<TypeId, Stop>
+/// A fundamental type (3.9.1).
+pub fn plain_type(state: &mut State, base: Base) -> Result<TypeId, Stop>
     ensures { GrowsType state.old state.new result (fundamental base) }
 {
     match state.plain(base) {
@@ -33,7 +34,7 @@ pub(crate) fn plain_type(state: &mut State, base: Base) -> Result<TypeId, Stop>
 }
 
 /// A type without its cv words.
-pub(crate) fn bare_type(state: &mut State, of: TypeId) -> Result<TypeId, Stop>
+pub fn bare_type(state: &mut State, of: TypeId) -> Result<TypeId, Stop>
     requires { of.0 < length (state.old).types }
     ensures { GrowsType state.old state.new result (unqualified (type_of state.old of)) }
 {
@@ -44,7 +45,7 @@ pub(crate) fn bare_type(state: &mut State, of: TypeId) -> Result<TypeId, Stop>
 }
 
 /// What a reference refers to; any other type is what it is (8.3.2).
-pub(crate) fn referred(types: &TypeTable, of: TypeId) -> TypeId
+pub fn referred(types: &TypeTable, of: TypeId) -> TypeId
     requires { of.0 < length types.now }
     ensures is { type_at types.now result.0 ≡ sizes.referred (type_at types.now of.0) }
     ensures below { result.0 < length types.now }
@@ -58,7 +59,7 @@ pub(crate) fn referred(types: &TypeTable, of: TypeId) -> TypeId
 // ---- operands
 
 /// A value of a type (3.10).
-pub(crate) fn value_operand(state: &mut State, of: TypeId) -> Result<Operand, Stop>
+pub fn value_operand(state: &mut State, of: TypeId) -> Result<Operand, Stop>
     requires { of.0 < length (state.old).types }
     ensures { GrowsOperand state.old state.new result (reading.value_operand (type_of state.old of)) }
 {
@@ -83,7 +84,7 @@ fn void_operand(state: &mut State) -> Result<Operand, Stop>
 
 /// What an expression gives. One that gives nothing is void.
 #[tactic(auto, using(crate::proofs::Kept::later_refl))]
-pub(crate) fn operand_of(state: &mut State, number: TreeId) -> Result<Operand, Stop>
+pub fn operand_of(state: &mut State, number: TreeId) -> Result<Operand, Stop>
     requires { number.0 < length (trees state.old) }
     ensures { GrowsOperand state.old state.new result (reading.operand_of (tree state.old number)) }
 {
@@ -95,7 +96,8 @@ pub(crate) fn operand_of(state: &mut State, number: TreeId) -> Result<Operand, S
 
 // ---- null pointer constants (4.10)
 
-pub(crate) fn is_integral(kind: TypeKind) -> bool
+/// Whether a type is integral (3.9.1).
+pub fn is_integral(kind: TypeKind) -> bool
     ensures { (types : List CxxType) → result ≡ definition.is_integral_kind (kind_at types kind) }
 {
     match kind {
@@ -131,7 +133,7 @@ fn judged_operand<Q: Questions>(
 
 /// What an expression gives, where it matters whether it is a null pointer constant.
 #[tactic(auto, using(crate::proofs::Kept::later_refl, crate::proofs::Kept::tree_later, crate::proofs::Kept::tree_kept), unfolding(crate::specs::Operands::judged))]
-pub(crate) fn judged<Q: Questions>(
+pub fn judged<Q: Questions>(
     questions: &Q,
     state: &mut State,
     number: TreeId,
@@ -157,7 +159,7 @@ fn leads_to_pointer(state: &State, of: TypeId) -> bool
 
 /// The same where the expression is converted to a type.
 #[tactic(auto, unfolding(crate::specs::Operands::judged_to))]
-pub(crate) fn judged_to<Q: Questions>(
+pub fn judged_to<Q: Questions>(
     questions: &Q,
     state: &mut State,
     of: TypeId,
@@ -184,7 +186,7 @@ fn gives_pointer(state: &State, operand: Operand) -> bool
 
 /// The same where the expression stands beside another one.
 #[tactic(auto, using(crate::proofs::Kept::later_trans, crate::proofs::Kept::tree_later, crate::proofs::Kept::tree_kept), unfolding(crate::specs::Operands::judged_beside))]
-pub(crate) fn judged_beside<Q: Questions>(
+pub fn judged_beside<Q: Questions>(
     questions: &Q,
     state: &mut State,
     other: TreeId,
@@ -205,7 +207,7 @@ pub(crate) fn judged_beside<Q: Questions>(
 
 /// What a call or a cast gives: an object where the result or the type is a reference (5.2.2, 5.2.9).
 #[tactic(auto, using(crate::proofs::Kept::later_refl))]
-pub(crate) fn result_operand(state: &mut State, of: TypeId) -> Result<Operand, Stop>
+pub fn result_operand(state: &mut State, of: TypeId) -> Result<Operand, Stop>
     requires { of.0 < length (state.old).types }
     ensures { GrowsOperand state.old state.new result (definition.result_operand (type_of state.old of)) }
 {

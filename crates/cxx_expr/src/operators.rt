@@ -35,14 +35,14 @@ use cxx_tree::State;
 use std::alloc::{AllocError, Global};
 
 /// No meaning of clause 5.
-pub(crate) fn no_fit(alloc: Global, place: Place) -> Result<Box<Fault>, AllocError>
+pub fn no_fit(alloc: Global, place: Place) -> Result<Box<Fault>, AllocError>
     ensures { IfOk result (λ at. Faulty at.value ≡ fault_of place says.OperandsDoNotFit) }
 {
     fault(alloc, place, FaultText::OperandsDoNotFit)
 }
 
 /// A tree with another count of parts than its production has.
-pub(crate) fn misshapen(alloc: Global, start: Place) -> Result<Box<Fault>, AllocError>
+pub fn misshapen(alloc: Global, start: Place) -> Result<Box<Fault>, AllocError>
     ensures { IfOk result (λ at. Faulty at.value ≡ fault_of start says.SyntaxError) }
 {
     fault(alloc, start, FaultText::SyntaxError)
@@ -182,7 +182,8 @@ fn asks_operator(state: &State, number: TreeId) -> bool
 
 // ---- one operand
 
-pub(crate) fn listed_one(alloc: Global, one: TreeId) -> Result<TreeIdList, AllocError>
+/// A list of one tree.
+pub fn listed_one(alloc: Global, one: TreeId) -> Result<TreeIdList, AllocError>
     ensures { IfOk result (λ all. all ≡ one ∷ []) }
 {
     let mut all = Listed::new(alloc);
@@ -190,7 +191,8 @@ pub(crate) fn listed_one(alloc: Global, one: TreeId) -> Result<TreeIdList, Alloc
     Ok(all)
 }
 
-pub(crate) fn listed_two(alloc: Global, one: TreeId, two: TreeId) -> Result<TreeIdList, AllocError>
+/// A list of two trees.
+pub fn listed_two(alloc: Global, one: TreeId, two: TreeId) -> Result<TreeIdList, AllocError>
     ensures { IfOk result (λ all. all ≡ one ∷ two ∷ []) }
 {
     let mut all = listed_one(alloc, one)?;
