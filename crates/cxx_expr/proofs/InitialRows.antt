@@ -50,11 +50,20 @@ value_faults : (begins (int) (node 22 (codes "=") None (name (codes "p") ∷ [])
 unfolding begins
 value_faults = (refl, refl, refl, refl, refl, refl, refl)
 
--- 8.5.1, 8.5.2: int a[1] = { 1, 2 }, int a[2][2] = { 1, 2 }, char s[2] = "ab", int a[2] = x, int a[2] = { p }
+-- 8.5.1, 8.5.2: int a[1] = { 1, 2 }, int a[2][2] = { 1, 2 }, char s[2] = "ab", char s[2] = { "ab" }, int a[2] = x
 list_faults : (begins (array_of (int) (number_bound 1)) (node 22 (codes "{") None (text (codes "1") ∷ text (codes "2") ∷ [])) ≡ Err (fault (record { line = 1; column = 2 }) says.OperandsDoNotFit))
     × (begins (array_of (array_of (int) (number_bound 2)) (number_bound 2)) (node 22 (codes "{") None (text (codes "1") ∷ text (codes "2") ∷ [])) ≡ Err (fault (record { line = 1; column = 1 }) (says.LeftOut form.BraceElision)))
     × (begins (array_of (char) (number_bound 2)) (node 22 (codes "=") None (text (codes "\"ab\"") ∷ [])) ≡ Err (fault (record { line = 1; column = 2 }) says.OperandsDoNotFit))
+    × (begins (array_of (char) (number_bound 2)) (node 22 (codes "{") None (text (codes "\"ab\"") ∷ [])) ≡ Err (fault (record { line = 1; column = 2 }) says.OperandsDoNotFit))
     × (begins (array_of (int) (number_bound 2)) (node 22 (codes "=") None (name (codes "x") ∷ [])) ≡ Err (fault (record { line = 1; column = 2 }) says.NoConversion))
-    × (begins (array_of (int) (number_bound 2)) (node 22 (codes "{") None (name (codes "p") ∷ [])) ≡ Err (fault (record { line = 1; column = 2 }) says.NoConversion))
 unfolding begins
 list_faults = (refl, refl, refl, refl, refl)
+
+-- 8.5.1: int a[2] = { p }, int a[1] = { { p } }, int a[1] = { { 1, 2 } }, int a[1][1] = { { 1, 2 } }, char s[1][2] = { "ab" }
+part_faults : (begins (array_of (int) (number_bound 2)) (node 22 (codes "{") None (name (codes "p") ∷ [])) ≡ Err (fault (record { line = 1; column = 1 }) says.NoConversion))
+    × (begins (array_of (int) (number_bound 1)) (node 22 (codes "{") None (node 22 (codes "{") None (name (codes "p") ∷ []) ∷ [])) ≡ Err (fault (record { line = 1; column = 1 }) says.NoConversion))
+    × (begins (array_of (int) (number_bound 1)) (node 22 (codes "{") None (node 22 (codes "{") None (text (codes "1") ∷ text (codes "2") ∷ []) ∷ [])) ≡ Err (fault (record { line = 1; column = 1 }) says.OperandsDoNotFit))
+    × (begins (array_of (array_of (int) (number_bound 1)) (number_bound 1)) (node 22 (codes "{") None (node 22 (codes "{") None (text (codes "1") ∷ text (codes "2") ∷ []) ∷ [])) ≡ Err (fault (record { line = 1; column = 1 }) says.OperandsDoNotFit))
+    × (begins (array_of (array_of (char) (number_bound 2)) (number_bound 1)) (node 22 (codes "{") None (text (codes "\"ab\"") ∷ [])) ≡ Err (fault (record { line = 1; column = 1 }) says.OperandsDoNotFit))
+unfolding begins
+part_faults = (refl, refl, refl, refl, refl)

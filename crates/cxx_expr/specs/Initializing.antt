@@ -88,11 +88,11 @@ one_of q place of (one ∷ []) state = if is_braces one then Err (fault place sa
 one_of q place of _ state = Err (fault place says.OperandsDoNotFit)
 
 -- a value or a reference
-abbrev pub value_part : Questions → Place → CxxType → CxxTree → Asks CxxState CxxTree
-value_part q place of tree state =
-    if is_class (kind_of of) then Err (not_built_at place) else (
-    if is_braces tree then one_of q place of (children_of tree) state else
-    convert q place of tree state)
+abbrev pub value_part : Questions → CxxType → CxxTree → Asks CxxState CxxTree
+value_part q of tree state =
+    if is_class (kind_of of) then Err (not_built_at tree.label.start) else (
+    if is_braces tree then one_of q tree.label.start of (children_of tree) state else
+    convert q tree.label.start of tree state)
 
 -- an element, where there is room for one; more of them than there are do not fit
 abbrev pub element_in : Place → (CxxTree → Asks CxxState CxxTree) → CxxBound → CxxTree → Asks CxxState CxxTree
@@ -127,16 +127,16 @@ braces_part place element of bound tree (Some text) = text_part place bound text
 braces_part place element of bound tree None = list_part place element of bound tree
 
 -- an array in another one; where it has no braces of its own, the parts behind would be its elements too
-abbrev pub array_part : Place → (CxxTree → Asks CxxState CxxTree) → CxxType → CxxBound → CxxTree → Asks CxxState CxxTree
-array_part place element of bound tree state =
-    if is_braces tree then braces_part place element of bound tree (text_in of (children_of tree)) state else (
-    if is_text_for of tree then text_part place bound tree state else
+abbrev pub array_part : (CxxTree → Asks CxxState CxxTree) → CxxType → CxxBound → CxxTree → Asks CxxState CxxTree
+array_part element of bound tree state =
+    if is_braces tree then braces_part tree.label.start element of bound tree (text_in of (children_of tree)) state else (
+    if is_text_for of tree then text_part tree.label.start bound tree state else
     Err (fault tree.label.start (says.LeftOut form.BraceElision)))
 
--- what initializes an object in another one
-unfoldable pub part : Questions → Place → CxxType → CxxTree → Asks CxxState CxxTree
-part q place (array_of of bound) = array_part place (part q place of) of bound
-part q place of = value_part q place of
+-- what initializes an object in another one; its faults stand where it begins
+unfoldable pub part : Questions → CxxType → CxxTree → Asks CxxState CxxTree
+part q (array_of of bound) = array_part (part q of) of bound
+part q of = value_part q of
 
 -- ---- whole objects
 
@@ -152,7 +152,7 @@ text_whole place of bound tree text = do
 -- 8.5.1, 8.5.2: an array from braces, or from a string
 abbrev pub array_braces : Questions → Place → CxxType → CxxBound → CxxTree → Option CxxTree → Asks CxxState CxxTree
 array_braces q place of bound tree (Some text) = text_whole place of bound tree text
-array_braces q place of bound tree None = list_part place (part q place of) of bound tree
+array_braces q place of bound tree None = list_part place (part q of) of bound tree
 
 abbrev pub array_from : Questions → Place → CxxType → CxxBound → CxxTree → Option CxxTree → Asks CxxState CxxTree
 array_from q place of bound tree (Some text) = text_whole place of bound tree text
