@@ -10,10 +10,10 @@ use Rattle.cxx_reading.specs.Reads.{Ahead}
 use Rattle.cxx_reading.specs.State.{CxxState}
 use Rattle.cxx_reading.specs.Syntax.{no_parameters, readers}
 use Rattle.cxx_reading.specs.Trees.{CxxTree}
-use Rattle.cxx_syntax.specs.declared.reader.Entry.{Entry}
-use Rattle.cxx_syntax.specs.declared.reader.Entry.TheVariants as entry
-use Rattle.cxx_syntax.specs.declared.reader.What.{What}
-use Rattle.cxx_syntax.specs.declared.reader.What.TheVariants as what
+use Rattle.cxx_syntax.specs.declared.behind.Entry.{Entry}
+use Rattle.cxx_syntax.specs.declared.behind.Entry.TheVariants as entry
+use Rattle.cxx_syntax.specs.declared.behind.What.{What}
+use Rattle.cxx_syntax.specs.declared.behind.What.TheVariants as what
 use Rattle.cxx_syntax.specs.Reading.{IsRead}
 use Rattle.cxx_syntax.specs.Views.{AreParameters, AreTreesHeld, IsDeclarator, IsValue, declarator_of, parameters_of, trees_held, value_of}
 use Rattle.cxx_tree.specs.Held.{Held, meaning}

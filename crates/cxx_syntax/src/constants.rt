@@ -5,10 +5,8 @@ ghost use Rattle.cxx_model.specs.Stops.{Faulty, fault};
 ghost use Rattle.cxx_reading.specs.Constants as definition;
 ghost use Rattle.cxx_reading.specs.Reads.{count_ahead, give, kind_ahead, place_ahead, repeat};
 ghost use Rattle.cxx_reading.specs.Syntax as syntax;
-ghost use Rattle.cxx_reading.specs.Syntax.{readers};
 ghost use Rattle.cxx_reading.specs.Tokens.{is_number as is_number_kind};
 ghost use Rattle.cxx_syntax.specs.Asking.{IsTreeKnown};
-ghost use Rattle.cxx_syntax.specs.Knot.{Nests};
 ghost use Rattle.cxx_syntax.specs.Making.{GrowsTree};
 ghost use Rattle.cxx_syntax.specs.Reading.{IsRead};
 ghost use Rattle.cxx_syntax.specs.Views.{AreTreesHeld, IsTreesTurn, IsValue, lexeme_at, trees_held, trees_turn, value_of};
@@ -17,8 +15,9 @@ ghost use Rattle.cxx_tree.specs.Held.{meaning, tree};
 use crate::cursor::{Cursor, Spelled, is_name, is_punct};
 use crate::declarators::joined;
 use crate::kinds::Kinds;
+use crate::nested::Nested;
 use crate::nodes::{node_from, production, push};
-use crate::reader::{Entry, Reader, What};
+use crate::reader::Reader;
 use crate::turn::Turn;
 use crate::words::type_word;
 use cxx_model::{
@@ -282,11 +281,7 @@ fn enumerator_ended(
     Err(Stop::Fault(cursor.refused()?))
 }
 
-impl<K: Kinds, F: Fn(&K, &mut State, &mut Cursor<'_>, What, u32) -> Result<Entry, Stop>> Reader<
-    '_,
-    K,
-    F,
-> {
+impl<K: Kinds, N: Nested> Reader<'_, K, N> {
     // A constant, with its value, which is asked before what follows is looked at.
     #[tactic(auto, using(crate::proofs::Kept::trees_kept, crate::proofs::Kept::trees_later, crate::proofs::Kept::trees_append, crate::proofs::Kept::trees_below_append, crate::proofs::Kept::later_trans, crate::proofs::Kept::later_refl), unfolding(cxx_reading::specs::Syntax::valued))]
     fn valued(
@@ -294,7 +289,7 @@ impl<K: Kinds, F: Fn(&K, &mut State, &mut Cursor<'_>, What, u32) -> Result<Entry
         state: &mut State,
         cursor: &mut Cursor<'_>,
     ) -> Result<(Option<i128>, TreeIdList), Stop>
-        requires nests { Nests K.asks K.is_ready F.Fn self.now.kinds.now self.now.room self.now.read }
+        requires ready { K.is_ready self.now.kinds.now }
         ensures { IsRead value_of IsValue state.old state.new cursor.new result (syntax.valued (K.asks self.now.kinds.now self.now.room) (meaning state.old) cursor.old) }
     {
         let number = constant_at(state, cursor)?;
@@ -309,7 +304,7 @@ impl<K: Kinds, F: Fn(&K, &mut State, &mut Cursor<'_>, What, u32) -> Result<Entry
         state: &mut State,
         cursor: &mut Cursor<'_>,
     ) -> Result<(Option<i128>, TreeIdList), Stop>
-        requires nests { Nests K.asks K.is_ready F.Fn self.now.kinds.now self.now.room self.now.read }
+        requires ready { K.is_ready self.now.kinds.now }
         ensures { IsRead value_of IsValue state.old state.new cursor.new result (syntax.bound_value (K.asks self.now.kinds.now self.now.room) (meaning state.old) cursor.old) }
     {
         let value = self.valued(state, cursor)?;
@@ -319,13 +314,13 @@ impl<K: Kinds, F: Fn(&K, &mut State, &mut Cursor<'_>, What, u32) -> Result<Entry
 
     // Behind `[` (8.3.4).
     #[tactic(auto, using(crate::proofs::Kept::trees_kept, crate::proofs::Kept::trees_later, crate::proofs::Kept::trees_append, crate::proofs::Kept::trees_below_append, crate::proofs::Kept::later_trans, crate::proofs::Kept::later_refl), unfolding(cxx_reading::specs::Syntax::bound_at))]
-    pub fn bound_at(
+    pub(crate) fn bound_at(
         &self,
         state: &mut State,
         cursor: &mut Cursor<'_>,
         is_first: bool,
     ) -> Result<(Option<i128>, TreeIdList), Stop>
-        requires nests { Nests K.asks K.is_ready F.Fn self.now.kinds.now self.now.room self.now.read }
+        requires ready { K.is_ready self.now.kinds.now }
         ensures { IsRead value_of IsValue state.old state.new cursor.new result (syntax.bound_at (K.asks self.now.kinds.now self.now.room) is_first (meaning state.old) cursor.old) }
     {
         if !is_punct(punct::RIGHT_BRACKET, cursor.kind()) {
@@ -345,7 +340,7 @@ impl<K: Kinds, F: Fn(&K, &mut State, &mut Cursor<'_>, What, u32) -> Result<Entry
         state: &mut State,
         cursor: &mut Cursor<'_>,
     ) -> Result<(Option<i128>, TreeIdList), Stop>
-        requires nests { Nests K.asks K.is_ready F.Fn self.now.kinds.now self.now.room self.now.read }
+        requires ready { K.is_ready self.now.kinds.now }
         ensures { IsRead value_of IsValue state.old state.new cursor.new result (syntax.value_at (K.asks self.now.kinds.now self.now.room) (meaning state.old) cursor.old) }
     {
         if !is_punct(punct::EQUALS, cursor.kind()) {
@@ -366,7 +361,7 @@ impl<K: Kinds, F: Fn(&K, &mut State, &mut Cursor<'_>, What, u32) -> Result<Entry
         name: Spelled<'_>,
     ) -> Result<TreeIdList, Stop>
         requires known { AreTreesHeld state.old so_far }
-        requires nests { Nests K.asks K.is_ready F.Fn self.now.kinds.now self.now.room self.now.read }
+        requires ready { K.is_ready self.now.kinds.now }
         ensures { IsRead trees_held AreTreesHeld state.old state.new cursor.new result (syntax.enumerator_at (K.asks self.now.kinds.now self.now.room) number.0 (trees_held state.old so_far) (lexeme_at name.entry) (meaning state.old) cursor.old) }
     {
         let (value, parts) = self.value_at(state, cursor)?;
@@ -385,7 +380,7 @@ impl<K: Kinds, F: Fn(&K, &mut State, &mut Cursor<'_>, What, u32) -> Result<Entry
         so_far: TreeIdList,
     ) -> Result<Turn<TreeIdList, TreeIdList>, Stop>
         requires known { AreTreesHeld state.old so_far }
-        requires nests { Nests K.asks K.is_ready F.Fn self.now.kinds.now self.now.room self.now.read }
+        requires ready { K.is_ready self.now.kinds.now }
         ensures { IsRead trees_turn IsTreesTurn state.old state.new cursor.new result (syntax.enumerator_step (K.asks self.now.kinds.now self.now.room) number.0 (trees_held state.old so_far) (meaning state.old) cursor.old) }
     {
         if !is_name(cursor.kind()) {
@@ -398,13 +393,13 @@ impl<K: Kinds, F: Fn(&K, &mut State, &mut Cursor<'_>, What, u32) -> Result<Entry
 
     // Behind the `{` of an enumeration (7.2).
     #[tactic(auto, using(crate::proofs::Kept::trees_kept, crate::proofs::Kept::trees_later, crate::proofs::Kept::trees_append, crate::proofs::Kept::trees_below_append, crate::proofs::Kept::later_trans, crate::proofs::Kept::later_refl), unfolding(cxx_reading::specs::Syntax::enumerators_at))]
-    pub fn enumerators_at(
+    pub(crate) fn enumerators_at(
         &self,
         state: &mut State,
         cursor: &mut Cursor<'_>,
         number: EnumId,
     ) -> Result<TreeIdList, Stop>
-        requires nests { Nests K.asks K.is_ready F.Fn self.now.kinds.now self.now.room self.now.read }
+        requires ready { K.is_ready self.now.kinds.now }
         ensures { IsRead trees_held AreTreesHeld state.old state.new cursor.new result (syntax.enumerators_at (K.asks self.now.kinds.now self.now.room) number.0 (meaning state.old) cursor.old) }
     {
         if is_punct(punct::RIGHT_BRACE, cursor.kind()) {
@@ -422,7 +417,7 @@ impl<K: Kinds, F: Fn(&K, &mut State, &mut Cursor<'_>, What, u32) -> Result<Entry
         cursor: &mut Cursor<'_>,
         number: EnumId,
     ) -> Result<TreeIdList, Stop>
-        requires nests { Nests K.asks K.is_ready F.Fn self.now.kinds.now self.now.room self.now.read }
+        requires ready { K.is_ready self.now.kinds.now }
         ensures { IsRead trees_held AreTreesHeld state.old state.new cursor.new result (repeat (syntax.enumerator_step (K.asks self.now.kinds.now self.now.room) number.0) give (count_ahead cursor.old) [] (meaning state.old) cursor.old) }
     {
         let mut so_far = Listed::new(cursor.alloc());

@@ -5,9 +5,7 @@ ghost use Rattle.cxx_model.specs.declared.stop.Stop.TheVariants as stop;
 ghost use Rattle.cxx_reading.specs.Shapes as shape;
 ghost use Rattle.cxx_syntax.specs.declared.declarator.Layer.TheVariants as layer;
 ghost use Rattle.cxx_reading.specs.Syntax as definition;
-ghost use Rattle.cxx_reading.specs.Syntax.{readers};
 ghost use Rattle.cxx_syntax.specs.Asking.{AnyKnown, itself};
-ghost use Rattle.cxx_syntax.specs.Knot.{Nests};
 ghost use Rattle.cxx_syntax.specs.Reading.{IsRead};
 ghost use Rattle.cxx_syntax.specs.Suffixes.{IsSuffixed, IsSuffixedTurn, suffixed_of, suffixed_turn};
 ghost use Rattle.cxx_syntax.specs.Views.{IsConstantOption, IsDeclarator, bound_of, declarator_of};
@@ -18,7 +16,8 @@ use crate::cv::{cv_at, exceptions_at};
 use crate::declarator::{Declarator, Layer, ParameterTypes};
 use crate::kinds::Kinds;
 use crate::name::NameToken;
-use crate::reader::{Entry, Reader, What};
+use crate::nested::Nested;
+use crate::reader::Reader;
 use crate::steps::begins_class;
 use crate::turn::Turn;
 use crate::words::type_word;
@@ -138,15 +137,11 @@ pub(crate) fn is_key(number: u8) -> bool
     number == keyword::ENUM || begins_class(number)
 }
 
-impl<K: Kinds, F: Fn(&K, &mut State, &mut Cursor<'_>, What, u32) -> Result<Entry, Stop>> Reader<
-    '_,
-    K,
-    F,
-> {
+impl<K: Kinds, N: Nested> Reader<'_, K, N> {
     // Whether a type begins ahead.
     #[tactic(auto, unfolding(cxx_reading::specs::Shapes::begins_type))]
-    pub fn begins_type(&self, state: &mut State, cursor: &Cursor<'_>) -> Result<bool, Stop>
-        requires nests { Nests K.asks K.is_ready F.Fn self.now.kinds.now self.now.room self.now.read }
+    pub(crate) fn begins_type(&self, state: &mut State, cursor: &Cursor<'_>) -> Result<bool, Stop>
+        requires ready { K.is_ready self.now.kinds.now }
         ensures { IsRead itself AnyKnown state.old state.new cursor.now result (shape.begins_type (K.asks self.now.kinds.now self.now.room) (meaning state.old) cursor.now) }
     {
         match cursor.kind() {
@@ -169,8 +164,12 @@ impl<K: Kinds, F: Fn(&K, &mut State, &mut Cursor<'_>, What, u32) -> Result<Entry
 
     // Whether a bracket, which stands ahead where no name was read, holds parameters (8.2).
     #[tactic(auto, unfolding(cxx_reading::specs::Shapes::is_abstract_list))]
-    pub fn is_abstract_list(&self, state: &mut State, cursor: &Cursor<'_>) -> Result<bool, Stop>
-        requires nests { Nests K.asks K.is_ready F.Fn self.now.kinds.now self.now.room self.now.read }
+    pub(crate) fn is_abstract_list(
+        &self,
+        state: &mut State,
+        cursor: &Cursor<'_>,
+    ) -> Result<bool, Stop>
+        requires ready { K.is_ready self.now.kinds.now }
         ensures { IsRead itself AnyKnown state.old state.new cursor.now result (shape.is_abstract_list (K.asks self.now.kinds.now self.now.room) (meaning state.old) cursor.now) }
     {
         let behind = cursor.kind_behind();
@@ -191,11 +190,11 @@ impl<K: Kinds, F: Fn(&K, &mut State, &mut Cursor<'_>, What, u32) -> Result<Entry
         so_far: Suffixed,
     ) -> Result<Turn<Suffixed, Declarator>, Stop>
         requires known { IsSuffixed state.old so_far }
-        requires nests { Nests K.asks K.is_ready F.Fn self.now.kinds.now self.now.room self.now.read }
-        ensures { IsRead suffixed_turn IsSuffixedTurn state.old state.new cursor.new result (definition.array_suffix (readers (K.asks self.now.kinds.now) self.now.room) (suffixed_of state.old so_far) (meaning state.old) cursor.old) }
+        requires open { N.is_open self.now.nested.now }
+        ensures { IsRead suffixed_turn IsSuffixedTurn state.old state.new cursor.new result (definition.array_suffix (N.inner self.now.nested.now) (suffixed_of state.old so_far) (meaning state.old) cursor.old) }
     {
         cursor.advance();
-        let (value, parts) = self.bound(state, cursor, !so_far.in_row)?;
+        let (value, parts) = self.nested.bound(state, cursor, !so_far.in_row)?;
         let declarator = outward(Layer::Array(bound_by(value)), parts, so_far.declarator)?;
         Ok(Turn::More(Suffixed {
             declarator,
@@ -212,11 +211,11 @@ impl<K: Kinds, F: Fn(&K, &mut State, &mut Cursor<'_>, What, u32) -> Result<Entry
         so_far: Suffixed,
     ) -> Result<Turn<Suffixed, Declarator>, Stop>
         requires known { IsSuffixed state.old so_far }
-        requires nests { Nests K.asks K.is_ready F.Fn self.now.kinds.now self.now.room self.now.read }
-        ensures { IsRead suffixed_turn IsSuffixedTurn state.old state.new cursor.new result (definition.function_suffix (readers (K.asks self.now.kinds.now) self.now.room) (suffixed_of state.old so_far) (meaning state.old) cursor.old) }
+        requires open { N.is_open self.now.nested.now }
+        ensures { IsRead suffixed_turn IsSuffixedTurn state.old state.new cursor.new result (definition.function_suffix (N.inner self.now.nested.now) (suffixed_of state.old so_far) (meaning state.old) cursor.old) }
     {
         cursor.advance();
-        let list = self.parameters(state, cursor)?;
+        let list = self.nested.parameters(state, cursor)?;
         cv_at(cursor)?;
         exceptions_at(cursor)?;
         let declarator = with_function(list, so_far.declarator)?;
@@ -235,13 +234,13 @@ impl<K: Kinds, F: Fn(&K, &mut State, &mut Cursor<'_>, What, u32) -> Result<Entry
         so_far: Suffixed,
     ) -> Result<Turn<Suffixed, Declarator>, Stop>
         requires known { IsSuffixed state.old so_far }
-        requires nests { Nests K.asks K.is_ready F.Fn self.now.kinds.now self.now.room self.now.read }
-        ensures { IsRead suffixed_turn IsSuffixedTurn state.old state.new cursor.new result (definition.bracket_suffix (readers (K.asks self.now.kinds.now) self.now.room) (suffixed_of state.old so_far) (meaning state.old) cursor.old) }
+        requires open { N.is_open self.now.nested.now }
+        ensures { IsRead suffixed_turn IsSuffixedTurn state.old state.new cursor.new result (definition.bracket_suffix (N.inner self.now.nested.now) (suffixed_of state.old so_far) (meaning state.old) cursor.old) }
     {
         if so_far.declarator.name.is_some() {
             let mut ahead = cursor.mark();
             ahead.advance();
-            if !self.holds_parameters(state, &mut ahead)? {
+            if !self.nested.holds_parameters(state, &mut ahead)? {
                 return Ok(Turn::Done(so_far.declarator));
             }
         }
@@ -257,8 +256,8 @@ impl<K: Kinds, F: Fn(&K, &mut State, &mut Cursor<'_>, What, u32) -> Result<Entry
         so_far: Suffixed,
     ) -> Result<Turn<Suffixed, Declarator>, Stop>
         requires known { IsSuffixed state.old so_far }
-        requires nests { Nests K.asks K.is_ready F.Fn self.now.kinds.now self.now.room self.now.read }
-        ensures { IsRead suffixed_turn IsSuffixedTurn state.old state.new cursor.new result (definition.suffix_at (readers (K.asks self.now.kinds.now) self.now.room) (suffixed_of state.old so_far) (meaning state.old) cursor.old) }
+        requires open { N.is_open self.now.nested.now }
+        ensures { IsRead suffixed_turn IsSuffixedTurn state.old state.new cursor.new result (definition.suffix_at (N.inner self.now.nested.now) (suffixed_of state.old so_far) (meaning state.old) cursor.old) }
     {
         if is_punct(punct::LEFT_PARENTHESIS, cursor.kind()) {
             return self.bracket_suffix(state, cursor, so_far);
@@ -278,8 +277,8 @@ impl<K: Kinds, F: Fn(&K, &mut State, &mut Cursor<'_>, What, u32) -> Result<Entry
         declarator: Declarator,
     ) -> Result<Declarator, Stop>
         requires known { IsDeclarator state.old declarator }
-        requires nests { Nests K.asks K.is_ready F.Fn self.now.kinds.now self.now.room self.now.read }
-        ensures { IsRead declarator_of IsDeclarator state.old state.new cursor.new result (definition.suffixes_at (readers (K.asks self.now.kinds.now) self.now.room) (declarator_of state.old declarator) (meaning state.old) cursor.old) }
+        requires open { N.is_open self.now.nested.now }
+        ensures { IsRead declarator_of IsDeclarator state.old state.new cursor.new result (definition.suffixes_at (N.inner self.now.nested.now) (declarator_of state.old declarator) (meaning state.old) cursor.old) }
     {
         let mut so_far = Suffixed {
             declarator,
@@ -302,8 +301,8 @@ impl<K: Kinds, F: Fn(&K, &mut State, &mut Cursor<'_>, What, u32) -> Result<Entry
         cursor: &mut Cursor<'_>,
         naming: Naming,
     ) -> Result<Declarator, Stop>
-        requires nests { Nests K.asks K.is_ready F.Fn self.now.kinds.now self.now.room self.now.read }
-        ensures { IsRead declarator_of IsDeclarator state.old state.new cursor.new result (definition.name_part (readers (K.asks self.now.kinds.now) self.now.room) naming (meaning state.old) cursor.old) }
+        requires open { N.is_open self.now.nested.now }
+        ensures { IsRead declarator_of IsDeclarator state.old state.new cursor.new result (definition.name_part (N.inner self.now.nested.now) naming (meaning state.old) cursor.old) }
     {
         if is_never(naming) {
             return self.suffixes_at(state, cursor, with_name(cursor.alloc(), None));
@@ -329,11 +328,11 @@ impl<K: Kinds, F: Fn(&K, &mut State, &mut Cursor<'_>, What, u32) -> Result<Entry
         cursor: &mut Cursor<'_>,
         naming: Naming,
     ) -> Result<Declarator, Stop>
-        requires nests { Nests K.asks K.is_ready F.Fn self.now.kinds.now self.now.room self.now.read }
-        ensures { IsRead declarator_of IsDeclarator state.old state.new cursor.new result (definition.grouped_part (readers (K.asks self.now.kinds.now) self.now.room) naming (meaning state.old) cursor.old) }
+        requires open { N.is_open self.now.nested.now }
+        ensures { IsRead declarator_of IsDeclarator state.old state.new cursor.new result (definition.grouped_part (N.inner self.now.nested.now) naming (meaning state.old) cursor.old) }
     {
         cursor.advance();
-        let inside = self.grouped(state, cursor, naming)?;
+        let inside = self.nested.grouped(state, cursor, naming)?;
         self.suffixes_at(state, cursor, inside)
     }
 
@@ -345,8 +344,9 @@ impl<K: Kinds, F: Fn(&K, &mut State, &mut Cursor<'_>, What, u32) -> Result<Entry
         cursor: &mut Cursor<'_>,
         naming: Naming,
     ) -> Result<Declarator, Stop>
-        requires nests { Nests K.asks K.is_ready F.Fn self.now.kinds.now self.now.room self.now.read }
-        ensures { IsRead declarator_of IsDeclarator state.old state.new cursor.new result (definition.bracket_part (K.asks self.now.kinds.now self.now.room) (readers (K.asks self.now.kinds.now) self.now.room) naming (meaning state.old) cursor.old) }
+        requires ready { K.is_ready self.now.kinds.now }
+        requires open { N.is_open self.now.nested.now }
+        ensures { IsRead declarator_of IsDeclarator state.old state.new cursor.new result (definition.bracket_part (K.asks self.now.kinds.now self.now.room) (N.inner self.now.nested.now) naming (meaning state.old) cursor.old) }
     {
         if !is_required(naming) && self.is_abstract_list(state, cursor)? {
             return self.suffixes_at(state, cursor, with_name(cursor.alloc(), None));
@@ -362,11 +362,11 @@ impl<K: Kinds, F: Fn(&K, &mut State, &mut Cursor<'_>, What, u32) -> Result<Entry
         cursor: &mut Cursor<'_>,
         naming: Naming,
     ) -> Result<Declarator, Stop>
-        requires nests { Nests K.asks K.is_ready F.Fn self.now.kinds.now self.now.room self.now.read }
-        ensures { IsRead declarator_of IsDeclarator state.old state.new cursor.new result (definition.star_part (readers (K.asks self.now.kinds.now) self.now.room) naming (meaning state.old) cursor.old) }
+        requires open { N.is_open self.now.nested.now }
+        ensures { IsRead declarator_of IsDeclarator state.old state.new cursor.new result (definition.star_part (N.inner self.now.nested.now) naming (meaning state.old) cursor.old) }
     {
         cursor.advance();
-        self.pointed(state, cursor, naming)
+        self.nested.pointed(state, cursor, naming)
     }
 
     // A reference (8.3.2).
@@ -377,14 +377,14 @@ impl<K: Kinds, F: Fn(&K, &mut State, &mut Cursor<'_>, What, u32) -> Result<Entry
         cursor: &mut Cursor<'_>,
         naming: Naming,
     ) -> Result<Declarator, Stop>
-        requires nests { Nests K.asks K.is_ready F.Fn self.now.kinds.now self.now.room self.now.read }
-        ensures { IsRead declarator_of IsDeclarator state.old state.new cursor.new result (definition.ampersand_part (readers (K.asks self.now.kinds.now) self.now.room) naming (meaning state.old) cursor.old) }
+        requires open { N.is_open self.now.nested.now }
+        ensures { IsRead declarator_of IsDeclarator state.old state.new cursor.new result (definition.ampersand_part (N.inner self.now.nested.now) naming (meaning state.old) cursor.old) }
     {
         cursor.advance();
-        self.referred(state, cursor, naming)
+        self.nested.referred(state, cursor, naming)
     }
 
-    // A declarator (8).
+    /// A declarator (8).
     #[tactic(auto, using(crate::proofs::Kept::trees_kept, crate::proofs::Kept::trees_later, crate::proofs::Kept::trees_append, crate::proofs::Kept::trees_below_append, crate::proofs::Kept::layers_kept, crate::proofs::Kept::layers_later, crate::proofs::Kept::layers_append, crate::proofs::Kept::layers_below_append, crate::proofs::Kept::later_trans, crate::proofs::Kept::later_refl), unfolding(cxx_reading::specs::Syntax::declarator_at))]
     pub fn declarator_at(
         &self,
@@ -392,8 +392,9 @@ impl<K: Kinds, F: Fn(&K, &mut State, &mut Cursor<'_>, What, u32) -> Result<Entry
         cursor: &mut Cursor<'_>,
         naming: Naming,
     ) -> Result<Declarator, Stop>
-        requires nests { Nests K.asks K.is_ready F.Fn self.now.kinds.now self.now.room self.now.read }
-        ensures { IsRead declarator_of IsDeclarator state.old state.new cursor.new result (definition.declarator_at (K.asks self.now.kinds.now self.now.room) (readers (K.asks self.now.kinds.now) self.now.room) naming (meaning state.old) cursor.old) }
+        requires ready { K.is_ready self.now.kinds.now }
+        requires open { N.is_open self.now.nested.now }
+        ensures { IsRead declarator_of IsDeclarator state.old state.new cursor.new result (definition.declarator_at (K.asks self.now.kinds.now self.now.room) (N.inner self.now.nested.now) naming (meaning state.old) cursor.old) }
     {
         if is_punct(punct::STAR, cursor.kind()) {
             return self.star_part(state, cursor, naming);
@@ -407,7 +408,7 @@ impl<K: Kinds, F: Fn(&K, &mut State, &mut Cursor<'_>, What, u32) -> Result<Entry
         self.name_part(state, cursor, naming)
     }
 
-    // Behind `*` (8.3.1).
+    /// What stands behind `*` (8.3.1).
     #[tactic(auto, using(crate::proofs::Kept::trees_kept, crate::proofs::Kept::trees_later, crate::proofs::Kept::trees_append, crate::proofs::Kept::trees_below_append, crate::proofs::Kept::layers_kept, crate::proofs::Kept::layers_later, crate::proofs::Kept::layers_append, crate::proofs::Kept::layers_below_append, crate::proofs::Kept::later_trans, crate::proofs::Kept::later_refl), unfolding(cxx_reading::specs::Syntax::pointed_at))]
     pub fn pointed_at(
         &self,
@@ -415,15 +416,16 @@ impl<K: Kinds, F: Fn(&K, &mut State, &mut Cursor<'_>, What, u32) -> Result<Entry
         cursor: &mut Cursor<'_>,
         naming: Naming,
     ) -> Result<Declarator, Stop>
-        requires nests { Nests K.asks K.is_ready F.Fn self.now.kinds.now self.now.room self.now.read }
-        ensures { IsRead declarator_of IsDeclarator state.old state.new cursor.new result (definition.pointed_at (K.asks self.now.kinds.now self.now.room) (readers (K.asks self.now.kinds.now) self.now.room) naming (meaning state.old) cursor.old) }
+        requires ready { K.is_ready self.now.kinds.now }
+        requires open { N.is_open self.now.nested.now }
+        ensures { IsRead declarator_of IsDeclarator state.old state.new cursor.new result (definition.pointed_at (K.asks self.now.kinds.now self.now.room) (N.inner self.now.nested.now) naming (meaning state.old) cursor.old) }
     {
         let cv = cv_at(cursor)?;
         let inside = self.declarator_at(state, cursor, naming)?;
         outward(Layer::Pointer(cv), Listed::new(cursor.alloc()), inside)
     }
 
-    // Behind `&` (8.3.2).
+    /// What stands behind `&` (8.3.2).
     #[tactic(auto, using(crate::proofs::Kept::trees_kept, crate::proofs::Kept::trees_later, crate::proofs::Kept::trees_append, crate::proofs::Kept::trees_below_append, crate::proofs::Kept::layers_kept, crate::proofs::Kept::layers_later, crate::proofs::Kept::layers_append, crate::proofs::Kept::layers_below_append, crate::proofs::Kept::later_trans, crate::proofs::Kept::later_refl), unfolding(cxx_reading::specs::Syntax::referred_at))]
     pub fn referred_at(
         &self,
@@ -431,14 +433,15 @@ impl<K: Kinds, F: Fn(&K, &mut State, &mut Cursor<'_>, What, u32) -> Result<Entry
         cursor: &mut Cursor<'_>,
         naming: Naming,
     ) -> Result<Declarator, Stop>
-        requires nests { Nests K.asks K.is_ready F.Fn self.now.kinds.now self.now.room self.now.read }
-        ensures { IsRead declarator_of IsDeclarator state.old state.new cursor.new result (definition.referred_at (K.asks self.now.kinds.now self.now.room) (readers (K.asks self.now.kinds.now) self.now.room) naming (meaning state.old) cursor.old) }
+        requires ready { K.is_ready self.now.kinds.now }
+        requires open { N.is_open self.now.nested.now }
+        ensures { IsRead declarator_of IsDeclarator state.old state.new cursor.new result (definition.referred_at (K.asks self.now.kinds.now self.now.room) (N.inner self.now.nested.now) naming (meaning state.old) cursor.old) }
     {
         let inside = self.declarator_at(state, cursor, naming)?;
         outward(Layer::Reference, Listed::new(cursor.alloc()), inside)
     }
 
-    // Behind `(` (8).
+    /// A declarator in brackets behind its `(`, with the end (8).
     #[tactic(auto, using(crate::proofs::Kept::trees_kept, crate::proofs::Kept::trees_later, crate::proofs::Kept::trees_append, crate::proofs::Kept::trees_below_append, crate::proofs::Kept::layers_kept, crate::proofs::Kept::layers_later, crate::proofs::Kept::layers_append, crate::proofs::Kept::layers_below_append, crate::proofs::Kept::later_trans, crate::proofs::Kept::later_refl), unfolding(cxx_reading::specs::Syntax::grouped_at))]
     pub fn grouped_at(
         &self,
@@ -446,8 +449,9 @@ impl<K: Kinds, F: Fn(&K, &mut State, &mut Cursor<'_>, What, u32) -> Result<Entry
         cursor: &mut Cursor<'_>,
         naming: Naming,
     ) -> Result<Declarator, Stop>
-        requires nests { Nests K.asks K.is_ready F.Fn self.now.kinds.now self.now.room self.now.read }
-        ensures { IsRead declarator_of IsDeclarator state.old state.new cursor.new result (definition.grouped_at (K.asks self.now.kinds.now self.now.room) (readers (K.asks self.now.kinds.now) self.now.room) naming (meaning state.old) cursor.old) }
+        requires ready { K.is_ready self.now.kinds.now }
+        requires open { N.is_open self.now.nested.now }
+        ensures { IsRead declarator_of IsDeclarator state.old state.new cursor.new result (definition.grouped_at (K.asks self.now.kinds.now self.now.room) (N.inner self.now.nested.now) naming (meaning state.old) cursor.old) }
     {
         let inside = self.declarator_at(state, cursor, naming)?;
         cursor.punct(punct::RIGHT_PARENTHESIS)?;

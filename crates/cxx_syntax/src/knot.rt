@@ -9,10 +9,11 @@ ghost use Rattle.cxx_syntax.specs.Reading.{IsRead};
 ghost use Rattle.cxx_syntax.specs.Views.{AreSpecifiers, IsDeclarator, declarator_of, specifiers_of};
 ghost use Rattle.cxx_tree.specs.Held.{meaning};
 
+use crate::behind::{Behind, Entry, What};
 use crate::cursor::Cursor;
 use crate::declarator::Declarator;
 use crate::kinds::Kinds;
-use crate::reader::{Entry, Reader, What};
+use crate::reader::Reader;
 use crate::specifiers::Specifiers;
 use cxx_model::{LimitKind, Stop};
 use cxx_reading::{Naming, SpecifierPlace};
@@ -51,10 +52,15 @@ pub(crate) fn read<K: Kinds>(
     if room == 0 {
         return too_deep(state, cursor, what);
     }
-    let inner = Reader {
+    let nested = Behind {
         kinds,
         room: room - 1,
         read: read::<K>,
+    };
+    let inner = Reader {
+        kinds,
+        room: room - 1,
+        nested: &nested,
     };
     match what {
         What::Pointed(naming) => Ok(Entry::Declarator(inner.pointed_at(state, cursor, naming)?)),
@@ -84,10 +90,15 @@ pub fn read_specifiers<K: Kinds>(
     requires { K.is_ready kinds.now }
     ensures { IsRead specifiers_of AreSpecifiers state.old state.new cursor.new result (specifiers_at (K.asks kinds.now room) (readers (K.asks kinds.now) room) place (meaning state.old) cursor.old) }
 {
-    let reader = Reader {
+    let nested = Behind {
         kinds,
         room,
         read: read::<K>,
+    };
+    let reader = Reader {
+        kinds,
+        room,
+        nested: &nested,
     };
     reader.specifiers_at(state, cursor, place)
 }
@@ -104,10 +115,15 @@ pub fn read_declarator<K: Kinds>(
     requires { K.is_ready kinds.now }
     ensures { IsRead declarator_of IsDeclarator state.old state.new cursor.new result (declarator_at (K.asks kinds.now room) (readers (K.asks kinds.now) room) naming (meaning state.old) cursor.old) }
 {
-    let reader = Reader {
+    let nested = Behind {
         kinds,
         room,
         read: read::<K>,
+    };
+    let reader = Reader {
+        kinds,
+        room,
+        nested: &nested,
     };
     reader.declarator_at(state, cursor, naming)
 }

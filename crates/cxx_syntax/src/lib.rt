@@ -1,6 +1,7 @@
 //! Readers of declarations: specifiers and declarators, over any user that says what a name is.
 #![tactic(auto)]
 
+mod behind;
 mod constants;
 mod cursor;
 mod cv;
@@ -10,6 +11,7 @@ mod kinds;
 mod knot;
 mod layers;
 mod name;
+mod nested;
 mod nodes;
 mod parameters;
 mod reader;
@@ -30,8 +32,11 @@ pub use kinds::Kinds;
 pub use knot::{read_declarator, read_specifiers};
 pub use layers::{declared, declared_parameter, is_declared_void, refused};
 pub use name::NameToken;
+pub use nested::Nested;
 pub use nodes::{node_from, path_to, push};
 pub use parameters::specified;
+pub use reader::Reader;
+pub use shapes::{Fits, Outline, Run};
 pub use specifiers::Specifiers;
 pub use turn::Turn;
 pub use words::base_of_words;

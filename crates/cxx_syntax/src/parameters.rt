@@ -3,9 +3,7 @@
 ghost use Rattle.std.specs.Prelude.{◌≡◌, ◌++◌, ◌<◌, ◌∷◌, [], length, IfOk, IfErr, false};
 ghost use Rattle.cxx_model.specs.declared.stop.Stop.TheVariants as stop;
 ghost use Rattle.cxx_reading.specs.Syntax as definition;
-ghost use Rattle.cxx_reading.specs.Syntax.{readers};
 ghost use Rattle.cxx_syntax.specs.Asking.{AnyKnown, IsTypeKnown, itself};
-ghost use Rattle.cxx_syntax.specs.Knot.{Nests};
 ghost use Rattle.cxx_syntax.specs.Making.{GrowsTree};
 ghost use Rattle.cxx_syntax.specs.Parameters.{IsParametersTurn, ellipsis_alone as ellipsis_alone_at, parameter_added as parameter_added_by, parameter_declared as parameter_declared_by, parameter_typed as parameter_typed_by, parameters_turn};
 ghost use Rattle.cxx_syntax.specs.Reading.{IsRead};
@@ -18,8 +16,9 @@ use crate::declarator::{Declarator, ParameterTypes};
 use crate::declarators::joined;
 use crate::kinds::Kinds;
 use crate::layers::{declared_parameter, is_declared_void, refused};
+use crate::nested::Nested;
 use crate::nodes::{node_from, path_to_option, place_of, production, push};
-use crate::reader::{Entry, Reader, What};
+use crate::reader::Reader;
 use crate::specifiers::Specifiers;
 use crate::turn::Turn;
 use crate::words::base_of_words;
@@ -245,11 +244,7 @@ fn ellipsis_alone(
     }
 }
 
-impl<K: Kinds, F: Fn(&K, &mut State, &mut Cursor<'_>, What, u32) -> Result<Entry, Stop>> Reader<
-    '_,
-    K,
-    F,
-> {
+impl<K: Kinds, N: Nested> Reader<'_, K, N> {
     // A parameter whose specifiers and declarator were read is declared before what follows is looked at.
     #[tactic(auto, using(crate::proofs::Kept::trees_kept, crate::proofs::Kept::trees_later, crate::proofs::Kept::trees_append, crate::proofs::Kept::trees_below_append, crate::proofs::Kept::types_kept, crate::proofs::Kept::types_later, crate::proofs::Kept::types_append, crate::proofs::Kept::types_below_append, crate::proofs::Kept::type_kept, crate::proofs::Kept::type_later, crate::proofs::Kept::named_kept, crate::proofs::Kept::named_later, crate::proofs::Kept::layers_kept, crate::proofs::Kept::layers_later, crate::proofs::Kept::later_trans, crate::proofs::Kept::later_refl), unfolding(crate::specs::Parameters::parameter_declared))]
     fn parameter_declared(
@@ -264,7 +259,7 @@ impl<K: Kinds, F: Fn(&K, &mut State, &mut Cursor<'_>, What, u32) -> Result<Entry
         requires specifiers { AreSpecifiers state.old specifiers }
         requires declarator { IsDeclarator state.old declarator }
         requires known { AreParameters state.old so_far }
-        requires nests { Nests K.asks K.is_ready F.Fn self.now.kinds.now self.now.room self.now.read }
+        requires ready { K.is_ready self.now.kinds.now }
         ensures { IsRead parameters_of AreParameters state.old state.new cursor.now result (parameter_declared_by (K.asks self.now.kinds.now self.now.room) from.now (specifiers_of state.old specifiers) (declarator_of state.old declarator) (parameters_of state.old so_far) (meaning state.old) cursor.now) }
     {
         let of = parameter_typed(state, cursor, &specifiers, &declarator)?;
@@ -283,8 +278,9 @@ impl<K: Kinds, F: Fn(&K, &mut State, &mut Cursor<'_>, What, u32) -> Result<Entry
         so_far: ParameterTypes,
     ) -> Result<ParameterTypes, Stop>
         requires known { AreParameters state.old so_far }
-        requires nests { Nests K.asks K.is_ready F.Fn self.now.kinds.now self.now.room self.now.read }
-        ensures { IsRead parameters_of AreParameters state.old state.new cursor.new result (definition.parameter_at (K.asks self.now.kinds.now self.now.room) (readers (K.asks self.now.kinds.now) self.now.room) (parameters_of state.old so_far) (meaning state.old) cursor.old) }
+        requires ready { K.is_ready self.now.kinds.now }
+        requires open { N.is_open self.now.nested.now }
+        ensures { IsRead parameters_of AreParameters state.old state.new cursor.new result (definition.parameter_at (K.asks self.now.kinds.now self.now.room) (N.inner self.now.nested.now) (parameters_of state.old so_far) (meaning state.old) cursor.old) }
     {
         let from = cursor.mark();
         let specifiers = self.specifiers_at(state, cursor, SpecifierPlace::Parameter)?;
@@ -301,8 +297,9 @@ impl<K: Kinds, F: Fn(&K, &mut State, &mut Cursor<'_>, What, u32) -> Result<Entry
         so_far: ParameterTypes,
     ) -> Result<Turn<ParameterTypes, ParameterTypes>, Stop>
         requires known { AreParameters state.old so_far }
-        requires nests { Nests K.asks K.is_ready F.Fn self.now.kinds.now self.now.room self.now.read }
-        ensures { IsRead parameters_turn IsParametersTurn state.old state.new cursor.new result (definition.parameter_step (K.asks self.now.kinds.now self.now.room) (readers (K.asks self.now.kinds.now) self.now.room) (parameters_of state.old so_far) (meaning state.old) cursor.old) }
+        requires ready { K.is_ready self.now.kinds.now }
+        requires open { N.is_open self.now.nested.now }
+        ensures { IsRead parameters_turn IsParametersTurn state.old state.new cursor.new result (definition.parameter_step (K.asks self.now.kinds.now self.now.room) (N.inner self.now.nested.now) (parameters_of state.old so_far) (meaning state.old) cursor.old) }
     {
         let list = self.parameter_at(state, cursor, so_far)?;
         parameter_ended(state, cursor, list)
@@ -316,7 +313,7 @@ impl<K: Kinds, F: Fn(&K, &mut State, &mut Cursor<'_>, What, u32) -> Result<Entry
         cursor: &Cursor<'_>,
         so_far: ParameterTypes,
     ) -> Result<ParameterTypes, Stop>
-        requires nests { Nests K.asks K.is_ready F.Fn self.now.kinds.now self.now.room self.now.read }
+        requires ready { K.is_ready self.now.kinds.now }
         ensures { IsRead parameters_of AreParameters state.old state.new cursor.now result (definition.parameters_over (K.asks self.now.kinds.now self.now.room) (parameters_of state.old so_far) (meaning state.old) cursor.now) }
     {
         let kind = cursor.kind();
@@ -337,8 +334,9 @@ impl<K: Kinds, F: Fn(&K, &mut State, &mut Cursor<'_>, What, u32) -> Result<Entry
         cursor: &mut Cursor<'_>,
         scope: ScopeId,
     ) -> Result<ParameterTypes, Stop>
-        requires nests { Nests K.asks K.is_ready F.Fn self.now.kinds.now self.now.room self.now.read }
-        ensures { IsRead parameters_of AreParameters state.old state.new cursor.new result (definition.some_parameters (K.asks self.now.kinds.now self.now.room) (readers (K.asks self.now.kinds.now) self.now.room) scope.0 (meaning state.old) cursor.old) }
+        requires ready { K.is_ready self.now.kinds.now }
+        requires open { N.is_open self.now.nested.now }
+        ensures { IsRead parameters_of AreParameters state.old state.new cursor.new result (definition.some_parameters (K.asks self.now.kinds.now self.now.room) (N.inner self.now.nested.now) scope.0 (meaning state.old) cursor.old) }
     {
         let mut so_far = no_parameters_yet(cursor.alloc(), scope);
         for _turn in 0..MOST_ARGUMENTS {
@@ -358,8 +356,9 @@ impl<K: Kinds, F: Fn(&K, &mut State, &mut Cursor<'_>, What, u32) -> Result<Entry
         cursor: &mut Cursor<'_>,
         scope: ScopeId,
     ) -> Result<ParameterTypes, Stop>
-        requires nests { Nests K.asks K.is_ready F.Fn self.now.kinds.now self.now.room self.now.read }
-        ensures { IsRead parameters_of AreParameters state.old state.new cursor.new result (definition.list_at (K.asks self.now.kinds.now self.now.room) (readers (K.asks self.now.kinds.now) self.now.room) scope.0 (meaning state.old) cursor.old) }
+        requires ready { K.is_ready self.now.kinds.now }
+        requires open { N.is_open self.now.nested.now }
+        ensures { IsRead parameters_of AreParameters state.old state.new cursor.new result (definition.list_at (K.asks self.now.kinds.now self.now.room) (N.inner self.now.nested.now) scope.0 (meaning state.old) cursor.old) }
     {
         if is_punct(punct::RIGHT_PARENTHESIS, cursor.kind()) {
             cursor.advance();
@@ -377,15 +376,16 @@ impl<K: Kinds, F: Fn(&K, &mut State, &mut Cursor<'_>, What, u32) -> Result<Entry
         self.some_parameters(state, cursor, scope)
     }
 
-    // Behind the `(` of a list (8.3.5).
+    /// A list of parameters behind its `(`, with the end (8.3.5). A limit is that of parameters.
     #[tactic(auto, using(crate::proofs::Kept::trees_kept, crate::proofs::Kept::trees_later, crate::proofs::Kept::types_kept, crate::proofs::Kept::types_later, crate::proofs::Kept::later_trans, crate::proofs::Kept::later_refl), unfolding(cxx_reading::specs::Syntax::parameters_at))]
     pub fn parameters_at(
         &self,
         state: &mut State,
         cursor: &mut Cursor<'_>,
     ) -> Result<ParameterTypes, Stop>
-        requires nests { Nests K.asks K.is_ready F.Fn self.now.kinds.now self.now.room self.now.read }
-        ensures { IsRead parameters_of AreParameters state.old state.new cursor.new result (definition.parameters_at (K.asks self.now.kinds.now self.now.room) (readers (K.asks self.now.kinds.now) self.now.room) (meaning state.old) cursor.old) }
+        requires ready { K.is_ready self.now.kinds.now }
+        requires open { N.is_open self.now.nested.now }
+        ensures { IsRead parameters_of AreParameters state.old state.new cursor.new result (definition.parameters_at (K.asks self.now.kinds.now self.now.room) (N.inner self.now.nested.now) (meaning state.old) cursor.old) }
     {
         let scope = self.kinds.enter_parameters(state, self.room)?;
         let list = self.list_at(state, cursor, scope)?;

@@ -3,9 +3,7 @@
 ghost use Rattle.std.specs.Prelude.{◌≡◌, ◌<◌, ◌≤◌, ◌+◌, ◌^◌, IfOk, false};
 ghost use Rattle.cxx_reading.specs.Reads.{count_ahead, give, repeat};
 ghost use Rattle.cxx_reading.specs.Shapes as shape;
-ghost use Rattle.cxx_reading.specs.Syntax.{readers};
 ghost use Rattle.cxx_syntax.specs.Asking.{AnyKnown, itself};
-ghost use Rattle.cxx_syntax.specs.Knot.{Nests};
 ghost use Rattle.cxx_syntax.specs.Outlines.{HasFewerPrefix, fits_of, outline_of, prefix_of, prefix_turn, run_in, run_turn, suffix_turn};
 ghost use Rattle.cxx_syntax.specs.Reading.{IsRead, Takes};
 ghost use Rattle.cxx_syntax.specs.Views.{IsTurn, turn_at};
@@ -14,7 +12,8 @@ ghost use Rattle.cxx_tree.specs.Held.{meaning};
 use crate::cursor::{Cursor, is_end, is_keyword, is_name, is_punct};
 use crate::declarators::{is_cv, is_key};
 use crate::kinds::Kinds;
-use crate::reader::{Entry, Reader, What};
+use crate::nested::Nested;
+use crate::reader::Reader;
 use crate::steps::is_of_members;
 use crate::turn::Turn;
 use crate::words::{storage_word, type_word};
@@ -23,7 +22,7 @@ use cxx_tree::State;
 
 /// What a run of specifiers holds: no type, a type, or what no initializer begins with.
 #[derive(Clone, Copy)]
-pub(crate) enum Run {
+pub enum Run {
     NoType,
     AType,
     Surely,
@@ -31,13 +30,14 @@ pub(crate) enum Run {
 
 /// What was read of a declarator: how many brackets are open round its name, and whether it has one.
 #[derive(Clone, Copy)]
-pub(crate) struct Outline {
+pub struct Outline {
     pub brackets: u64,
     pub is_named: bool,
 }
 
+/// Whether a declarator fits, or what stands there is one whatever it is.
 #[derive(Clone, Copy)]
-pub(crate) enum Fits {
+pub enum Fits {
     Fits,
     FitsNot,
     Surely,
@@ -220,11 +220,7 @@ fn separated(state: &State, cursor: &mut Cursor<'_>) -> Result<Turn<(), bool>, S
     Ok(Turn::Done(is_punct(punct::RIGHT_PARENTHESIS, kind) || is_punct(punct::ELLIPSIS, kind)))
 }
 
-impl<K: Kinds, F: Fn(&K, &mut State, &mut Cursor<'_>, What, u32) -> Result<Entry, Stop>> Reader<
-    '_,
-    K,
-    F,
-> {
+impl<K: Kinds, N: Nested> Reader<'_, K, N> {
     // A name in a run of specifiers.
     #[tactic(auto, using(crate::proofs::Kept::later_trans, crate::proofs::Kept::later_refl), unfolding(cxx_reading::specs::Shapes::name_shape))]
     fn name_shape(
@@ -233,7 +229,7 @@ impl<K: Kinds, F: Fn(&K, &mut State, &mut Cursor<'_>, What, u32) -> Result<Entry
         cursor: &mut Cursor<'_>,
         typed: bool,
     ) -> Result<Turn<bool, Run>, Stop>
-        requires nests { Nests K.asks K.is_ready F.Fn self.now.kinds.now self.now.room self.now.read }
+        requires ready { K.is_ready self.now.kinds.now }
         ensures { IsRead run_turn AnyKnown state.old state.new cursor.new result (shape.name_shape (K.asks self.now.kinds.now self.now.room) typed (meaning state.old) cursor.old) }
     {
         if typed {
@@ -259,7 +255,7 @@ impl<K: Kinds, F: Fn(&K, &mut State, &mut Cursor<'_>, What, u32) -> Result<Entry
         cursor: &mut Cursor<'_>,
         typed: bool,
     ) -> Result<Turn<bool, Run>, Stop>
-        requires nests { Nests K.asks K.is_ready F.Fn self.now.kinds.now self.now.room self.now.read }
+        requires ready { K.is_ready self.now.kinds.now }
         ensures { IsRead run_turn AnyKnown state.old state.new cursor.new result (shape.run_step (K.asks self.now.kinds.now self.now.room) typed (meaning state.old) cursor.old) }
     {
         match cursor.kind() {
@@ -276,10 +272,10 @@ impl<K: Kinds, F: Fn(&K, &mut State, &mut Cursor<'_>, What, u32) -> Result<Entry
         }
     }
 
-    // Specifiers with one type.
+    /// Passes specifiers with one type (8.2).
     #[tactic(auto, using(crate::proofs::Loops::turn, crate::proofs::Loops::no_turn, crate::proofs::Kept::later_trans, crate::proofs::Kept::later_refl), unfolding(cxx_reading::specs::Shapes::run_passed))]
-    fn run_passed(&self, state: &mut State, cursor: &mut Cursor<'_>) -> Result<Run, Stop>
-        requires nests { Nests K.asks K.is_ready F.Fn self.now.kinds.now self.now.room self.now.read }
+    pub fn run_passed(&self, state: &mut State, cursor: &mut Cursor<'_>) -> Result<Run, Stop>
+        requires ready { K.is_ready self.now.kinds.now }
         ensures { IsRead (λ held. run_in) AnyKnown state.old state.new cursor.new result (shape.run_passed (K.asks self.now.kinds.now self.now.room) (meaning state.old) cursor.old) }
     {
         let mut typed = false;
@@ -301,7 +297,7 @@ impl<K: Kinds, F: Fn(&K, &mut State, &mut Cursor<'_>, What, u32) -> Result<Entry
         outline: Outline,
     ) -> Result<Turn<Outline, (Outline, bool)>, Stop>
         requires known { outline.brackets < 2 ^ 63 }
-        requires nests { Nests K.asks K.is_ready F.Fn self.now.kinds.now self.now.room self.now.read }
+        requires ready { K.is_ready self.now.kinds.now }
         ensures { IsRead prefix_turn (HasFewerPrefix outline.brackets) state.old state.new cursor.new result (shape.prefix_step (K.asks self.now.kinds.now self.now.room) (outline_of outline) (meaning state.old) cursor.old) }
     {
         let kind = cursor.kind();
@@ -336,14 +332,15 @@ impl<K: Kinds, F: Fn(&K, &mut State, &mut Cursor<'_>, What, u32) -> Result<Entry
         Ok(Turn::Done((outline, false)))
     }
 
-    // All that stands before the name, and whether a name with qualifiers stands there.
+    /// Passes all that stands before the name of a declarator and the name, and answers whether a name with qualifiers
+    /// stands there (8.2).
     #[tactic(auto, using(crate::proofs::Loops::turn, crate::proofs::Loops::no_turn, crate::proofs::Kept::later_trans, crate::proofs::Kept::later_refl), unfolding(cxx_reading::specs::Shapes::prefix_passed))]
-    fn prefix_passed(
+    pub fn prefix_passed(
         &self,
         state: &mut State,
         cursor: &mut Cursor<'_>,
     ) -> Result<(Outline, bool), Stop>
-        requires nests { Nests K.asks K.is_ready F.Fn self.now.kinds.now self.now.room self.now.read }
+        requires ready { K.is_ready self.now.kinds.now }
         ensures { IsRead (λ held. prefix_of) AnyKnown state.old state.new cursor.new result (shape.prefix_passed (K.asks self.now.kinds.now self.now.room) (meaning state.old) cursor.old) }
     {
         let mut outline = Outline {
@@ -367,13 +364,13 @@ impl<K: Kinds, F: Fn(&K, &mut State, &mut Cursor<'_>, What, u32) -> Result<Entry
         cursor: &mut Cursor<'_>,
         outline: Outline,
     ) -> Result<Turn<Outline, Fits>, Stop>
-        requires nests { Nests K.asks K.is_ready F.Fn self.now.kinds.now self.now.room self.now.read }
-        ensures { IsRead suffix_turn AnyKnown state.old state.new cursor.new result (shape.list_shape (readers (K.asks self.now.kinds.now) self.now.room) (outline_of outline) (meaning state.old) cursor.old) }
+        requires open { N.is_open self.now.nested.now }
+        ensures { IsRead suffix_turn AnyKnown state.old state.new cursor.new result (shape.list_shape (N.inner self.now.nested.now) (outline_of outline) (meaning state.old) cursor.old) }
     {
         if !outline.is_named {
             let mut ahead = cursor.mark();
             ahead.advance();
-            if !self.holds_parameters(state, &mut ahead)? {
+            if !self.nested.holds_parameters(state, &mut ahead)? {
                 return Ok(Turn::Done(Fits::FitsNot));
             }
         }
@@ -389,8 +386,8 @@ impl<K: Kinds, F: Fn(&K, &mut State, &mut Cursor<'_>, What, u32) -> Result<Entry
         cursor: &mut Cursor<'_>,
         outline: Outline,
     ) -> Result<Turn<Outline, Fits>, Stop>
-        requires nests { Nests K.asks K.is_ready F.Fn self.now.kinds.now self.now.room self.now.read }
-        ensures { IsRead suffix_turn AnyKnown state.old state.new cursor.new result (shape.suffix_step (readers (K.asks self.now.kinds.now) self.now.room) (outline_of outline) (meaning state.old) cursor.old) }
+        requires open { N.is_open self.now.nested.now }
+        ensures { IsRead suffix_turn AnyKnown state.old state.new cursor.new result (shape.suffix_step (N.inner self.now.nested.now) (outline_of outline) (meaning state.old) cursor.old) }
     {
         let kind = cursor.kind();
         if is_punct(punct::LEFT_PARENTHESIS, kind) {
@@ -416,16 +413,16 @@ impl<K: Kinds, F: Fn(&K, &mut State, &mut Cursor<'_>, What, u32) -> Result<Entry
         Ok(Turn::Done(is_closed(outline)))
     }
 
-    // All that stands behind the name.
+    /// Passes all that stands behind the name of a declarator (8.2).
     #[tactic(auto, using(crate::proofs::Loops::turn, crate::proofs::Loops::no_turn, crate::proofs::Kept::later_trans, crate::proofs::Kept::later_refl))]
-    fn suffixes_passed(
+    pub fn suffixes_passed(
         &self,
         state: &mut State,
         cursor: &mut Cursor<'_>,
         outline: Outline,
     ) -> Result<Fits, Stop>
-        requires nests { Nests K.asks K.is_ready F.Fn self.now.kinds.now self.now.room self.now.read }
-        ensures { IsRead (λ held. fits_of) AnyKnown state.old state.new cursor.new result (shape.suffixes_by (readers (K.asks self.now.kinds.now) self.now.room) (outline_of outline) false (meaning state.old) cursor.old) }
+        requires open { N.is_open self.now.nested.now }
+        ensures { IsRead (λ held. fits_of) AnyKnown state.old state.new cursor.new result (shape.suffixes_by (N.inner self.now.nested.now) (outline_of outline) false (meaning state.old) cursor.old) }
     {
         let mut outline = outline;
         for _turn in 0..cursor.count() {
@@ -440,8 +437,9 @@ impl<K: Kinds, F: Fn(&K, &mut State, &mut Cursor<'_>, What, u32) -> Result<Entry
     // A declarator, with a name or without one (8, 8.1).
     #[tactic(auto, using(crate::proofs::Kept::later_trans, crate::proofs::Kept::later_refl), unfolding(cxx_reading::specs::Shapes::declarator_passed))]
     fn declarator_passed(&self, state: &mut State, cursor: &mut Cursor<'_>) -> Result<Fits, Stop>
-        requires nests { Nests K.asks K.is_ready F.Fn self.now.kinds.now self.now.room self.now.read }
-        ensures { IsRead (λ held. fits_of) AnyKnown state.old state.new cursor.new result (shape.declarator_passed (K.asks self.now.kinds.now self.now.room) (readers (K.asks self.now.kinds.now) self.now.room) (meaning state.old) cursor.old) }
+        requires ready { K.is_ready self.now.kinds.now }
+        requires open { N.is_open self.now.nested.now }
+        ensures { IsRead (λ held. fits_of) AnyKnown state.old state.new cursor.new result (shape.declarator_passed (K.asks self.now.kinds.now self.now.room) (N.inner self.now.nested.now) (meaning state.old) cursor.old) }
     {
         let (outline, is_qualified) = self.prefix_passed(state, cursor)?;
         if is_qualified {
@@ -458,7 +456,6 @@ impl<K: Kinds, F: Fn(&K, &mut State, &mut Cursor<'_>, What, u32) -> Result<Entry
         cursor: &mut Cursor<'_>,
         fits: Fits,
     ) -> Result<Turn<(), bool>, Stop>
-        requires nests { Nests K.asks K.is_ready F.Fn self.now.kinds.now self.now.room self.now.read }
         ensures { IsRead (λ held. turn_at (λ x. x) (λ x. x)) AnyKnown state.old state.new cursor.new result (shape.parameter_by (fits_of fits) (meaning state.old) cursor.old) }
     {
         match fits {
@@ -474,8 +471,9 @@ impl<K: Kinds, F: Fn(&K, &mut State, &mut Cursor<'_>, What, u32) -> Result<Entry
     // One parameter, and what separates it from the next.
     #[tactic(auto, using(crate::proofs::Kept::later_trans, crate::proofs::Kept::later_refl), unfolding(cxx_reading::specs::Shapes::piece_step))]
     fn piece_step(&self, state: &mut State, cursor: &mut Cursor<'_>) -> Result<Turn<(), bool>, Stop>
-        requires nests { Nests K.asks K.is_ready F.Fn self.now.kinds.now self.now.room self.now.read }
-        ensures { IsRead (λ held. turn_at (λ x. x) (λ x. x)) AnyKnown state.old state.new cursor.new result (shape.piece_step (K.asks self.now.kinds.now self.now.room) (readers (K.asks self.now.kinds.now) self.now.room) (tt {0}) (meaning state.old) cursor.old) }
+        requires ready { K.is_ready self.now.kinds.now }
+        requires open { N.is_open self.now.nested.now }
+        ensures { IsRead (λ held. turn_at (λ x. x) (λ x. x)) AnyKnown state.old state.new cursor.new result (shape.piece_step (K.asks self.now.kinds.now self.now.room) (N.inner self.now.nested.now) (tt {0}) (meaning state.old) cursor.old) }
     {
         if is_punct(punct::ELLIPSIS, cursor.kind()) {
             return Ok(Turn::Done(true));
@@ -493,8 +491,9 @@ impl<K: Kinds, F: Fn(&K, &mut State, &mut Cursor<'_>, What, u32) -> Result<Entry
     // One parameter after another.
     #[tactic(auto, using(crate::proofs::Loops::turn, crate::proofs::Loops::no_turn, crate::proofs::Kept::later_trans, crate::proofs::Kept::later_refl))]
     fn pieces_passed(&self, state: &mut State, cursor: &mut Cursor<'_>) -> Result<bool, Stop>
-        requires nests { Nests K.asks K.is_ready F.Fn self.now.kinds.now self.now.room self.now.read }
-        ensures { IsRead itself AnyKnown state.old state.new cursor.new result (repeat (shape.piece_step (K.asks self.now.kinds.now self.now.room) (readers (K.asks self.now.kinds.now) self.now.room)) shape.give_false (count_ahead cursor.old) (tt {0}) (meaning state.old) cursor.old) }
+        requires ready { K.is_ready self.now.kinds.now }
+        requires open { N.is_open self.now.nested.now }
+        ensures { IsRead itself AnyKnown state.old state.new cursor.new result (repeat (shape.piece_step (K.asks self.now.kinds.now self.now.room) (N.inner self.now.nested.now)) shape.give_false (count_ahead cursor.old) (tt {0}) (meaning state.old) cursor.old) }
     {
         for _turn in 0..cursor.count() {
             match self.piece_step(state, cursor)? {
@@ -505,11 +504,12 @@ impl<K: Kinds, F: Fn(&K, &mut State, &mut Cursor<'_>, What, u32) -> Result<Entry
         Ok(false)
     }
 
-    // Behind a bracket: there is nothing, an ellipsis, or one parameter after another (8.2).
+    /// Whether parameters stand behind a bracket: nothing, an ellipsis, or one parameter after another (8.2).
     #[tactic(auto, using(crate::proofs::Kept::later_trans, crate::proofs::Kept::later_refl), unfolding(cxx_reading::specs::Shapes::parameters_shape))]
     pub fn parameters_shape(&self, state: &mut State, cursor: &mut Cursor<'_>) -> Result<bool, Stop>
-        requires nests { Nests K.asks K.is_ready F.Fn self.now.kinds.now self.now.room self.now.read }
-        ensures { IsRead itself AnyKnown state.old state.new cursor.new result (shape.parameters_shape (K.asks self.now.kinds.now self.now.room) (readers (K.asks self.now.kinds.now) self.now.room) (meaning state.old) cursor.old) }
+        requires ready { K.is_ready self.now.kinds.now }
+        requires open { N.is_open self.now.nested.now }
+        ensures { IsRead itself AnyKnown state.old state.new cursor.new result (shape.parameters_shape (K.asks self.now.kinds.now self.now.room) (N.inner self.now.nested.now) (meaning state.old) cursor.old) }
     {
         if is_punct(punct::RIGHT_PARENTHESIS, cursor.kind()) {
             return Ok(true);

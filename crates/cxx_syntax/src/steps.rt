@@ -3,8 +3,6 @@ ghost use Rattle.cxx_model.specs.declared.stop.Stop.TheVariants as stop;
 ghost use Rattle.cxx_reading.specs.Declarators.{has_type as has_type_in, no_cv, no_specifiers, no_words};
 ghost use Rattle.cxx_reading.specs.Reads.{count_ahead, give, repeat};
 ghost use Rattle.cxx_reading.specs.Specifiers as definition;
-ghost use Rattle.cxx_reading.specs.Syntax.{readers};
-ghost use Rattle.cxx_syntax.specs.Knot.{Nests};
 ghost use Rattle.cxx_syntax.specs.Reading.{IsRead};
 ghost use Rattle.cxx_syntax.specs.Words.{word_of};
 ghost use Rattle.cxx_syntax.specs.Views.{AreSpecifiers, AreTreesHeld, IsSpecifiersTurn, name_at, name_of_option, specifiers_of, specifiers_turn, trees_held};
@@ -13,8 +11,9 @@ ghost use Rattle.cxx_tree.specs.Held.{meaning};
 use crate::cursor::{Cursor, is_keyword, is_name, is_punct};
 use crate::kinds::Kinds;
 use crate::name::NameToken;
+use crate::nested::Nested;
 use crate::nodes::{elaborated_tree, enumeration_tree, place_of};
-use crate::reader::{Entry, Reader, What};
+use crate::reader::Reader;
 use crate::specifiers::Specifiers;
 use crate::turn::Turn;
 use crate::words::{TypeWord, base_of_words, storage_word, type_word, with_word};
@@ -260,11 +259,7 @@ fn no_specifiers_yet(alloc: Global) -> Specifiers
     }
 }
 
-impl<K: Kinds, F: Fn(&K, &mut State, &mut Cursor<'_>, What, u32) -> Result<Entry, Stop>> Reader<
-    '_,
-    K,
-    F,
-> {
+impl<K: Kinds, N: Nested> Reader<'_, K, N> {
     // A name of a type, where no type is there yet; behind one it is the name of the declarator (7.1.5.2).
     #[tactic(auto, using(crate::proofs::Kept::trees_kept, crate::proofs::Kept::trees_later, crate::proofs::Kept::named_kept, crate::proofs::Kept::named_later, crate::proofs::Kept::later_trans, crate::proofs::Kept::later_refl), unfolding(cxx_reading::specs::Specifiers::named_step))]
     fn named_step(
@@ -274,7 +269,7 @@ impl<K: Kinds, F: Fn(&K, &mut State, &mut Cursor<'_>, What, u32) -> Result<Entry
         so_far: Specifiers,
     ) -> Result<Turn<Specifiers, Specifiers>, Stop>
         requires known { AreSpecifiers state.old so_far }
-        requires nests { Nests K.asks K.is_ready F.Fn self.now.kinds.now self.now.room self.now.read }
+        requires ready { K.is_ready self.now.kinds.now }
         ensures { IsRead specifiers_turn IsSpecifiersTurn state.old state.new cursor.new result (definition.named_step (K.asks self.now.kinds.now self.now.room) (specifiers_of state.old so_far) (meaning state.old) cursor.old) }
     {
         if has_type(state, &so_far) {
@@ -305,7 +300,7 @@ impl<K: Kinds, F: Fn(&K, &mut State, &mut Cursor<'_>, What, u32) -> Result<Entry
         so_far: Specifiers,
     ) -> Result<Turn<Specifiers, Specifiers>, Stop>
         requires known { AreSpecifiers state.old so_far }
-        requires nests { Nests K.asks K.is_ready F.Fn self.now.kinds.now self.now.room self.now.read }
+        requires ready { K.is_ready self.now.kinds.now }
         ensures { IsRead specifiers_turn IsSpecifiersTurn state.old state.new cursor.new result (definition.elaborated_step (K.asks self.now.kinds.now self.now.room) from.now (name_at name.now) (specifiers_of state.old so_far) (meaning state.old) cursor.old) }
     {
         let of = self.kinds.elaborated(state, name, self.room)?;
@@ -321,11 +316,12 @@ impl<K: Kinds, F: Fn(&K, &mut State, &mut Cursor<'_>, What, u32) -> Result<Entry
         cursor: &mut Cursor<'_>,
         number: EnumId,
     ) -> Result<TreeIdList, Stop>
-        requires { Nests K.asks K.is_ready F.Fn self.now.kinds.now self.now.room self.now.read }
-        ensures { IsRead trees_held AreTreesHeld state.old state.new cursor.new result (definition.enumeration_body (K.asks self.now.kinds.now self.now.room) (readers (K.asks self.now.kinds.now) self.now.room) number.0 (meaning state.old) cursor.old) }
+        requires ready { K.is_ready self.now.kinds.now }
+        requires open { N.is_open self.now.nested.now }
+        ensures { IsRead trees_held AreTreesHeld state.old state.new cursor.new result (definition.enumeration_body (K.asks self.now.kinds.now self.now.room) (N.inner self.now.nested.now) number.0 (meaning state.old) cursor.old) }
     {
         cursor.advance();
-        let values = self.enumerators(state, cursor, number)?;
+        let values = self.nested.enumerators(state, cursor, number)?;
         self.kinds.enumerated(state, number, self.room)?;
         Ok(values)
     }
@@ -341,8 +337,9 @@ impl<K: Kinds, F: Fn(&K, &mut State, &mut Cursor<'_>, What, u32) -> Result<Entry
         so_far: Specifiers,
     ) -> Result<Turn<Specifiers, Specifiers>, Stop>
         requires known { AreSpecifiers state.old so_far }
-        requires nests { Nests K.asks K.is_ready F.Fn self.now.kinds.now self.now.room self.now.read }
-        ensures { IsRead specifiers_turn IsSpecifiersTurn state.old state.new cursor.new result (definition.defined_step (K.asks self.now.kinds.now self.now.room) (readers (K.asks self.now.kinds.now) self.now.room) from.now (name_of_option name.now) (specifiers_of state.old so_far) (meaning state.old) cursor.old) }
+        requires ready { K.is_ready self.now.kinds.now }
+        requires open { N.is_open self.now.nested.now }
+        ensures { IsRead specifiers_turn IsSpecifiersTurn state.old state.new cursor.new result (definition.defined_step (K.asks self.now.kinds.now self.now.room) (N.inner self.now.nested.now) from.now (name_of_option name.now) (specifiers_of state.old so_far) (meaning state.old) cursor.old) }
     {
         let place = place_of(from.place(), name);
         let both = self.kinds.enumeration(state, name, place, self.room)?;
@@ -363,8 +360,9 @@ impl<K: Kinds, F: Fn(&K, &mut State, &mut Cursor<'_>, What, u32) -> Result<Entry
         so_far: Specifiers,
     ) -> Result<Turn<Specifiers, Specifiers>, Stop>
         requires known { AreSpecifiers state.old so_far }
-        requires nests { Nests K.asks K.is_ready F.Fn self.now.kinds.now self.now.room self.now.read }
-        ensures { IsRead specifiers_turn IsSpecifiersTurn state.old state.new cursor.new result (definition.list_step (K.asks self.now.kinds.now self.now.room) (readers (K.asks self.now.kinds.now) self.now.room) place from.now (name_of_option name.now) (specifiers_of state.old so_far) (meaning state.old) cursor.old) }
+        requires ready { K.is_ready self.now.kinds.now }
+        requires open { N.is_open self.now.nested.now }
+        ensures { IsRead specifiers_turn IsSpecifiersTurn state.old state.new cursor.new result (definition.list_step (K.asks self.now.kinds.now self.now.room) (N.inner self.now.nested.now) place from.now (name_of_option name.now) (specifiers_of state.old so_far) (meaning state.old) cursor.old) }
     {
         if !is_declaration(place) {
             return Err(Stop::Fault(cursor.refused()?));
@@ -384,8 +382,9 @@ impl<K: Kinds, F: Fn(&K, &mut State, &mut Cursor<'_>, What, u32) -> Result<Entry
         name: NameToken,
     ) -> Result<Turn<Specifiers, Specifiers>, Stop>
         requires known { AreSpecifiers state.old so_far }
-        requires nests { Nests K.asks K.is_ready F.Fn self.now.kinds.now self.now.room self.now.read }
-        ensures { IsRead specifiers_turn IsSpecifiersTurn state.old state.new cursor.new result (definition.key_named_step (K.asks self.now.kinds.now self.now.room) (readers (K.asks self.now.kinds.now) self.now.room) place from.now (specifiers_of state.old so_far) (name_at name) (meaning state.old) cursor.old) }
+        requires ready { K.is_ready self.now.kinds.now }
+        requires open { N.is_open self.now.nested.now }
+        ensures { IsRead specifiers_turn IsSpecifiersTurn state.old state.new cursor.new result (definition.key_named_step (K.asks self.now.kinds.now self.now.room) (N.inner self.now.nested.now) place from.now (specifiers_of state.old so_far) (name_at name) (meaning state.old) cursor.old) }
     {
         if is_punct(punct::LEFT_BRACE, cursor.kind()) {
             let name = Some(name);
@@ -405,8 +404,9 @@ impl<K: Kinds, F: Fn(&K, &mut State, &mut Cursor<'_>, What, u32) -> Result<Entry
         so_far: Specifiers,
     ) -> Result<Turn<Specifiers, Specifiers>, Stop>
         requires known { AreSpecifiers state.old so_far }
-        requires nests { Nests K.asks K.is_ready F.Fn self.now.kinds.now self.now.room self.now.read }
-        ensures { IsRead specifiers_turn IsSpecifiersTurn state.old state.new cursor.new result (definition.key_step (K.asks self.now.kinds.now self.now.room) (readers (K.asks self.now.kinds.now) self.now.room) place from.now (specifiers_of state.old so_far) (meaning state.old) cursor.old) }
+        requires ready { K.is_ready self.now.kinds.now }
+        requires open { N.is_open self.now.nested.now }
+        ensures { IsRead specifiers_turn IsSpecifiersTurn state.old state.new cursor.new result (definition.key_step (K.asks self.now.kinds.now self.now.room) (N.inner self.now.nested.now) place from.now (specifiers_of state.old so_far) (meaning state.old) cursor.old) }
     {
         if is_punct(punct::LEFT_BRACE, cursor.kind()) {
             return self.list_step(state, cursor, place, from, &None, so_far);
@@ -431,8 +431,9 @@ impl<K: Kinds, F: Fn(&K, &mut State, &mut Cursor<'_>, What, u32) -> Result<Entry
         so_far: Specifiers,
     ) -> Result<Turn<Specifiers, Specifiers>, Stop>
         requires known { AreSpecifiers state.old so_far }
-        requires nests { Nests K.asks K.is_ready F.Fn self.now.kinds.now self.now.room self.now.read }
-        ensures { IsRead specifiers_turn IsSpecifiersTurn state.old state.new cursor.new result (definition.enumeration_step (K.asks self.now.kinds.now self.now.room) (readers (K.asks self.now.kinds.now) self.now.room) place (specifiers_of state.old so_far) (meaning state.old) cursor.old) }
+        requires ready { K.is_ready self.now.kinds.now }
+        requires open { N.is_open self.now.nested.now }
+        ensures { IsRead specifiers_turn IsSpecifiersTurn state.old state.new cursor.new result (definition.enumeration_step (K.asks self.now.kinds.now self.now.room) (N.inner self.now.nested.now) place (specifiers_of state.old so_far) (meaning state.old) cursor.old) }
     {
         if has_type(state, &so_far) {
             return Err(Stop::Fault(cursor.refused()?));
@@ -453,8 +454,9 @@ impl<K: Kinds, F: Fn(&K, &mut State, &mut Cursor<'_>, What, u32) -> Result<Entry
         so_far: Specifiers,
     ) -> Result<Turn<Specifiers, Specifiers>, Stop>
         requires known { AreSpecifiers state.old so_far }
-        requires nests { Nests K.asks K.is_ready F.Fn self.now.kinds.now self.now.room self.now.read }
-        ensures { IsRead specifiers_turn IsSpecifiersTurn state.old state.new cursor.new result (definition.other_step (K.asks self.now.kinds.now self.now.room) (readers (K.asks self.now.kinds.now) self.now.room) place number (specifiers_of state.old so_far) (meaning state.old) cursor.old) }
+        requires ready { K.is_ready self.now.kinds.now }
+        requires open { N.is_open self.now.nested.now }
+        ensures { IsRead specifiers_turn IsSpecifiersTurn state.old state.new cursor.new result (definition.other_step (K.asks self.now.kinds.now self.now.room) (N.inner self.now.nested.now) place number (specifiers_of state.old so_far) (meaning state.old) cursor.old) }
     {
         if number == keyword::CONST {
             return const_step(state, cursor, so_far);
@@ -488,8 +490,9 @@ impl<K: Kinds, F: Fn(&K, &mut State, &mut Cursor<'_>, What, u32) -> Result<Entry
         so_far: Specifiers,
     ) -> Result<Turn<Specifiers, Specifiers>, Stop>
         requires known { AreSpecifiers state.old so_far }
-        requires nests { Nests K.asks K.is_ready F.Fn self.now.kinds.now self.now.room self.now.read }
-        ensures { IsRead specifiers_turn IsSpecifiersTurn state.old state.new cursor.new result (definition.keyword_step (K.asks self.now.kinds.now self.now.room) (readers (K.asks self.now.kinds.now) self.now.room) place number (specifiers_of state.old so_far) (meaning state.old) cursor.old) }
+        requires ready { K.is_ready self.now.kinds.now }
+        requires open { N.is_open self.now.nested.now }
+        ensures { IsRead specifiers_turn IsSpecifiersTurn state.old state.new cursor.new result (definition.keyword_step (K.asks self.now.kinds.now self.now.room) (N.inner self.now.nested.now) place number (specifiers_of state.old so_far) (meaning state.old) cursor.old) }
     {
         match storage_word(number) {
             Some(word) => storage_step(state, cursor, place, word, so_far),
@@ -510,8 +513,9 @@ impl<K: Kinds, F: Fn(&K, &mut State, &mut Cursor<'_>, What, u32) -> Result<Entry
         so_far: Specifiers,
     ) -> Result<Turn<Specifiers, Specifiers>, Stop>
         requires known { AreSpecifiers state.old so_far }
-        requires nests { Nests K.asks K.is_ready F.Fn self.now.kinds.now self.now.room self.now.read }
-        ensures { IsRead specifiers_turn IsSpecifiersTurn state.old state.new cursor.new result (definition.specifier_step (K.asks self.now.kinds.now self.now.room) (readers (K.asks self.now.kinds.now) self.now.room) place (specifiers_of state.old so_far) (meaning state.old) cursor.old) }
+        requires ready { K.is_ready self.now.kinds.now }
+        requires open { N.is_open self.now.nested.now }
+        ensures { IsRead specifiers_turn IsSpecifiersTurn state.old state.new cursor.new result (definition.specifier_step (K.asks self.now.kinds.now self.now.room) (N.inner self.now.nested.now) place (specifiers_of state.old so_far) (meaning state.old) cursor.old) }
     {
         match cursor.kind() {
             TokenKind::Keyword(number) => self.keyword_step(state, cursor, place, number, so_far),
@@ -529,14 +533,15 @@ impl<K: Kinds, F: Fn(&K, &mut State, &mut Cursor<'_>, What, u32) -> Result<Entry
 
     // All specifiers (7.1).
     #[tactic(auto, using(crate::proofs::Loops::turn, crate::proofs::Loops::no_turn, crate::proofs::Kept::later_trans, crate::proofs::Kept::later_refl), unfolding(cxx_reading::specs::Specifiers::specifiers_at, cxx_reading::specs::Specifiers::typed))]
-    pub fn specifiers_run(
+    fn specifiers_run(
         &self,
         state: &mut State,
         cursor: &mut Cursor<'_>,
         place: SpecifierPlace,
     ) -> Result<Specifiers, Stop>
-        requires { Nests K.asks K.is_ready F.Fn self.now.kinds.now self.now.room self.now.read }
-        ensures { IsRead specifiers_of AreSpecifiers state.old state.new cursor.new result (repeat (definition.specifier_step (K.asks self.now.kinds.now self.now.room) (readers (K.asks self.now.kinds.now) self.now.room) place) give (count_ahead cursor.old) no_specifiers (meaning state.old) cursor.old) }
+        requires ready { K.is_ready self.now.kinds.now }
+        requires open { N.is_open self.now.nested.now }
+        ensures { IsRead specifiers_of AreSpecifiers state.old state.new cursor.new result (repeat (definition.specifier_step (K.asks self.now.kinds.now self.now.room) (N.inner self.now.nested.now) place) give (count_ahead cursor.old) no_specifiers (meaning state.old) cursor.old) }
     {
         let mut so_far = no_specifiers_yet(cursor.alloc());
         for _turn in 0..cursor.count() {
@@ -548,7 +553,7 @@ impl<K: Kinds, F: Fn(&K, &mut State, &mut Cursor<'_>, What, u32) -> Result<Entry
         Ok(so_far)
     }
 
-    // All specifiers, with a type among them (7.1.5).
+    /// All specifiers, with a type among them (7.1, 7.1.5).
     #[tactic(auto, using(crate::proofs::Kept::later_trans, crate::proofs::Kept::later_refl), unfolding(cxx_reading::specs::Specifiers::specifiers_at, cxx_reading::specs::Specifiers::typed))]
     pub fn specifiers_at(
         &self,
@@ -556,8 +561,9 @@ impl<K: Kinds, F: Fn(&K, &mut State, &mut Cursor<'_>, What, u32) -> Result<Entry
         cursor: &mut Cursor<'_>,
         place: SpecifierPlace,
     ) -> Result<Specifiers, Stop>
-        requires { Nests K.asks K.is_ready F.Fn self.now.kinds.now self.now.room self.now.read }
-        ensures { IsRead specifiers_of AreSpecifiers state.old state.new cursor.new result (definition.specifiers_at (K.asks self.now.kinds.now self.now.room) (readers (K.asks self.now.kinds.now) self.now.room) place (meaning state.old) cursor.old) }
+        requires ready { K.is_ready self.now.kinds.now }
+        requires open { N.is_open self.now.nested.now }
+        ensures { IsRead specifiers_of AreSpecifiers state.old state.new cursor.new result (definition.specifiers_at (K.asks self.now.kinds.now self.now.room) (N.inner self.now.nested.now) place (meaning state.old) cursor.old) }
     {
         let specifiers = self.specifiers_run(state, cursor, place)?;
         if has_type(state, &specifiers) {

@@ -1,7 +1,7 @@
 use Rattle.std.specs.Prelude.{◌-◌}
 use Rattle.cxx_model.specs.declared.limits.TheConstants as limits
 use Rattle.cxx_reading.specs.Reads.{repeat}
-use Rattle.cxx_reading.specs.Syntax.{parameter_step, parameters_over, readers, some_parameters}
+use Rattle.cxx_reading.specs.Syntax.{parameter_step, parameters_over, some_parameters}
 use Rattle.cxx_syntax.specs.Looping.{IsTurning}
 use Rattle.cxx_syntax.specs.Views.{AreParameters, parameters_of}
 use Rattle.cxx_tree.specs.Held.{meaning}
@@ -10,5 +10,5 @@ use Rattle.cxx_syntax.proofs.reader.Reader.some_parameters.Given as goal
 abbrev pub invariant-loop-turn : goal.invariant-loop-turn
 invariant-loop-turn g l =
     let asks = g.K.Kinds.asks l.fn.self.kinds.now l.fn.self.room in
-    let inner = readers (g.K.Kinds.asks l.fn.self.kinds.now) l.fn.self.room in
+    let inner = g.N.Nested.inner l.fn.self.nested.now in
     IsTurning (repeat (parameter_step asks inner) (parameters_over asks) (limits.MOST_ARGUMENTS - l._turn) (parameters_of l.state l.so_far) (meaning l.state) l.cursor) (some_parameters asks inner l.fn.scope.0 (meaning l.fn.state) l.fn.cursor) (AreParameters l.state l.so_far) l.fn.state l.state

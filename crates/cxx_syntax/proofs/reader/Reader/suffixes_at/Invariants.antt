@@ -1,6 +1,6 @@
 use Rattle.std.specs.Prelude.{◌-◌}
 use Rattle.cxx_reading.specs.Reads.{repeat}
-use Rattle.cxx_reading.specs.Syntax.{give_declarator, readers, suffix_at, suffixes_at}
+use Rattle.cxx_reading.specs.Syntax.{give_declarator, suffix_at, suffixes_at}
 use Rattle.cxx_syntax.specs.Looping.{IsTurning}
 use Rattle.cxx_syntax.specs.Suffixes.{IsSuffixed, suffixed_of}
 use Rattle.cxx_syntax.specs.Views.{declarator_of}
@@ -9,5 +9,5 @@ use Rattle.cxx_syntax.proofs.reader.Reader.suffixes_at.Given as goal
 
 abbrev pub invariant-loop-turn : goal.invariant-loop-turn
 invariant-loop-turn g l =
-    let inner = readers (g.K.Kinds.asks l.fn.self.kinds.now) l.fn.self.room in
+    let inner = g.N.Nested.inner l.fn.self.nested.now in
     IsTurning (repeat (suffix_at inner) give_declarator (l._turn-end - l._turn) (suffixed_of l.state l.so_far) (meaning l.state) l.cursor) (suffixes_at inner (declarator_of l.fn.state l.fn.declarator) (meaning l.fn.state) l.fn.cursor) (IsSuffixed l.state l.so_far) l.fn.state l.state
