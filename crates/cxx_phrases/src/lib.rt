@@ -23,4 +23,4 @@ pub use initializers::{read_expression, read_initializer, read_sized};
 pub use level::Level;
 pub use phrases::Phrases;
 pub use shape::TypeShape;
-pub use types::read_type_id;
+pub use types::{type_id_at, type_passed_at};

@@ -6,17 +6,20 @@ ghost use Rattle.cxx_phrases.specs.Knot as definition;
 ghost use Rattle.cxx_phrases.specs.Making.{GrowsType};
 ghost use Rattle.cxx_phrases.specs.Views.{IsWritten, written_of};
 ghost use Rattle.cxx_reading.specs.Declarators.{declared_type};
-ghost use Rattle.cxx_reading.specs.Syntax.{readers, specified_type};
-ghost use Rattle.cxx_syntax.specs.Asking.{IsTypeKnown};
+ghost use Rattle.cxx_reading.specs.Shapes.{a_type};
+ghost use Rattle.cxx_reading.specs.Syntax.{specified_type};
+ghost use Rattle.cxx_syntax.specs.Asking.{AnyKnown, IsTypeKnown, itself};
+ghost use Rattle.cxx_syntax.specs.Outlines.{fits_of, prefix_of};
 ghost use Rattle.cxx_syntax.specs.Reading.{IsRead};
 ghost use Rattle.cxx_syntax.specs.Views.{AreSpecifiers, IsDeclarator, declarator_of, specifiers_of};
 ghost use Rattle.cxx_tree.specs.Held.{meaning, type_of};
 
-use cxx_model::{Fault, FaultText, Listed, Place, Stop, TreeIdList, TypeId};
+use crate::shape::TypeShape;
+use cxx_model::{Fault, FaultText, Listed, Place, Stop, TreeIdList, TypeId, punct};
 use cxx_reading::{Naming, SpecifierPlace};
 use cxx_syntax::{
-    Cursor, Declarator, Kinds, Specifiers, declared, joined, read_declarator, read_specifiers,
-    refused, specified,
+    Cursor, Declarator, Fits, Kinds, Nested, Outline, Reader, Run, Specifiers, declared, is_punct,
+    joined, refused, specified,
 };
 use cxx_tree::State;
 use std::alloc::{AllocError, Global};
@@ -106,19 +109,92 @@ fn type_id_fits(
     Ok((of, joined(specifiers.parts, declarator.parts)?))
 }
 
-/// A type, with the trees of what it is written of, and room for so many brackets (8.1). A limit is that of nesting or that
-/// of parameters.
+/// A type, with the trees of what it is written of (8.1).
 #[tactic(auto, using(cxx_syntax::proofs::Kept::trees_kept, cxx_syntax::proofs::Kept::trees_later, cxx_syntax::proofs::Kept::named_kept, cxx_syntax::proofs::Kept::named_later, cxx_syntax::proofs::Kept::later_trans, cxx_syntax::proofs::Kept::later_refl), unfolding(crate::specs::Knot::type_id_at))]
-pub fn read_type_id<K: Kinds>(
-    kinds: &K,
+pub fn type_id_at<K: Kinds, N: Nested>(
+    reader: &Reader<'_, K, N>,
     state: &mut State,
     cursor: &mut Cursor<'_>,
-    room: u32,
 ) -> Result<(TypeId, TreeIdList), Stop>
-    requires { K.is_ready kinds.now }
-    ensures { IsRead written_of IsWritten state.old state.new cursor.new result (definition.type_id_at (K.asks kinds.now room) (readers (K.asks kinds.now) room) (meaning state.old) cursor.old) }
+    requires ready { K.is_ready reader.now.kinds.now }
+    requires open { N.is_open reader.now.nested.now }
+    ensures { IsRead written_of IsWritten state.old state.new cursor.new result (definition.type_id_at (K.asks reader.now.kinds.now reader.now.room) (N.inner reader.now.nested.now) (meaning state.old) cursor.old) }
 {
-    let specifiers = read_specifiers(kinds, state, cursor, SpecifierPlace::TypeId, room)?;
-    let declarator = read_declarator(kinds, state, cursor, Naming::Never, room)?;
+    let specifiers = reader.specifiers_at(state, cursor, SpecifierPlace::TypeId)?;
+    let declarator = reader.declarator_at(state, cursor, Naming::Never)?;
     type_id_fits(state, cursor, specifiers, declarator)
+}
+
+// Behind a declarator that fits the end of the bracket has to stand.
+#[tactic(auto, using(cxx_syntax::proofs::Kept::later_refl))]
+fn closed_by(state: &State, cursor: &mut Cursor<'_>, fits: Fits) -> Result<TypeShape, Stop>
+    ensures { IsRead itself AnyKnown state.now state.now cursor.new result (definition.closed_by (fits_of fits) (meaning state.now) cursor.old) }
+{
+    let _ = state;
+    match fits {
+        Fits::Fits => {
+            if is_punct(punct::RIGHT_PARENTHESIS, cursor.kind()) {
+                cursor.advance();
+                return Ok(TypeShape::Closed);
+            }
+            Ok(TypeShape::NoType)
+        }
+        Fits::FitsNot => Ok(TypeShape::NoType),
+        Fits::Surely => Ok(TypeShape::Surely),
+    }
+}
+
+// Behind the first part of a declarator, which has no name in a type.
+#[tactic(auto, using(cxx_syntax::proofs::Kept::later_trans, cxx_syntax::proofs::Kept::later_refl))]
+fn abstract_by<K: Kinds, N: Nested>(
+    reader: &Reader<'_, K, N>,
+    state: &mut State,
+    cursor: &mut Cursor<'_>,
+    outline: (Outline, bool),
+) -> Result<TypeShape, Stop>
+    requires open { N.is_open reader.now.nested.now }
+    ensures { IsRead itself AnyKnown state.old state.new cursor.new result (definition.abstract_by (N.inner reader.now.nested.now) (prefix_of outline) (meaning state.old) cursor.old) }
+{
+    let (outline, is_qualified) = outline;
+    if outline.is_named {
+        return Ok(TypeShape::NoType);
+    }
+    if is_qualified {
+        return Ok(TypeShape::Surely);
+    }
+    let fits = reader.suffixes_passed(state, cursor, outline)?;
+    closed_by(state, cursor, fits)
+}
+
+// Behind a type a declarator without a name stands.
+#[tactic(auto, using(cxx_syntax::proofs::Kept::later_trans, cxx_syntax::proofs::Kept::later_refl))]
+fn abstract_at<K: Kinds, N: Nested>(
+    reader: &Reader<'_, K, N>,
+    state: &mut State,
+    cursor: &mut Cursor<'_>,
+) -> Result<TypeShape, Stop>
+    requires ready { K.is_ready reader.now.kinds.now }
+    requires open { N.is_open reader.now.nested.now }
+    ensures { IsRead itself AnyKnown state.old state.new cursor.new result (definition.shape_by (K.asks reader.now.kinds.now reader.now.room) (N.inner reader.now.nested.now) a_type (meaning state.old) cursor.old) }
+{
+    let outline = reader.prefix_passed(state, cursor)?;
+    abstract_by(reader, state, cursor, outline)
+}
+
+/// Whether a type stands ahead up to the end of a bracket, behind which the cursor stands then (8.2).
+#[tactic(auto, using(cxx_syntax::proofs::Kept::later_trans, cxx_syntax::proofs::Kept::later_refl), unfolding(crate::specs::Knot::type_passed_at))]
+pub fn type_passed_at<K: Kinds, N: Nested>(
+    reader: &Reader<'_, K, N>,
+    state: &mut State,
+    cursor: &mut Cursor<'_>,
+) -> Result<TypeShape, Stop>
+    requires ready { K.is_ready reader.now.kinds.now }
+    requires open { N.is_open reader.now.nested.now }
+    ensures { IsRead itself AnyKnown state.old state.new cursor.new result (definition.type_passed_at (K.asks reader.now.kinds.now reader.now.room) (N.inner reader.now.nested.now) (meaning state.old) cursor.old) }
+{
+    match reader.run_passed(state, cursor)? {
+        Run::NoType => Ok(TypeShape::NoType),
+        Run::AType => abstract_at(reader, state, cursor),
+        Run::Surely => Ok(TypeShape::Surely),
+    }
 }
