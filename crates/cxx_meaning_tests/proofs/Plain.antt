@@ -1,5 +1,5 @@
 -- A table of plain types beside a graph of no declarations.
-use Rattle.std.specs.Prelude.{ℕ, ◌≡◌, ◌<◌, List, [], length, Result}
+use Rattle.std.specs.Prelude.{◌≡◌, ◌<◌, List, [], length, Result}
 use Rattle.std.proofs.Common.{subst, sym, arith}
 use Rattle.cxx_model.specs.declared.base.Base.{Base}
 use Rattle.cxx_model.specs.declared.memory.OutOfMemory.{OutOfMemory}
