@@ -11,7 +11,7 @@ use Rattle.cxx_computed.proofs.Converted.{converted_held}
 use Rattle.cxx_reading.specs.Trees.{CxxTree}
 use Rattle.cxx_constant.specs.declared.form.Form.{Form}
 use Rattle.cxx_constant.specs.declared.form.Form.TheVariants as form
-use Rattle.cxx_constant.specs.Constants.{constant, labels, part_of, parts, value_by, CxxValue, Part, ◌then◌}
+use Rattle.cxx_constant.specs.Constants.{constant, labels, operands_in, part_of, parts, value_by, CxxValue, Part, ◌then◌}
 use Rattle.cxx_constant.specs.Forms.{form_by, form_of, is_integral_kind, kind_of_expression}
 
 as_held : (of : Base) (found : CxxValue) (value : ℤ) → 0 < width of → (found then λ v. Ok (value_as (arithmetic of) v)) ≡ Ok value → holds of value ≡ true
@@ -28,7 +28,7 @@ by_test false of tree is whole value e so = absurd (none tree (arithmetic of) wh
 pub constant_held : (graph : CxxGraph) (tree : CxxTree) (of : Base) (value : ℤ) → kind_of_expression tree.label ≡ arithmetic of → constant graph tree ≡ Ok value → holds of value ≡ true
 unfolding constant part_of form_of
 constant_held graph tree of value kind so =
-    let whole : List Part = parts graph tree.children in
+    let whole : List Part = operands_in tree.label (parts graph tree.children) in
     let is : Form = form_by graph tree.label (labels whole) in
     let said : CxxKind → CxxValue = λ k. value_by tree (if is_integral_kind k then is else form.Other) whole then λ v. Ok (value_as k v) in
     by_test (is_integral of) of tree is whole value refl (sym (ap said kind) ∙ so)

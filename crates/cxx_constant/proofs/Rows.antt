@@ -10,7 +10,7 @@ use Rattle.cxx_model.specs.Facts.Declarations as facts
 use Rattle.cxx_model.specs.Facts.Declarations.{CxxFact, CxxGraph, Declares, spelled}
 use Rattle.cxx_model.specs.Text.Lexemes.{nowhere}
 use Rattle.cxx_model.specs.Text.Spelling.{keywords, alternatives, operators, digraphs, word_kind, number_kind, operator, literal, hash, slash, percent, spelling_of, literal_value}
-use Rattle.cxx_model.specs.Types.Trees.{CxxType, enumeration, fundamental, pointer_to, qualified}
+use Rattle.cxx_model.specs.Types.Trees.{CxxType, array_of, enumeration, fundamental, number_bound, pointer_to, qualified}
 use Rattle.cxx_meaning.specs.Conversions.Sizes.{class_in, extent_of, object_extent, size_of}
 use Rattle.cxx_computed.specs.Values.{binary_value, converted_value, unary_value, value_in}
 use Rattle.cxx_reading.specs.Trees.{CxxTree, tree_of}
@@ -127,6 +127,17 @@ casts : (value (cast base.Char (int (codes "200"))) ≡ Ok (negsuc 55)) × (valu
 unfolding value
 casts = (refl, refl, refl)
 
+abbrev over_type : CxxTree
+over_type = node 9 (codes "enum") (enumeration 0) (Some (enumeration 0)) None []
+
+abbrev cast_over_type : ℕ → CxxTree
+cast_over_type production = node production (codes "static_cast") (enumeration 0) (Some (enumeration 0)) None (over_type ∷ int (codes "3") ∷ [])
+
+-- (enum E)3, whose type has a tree of its own; what stands in brackets and behind `E` is one expression
+typed_casts : (value (cast_over_type 48) ≡ Ok (pos 3)) × (value (cast_over_type 39) ≡ Err (not_constant (cast_over_type 39))) × (value (cast_over_type 41) ≡ Err (not_constant (cast_over_type 41)))
+unfolding value
+typed_casts = (refl, refl, refl)
+
 -- above + 1, n * 2
 names : (value (binary base.Int (codes "+") (to base.Int above) (int (codes "1"))) ≡ Ok (pos 6)) × (value (binary base.Int (codes "*") n (int (codes "2"))) ≡ Ok (pos 14))
 unfolding value
@@ -148,6 +159,14 @@ sizes : (value (binary base.UnsignedLong (codes "*") (size (fundamental base.Int
     × (value (size (pointer_to const_int)) ≡ Ok (pos 8))
 unfolding value
 sizes = (refl, refl, refl)
+
+abbrev size_over : List ℕ → Option CxxType → CxxTree → CxxTree
+size_over spelling t one = node 47 spelling (fundamental base.UnsignedLong) t None (one ∷ [])
+
+-- sizeof(char[sizeof(int)]), whose type has a tree of its own, and sizeof x
+typed_sizes : (value (size_over (codes "4UL") (Some (array_of (fundamental base.Char) (number_bound 4))) (size (fundamental base.Int))) ≡ Ok (pos 4)) × (value (size_over (codes "4UL") None x) ≡ Ok (pos 4))
+unfolding value
+typed_sizes = (refl, refl)
 
 abbrev divided : CxxTree
 divided = binary base.Int (codes "/") (int (codes "1")) (int (codes "0"))
@@ -181,6 +200,14 @@ fraction = cast base.Double (int (codes "1"))
 
 abbrev comma : CxxTree
 comma = node 52 (codes ",") (fundamental base.Int) None None (int (codes "1") ∷ int (codes "2") ∷ [])
+
+abbrev comparison : CxxTree
+comparison = binary base.Bool (codes "<") (to base.Double (int (codes "1"))) (named (fundamental base.Double) 5)
+
+-- 1 < d
+compared : value comparison ≡ Err (not_constant comparison)
+unfolding value
+compared = refl
 
 -- 0 && x, 1 ? 2 : x, (int)(double)1, (1, 2)
 no_constants : (value (binary base.Bool (codes "&&") (to base.Bool (int (codes "0"))) (to base.Bool x)) ≡ Err (not_constant x)) × (value (choice base.Int (to base.Bool (int (codes "1"))) (int (codes "2")) x) ≡ Err (not_constant x))

@@ -1,12 +1,13 @@
 -- What has a value is a constant in each of its parts.
 use Rattle.std.proofs.Common.{◌≡◌, Bool, true, false, List, [], ◌∷◌, Option, Some, None, refl, ap, ◌∙◌, Ok, Err, ℤ}
-use Rattle.std.specs.Prelude.{if◌then◌else◌}
+use Rattle.std.specs.Prelude.{if◌then◌else◌, nat_eq}
 use Rattle.cxx_computed.specs.Values.{is_zero}
 use Rattle.cxx_model.specs.Facts.Declarations.{CxxGraph}
+use Rattle.cxx_reading.specs.Productions as reading
 use Rattle.cxx_reading.specs.Trees.{CxxTree, CxxTrees, no_trees, tree_then}
 use Rattle.cxx_constant.specs.declared.form.Form.{Form}
 use Rattle.cxx_constant.specs.declared.form.Form.TheVariants as form
-use Rattle.cxx_constant.specs.Constants.{constant, labels, missing_by, or_else, part_by, part_of, parts, unless_missing, value_by, CxxFault, CxxValue, Part, ◌then◌}
+use Rattle.cxx_constant.specs.Constants.{constant, labels, last_alone, last_of, missing_by, operands_in, or_else, part_by, part_of, part_over, parts, unless_missing, value_by, CxxFault, CxxValue, Part, ◌then◌}
 use Rattle.cxx_constant.specs.Forms.{form_of}
 
 abbrev IsSound : Part → Type 0
@@ -77,8 +78,23 @@ sound_by tree form.Conditional (p ∷ q ∷ r ∷ []) all v e =
     (λ f. (let t = split q.value _ v f in both q.missing r.missing (all.1.0 t.0 t.1) (none_missing r.missing (Ok t.0) v t.2))) s.2)
 sound_by tree form.Conditional (p ∷ q ∷ r ∷ o ∷ ps) all v e = absurd (err_ok _ v e)
 
+over_sound : (graph : CxxGraph) (tree : CxxTree) (ps : List Part) → AreSound ps → IsSound (part_over graph tree ps)
+over_sound graph tree ps all v e = (let s = split (value_by tree (form_of graph tree.label (labels ps)) ps) _ v e in sound_by tree (form_of graph tree.label (labels ps)) ps all s.0 s.1)
+
+last_sound : (p : Part) (ps : List Part) → IsSound p → AreSound ps → IsSound (last_of p ps)
+last_sound p [] one all = one
+last_sound p (q ∷ ps) one all = last_sound q ps all.0 all.1
+
+alone_sound : (ps : List Part) → AreSound ps → AreSound (last_alone ps)
+alone_sound [] all = tt
+alone_sound (p ∷ ps) all = (last_sound p ps all.0 all.1, tt)
+
+operands_sound : (b : Bool) (ps : List Part) → AreSound ps → AreSound (if b then last_alone ps else ps)
+operands_sound true ps all = alone_sound ps all
+operands_sound false ps all = all
+
 part_sound : (graph : CxxGraph) (tree : CxxTree) (ps : List Part) → AreSound ps → IsSound (part_by graph tree ps)
-part_sound graph tree ps all v e = (let s = split (value_by tree (form_of graph tree.label (labels ps)) ps) _ v e in sound_by tree (form_of graph tree.label (labels ps)) ps all s.0 s.1)
+part_sound graph tree ps all = over_sound graph tree (operands_in tree.label ps) (operands_sound (nat_eq tree.label.production reading.cast) ps all)
 
 parts_sound : (graph : CxxGraph) (trees : CxxTrees) → AreSound (parts graph trees)
 parts_sound graph no_trees = tt

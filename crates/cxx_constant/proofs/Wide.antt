@@ -20,7 +20,7 @@ use Rattle.cxx_reading.specs.Productions as reading
 use Rattle.cxx_constant.specs.declared.form.Form.{Form}
 use Rattle.cxx_constant.specs.declared.form.Form.TheVariants as form
 use Rattle.cxx_constant.specs.declared.production.TheConstants as production
-use Rattle.cxx_constant.specs.Forms.{base_of_first, binary_by, binary_form, cast_form, form_by, form_of, functional_form, integral_base, is_integral_kind, kind_of_expression, kind_of_target, measured, operator_form, operator_number, size_by, size_form, unary_by, unary_form, value_form, value_of_literal, value_of_name}
+use Rattle.cxx_constant.specs.Forms.{base_of_first, binary_by, binary_form, cast_form, form_by, form_of, functional_form, integral_base, is_integral_kind, kind_of_expression, kind_of_target, operator_form, operator_number, size_by, size_form, unary_by, unary_form, value_form, value_of_literal, value_of_name}
 use Rattle.cxx_constant.specs.Known.{IsFormWide}
 use Rattle.std.specs.Prelude.{Result, Ok, Err}
 
@@ -54,9 +54,12 @@ size_by_wide (Ok (Err reason.TooLarge)) = tt
 size_by_wide (Ok (Err reason.NoSize)) = tt
 size_by_wide (Err class) = tt
 
-size_wide : (graph : CxxGraph) (of : Option CxxType) → IsFormWide (size_form graph of)
-size_wide graph None = tt
-size_wide graph (Some t) = size_by_wide (sizes.size_of graph t)
+size_wide : (graph : CxxGraph) (label : Label) → IsFormWide (size_form graph label)
+size_wide graph label = by label.of
+  where
+    by : (of : Option CxxType) → IsFormWide (size_form graph (record label { of = of }))
+    by None = value_wide (value_of_literal label.spelling)
+    by (Some t) = size_by_wide (sizes.size_of graph t)
 
 cast_wide : (of : Option CxxType) → IsFormWide (cast_form of)
 cast_wide of = if_wide (is_integral_kind (kind_of_target of)) form.Cast form.Other tt tt
@@ -94,7 +97,7 @@ by_wide graph label operands =
     if_wide (nat_eq label.production reading.literal) _ _ (value_wide (value_of_literal label.spelling))
     (if_wide (nat_eq label.production production.NAME) _ _ (value_wide (value_of_name graph.facts label.target))
     (if_wide (nat_eq label.production production.QUALIFIED_NAME) _ _ (value_wide (value_of_name graph.facts label.target))
-    (if_wide (nat_eq label.production production.SIZE) _ _ (size_wide graph (measured label.of operands))
+    (if_wide (nat_eq label.production production.SIZE) _ _ (size_wide graph label)
     (if_wide (nat_eq label.production production.PARENTHESIS) form.Cast _ tt
     (if_wide (nat_eq label.production reading.cast) _ _ (cast_wide label.of)
     (if_wide (nat_eq label.production production.FUNCTIONAL_CAST) _ _ (functional_wide label.of operands)

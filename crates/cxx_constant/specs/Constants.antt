@@ -1,6 +1,6 @@
 -- The value of an integral constant expression (5.19), over the trees of a reading. Conversions are trees too, so an
 -- operator has operands of the types that it wants.
-use Rattle.std.specs.Prelude.{ℤ, pos, if◌then◌else◌, List, [], ◌∷◌, Option, Some, None, Result, Ok, Err}
+use Rattle.std.specs.Prelude.{ℤ, pos, if◌then◌else◌, nat_eq, List, [], ◌∷◌, Option, Some, None, Result, Ok, Err}
 use Rattle.cxx_model.specs.declared.base.Base.{Base}
 use Rattle.cxx_model.specs.Facts.Declarations.{CxxGraph}
 use Rattle.cxx_computed.specs.declared.operators.BinaryOperator.{BinaryOperator}
@@ -9,6 +9,7 @@ use Rattle.cxx_computed.specs.declared.operators.ValueFault.{ValueFault}
 use Rattle.cxx_computed.specs.declared.operators.ValueFault.TheVariants as fault
 use Rattle.cxx_computed.specs.Formulas.{value_as}
 use Rattle.cxx_computed.specs.Values.{binary_value, converted_value, is_shift, is_zero, unary_value}
+use Rattle.cxx_reading.specs.Productions as reading
 use Rattle.cxx_reading.specs.Trees.{CxxTree, CxxTrees, Label, no_trees, tree_then}
 use Rattle.cxx_constant.specs.declared.form.Form.{Form}
 use Rattle.cxx_constant.specs.declared.form.Form.TheVariants as form
@@ -145,11 +146,27 @@ abbrev pub labels : List Part → List Label
 labels [] = []
 labels (part ∷ parts) = part.label ∷ labels parts
 
+-- what stands last, alone
+abbrev pub last_of : {A : Type 0} → A → List A → A
+last_of one [] = one
+last_of one (next ∷ others) = last_of next others
+
+abbrev pub last_alone : {A : Type 0} → List A → List A
+last_alone [] = []
+last_alone (one ∷ others) = last_of one others ∷ []
+
+-- The operands of an expression, of all that it is written with. Before that of a cast stand the trees of the type.
+abbrev pub operands_in : {A : Type 0} → Label → List A → List A
+operands_in label parts = if nat_eq label.production reading.cast then last_alone parts else parts
+
 abbrev pub part_as : CxxTree → Form → List Part → Part
-part_as tree is parts = record { label = tree.label; missing = missing_by tree is parts; value = typed tree.label (value_by tree is parts) }
+part_as tree is operands = record { label = tree.label; missing = missing_by tree is operands; value = typed tree.label (value_by tree is operands) }
+
+abbrev pub part_over : CxxGraph → CxxTree → List Part → Part
+part_over graph tree operands = part_as tree (form_of graph tree.label (labels operands)) operands
 
 abbrev pub part_by : CxxGraph → CxxTree → List Part → Part
-part_by graph tree parts = part_as tree (form_of graph tree.label (labels parts)) parts
+part_by graph tree parts = part_over graph tree (operands_in tree.label parts)
 
 abbrev pub parts : CxxGraph → CxxTrees → List Part
 parts graph no_trees = []

@@ -84,28 +84,20 @@ value_of_name all (Some number) = value_of_fact all number (slice_get all number
 
 -- ---- sizes (5.3.3)
 
-abbrev pub type_of_operand : Option CxxOperand → Option CxxType
-type_of_operand None = None
-type_of_operand (Some operand) = Some operand.of
-
-abbrev pub type_of_first : List Label → Option CxxType
-type_of_first [] = None
-type_of_first (label ∷ others) = type_of_operand label.operand
-
--- the type that is written, or that of the operand, which is not evaluated
-abbrev pub measured : Option CxxType → List Label → Option CxxType
-measured (Some t) operands = Some t
-measured None operands = type_of_first operands
-
 abbrev pub size_by : Asked (Result ℕ SizeReason) → Form
 size_by (Ok (Ok size)) = form.Value (Ok (pos size))
 size_by (Ok (Err reason.TooLarge)) = form.Value (Err fault.Overflow)
 size_by (Ok (Err reason.NoSize)) = form.Other
 size_by (Err class) = form.Other
 
-abbrev pub size_form : CxxGraph → Option CxxType → Form
-size_form graph None = form.Other
-size_form graph (Some t) = size_by (sizes.size_of graph t)
+-- A type that is written is measured. An operand, which is not evaluated, was measured when it was read, with the bounds
+-- that later declarations give (8.3.4), and its size spells the whole.
+abbrev pub size_form : CxxGraph → Label → Form
+size_form graph label = by label.of
+  where
+    by : Option CxxType → Form
+    by None = value_form (value_of_literal label.spelling)
+    by (Some t) = size_by (sizes.size_of graph t)
 
 -- ---- casts (5.2.3, 5.2.9, 5.4) and conversions, to integral types and enumerations
 
@@ -160,7 +152,7 @@ form_by graph label operands =
     if nat_eq label.production reading.literal then value_form (value_of_literal label.spelling) else (
     if nat_eq label.production production.NAME then value_form (value_of_name graph.facts label.target) else (
     if nat_eq label.production production.QUALIFIED_NAME then value_form (value_of_name graph.facts label.target) else (
-    if nat_eq label.production production.SIZE then size_form graph (measured label.of operands) else (
+    if nat_eq label.production production.SIZE then size_form graph label else (
     if nat_eq label.production production.PARENTHESIS then form.Cast else (
     if nat_eq label.production reading.cast then cast_form label.of else (
     if nat_eq label.production production.FUNCTIONAL_CAST then functional_form label.of operands else

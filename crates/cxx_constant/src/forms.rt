@@ -3,6 +3,7 @@ ghost use Rattle.std.specs.Prelude.{◌≡◌, ◌<◌, [], length};
 ghost use Rattle.cxx_model.specs.Facts.Declarations.{type_of_option};
 ghost use Rattle.cxx_model.specs.Facts.Fitted.{IsTypeNumberBelow};
 ghost use Rattle.cxx_model.specs.Types.Numbers.{type_at};
+ghost use Rattle.cxx_meaning.specs.Conversions.Sizes.{size_of as size_of_type};
 ghost use Rattle.cxx_standard.specs.Views.{kind_at};
 ghost use Rattle.cxx_tree.specs.Arena.{label_at, operand_of_option, AreTreesBelow, IsNodeBelow, IsOperandBelow};
 ghost use Rattle.cxx_constant.specs.Forms as definition;
@@ -16,7 +17,7 @@ use crate::operands::{
 };
 use crate::production;
 use cxx_computed::{BinaryOperator, UnaryOperator, ValueFault, binary_operator, unary_operator};
-use cxx_model::{Base, Node, Operand, TreeId, TypeId, punct};
+use cxx_model::{Base, Node, TreeId, TypeId, punct};
 use cxx_sizes::SizeFault;
 use cxx_standard::TypeKind;
 use cxx_types::TypeTable;
@@ -65,56 +66,6 @@ fn base_of_first(known: &Known<'_>, operands: &[TreeId]) -> Option<Base>
     base_of(known, *left)
 }
 
-fn type_of_operand(known: &Known<'_>, operand: Option<Operand>) -> Option<TypeId>
-    requires { IsOperandBelow (length known.now.types.now) operand }
-    ensures is { type_of_option known.now.types.now result ≡ definition.type_of_operand (operand_of_option known.now.types.now operand) }
-    ensures below { IsTypeNumberBelow (length known.now.types.now) result }
-{
-    let _ = known;
-    match operand {
-        None => None,
-        Some(operand) => Some(operand.of),
-    }
-}
-
-// The type of an operand.
-#[tactic(auto, using(crate::proofs::Wholes::label_is))]
-fn type_of(known: &Known<'_>, number: TreeId) -> Option<TypeId>
-    requires known { IsKnown known.now }
-    requires there { number.0 < length known.now.trees.now }
-    ensures is { type_of_option known.now.types.now result ≡ definition.type_of_operand (part_at known.now number).label.operand }
-    ensures below { IsTypeNumberBelow (length known.now.types.now) result }
-{
-    let node = node(known, number);
-    type_of_operand(known, node.operand)
-}
-
-fn type_of_first(known: &Known<'_>, operands: &[TreeId]) -> Option<TypeId>
-    requires known { IsKnown known.now }
-    requires there { AreTreesBelow (length known.now.trees.now) operands.now }
-    ensures is { type_of_option known.now.types.now result ≡ definition.type_of_first (labels_in known.now operands.now) }
-    ensures below { IsTypeNumberBelow (length known.now.types.now) result }
-{
-    let [first, ..] = operands else {
-        return None;
-    };
-    type_of(known, *first)
-}
-
-// The type that `sizeof` measures (5.3.3).
-fn measured(known: &Known<'_>, of: Option<TypeId>, operands: &[TreeId]) -> Option<TypeId>
-    requires known { IsKnown known.now }
-    requires of_below { IsTypeNumberBelow (length known.now.types.now) of }
-    requires there { AreTreesBelow (length known.now.trees.now) operands.now }
-    ensures is { type_of_option known.now.types.now result ≡ definition.measured (type_of_option known.now.types.now of) (labels_in known.now operands.now) }
-    ensures below { IsTypeNumberBelow (length known.now.types.now) result }
-{
-    match of {
-        Some(of) => Some(of),
-        None => type_of_first(known, operands),
-    }
-}
-
 fn value_form(value: Option<i128>) -> Form
     ensures { result ≡ definition.value_form value }
 {
@@ -124,20 +75,29 @@ fn value_form(value: Option<i128>) -> Form
     }
 }
 
-// A size as a constant (5.3.3).
-fn size_form(known: &Known<'_>, of: Option<TypeId>) -> Form
+// The size of a type that is written (5.3.3).
+fn size_by(known: &Known<'_>, of: TypeId) -> Form
     requires known { IsKnown known.now }
-    requires below { IsTypeNumberBelow (length known.now.types.now) of }
-    ensures { result ≡ definition.size_form (graph_in known.now) (type_of_option known.now.types.now of) }
+    requires below { of.0 < length known.now.types.now }
+    ensures { result ≡ definition.size_by (size_of_type (graph_in known.now) (type_at known.now.types.now of.0)) }
 {
-    let Some(of) = of else {
-        return Form::Other;
-    };
     match known.layouts.size_of(known.graph, known.types, of) {
         Ok(size) => Form::Value(Ok(size as i128)),
         Err(SizeFault::TooLarge) => Form::Value(Err(ValueFault::Overflow)),
         Err(SizeFault::NoSize) => Form::Other,
         Err(SizeFault::Needs(_)) => Form::Other,
+    }
+}
+
+// A size as a constant: that of an operand spells the whole.
+fn size_form(known: &Known<'_>, node: &Node) -> Form
+    requires known { IsKnown known.now }
+    requires below { IsNodeBelow (length known.now.types.now) node.now }
+    ensures { result ≡ definition.size_form (graph_in known.now) (label_at known.now.types.now node.now) }
+{
+    match node.of {
+        None => value_form(value_of_literal(node.spelling.as_slice())),
+        Some(of) => size_by(known, of),
     }
 }
 
@@ -247,7 +207,7 @@ fn form_by(known: &Known<'_>, node: &Node, operands: &[TreeId]) -> Form
         production::NAME | production::QUALIFIED_NAME => {
             value_form(value_of_name(known.graph, node.target))
         }
-        production::SIZE => size_form(known, measured(known, node.of, operands)),
+        production::SIZE => size_form(known, node),
         production::PARENTHESIS => Form::Cast,
         production::CAST => cast_form(known, node.of),
         production::FUNCTIONAL_CAST => functional_form(known, node.of, operands),

@@ -6,7 +6,7 @@ ghost use Rattle.cxx_constant.specs.Known.{missing_at, part_at, tree_at, trees_i
 
 use crate::form::Form;
 use crate::forms::form_of;
-use crate::known::{Known, node};
+use crate::known::{Known, node, operands_of};
 use cxx_model::TreeId;
 
 #[cycle(missing)]
@@ -89,7 +89,7 @@ pub(crate) fn missing(known: &Known<'_>, number: TreeId) -> Option<TreeId>
     ensures below { IsMissingBelow (length known.now.trees.now) result }
 {
     let node = node(known, number);
-    let operands = node.children.as_slice();
+    let operands = operands_of(known, number, node);
     let form = form_of(known, node, operands);
     missing_by(known, number, form, operands)
 }

@@ -8,7 +8,7 @@ ghost use Rattle.cxx_model.specs.Types.Integral.{width};
 use crate::fault::ConstantFault;
 use crate::form::Form;
 use crate::forms::form_of;
-use crate::known::{Known, node};
+use crate::known::{Known, node, operands_of};
 use crate::missing::missing;
 use crate::operators::{binary_then, of_tree, typed, unary_then};
 use cxx_computed::{BinaryOperator, UnaryOperator};
@@ -231,7 +231,7 @@ pub(crate) fn value(known: &Known<'_>, number: TreeId) -> Result<i128, ConstantF
     ensures below { IsValueBelow (length known.now.trees.now) result }
 {
     let node = node(known, number);
-    let operands = node.children.as_slice();
+    let operands = operands_of(known, number, node);
     let form = form_of(known, node, operands);
     let value = value_by(known, number, form, operands);
     typed(known, node, value)
