@@ -1,0 +1,612 @@
+//! Calls (5.2.2).
+
+ghost use Rattle.std.specs.Prelude.{◌≡◌, ◌<◌, ◌-◌, [], length, None, IfOk};
+ghost use Rattle.cxx_model.specs.Facts.Declarations.{declares_at};
+ghost use Rattle.cxx_model.specs.Facts.Fitted.{IsTypeNumberBelow};
+ghost use Rattle.cxx_model.specs.Stops.{Faulty};
+ghost use Rattle.cxx_meaning.specs.Lookups.Wanted as wanted;
+ghost use Rattle.cxx_standard.specs.Views.{operand_at};
+ghost use Rattle.cxx_tree.specs.Answered.{IsAnswered};
+ghost use Rattle.cxx_tree.specs.Arena.{label_at};
+ghost use Rattle.cxx_tree.specs.Held.{Held, meaning, tree, trees, type_of};
+ghost use Rattle.cxx_expr.specs.Calls as definition;
+ghost use Rattle.cxx_expr.specs.Making.{AddsOperand, AreTreesHeld, Gathers, GrowsOperands, GrowsTree, IsTreeKnown, trees_held};
+ghost use Rattle.cxx_expr.specs.Names as names;
+ghost use Rattle.cxx_expr.specs.Nodes.{IsNodeHeld, node_tree};
+ghost use Rattle.cxx_expr.specs.Operands as operands_of;
+ghost use Rattle.cxx_expr.specs.Views.{AreFactsKnown, AreOperandsBelow, IsChosen, chosen_of, numbered, question_of};
+ghost use Rattle.cxx_expr.specs.declared.production.TheConstants as production;
+ghost use Rattle.cxx_called.specs.Tails as tails;
+ghost use Rattle.cxx_called.specs.Tails.{IsFirstSplit, first_split};
+ghost use Rattle.cxx_called.specs.Views.{IsFoundBelow, IsSignatureBelow, found_signature, signature_at};
+
+use crate::facts::{fact_at, is_function, values_among};
+use crate::names::{declared, named, word_in};
+use crate::signatures::{Signature, called_signature, fits_count};
+use cxx_expr::conditional::is_of_class;
+use cxx_expr::converting::convert_each;
+use cxx_expr::faults::{fault, not_built_at};
+use cxx_expr::nodes::given_over;
+use cxx_expr::operands::{judged, operand_of, result_operand};
+use cxx_expr::operators::{listed_one, misshapen, no_fit};
+use cxx_expr::production::NAME;
+use cxx_expr::{Chosen, Questions};
+use cxx_model::{
+    Entity, FactId, Fault, FaultText, Listed, Node, OperandList, Place, Stop, TreeId, TreeIdList,
+    TypeId,
+};
+use cxx_tree::State;
+use std::alloc::{AllocError, Global};
+
+// ---- default arguments (8.3.6)
+
+// One more behind other arguments.
+#[tactic(auto, using(cxx_expr::proofs::Kept::trees_more, cxx_expr::proofs::Kept::trees_below_more, cxx_expr::proofs::Kept::trees_later, cxx_expr::proofs::Kept::trees_kept), unfolding(cxx_expr::specs::Calls::fallback_more))]
+fn fallback_more<Q: Questions>(
+    questions: &Q,
+    state: &mut State,
+    target: FactId,
+    index: usize,
+    done: &mut TreeIdList,
+) -> Result<(), Stop>
+    requires ready { Q.is_ready questions.now }
+    requires done { AreTreesHeld state.old done.old }
+    ensures { Gathers done.new state.old state.new result (definition.fallback_more (Q.asks questions.now) target.0 index (trees_held state.old done.old) (meaning state.old)) }
+{
+    let next = questions.fallback(state, target, index)?;
+    Ok(done.push(next)?)
+}
+
+// The default arguments of the parameters from an index up to an end.
+#[tactic(auto, using(cxx_expr::proofs::Kept::later_refl, cxx_expr::proofs::Kept::later_trans, cxx_expr::proofs::Each::fallbacks_end, cxx_expr::proofs::Each::fallbacks_fails))]
+fn fallbacks<Q: Questions>(
+    questions: &Q,
+    state: &mut State,
+    target: FactId,
+    begin: usize,
+    done: TreeIdList,
+    end: usize,
+) -> Result<TreeIdList, Stop>
+    requires ready { Q.is_ready questions.now }
+    requires done { AreTreesHeld state.old done }
+    ensures { IsAnswered trees_held AreTreesHeld state.old state.new result (definition.fallbacks (Q.asks questions.now) target.0 begin (trees_held state.old done) (end - begin) (meaning state.old)) }
+{
+    let mut done = done;
+    for index in begin..end {
+        fallback_more(questions, state, target, index, &mut done)?;
+    }
+    Ok(done)
+}
+
+// ---- a call of a function by its name (13.3.1.1.1)
+
+#[tactic(auto, using(cxx_expr::proofs::Kept::later_trans, cxx_expr::proofs::NodeKept::node_later, cxx_expr::proofs::NodeKept::node_kept, cxx_expr::proofs::Kept::trees_later, cxx_expr::proofs::Kept::trees_kept))]
+fn chosen_tree(
+    state: &mut State,
+    node: Node,
+    chosen: &Chosen,
+    arguments: TreeIdList,
+) -> Result<TreeId, Stop>
+    requires node { IsNodeHeld state.old node }
+    requires chosen { IsChosen state.old chosen.now }
+    requires arguments { AreTreesHeld state.old arguments }
+    ensures { GrowsTree state.old state.new result (definition.chosen_tree (node_tree state.old node) (chosen_of state.old chosen.now) (trees_held state.old arguments)) }
+{
+    let operand = result_operand(state, chosen.result)?;
+    let mut node = node;
+    node.target = Some(chosen.target);
+    node.call = Some(chosen.number);
+    given_over(state, node, operand, arguments)
+}
+
+// Once the arguments are converted.
+#[tactic(auto, using(cxx_expr::proofs::Kept::later_trans, cxx_expr::proofs::NodeKept::node_later, cxx_expr::proofs::NodeKept::node_kept, crate::proofs::Chosen::chosen_later, crate::proofs::Chosen::chosen_kept, crate::proofs::Signed::types_length), unfolding(crate::specs::Tails::filled))]
+fn filled<Q: Questions>(
+    questions: &Q,
+    state: &mut State,
+    node: Node,
+    count: usize,
+    chosen: &Chosen,
+    given: TreeIdList,
+) -> Result<TreeId, Stop>
+    requires ready { Q.is_ready questions.now }
+    requires node { IsNodeHeld state.old node }
+    requires chosen { IsChosen state.old chosen.now }
+    requires given { AreTreesHeld state.old given }
+    ensures { IsAnswered tree IsTreeKnown state.old state.new result (tails.filled (Q.asks questions.now) (node_tree state.old node) count (chosen_of state.old chosen.now) (trees_held state.old given) (meaning state.old)) }
+{
+    let end = chosen.parameters.len();
+    let all = fallbacks(questions, state, chosen.target, count, given, end)?;
+    chosen_tree(state, node, chosen, all)
+}
+
+// Once the function is noted.
+#[tactic(auto, using(cxx_expr::proofs::Kept::later_trans, cxx_expr::proofs::NodeKept::node_later, cxx_expr::proofs::NodeKept::node_kept, crate::proofs::Chosen::chosen_later, crate::proofs::Chosen::chosen_kept, crate::proofs::Signed::trees_length), unfolding(crate::specs::Tails::converted))]
+fn converted<Q: Questions>(
+    alloc: Global,
+    questions: &Q,
+    state: &mut State,
+    node: Node,
+    arguments: &[TreeId],
+    chosen: &Chosen,
+) -> Result<TreeId, Stop>
+    requires ready { Q.is_ready questions.now }
+    requires node { IsNodeHeld state.old node }
+    requires arguments { AreTreesHeld state.old arguments.now }
+    requires chosen { IsChosen state.old chosen.now }
+    ensures { IsAnswered tree IsTreeKnown state.old state.new result (tails.converted (Q.asks questions.now) (node_tree state.old node) (trees_held state.old arguments.now) (chosen_of state.old chosen.now) (meaning state.old)) }
+{
+    let given = convert_each(
+        alloc,
+        questions,
+        state,
+        node.place,
+        chosen.parameters.as_slice(),
+        Listed::new(alloc),
+        arguments,
+    )?;
+    filled(questions, state, node, arguments.len(), chosen, given)
+}
+
+// What the call is once it is known which function it means.
+#[tactic(auto, using(cxx_expr::proofs::Kept::later_trans, cxx_expr::proofs::NodeKept::node_later, cxx_expr::proofs::NodeKept::node_kept, cxx_expr::proofs::Kept::trees_later, cxx_expr::proofs::Kept::trees_kept, crate::proofs::Chosen::chosen_later, crate::proofs::Chosen::chosen_kept), unfolding(cxx_expr::specs::Calls::chosen_call, crate::specs::Tails::converted, crate::specs::Tails::filled))]
+fn chosen_call<Q: Questions>(
+    alloc: Global,
+    questions: &Q,
+    state: &mut State,
+    node: Node,
+    arguments: &[TreeId],
+    chosen: Chosen,
+) -> Result<TreeId, Stop>
+    requires ready { Q.is_ready questions.now }
+    requires node { IsNodeHeld state.old node }
+    requires arguments { AreTreesHeld state.old arguments.now }
+    requires chosen { IsChosen state.old chosen }
+    ensures { IsAnswered tree IsTreeKnown state.old state.new result (definition.chosen_call (Q.asks questions.now) (node_tree state.old node) (trees_held state.old arguments.now) (chosen_of state.old chosen) (meaning state.old)) }
+{
+    questions.bound(state, node.place, chosen.target)?;
+    converted(alloc, questions, state, node, arguments, &chosen)
+}
+
+#[tactic(auto, using(crate::proofs::Judged::operands_more, crate::proofs::Judged::operands_below_more, crate::proofs::Judged::operands_kept, crate::proofs::Judged::operands_later))]
+fn push_judged<Q: Questions>(
+    questions: &Q,
+    state: &mut State,
+    found: &mut OperandList,
+    number: TreeId,
+) -> Result<(), Stop>
+    requires ready { Q.is_ready questions.now }
+    requires before { AreOperandsBelow (length (state.old).types) found.old }
+    requires number { number.0 < length (trees state.old) }
+    ensures { AddsOperand found.old found.new state.old state.new result (operands_of.judged (Q.asks questions.now) (tree state.old number) (meaning state.old)) }
+{
+    let operand = judged(questions, state, number)?;
+    Ok(found.push(operand)?)
+}
+
+// What each of some expressions gives, where it matters whether it is a null pointer constant.
+#[tactic(auto, using(cxx_expr::proofs::Kept::later_refl, cxx_expr::proofs::Kept::later_trans, cxx_expr::proofs::Kept::there_at, crate::proofs::Judged::judged_end))]
+fn judged_each<Q: Questions>(
+    alloc: Global,
+    questions: &Q,
+    state: &mut State,
+    numbers: &[TreeId],
+) -> Result<OperandList, Stop>
+    requires ready { Q.is_ready questions.now }
+    requires numbers { AreTreesHeld state.old numbers.now }
+    ensures { GrowsOperands state.old state.new result (operands_of.judged_each (Q.asks questions.now) (trees_held state.old numbers.now) (meaning state.old)) }
+{
+    let mut found = Listed::new(alloc);
+    for number in numbers {
+        push_judged(questions, state, &mut found, *number)?;
+    }
+    Ok(found)
+}
+
+// Which function the call means.
+fn asked<Q: Questions>(
+    questions: &Q,
+    state: &mut State,
+    node: &Node,
+    functions: &[FactId],
+    operands: OperandList,
+) -> Result<Chosen, Stop>
+    requires ready { Q.is_ready questions.now }
+    requires functions { AreFactsKnown state.old functions.now }
+    requires operands { AreOperandsBelow (length (state.old).types) operands }
+    ensures { IsAnswered chosen_of IsChosen state.old state.new result ((Q.asks questions.now).call (question_of state.old (node.now).place (node.now).spelling (names.word_in (label_at (state.old).types node.now)).word functions.now operands) (meaning state.old)) }
+{
+    questions.call(
+        state,
+        node.place,
+        node.spelling.as_slice(),
+        word_in(node),
+        functions,
+        operands,
+    )
+}
+
+// The question of a call, by what its arguments give.
+#[tactic(auto, using(cxx_expr::proofs::Kept::later_trans, crate::proofs::Judged::question_is, crate::proofs::Judged::facts_known))]
+fn question<Q: Questions>(
+    alloc: Global,
+    questions: &Q,
+    state: &mut State,
+    node: &Node,
+    functions: &[FactId],
+    arguments: &[TreeId],
+) -> Result<Chosen, Stop>
+    requires ready { Q.is_ready questions.now }
+    requires functions { AreFactsKnown state.old functions.now }
+    requires arguments { AreTreesHeld state.old arguments.now }
+    ensures { IsAnswered chosen_of IsChosen state.old state.new result ((Q.asks questions.now).call (definition.question (Q.asks questions.now) (label_at (state.old).types node.now) (numbered state.old functions.now) (trees_held state.old arguments.now) (meaning state.old)) (meaning state.old)) }
+{
+    let operands = judged_each(alloc, questions, state, arguments)?;
+    asked(questions, state, node, functions, operands)
+}
+
+#[tactic(auto, using(cxx_expr::proofs::Kept::later_trans, cxx_expr::proofs::NodeKept::node_later, cxx_expr::proofs::NodeKept::node_kept, cxx_expr::proofs::Kept::trees_later, cxx_expr::proofs::Kept::trees_kept), unfolding(cxx_expr::specs::Calls::function_call))]
+fn function_call<Q: Questions>(
+    alloc: Global,
+    questions: &Q,
+    state: &mut State,
+    node: Node,
+    functions: &[FactId],
+    arguments: &[TreeId],
+) -> Result<TreeId, Stop>
+    requires ready { Q.is_ready questions.now }
+    requires node { IsNodeHeld state.old node }
+    requires functions { AreFactsKnown state.old functions.now }
+    requires arguments { AreTreesHeld state.old arguments.now }
+    ensures { IsAnswered tree IsTreeKnown state.old state.new result (definition.function_call (Q.asks questions.now) (node_tree state.old node) (numbered state.old functions.now) (trees_held state.old arguments.now) (meaning state.old)) }
+{
+    let chosen = question(alloc, questions, state, &node, functions, arguments)?;
+    chosen_call(alloc, questions, state, node, arguments, chosen)
+}
+
+// ---- a call of what an expression gives
+
+// Over what is called and the arguments behind it.
+#[tactic(auto, using(cxx_expr::proofs::Kept::later_trans, cxx_expr::proofs::NodeKept::node_later, cxx_expr::proofs::NodeKept::node_kept, cxx_expr::proofs::Kept::trees_later, cxx_expr::proofs::Kept::trees_kept))]
+fn through_tree(
+    state: &mut State,
+    node: Node,
+    gives: TypeId,
+    parts: TreeIdList,
+) -> Result<TreeId, Stop>
+    requires node { IsNodeHeld state.old node }
+    requires gives { gives.0 < length (state.old).types }
+    requires parts { AreTreesHeld state.old parts }
+    ensures { GrowsTree state.old state.new result (definition.through_tree (node_tree state.old node) (type_of state.old gives) (trees_held state.old parts)) }
+{
+    let operand = result_operand(state, gives)?;
+    let mut node = node;
+    node.place = node.start;
+    given_over(state, node, operand, parts)
+}
+
+#[tactic(auto, using(cxx_expr::proofs::Kept::later_trans, cxx_expr::proofs::NodeKept::node_later, cxx_expr::proofs::NodeKept::node_kept, cxx_expr::proofs::Kept::type_later, cxx_expr::proofs::Kept::type_kept), unfolding(cxx_expr::specs::Calls::through_signature))]
+fn through_signature<Q: Questions>(
+    alloc: Global,
+    questions: &Q,
+    state: &mut State,
+    node: Node,
+    callee: TreeId,
+    arguments: &[TreeId],
+    signature: Signature,
+) -> Result<TreeId, Stop>
+    requires ready { Q.is_ready questions.now }
+    requires node { IsNodeHeld state.old node }
+    requires callee { callee.0 < length (trees state.old) }
+    requires arguments { AreTreesHeld state.old arguments.now }
+    requires signature { IsSignatureBelow (length (state.old).types) signature }
+    ensures { IsAnswered tree IsTreeKnown state.old state.new result (definition.through_signature (Q.asks questions.now) (node_tree state.old node) (tree state.old callee) (trees_held state.old arguments.now) (signature_at (state.old).types signature) (meaning state.old)) }
+{
+    let before = listed_one(alloc, callee)?;
+    let parts = convert_each(
+        alloc,
+        questions,
+        state,
+        node.start,
+        signature.parameters.as_slice(),
+        before,
+        arguments,
+    )?;
+    through_tree(state, node, signature.result, parts)
+}
+
+#[tactic(auto, using(cxx_expr::proofs::Kept::later_refl, crate::proofs::Signed::trees_length))]
+fn through_counted<Q: Questions>(
+    alloc: Global,
+    questions: &Q,
+    state: &mut State,
+    node: Node,
+    callee: TreeId,
+    arguments: &[TreeId],
+    signature: Signature,
+) -> Result<TreeId, Stop>
+    requires ready { Q.is_ready questions.now }
+    requires node { IsNodeHeld state.old node }
+    requires callee { callee.0 < length (trees state.old) }
+    requires arguments { AreTreesHeld state.old arguments.now }
+    requires signature { IsSignatureBelow (length (state.old).types) signature }
+    ensures { IsAnswered tree IsTreeKnown state.old state.new result (definition.through_counted (Q.asks questions.now) (node_tree state.old node) (tree state.old callee) (trees_held state.old arguments.now) (signature_at (state.old).types signature) (meaning state.old)) }
+{
+    if fits_count(&signature, arguments.len()) {
+        return through_signature(alloc, questions, state, node, callee, arguments, signature);
+    }
+    Err(Stop::Fault(fault(
+        alloc,
+        node.start,
+        FaultText::NoConversion,
+    )?))
+}
+
+// The operator of a class that is called is not read yet; else there is nothing to call.
+fn no_callee(
+    alloc: Global,
+    state: &State,
+    start: Place,
+    callee: TreeId,
+) -> Result<Box<Fault>, AllocError>
+    requires { callee.0 < length (trees state.now) }
+    ensures { IfOk result (λ at. Faulty at.value ≡ definition.no_callee start (tree state.now callee)) }
+{
+    if is_of_class(state, callee) {
+        not_built_at(alloc, start)
+    } else {
+        no_fit(alloc, start)
+    }
+}
+
+#[tactic(auto, using(cxx_expr::proofs::Kept::later_refl))]
+fn through_by<Q: Questions>(
+    alloc: Global,
+    questions: &Q,
+    state: &mut State,
+    node: Node,
+    callee: TreeId,
+    arguments: &[TreeId],
+    found: Option<Signature>,
+) -> Result<TreeId, Stop>
+    requires ready { Q.is_ready questions.now }
+    requires node { IsNodeHeld state.old node }
+    requires callee { callee.0 < length (trees state.old) }
+    requires arguments { AreTreesHeld state.old arguments.now }
+    requires found { IsFoundBelow (length (state.old).types) found }
+    ensures { IsAnswered tree IsTreeKnown state.old state.new result (definition.through_by (Q.asks questions.now) (node_tree state.old node) (tree state.old callee) (trees_held state.old arguments.now) (found_signature (state.old).types found) (meaning state.old)) }
+{
+    match found {
+        Some(signature) => {
+            through_counted(alloc, questions, state, node, callee, arguments, signature)
+        }
+        None => Err(Stop::Fault(no_callee(alloc, state, node.start, callee)?)),
+    }
+}
+
+// A call of what an expression gives.
+#[tactic(auto, using(cxx_expr::proofs::Kept::later_trans, cxx_expr::proofs::NodeKept::node_later, cxx_expr::proofs::NodeKept::node_kept, cxx_expr::proofs::Kept::trees_later, cxx_expr::proofs::Kept::trees_kept, cxx_expr::proofs::Kept::tree_later, cxx_expr::proofs::Kept::tree_kept), unfolding(cxx_expr::specs::Calls::through))]
+fn through<Q: Questions>(
+    alloc: Global,
+    questions: &Q,
+    state: &mut State,
+    node: Node,
+    callee: TreeId,
+    arguments: &[TreeId],
+) -> Result<TreeId, Stop>
+    requires ready { Q.is_ready questions.now }
+    requires node { IsNodeHeld state.old node }
+    requires callee { callee.0 < length (trees state.old) }
+    requires arguments { AreTreesHeld state.old arguments.now }
+    ensures { IsAnswered tree IsTreeKnown state.old state.new result (definition.through (Q.asks questions.now) (node_tree state.old node) (tree state.old callee) (trees_held state.old arguments.now) (meaning state.old)) }
+{
+    let operand = operand_of(state, callee)?;
+    let found = called_signature(alloc, state, operand)?;
+    through_by(alloc, questions, state, node, callee, arguments, found)
+}
+
+// ---- a call by a name
+
+// The name reaches up to the arguments.
+fn behind_called(state: &State, node: &Node, arguments: &[TreeId]) -> u32
+    requires { AreTreesHeld state.now arguments.now }
+    ensures { result ≡ definition.behind_called (label_at (state.now).types node.now) (trees_held state.now arguments.now) }
+{
+    match arguments {
+        [] => node.last,
+        [one, ..] => state.node(*one).first,
+    }
+}
+
+// The name that is called, up to the tokens that are left behind it, and the call without it.
+fn apart(alloc: Global, node: Node, last: u32) -> (Node, Node)
+    ensures name { (held : Held) → (node_tree held result.0).label ≡ record (label_at held.types node) { production = production.NAME; spelling = []; last = last } }
+    ensures call { (held : Held) → node_tree held result.1 ≡ definition.without_name (node_tree held node) }
+    ensures name_held { (held : Held) → IsNodeHeld held node → IsNodeHeld held result.0 }
+    ensures call_held { (held : Held) → IsNodeHeld held node → IsNodeHeld held result.1 }
+{
+    let mut call = node;
+    let path = call.path.take();
+    call.spelling = Listed::new(alloc);
+    let name = Node {
+        production: NAME,
+        children: Listed::new(alloc),
+        first: call.first,
+        last,
+        start: call.start,
+        place: call.place,
+        path,
+        operand: call.operand,
+        of: call.of,
+        target: call.target,
+        call: call.call,
+        spelling: Listed::new(alloc),
+    };
+    (name, call)
+}
+
+// A call of what a name gives that is an expression of its own.
+#[tactic(auto, using(cxx_expr::proofs::Kept::later_trans, cxx_expr::proofs::NodeKept::node_later, cxx_expr::proofs::NodeKept::node_kept, cxx_expr::proofs::Kept::trees_later, cxx_expr::proofs::Kept::trees_kept), unfolding(cxx_expr::specs::Calls::value_call))]
+fn value_call<Q: Questions>(
+    alloc: Global,
+    questions: &Q,
+    state: &mut State,
+    node: Node,
+    all: &[FactId],
+    arguments: &[TreeId],
+) -> Result<TreeId, Stop>
+    requires ready { Q.is_ready questions.now }
+    requires node { IsNodeHeld state.old node }
+    requires all { AreFactsKnown state.old all.now }
+    requires arguments { AreTreesHeld state.old arguments.now }
+    ensures { IsAnswered tree IsTreeKnown state.old state.new result (definition.value_call (Q.asks questions.now) (node_tree state.old node) (numbered state.old all.now) (trees_held state.old arguments.now) (meaning state.old)) }
+{
+    let last = behind_called(state, &node, arguments);
+    let (name, call) = apart(alloc, node, last);
+    let callee = named(alloc, questions, state, name, all)?;
+    through(alloc, questions, state, call, callee, arguments)
+}
+
+#[tactic(auto, unfolding(cxx_tree::specs::Held::meaning))]
+fn is_called(state: &State, what: Entity) -> bool
+    ensures { result ≡ wanted.is_function (meaning state.now).graph (declares_at (state.now).types what) }
+{
+    is_function(state.graph(), what)
+}
+
+#[tactic(auto, using(crate::proofs::Facts::called_value, crate::proofs::Facts::called_function))]
+fn called_first<Q: Questions>(
+    alloc: Global,
+    questions: &Q,
+    state: &mut State,
+    node: Node,
+    all: &[FactId],
+    arguments: &[TreeId],
+    values: &[FactId],
+) -> Result<TreeId, Stop>
+    requires ready { Q.is_ready questions.now }
+    requires node { IsNodeHeld state.old node }
+    requires all { AreFactsKnown state.old all.now }
+    requires arguments { AreTreesHeld state.old arguments.now }
+    requires values { AreFactsKnown state.old values.now }
+    ensures { IsAnswered tree IsTreeKnown state.old state.new result (definition.called_first (Q.asks questions.now) (node_tree state.old node) (numbered state.old all.now) (trees_held state.old arguments.now) (numbered state.old values.now) (meaning state.old)) }
+{
+    match values {
+        [] => value_call(alloc, questions, state, node, all, arguments),
+        [one, ..] => {
+            if is_called(state, fact_at(state, *one).what) {
+                function_call(alloc, questions, state, node, values, arguments)
+            } else {
+                value_call(alloc, questions, state, node, all, arguments)
+            }
+        }
+    }
+}
+
+// A name that has these declarations is called.
+#[tactic(auto, using(cxx_expr::proofs::Kept::later_refl), unfolding(cxx_expr::specs::Calls::called))]
+fn called<Q: Questions>(
+    alloc: Global,
+    questions: &Q,
+    state: &mut State,
+    node: Node,
+    arguments: &[TreeId],
+    all: &[FactId],
+) -> Result<TreeId, Stop>
+    requires ready { Q.is_ready questions.now }
+    requires node { IsNodeHeld state.old node }
+    requires arguments { AreTreesHeld state.old arguments.now }
+    requires all { AreFactsKnown state.old all.now }
+    ensures { IsAnswered tree IsTreeKnown state.old state.new result (definition.called (Q.asks questions.now) (node_tree state.old node) (trees_held state.old arguments.now) (numbered state.old all.now) (meaning state.old)) }
+{
+    let values = values_among(alloc, state, all)?;
+    called_first(
+        alloc,
+        questions,
+        state,
+        node,
+        all,
+        arguments,
+        values.as_slice(),
+    )
+}
+
+#[tactic(auto, using(cxx_expr::proofs::Kept::later_trans, cxx_expr::proofs::NodeKept::node_later, cxx_expr::proofs::NodeKept::node_kept, cxx_expr::proofs::Kept::trees_later, cxx_expr::proofs::Kept::trees_kept), unfolding(cxx_expr::specs::Calls::name_call))]
+fn name_call<Q: Questions>(
+    alloc: Global,
+    questions: &Q,
+    state: &mut State,
+    node: Node,
+    arguments: &[TreeId],
+) -> Result<TreeId, Stop>
+    requires ready { Q.is_ready questions.now }
+    requires node { IsNodeHeld state.old node }
+    requires arguments { AreTreesHeld state.old arguments.now }
+    ensures { IsAnswered tree IsTreeKnown state.old state.new result (definition.name_call (Q.asks questions.now) (node_tree state.old node) (trees_held state.old arguments.now) (meaning state.old)) }
+{
+    let all = declared(alloc, questions, state, &node)?;
+    called(alloc, questions, state, node, arguments, all.as_slice())
+}
+
+// ---- both
+
+fn split_first(
+    alloc: Global,
+    state: &State,
+    numbers: &[TreeId],
+) -> Result<Option<(TreeId, TreeIdList)>, AllocError>
+    requires { AreTreesHeld state.now numbers.now }
+    ensures is { IfOk result (λ parts. first_split state.now parts ≡ definition.split_first (trees_held state.now numbers.now)) }
+    ensures known { IfOk result (IsFirstSplit state.now) }
+{
+    let _ = state;
+    match numbers {
+        [] => Ok(None),
+        [callee, arguments @ ..] => {
+            let arguments = TreeIdList::from_slice(alloc, arguments)?;
+            Ok(Some((*callee, arguments)))
+        }
+    }
+}
+
+#[tactic(auto, using(cxx_expr::proofs::Kept::later_refl))]
+fn expression_call<Q: Questions>(
+    alloc: Global,
+    questions: &Q,
+    state: &mut State,
+    node: Node,
+    parts: Option<(TreeId, TreeIdList)>,
+) -> Result<TreeId, Stop>
+    requires ready { Q.is_ready questions.now }
+    requires node { IsNodeHeld state.old node }
+    requires parts { IsFirstSplit state.old parts }
+    ensures { IsAnswered tree IsTreeKnown state.old state.new result (definition.expression_call (Q.asks questions.now) (node_tree state.old node) (first_split state.old parts) (meaning state.old)) }
+{
+    match parts {
+        None => Err(Stop::Fault(misshapen(alloc, node.start)?)),
+        Some((callee, arguments)) => {
+            through(alloc, questions, state, node, callee, arguments.as_slice())
+        }
+    }
+}
+
+/// A call (5.2.2): of a function by its name, which is asked for (13.3), or of what an expression gives. It stops as the
+/// questions do, where what is called is no function, and where the arguments do not fit.
+#[tactic(auto, using(cxx_expr::proofs::NodeKept::children_are), unfolding(cxx_expr::specs::Calls::call))]
+pub fn call<Q: Questions>(
+    alloc: Global,
+    questions: &Q,
+    state: &mut State,
+    node: Node,
+) -> Result<TreeId, Stop>
+    requires ready { Q.is_ready questions.now }
+    requires node { IsNodeHeld state.old node }
+    ensures { IsAnswered tree IsTreeKnown state.old state.new result (definition.call (Q.asks questions.now) (node_tree state.old node) (meaning state.old)) }
+{
+    if node.path.is_none() {
+        let parts = split_first(alloc, state, node.children.as_slice())?;
+        return expression_call(alloc, questions, state, node, parts);
+    }
+    let arguments = TreeIdList::from_slice(alloc, node.children.as_slice())?;
+    name_call(alloc, questions, state, node, arguments.as_slice())
+}

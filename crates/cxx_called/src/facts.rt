@@ -1,0 +1,203 @@
+//! What the declarations that a name has are.
+
+ghost use Rattle.std.specs.Prelude.{List, ◌≡◌, ◌<◌, ◌++◌, ◌∷◌, [], length, Some, IfOk, OnOk};
+ghost use Rattle.std.specs.List.{slice_get};
+ghost use Rattle.std.specs.Option.{option_copied};
+ghost use Rattle.cxx_meaning.specs.Lookups.Wanted as wanted;
+ghost use Rattle.cxx_model.specs.Facts.Declarations.{declares_at, fact_at as fact_of_types, graph_at, type_of_option};
+ghost use Rattle.cxx_model.specs.Facts.Entities as entities;
+ghost use Rattle.cxx_model.specs.Facts.Fitted.{IsEntityBelow, IsFactBelow, IsTypeNumberBelow};
+ghost use Rattle.cxx_model.specs.Types.Trees.{CxxType};
+ghost use Rattle.cxx_tree.specs.Held.{meaning, type_of};
+ghost use Rattle.cxx_expr.specs.Names as definition;
+ghost use Rattle.cxx_expr.specs.Views.{AreFactsKnown, numbered};
+ghost use Rattle.cxx_called.specs.Views.{IsOfThere};
+
+use cxx_expr::operands::referred;
+use cxx_graph::Graph;
+use cxx_model::{Entity, Fact, FactId, FactList, Listed, Pattern, TemplateId, TypeId};
+use cxx_tree::State;
+use std::alloc::{AllocError, Global};
+
+// ---- one declaration
+
+fn pattern_of(graph: &Graph, template: TemplateId) -> Option<&Pattern>
+    ensures { option_copied result ≡ slice_get graph.now.patterns template.0 }
+{
+    graph.patterns().get(template.0 as usize)
+}
+
+// Whether a template is one of functions (14).
+#[tactic(auto, using(cxx_names::proofs::Templates::functions_some, cxx_names::proofs::Templates::functions_none))]
+fn is_of_functions(graph: &Graph, template: TemplateId) -> bool
+    ensures { (types : List CxxType) → result ≡ wanted.is_of_functions (slice_get (graph_at types graph.now).patterns template.0) }
+{
+    match pattern_of(graph, template) {
+        Some(pattern) => pattern.of.is_some(),
+        None => false,
+    }
+}
+
+/// Whether a declaration is one of a function or a function template (13, 14.5.5).
+pub(crate) fn is_function(graph: &Graph, what: Entity) -> bool
+    ensures { (types : List CxxType) → result ≡ wanted.is_function (graph_at types graph.now) (declares_at types what) }
+{
+    match what {
+        Entity::Function { .. } => true,
+        Entity::Template { template, .. } => is_of_functions(graph, template),
+        _ => false,
+    }
+}
+
+// Whether a declaration hides a type of its scope (3.3.7).
+fn hides_types(graph: &Graph, what: Entity) -> bool
+    ensures { (types : List CxxType) → result ≡ wanted.hides_types (graph_at types graph.now) (declares_at types what) }
+{
+    match what {
+        Entity::Object { .. } => true,
+        Entity::Enumerator { .. } => true,
+        _ => is_function(graph, what),
+    }
+}
+
+/// The first declaration of an entity.
+pub(crate) fn first_or(number: FactId, first: Option<FactId>) -> FactId
+    ensures { result.0 ≡ entities.first_or number.0 first }
+{
+    match first {
+        Some(first) => first,
+        None => number,
+    }
+}
+
+/// The declaration with a number.
+#[tactic(auto, using(crate::proofs::Facts::fact_is, crate::proofs::Facts::fact_below, crate::proofs::Facts::of_there))]
+pub(crate) fn fact_at(state: &State, number: FactId) -> &Fact
+    requires { number.0 < length (state.now).graph.facts }
+    ensures is { slice_get (meaning state.now).graph.facts number.0 ≡ Some (fact_of_types (state.now).types result.now) }
+    ensures below { IsFactBelow (length (state.now).types) result.now }
+    ensures there { IsOfThere (state.now).graph (result.now).what }
+{
+    let graph = state.graph();
+    graph.in_range();
+    &graph.facts()[number.0 as usize]
+}
+
+// ---- what hides the types of its scope (3.3.7)
+
+#[tactic(auto, unfolding(cxx_tree::specs::Held::meaning))]
+fn is_value(state: &State, what: Entity) -> bool
+    ensures { result ≡ wanted.hides_types (meaning state.now).graph (declares_at (state.now).types what) }
+{
+    hides_types(state.graph(), what)
+}
+
+#[tactic(auto, using(crate::proofs::Facts::facts_more, crate::proofs::Facts::facts_below_more, crate::proofs::Facts::values_one, crate::proofs::Facts::values_none))]
+fn add_value(values: &mut FactList, state: &State, number: FactId) -> Result<(), AllocError>
+    requires known { number.0 < length (state.now).graph.facts }
+    requires values { AreFactsKnown state.now values.old }
+    ensures is { OnOk result (numbered state.now values.new ≡ numbered state.now values.old ++ definition.values_among (meaning state.now).graph (numbered state.now (number ∷ []))) }
+    ensures known { OnOk result (AreFactsKnown state.now values.new) }
+{
+    if is_value(state, fact_at(state, number).what) {
+        values.push(number)?;
+    }
+    Ok(())
+}
+
+/// The declarations among some that are no types (3.3.7).
+#[tactic(auto, using(crate::proofs::Facts::known_at, crate::proofs::Facts::values_end))]
+pub(crate) fn values_among(
+    alloc: Global,
+    state: &State,
+    all: &[FactId],
+) -> Result<FactList, AllocError>
+    requires { AreFactsKnown state.now all.now }
+    ensures is { IfOk result (λ values. numbered state.now values ≡ definition.values_among (meaning state.now).graph (numbered state.now all.now)) }
+    ensures known { IfOk result (AreFactsKnown state.now) }
+{
+    let mut values = Listed::new(alloc);
+    for number in all {
+        add_value(&mut values, state, *number)?;
+    }
+    Ok(values)
+}
+
+// ---- objects
+
+fn type_declared(what: Entity) -> Option<TypeId>
+    ensures is { (types : List CxxType) → type_of_option types result ≡ definition.type_declared (declares_at types what) }
+    ensures below { (count : ℕ) → IsEntityBelow count what → IsTypeNumberBelow count result }
+{
+    match what {
+        Entity::Object { of, .. } => Some(of),
+        Entity::Function { of, .. } => Some(of),
+        _ => None,
+    }
+}
+
+#[tactic(auto, using(crate::proofs::Facts::declared_some, crate::proofs::Facts::declared_none, crate::proofs::Facts::fact_below))]
+fn type_by_fact(state: &State, target: FactId) -> Option<TypeId>
+    ensures is { type_of_option (state.now).types result ≡ definition.type_by_fact (slice_get (meaning state.now).graph.facts target.0) }
+    ensures below { IsTypeNumberBelow (length (state.now).types) result }
+{
+    match state.graph().facts().get(target.0 as usize) {
+        Some(fact) => type_declared(fact.what),
+        None => None,
+    }
+}
+
+fn type_or_own(state: &State, target: FactId, own: TypeId) -> TypeId
+    requires { own.0 < length (state.now).types }
+    ensures is { type_of state.now result ≡ definition.or_own (type_of state.now own) (definition.type_by_fact (slice_get (meaning state.now).graph.facts target.0)) }
+    ensures below { result.0 < length (state.now).types }
+{
+    match type_by_fact(state, target) {
+        Some(of) => of,
+        None => own,
+    }
+}
+
+/// The type of an object or a function by its first declaration; a reference is what it refers to (3.5).
+pub(crate) fn type_of_first(state: &State, target: FactId, own: TypeId) -> TypeId
+    requires { own.0 < length (state.now).types }
+    ensures is { type_of state.now result ≡ definition.type_of_first (meaning state.now).graph target.0 (type_of state.now own) }
+    ensures below { result.0 < length (state.now).types }
+{
+    let of = type_or_own(state, target, own);
+    referred(state.types(), of)
+}
+
+// ---- functions
+
+// Whether a declaration is one of a function.
+fn is_function_with(target: FactId, number: FactId, what: Entity) -> bool
+    ensures { (types : List CxxType) → result ≡ definition.is_function_with target.0 number.0 (declares_at types what) }
+{
+    match what {
+        Entity::Function { first, .. } => first_or(number, first).0 == target.0,
+        _ => false,
+    }
+}
+
+#[tactic(auto, using(crate::proofs::Facts::one_function))]
+fn is_one_of(state: &State, target: FactId, number: FactId) -> bool
+    requires { number.0 < length (state.now).graph.facts }
+    ensures { result ≡ definition.are_one_function target.0 (numbered state.now (number ∷ [])) }
+{
+    is_function_with(target, number, fact_at(state, number).what)
+}
+
+/// Whether some declarations are all of one function.
+#[tactic(auto, using(crate::proofs::Facts::known_at, crate::proofs::Facts::one_more_function, crate::proofs::Facts::one_function_end, crate::proofs::Facts::other_function))]
+pub(crate) fn are_one_function(state: &State, target: FactId, numbers: &[FactId]) -> bool
+    requires { AreFactsKnown state.now numbers.now }
+    ensures { result ≡ definition.are_one_function target.0 (numbered state.now numbers.now) }
+{
+    for number in numbers {
+        if !is_one_of(state, target, *number) {
+            return false;
+        }
+    }
+    true
+}
