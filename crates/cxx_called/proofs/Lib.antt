@@ -1,0 +1,5 @@
+mod Chosen
+mod Declared
+mod Judged
+mod Signed
+mod Words

@@ -335,11 +335,7 @@ fn through_counted<Q: Questions>(
     if fits_count(&signature, arguments.len()) {
         return through_signature(alloc, questions, state, node, callee, arguments, signature);
     }
-    Err(Stop::Fault(fault(
-        alloc,
-        node.start,
-        FaultText::NoConversion,
-    )?))
+    Err(Stop::Fault(fault(alloc, node.start, FaultText::NoConversion)?))
 }
 
 // The operator of a class that is called is not read yet; else there is nothing to call.
@@ -474,7 +470,7 @@ fn is_called(state: &State, what: Entity) -> bool
     is_function(state.graph(), what)
 }
 
-#[tactic(auto, using(crate::proofs::Facts::called_value, crate::proofs::Facts::called_function))]
+#[tactic(auto, using(crate::proofs::Declared::called_value, crate::proofs::Declared::called_function))]
 fn called_first<Q: Questions>(
     alloc: Global,
     questions: &Q,

@@ -1,6 +1,6 @@
 //! What the declarations that a name has are.
 
-ghost use Rattle.std.specs.Prelude.{List, ◌≡◌, ◌<◌, ◌++◌, ◌∷◌, [], length, Some, IfOk, OnOk};
+ghost use Rattle.std.specs.Prelude.{ℕ, List, ◌≡◌, ◌<◌, ◌++◌, ◌∷◌, [], length, Some, OnOk, IfOk};
 ghost use Rattle.std.specs.List.{slice_get};
 ghost use Rattle.std.specs.Option.{option_copied};
 ghost use Rattle.cxx_meaning.specs.Lookups.Wanted as wanted;
@@ -70,8 +70,15 @@ pub(crate) fn first_or(number: FactId, first: Option<FactId>) -> FactId
     }
 }
 
+fn fact_in(graph: &Graph, number: FactId) -> &Fact
+    requires { number.0 < length graph.now.facts }
+    ensures { slice_get graph.now.facts number.0 ≡ Some result.now }
+{
+    &graph.facts()[number.0 as usize]
+}
+
 /// The declaration with a number.
-#[tactic(auto, using(crate::proofs::Facts::fact_is, crate::proofs::Facts::fact_below, crate::proofs::Facts::of_there))]
+#[tactic(auto, using(crate::proofs::Declared::fact_is, cxx_names::proofs::Clashing::fact_below, crate::proofs::Declared::of_there))]
 pub(crate) fn fact_at(state: &State, number: FactId) -> &Fact
     requires { number.0 < length (state.now).graph.facts }
     ensures is { slice_get (meaning state.now).graph.facts number.0 ≡ Some (fact_of_types (state.now).types result.now) }
@@ -80,7 +87,7 @@ pub(crate) fn fact_at(state: &State, number: FactId) -> &Fact
 {
     let graph = state.graph();
     graph.in_range();
-    &graph.facts()[number.0 as usize]
+    fact_in(graph, number)
 }
 
 // ---- what hides the types of its scope (3.3.7)
@@ -92,7 +99,7 @@ fn is_value(state: &State, what: Entity) -> bool
     hides_types(state.graph(), what)
 }
 
-#[tactic(auto, using(crate::proofs::Facts::facts_more, crate::proofs::Facts::facts_below_more, crate::proofs::Facts::values_one, crate::proofs::Facts::values_none))]
+#[tactic(auto, using(crate::proofs::Declared::facts_below_more, crate::proofs::Declared::value_added, crate::proofs::Declared::type_left))]
 fn add_value(values: &mut FactList, state: &State, number: FactId) -> Result<(), AllocError>
     requires known { number.0 < length (state.now).graph.facts }
     requires values { AreFactsKnown state.now values.old }
@@ -106,7 +113,7 @@ fn add_value(values: &mut FactList, state: &State, number: FactId) -> Result<(),
 }
 
 /// The declarations among some that are no types (3.3.7).
-#[tactic(auto, using(crate::proofs::Facts::known_at, crate::proofs::Facts::values_end))]
+#[tactic(auto, using(crate::proofs::Declared::known_at, crate::proofs::Declared::values_end))]
 pub(crate) fn values_among(
     alloc: Global,
     state: &State,
@@ -136,7 +143,7 @@ fn type_declared(what: Entity) -> Option<TypeId>
     }
 }
 
-#[tactic(auto, using(crate::proofs::Facts::declared_some, crate::proofs::Facts::declared_none, crate::proofs::Facts::fact_below))]
+#[tactic(auto, using(crate::proofs::Declared::declared_some, crate::proofs::Declared::declared_none, cxx_names::proofs::Clashing::fact_below))]
 fn type_by_fact(state: &State, target: FactId) -> Option<TypeId>
     ensures is { type_of_option (state.now).types result ≡ definition.type_by_fact (slice_get (meaning state.now).graph.facts target.0) }
     ensures below { IsTypeNumberBelow (length (state.now).types) result }
@@ -180,7 +187,7 @@ fn is_function_with(target: FactId, number: FactId, what: Entity) -> bool
     }
 }
 
-#[tactic(auto, using(crate::proofs::Facts::one_function))]
+#[tactic(auto, using(crate::proofs::Declared::one_function))]
 fn is_one_of(state: &State, target: FactId, number: FactId) -> bool
     requires { number.0 < length (state.now).graph.facts }
     ensures { result ≡ definition.are_one_function target.0 (numbered state.now (number ∷ [])) }
@@ -189,7 +196,7 @@ fn is_one_of(state: &State, target: FactId, number: FactId) -> bool
 }
 
 /// Whether some declarations are all of one function.
-#[tactic(auto, using(crate::proofs::Facts::known_at, crate::proofs::Facts::one_more_function, crate::proofs::Facts::one_function_end, crate::proofs::Facts::other_function))]
+#[tactic(auto, using(crate::proofs::Declared::known_at))]
 pub(crate) fn are_one_function(state: &State, target: FactId, numbers: &[FactId]) -> bool
     requires { AreFactsKnown state.now numbers.now }
     ensures { result ≡ definition.are_one_function target.0 (numbered state.now numbers.now) }

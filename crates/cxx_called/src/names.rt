@@ -1,6 +1,7 @@
 //! What a name means in an expression (3.3.7, 3.4, 5.1, 7.2).
 
-ghost use Rattle.std.specs.Prelude.{List, ◌≡◌, ◌<◌, ◌∷◌, [], length, option_map, IfOk, Ok};
+ghost use Rattle.std.specs.Prelude.{List, ◌≡◌, ◌<◌, ◌-◌, ◌∷◌, [], length, option_map, IfOk, Ok};
+ghost use Rattle.std.specs.List.{slice_get};
 ghost use Rattle.std.specs.Option.{option_copied};
 ghost use Rattle.cxx_model.specs.Facts.Declarations.{declares_at};
 ghost use Rattle.cxx_model.specs.Facts.Fitted.{IsEntityBelow};
@@ -57,7 +58,7 @@ fn word_in_path(path: &Path) -> &[u8]
 {
     match last_part(path) {
         Some(part) => part.word.as_slice(),
-        None => b"".as_slice(),
+        None => b"",
     }
 }
 
@@ -76,7 +77,7 @@ pub(crate) fn word_in(node: &Node) -> &[u8]
 {
     match &node.path {
         Some(path) => word_in_path(path),
-        None => b"".as_slice(),
+        None => b"",
     }
 }
 
@@ -122,7 +123,7 @@ fn wrong_kind(alloc: Global, node: &Node, other: Place) -> Result<Box<Fault>, Al
 }
 
 // Why a name means no value.
-#[tactic(auto, using(crate::proofs::Facts::numbered_first))]
+#[tactic(auto, using(crate::proofs::Declared::no_value_first))]
 fn no_value(
     alloc: Global,
     state: &State,
@@ -260,7 +261,7 @@ fn means_function(
     Err(Stop::Fault(several_at(alloc, place)?))
 }
 
-#[tactic(auto, using(cxx_expr::proofs::Kept::later_refl, crate::proofs::Facts::enumeration_is))]
+#[tactic(auto, using(cxx_expr::proofs::Kept::later_refl, crate::proofs::Declared::enumeration_is))]
 fn means_first(
     alloc: Global,
     state: &mut State,
@@ -290,7 +291,7 @@ fn means_first(
     }
 }
 
-#[tactic(auto, using(cxx_expr::proofs::Kept::later_refl, crate::proofs::Facts::value_first))]
+#[tactic(auto, using(cxx_expr::proofs::Kept::later_refl, crate::proofs::Declared::value_first))]
 fn means_value(
     alloc: Global,
     state: &mut State,
@@ -313,12 +314,7 @@ fn means_value(
 
 // What a name means that has these declarations.
 #[tactic(auto, using(cxx_expr::proofs::Kept::later_refl), unfolding(cxx_expr::specs::Names::meant_by))]
-fn meant_by(
-    alloc: Global,
-    state: &mut State,
-    node: &Node,
-    all: &[FactId],
-) -> Result<Meant, Stop>
+fn meant_by(alloc: Global, state: &mut State, node: &Node, all: &[FactId]) -> Result<Meant, Stop>
     requires { AreFactsKnown state.old all.now }
     ensures { IsAnswered means_of IsMeant state.old state.new result (definition.meant_by (definition.word_in (label_at (state.old).types node.now)) (node.now).place (numbered state.old all.now) (meaning state.old)) }
 {
@@ -339,7 +335,7 @@ fn named_tree(alloc: Global, state: &mut State, node: Node, meant: Meant) -> Res
 }
 
 /// A name that has these declarations, as an expression.
-#[tactic(auto, using(cxx_expr::proofs::Kept::later_refl, cxx_expr::proofs::Kept::later_trans, cxx_expr::proofs::NodeKept::node_later, cxx_expr::proofs::NodeKept::node_kept, crate::proofs::Facts::means_later, crate::proofs::Facts::means_kept), unfolding(cxx_expr::specs::Names::named))]
+#[tactic(auto, using(cxx_expr::proofs::Kept::later_refl, cxx_expr::proofs::Kept::later_trans, cxx_expr::proofs::NodeKept::node_later, cxx_expr::proofs::NodeKept::node_kept, crate::proofs::Chosen::means_later, crate::proofs::Chosen::means_kept), unfolding(cxx_expr::specs::Names::named))]
 pub(crate) fn named<Q: Questions>(
     alloc: Global,
     questions: &Q,

@@ -1,0 +1,205 @@
+-- Declarations by their numbers.
+use Rattle.std.specs.Prelude.{ℕ, zero, suc, ◌≡◌, ◌<◌, ◌≤◌, ◌+◌, Bool, true, false, ◌&&◌, if◌then◌else◌, List, [], ◌∷◌, ◌++◌, length, Option, Some, None, option_map, refl}
+use Rattle.std.specs.List.{slice_get}
+use Rattle.std.proofs.Common.{ap, sym, subst, ◌∙◌, arith, append_assoc, get_or, drop}
+use Rattle.std.proofs.lemmas.List.{append-nil, at_drop_more, at_drop_all}
+use Rattle.cxx_model.specs.declared.facts.Entity.{Entity}
+use Rattle.cxx_model.specs.declared.facts.Entity.TheVariants as entity
+use Rattle.cxx_model.specs.declared.facts.Fact.{Fact}
+use Rattle.cxx_model.specs.declared.place.Place.{Place}
+use Rattle.cxx_model.specs.declared.types.FactId.{FactId}
+use Rattle.cxx_model.specs.Facts.Declarations.{CxxFact, CxxGraph, Declares, declares_at, fact_at, facts_at, type_of_option}
+use Rattle.cxx_model.specs.Facts.Graph.{EachMayFollow, Graph, InRange, IsEntityInRange, MayFollow, enumerations}
+use Rattle.cxx_model.specs.Types.Trees.{CxxType}
+use Rattle.cxx_meaning.specs.Lookups.Wanted.{hides_types, is_function}
+use Rattle.cxx_reading.specs.Reads.{Asks}
+use Rattle.cxx_reading.specs.Seen.{Numbered, kept}
+use Rattle.cxx_reading.specs.State.{CxxState}
+use Rattle.cxx_reading.specs.Trees.{CxxPathPart, CxxTree}
+use Rattle.cxx_tree.proofs.Graphs.{enumerations_append}
+use Rattle.cxx_tree.specs.Held.{Held, enumeration_of_option, meaning}
+use Rattle.cxx_expr.specs.Calls.{called_first, function_call, value_call}
+use Rattle.cxx_expr.specs.Names.{are_one_function, is_function_with, means_first, means_value, no_value_at, type_by_fact, type_declared, values_among, wrong_kind_at}
+use Rattle.cxx_expr.specs.Questions.{Questions}
+use Rattle.cxx_expr.specs.Views.{AreFactsBelow, AreFactsKnown, numbered, numbered_in, with_fact}
+use Rattle.cxx_called.specs.Views.{IsOfThere}
+
+-- ---- one declaration
+
+seen : (types : List CxxType) (facts : List Fact) (n : ℕ) → slice_get (facts_at types facts) n ≡ option_map (fact_at types) (slice_get facts n)
+seen types [] n = refl
+seen types (fact ∷ facts) zero = refl
+seen types (fact ∷ facts) (suc n) = seen types facts n
+
+pub fact_is : (held : Held) (n : ℕ) (fact : Fact) → slice_get held.graph.facts n ≡ Some fact → slice_get (meaning held).graph.facts n ≡ Some (fact_at held.types fact)
+unfolding meaning
+fact_is held n fact at = seen held.types held.graph.facts n ∙ ap (option_map (fact_at held.types)) at
+
+fact_is_none : (held : Held) (n : ℕ) → slice_get held.graph.facts n ≡ None → slice_get (meaning held).graph.facts n ≡ None
+unfolding meaning
+fact_is_none held n at = seen held.types held.graph.facts n ∙ ap (option_map (fact_at held.types)) at
+
+-- the type that the first declaration says
+pub declared_some : (held : Held) (n : ℕ) (fact : Fact) → slice_get held.graph.facts n ≡ Some fact → type_by_fact (slice_get (meaning held).graph.facts n) ≡ type_declared (declares_at held.types fact.what)
+declared_some held n fact at = ap type_by_fact (fact_is held n fact at)
+
+pub declared_none : (held : Held) (n : ℕ) → slice_get held.graph.facts n ≡ None → type_by_fact (slice_get (meaning held).graph.facts n) ≡ None
+declared_none held n at = ap type_by_fact (fact_is_none held n at)
+
+-- ---- enumerations of enumerators
+
+of_earlier : (graph : Graph) (before others : List Fact) (fact : Fact) (what : Entity) → graph.facts ≡ before ++ fact ∷ others → IsEntityInRange (record graph { facts = before }) fact what → IsOfThere graph what
+of_earlier graph before others fact (entity.Enumerator number value) is ok =
+    let whole : enumerations graph.facts ≡ enumerations before + enumerations (fact ∷ others) = ap enumerations is ∙ enumerations_append before (fact ∷ others) in
+    let there : number.0 < enumerations before = ok.0 in
+    omega arith
+of_earlier graph before others fact (entity.Scope parent kind) is ok = tt
+of_earlier graph before others fact (entity.Object of member is_mutable value first) is ok = tt
+of_earlier graph before others fact (entity.Function of member flags defaults first) is ok = tt
+of_earlier graph before others fact (entity.Template number member defaults is_explicit first) is ok = tt
+of_earlier graph before others fact (entity.Parameter depth index of) is ok = tt
+of_earlier graph before others fact (entity.Injected number) is ok = tt
+of_earlier graph before others fact (entity.Class number is_union) is ok = tt
+of_earlier graph before others fact (entity.Complete number) is ok = tt
+of_earlier graph before others fact (entity.Passed number) is ok = tt
+of_earlier graph before others fact (entity.Ancestor number parent index access) is ok = tt
+of_earlier graph before others fact (entity.Enumeration number) is ok = tt
+of_earlier graph before others fact (entity.Synonym of) is ok = tt
+of_earlier graph before others fact (entity.Namespace inner) is ok = tt
+of_earlier graph before others fact (entity.Directive nominated) is ok = tt
+of_earlier graph before others fact (entity.Using target) is ok = tt
+of_earlier graph before others fact (entity.Friend number target) is ok = tt
+
+of_first : (graph : Graph) (before others : List Fact) (fact : Fact) → graph.facts ≡ before ++ fact ∷ others → MayFollow (record graph { facts = before }) fact → IsOfThere graph fact.what
+of_first graph [] others fact is ok = subst (λ what. IsOfThere graph what) (sym ok.0) tt
+of_first graph (one ∷ before) others fact is ok = of_earlier graph (one ∷ before) others fact fact.what is ok.1
+
+of_from : (graph : Graph) (before facts : List Fact) (n : ℕ) (fact : Fact) → graph.facts ≡ before ++ facts → EachMayFollow graph before facts → slice_get facts n ≡ Some fact → IsOfThere graph fact.what
+of_from graph before [] n fact is ok at = absurd cc
+of_from graph before (one ∷ others) zero fact is ok at = (let same : one ≡ fact = cc in subst (λ (f : Fact). IsOfThere graph f.what) same (of_first graph before others one is ok.0))
+of_from graph before (one ∷ others) (suc n) fact is ok at = of_from graph (before ++ one ∷ []) others n fact (is ∙ sym (append_assoc before (one ∷ []) others)) ok.1 at
+
+pub of_there : (graph : Graph) (n : ℕ) (fact : Fact) → InRange graph → slice_get graph.facts n ≡ Some fact → IsOfThere graph fact.what
+of_there graph n fact ok at = of_from graph [] graph.facts n fact refl ok.facts at
+
+pub enumeration_is : (held : Held) → (meaning held).here.enumeration ≡ enumeration_of_option held.enumeration
+unfolding meaning
+enumeration_is held = refl
+
+-- ---- lists of numbers
+
+pub known_at : (count : ℕ) (numbers : List FactId) (i : ℕ) (d : FactId) → AreFactsBelow count numbers → i < length numbers → (get_or numbers i d).0 < count
+known_at count [] i d ok within = absurd (omega (arith, within))
+known_at count (n ∷ numbers) zero d ok within = ok.0
+known_at count (n ∷ numbers) (suc i) d ok within = known_at count numbers i d ok.1 (omega (arith, within))
+
+pub facts_below_more : (count : ℕ) (numbers : List FactId) (number : FactId) → AreFactsBelow count numbers → number.0 < count → AreFactsBelow count (numbers ++ number ∷ [])
+facts_below_more count [] number ok last = (last, tt)
+facts_below_more count (one ∷ numbers) number ok last = (ok.0, facts_below_more count numbers number ok.1 last)
+
+with_more : (number : ℕ) (o : Option CxxFact) (one two : List Numbered) → with_fact number o (one ++ two) ≡ with_fact number o one ++ two
+with_more number None one two = refl
+with_more number (Some fact) one two = refl
+
+facts_more : (graph : CxxGraph) (one two : List FactId) → numbered_in graph (one ++ two) ≡ numbered_in graph one ++ numbered_in graph two
+facts_more graph [] two = refl
+facts_more graph (n ∷ one) two = ap (with_fact n.0 (slice_get graph.facts n.0)) (facts_more graph one two) ∙ with_more n.0 (slice_get graph.facts n.0) (numbered_in graph one) (numbered_in graph two)
+
+-- ---- what hides the types of its scope
+
+one_value : (graph : CxxGraph) (number : ℕ) (fact : CxxFact) (b : Bool) → hides_types graph fact.what ≡ b → values_among graph (with_fact number (Some fact) []) ≡ (if b then with_fact number (Some fact) [] else [])
+one_value graph number fact b is = ap (λ (t : Bool). if t then (let one : Numbered = record { number = number; fact = fact } in one ∷ []) else []) is
+
+values_at : (held : Held) (number : FactId) (fact : CxxFact) (b : Bool) → slice_get (meaning held).graph.facts number.0 ≡ Some fact → hides_types (meaning held).graph fact.what ≡ b → values_among (meaning held).graph (numbered held (number ∷ [])) ≡ (if b then numbered held (number ∷ []) else [])
+values_at held number fact b at hides =
+    ap (λ o. values_among (meaning held).graph (with_fact number.0 o [])) at
+    ∙ one_value (meaning held).graph number.0 fact b hides
+    ∙ ap (λ o. if b then with_fact number.0 o [] else []) (sym at)
+
+-- a value stands behind the others
+pub value_added : (held : Held) (values new : List FactId) (number : FactId) (fact : CxxFact) → slice_get (meaning held).graph.facts number.0 ≡ Some fact → hides_types (meaning held).graph fact.what ≡ true → new ≡ values ++ number ∷ [] → numbered held new ≡ numbered held values ++ values_among (meaning held).graph (numbered held (number ∷ []))
+value_added held values new number fact at hides is =
+    ap (numbered held) is
+    ∙ facts_more (meaning held).graph values (number ∷ [])
+    ∙ ap (λ ns. numbered held values ++ ns) (sym (values_at held number fact true at hides))
+
+-- the name of a type does not
+pub type_left : (held : Held) (values : List FactId) (number : FactId) (fact : CxxFact) → slice_get (meaning held).graph.facts number.0 ≡ Some fact → hides_types (meaning held).graph fact.what ≡ false → numbered held values ≡ numbered held values ++ values_among (meaning held).graph (numbered held (number ∷ []))
+type_left held values number fact at hides =
+    sym (append-nil (numbered held values))
+    ∙ ap (λ ns. numbered held values ++ ns) (sym (values_at held number fact false at hides))
+
+kept_more : (wanted : Declares → Bool) (one two : List Numbered) → kept wanted (one ++ two) ≡ kept wanted one ++ kept wanted two
+kept_more wanted [] two = refl
+kept_more wanted (x ∷ one) two = by (wanted x.fact.what) (kept_more wanted one two)
+  where
+    by : (b : Bool) → kept wanted (one ++ two) ≡ kept wanted one ++ kept wanted two → (if b then x ∷ kept wanted (one ++ two) else kept wanted (one ++ two)) ≡ (if b then x ∷ kept wanted one else kept wanted one) ++ kept wanted two
+    by true rest = ap (λ ns. x ∷ ns) rest
+    by false rest = rest
+
+values_first : (held : Held) (number : FactId) (others : List FactId) → values_among (meaning held).graph (numbered held (number ∷ others)) ≡ values_among (meaning held).graph (numbered held (number ∷ [])) ++ values_among (meaning held).graph (numbered held others)
+values_first held number others =
+    let graph : CxxGraph = (meaning held).graph in
+    ap (values_among graph) (facts_more graph (number ∷ []) others)
+    ∙ kept_more (hides_types graph) (numbered held (number ∷ [])) (numbered held others)
+
+pub values_step : (held : Held) (values after all : List FactId) (i : ℕ) (number d : FactId) (whole : List Numbered) → i < length all → number ≡ get_or all i d → numbered held after ≡ numbered held values ++ values_among (meaning held).graph (numbered held (number ∷ [])) → numbered held values ++ values_among (meaning held).graph (numbered held (drop i all)) ≡ whole → numbered held after ++ values_among (meaning held).graph (numbered held (drop (i + 1) all)) ≡ whole
+values_step held values after all i number d whole within is added same =
+    let graph : CxxGraph = (meaning held).graph in
+    let rest : List Numbered = values_among graph (numbered held (drop (i + 1) all)) in
+    ap (λ ns. ns ++ rest) added
+    ∙ append_assoc (numbered held values) (values_among graph (numbered held (number ∷ []))) rest
+    ∙ ap (λ ns. numbered held values ++ ns) (sym (values_first held number (drop (i + 1) all)))
+    ∙ ap (λ (n : FactId). numbered held values ++ values_among graph (numbered held (n ∷ drop (i + 1) all))) is
+    ∙ sym (at_drop_more (λ ns. numbered held values ++ values_among graph (numbered held ns)) all i d within)
+    ∙ same
+
+pub values_end : (held : Held) (values all : List FactId) (i : ℕ) (whole : List Numbered) → length all ≤ i → numbered held values ++ values_among (meaning held).graph (numbered held (drop i all)) ≡ whole → numbered held values ≡ whole
+values_end held values all i whole past same =
+    sym (append-nil (numbered held values))
+    ∙ sym (at_drop_all (λ ns. numbered held values ++ values_among (meaning held).graph (numbered held ns)) all i past)
+    ∙ same
+
+-- ---- one function
+
+and_true : (b : Bool) → b ≡ (b && true)
+and_true true = refl
+and_true false = refl
+
+pub one_function : (held : Held) (target : ℕ) (number : FactId) (fact : CxxFact) → slice_get (meaning held).graph.facts number.0 ≡ Some fact → is_function_with target number.0 fact.what ≡ are_one_function target (numbered held (number ∷ []))
+one_function held target number fact at =
+    and_true (is_function_with target number.0 fact.what)
+    ∙ sym (ap (λ o. are_one_function target (with_fact number.0 o [])) at)
+
+pub function_more : (held : Held) (target : ℕ) (number : FactId) (numbers : List FactId) → are_one_function target (numbered held (number ∷ numbers)) ≡ (are_one_function target (numbered held (number ∷ [])) && are_one_function target (numbered held numbers))
+function_more held target number numbers = by (slice_get (meaning held).graph.facts number.0)
+  where
+    and_again : (a b : Bool) → (a && b) ≡ ((a && true) && b)
+    and_again true b = refl
+    and_again false b = refl
+
+    by : (o : Option CxxFact) → are_one_function target (with_fact number.0 o (numbered held numbers)) ≡ (are_one_function target (with_fact number.0 o []) && are_one_function target (numbered held numbers))
+    by None = refl
+    by (Some fact) = and_again (is_function_with target number.0 fact.what) (are_one_function target (numbered held numbers))
+
+-- ---- the first of some declarations
+
+pub no_value_first : (held : Held) (part : CxxPathPart) (number : FactId) (numbers : List FactId) (fact : CxxFact) → slice_get (meaning held).graph.facts number.0 ≡ Some fact → no_value_at part (numbered held (number ∷ numbers)) ≡ wrong_kind_at part fact.place
+no_value_first held part number numbers fact at = ap (λ o. no_value_at part (with_fact number.0 o (numbered held numbers))) at
+
+pub value_first : (held : Held) (part : CxxPathPart) (place : Place) (all : List Numbered) (number : FactId) (numbers : List FactId) (fact : CxxFact) → slice_get (meaning held).graph.facts number.0 ≡ Some fact → means_value part place all (numbered held (number ∷ numbers)) (meaning held) ≡ means_first place (meaning held).graph (meaning held).here.enumeration (numbered held (number ∷ numbers)) number.0 fact.what (meaning held)
+value_first held part place all number numbers fact at =
+    ap (λ o. means_value part place all (with_fact number.0 o (numbered held numbers)) (meaning held)) at
+    ∙ ap (λ o. means_first place (meaning held).graph (meaning held).here.enumeration (with_fact number.0 o (numbered held numbers)) number.0 fact.what (meaning held)) (sym at)
+
+called_by : (held : Held) (q : Questions) (tree : CxxTree) (all : List Numbered) (arguments : List CxxTree) (number : FactId) (numbers : List FactId) (fact : CxxFact) (b : Bool) → slice_get (meaning held).graph.facts number.0 ≡ Some fact → is_function (meaning held).graph fact.what ≡ b → called_first q tree all arguments (numbered held (number ∷ numbers)) (meaning held) ≡ (if b then function_call q tree (numbered held (number ∷ numbers)) arguments (meaning held) else value_call q tree all arguments (meaning held))
+called_by held q tree all arguments number numbers fact b at is =
+    ap (λ o. called_first q tree all arguments (with_fact number.0 o (numbered held numbers)) (meaning held)) at
+    ∙ ap (λ (t : Bool). if t then function_call q tree (with_fact number.0 (Some fact) (numbered held numbers)) arguments (meaning held) else value_call q tree all arguments (meaning held)) is
+    ∙ ap (λ o. if b then function_call q tree (with_fact number.0 o (numbered held numbers)) arguments (meaning held) else value_call q tree all arguments (meaning held)) (sym at)
+
+pub called_function : (held : Held) (q : Questions) (tree : CxxTree) (all : List Numbered) (arguments : List CxxTree) (number : FactId) (numbers : List FactId) (fact : CxxFact) → slice_get (meaning held).graph.facts number.0 ≡ Some fact → is_function (meaning held).graph fact.what ≡ true → called_first q tree all arguments (numbered held (number ∷ numbers)) (meaning held) ≡ function_call q tree (numbered held (number ∷ numbers)) arguments (meaning held)
+called_function held q tree all arguments number numbers fact at is = called_by held q tree all arguments number numbers fact true at is
+
+pub called_value : (held : Held) (q : Questions) (tree : CxxTree) (all : List Numbered) (arguments : List CxxTree) (number : FactId) (numbers : List FactId) (fact : CxxFact) → slice_get (meaning held).graph.facts number.0 ≡ Some fact → is_function (meaning held).graph fact.what ≡ false → called_first q tree all arguments (numbered held (number ∷ numbers)) (meaning held) ≡ value_call q tree all arguments (meaning held)
+called_value held q tree all arguments number numbers fact at is = called_by held q tree all arguments number numbers fact false at is
