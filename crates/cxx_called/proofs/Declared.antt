@@ -9,6 +9,7 @@ use Rattle.cxx_model.specs.declared.facts.Fact.{Fact}
 use Rattle.cxx_model.specs.declared.place.Place.{Place}
 use Rattle.cxx_model.specs.declared.types.FactId.{FactId}
 use Rattle.cxx_model.specs.Facts.Declarations.{CxxFact, CxxGraph, Declares, declares_at, fact_at, facts_at, type_of_option}
+use Rattle.cxx_model.specs.Facts.Fitted.{Fitted, IsEntityBelow}
 use Rattle.cxx_model.specs.Facts.Graph.{EachMayFollow, Graph, InRange, IsEntityInRange, MayFollow, enumerations}
 use Rattle.cxx_model.specs.Types.Trees.{CxxType}
 use Rattle.cxx_meaning.specs.Lookups.Wanted.{hides_types, is_function}
@@ -16,8 +17,9 @@ use Rattle.cxx_reading.specs.Reads.{Asks}
 use Rattle.cxx_reading.specs.Seen.{Numbered, kept}
 use Rattle.cxx_reading.specs.State.{CxxState}
 use Rattle.cxx_reading.specs.Trees.{CxxPathPart, CxxTree}
+use Rattle.cxx_names.proofs.Clashing.{fact_below}
 use Rattle.cxx_tree.proofs.Graphs.{enumerations_append}
-use Rattle.cxx_tree.specs.Held.{Held, enumeration_of_option, meaning}
+use Rattle.cxx_tree.specs.Held.{Held, meaning}
 use Rattle.cxx_expr.specs.Calls.{called_first, function_call, value_call}
 use Rattle.cxx_expr.specs.Names.{are_one_function, is_function_with, means_first, means_value, no_value_at, type_by_fact, type_declared, values_among, wrong_kind_at}
 use Rattle.cxx_expr.specs.Questions.{Questions}
@@ -45,6 +47,10 @@ declared_some held n fact at = ap type_by_fact (fact_is held n fact at)
 
 pub declared_none : (held : Held) (n : ℕ) → slice_get held.graph.facts n ≡ None → type_by_fact (slice_get (meaning held).graph.facts n) ≡ None
 declared_none held n at = ap type_by_fact (fact_is_none held n at)
+
+-- the type in a declaration is there
+pub what_below : (held : Held) (graph : Graph) (n : ℕ) (fact : Fact) → graph ≡ held.graph → Fitted held.graph held.types → Some fact ≡ slice_get graph.facts n → IsEntityBelow (length held.types) fact.what
+what_below held graph n fact same fitted at = (fact_below (length held.types) held.graph.facts n fact fitted.numbers.facts (sym (at ∙ ap (λ (g : Graph). slice_get g.facts n) same))).what
 
 -- ---- enumerations of enumerators
 
@@ -81,10 +87,6 @@ of_from graph before (one ∷ others) (suc n) fact is ok at = of_from graph (bef
 
 pub of_there : (graph : Graph) (n : ℕ) (fact : Fact) → InRange graph → slice_get graph.facts n ≡ Some fact → IsOfThere graph fact.what
 of_there graph n fact ok at = of_from graph [] graph.facts n fact refl ok.facts at
-
-pub enumeration_is : (held : Held) → (meaning held).here.enumeration ≡ enumeration_of_option held.enumeration
-unfolding meaning
-enumeration_is held = refl
 
 -- ---- lists of numbers
 

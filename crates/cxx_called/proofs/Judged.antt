@@ -13,6 +13,7 @@ use Rattle.cxx_reading.specs.Seen.{Numbered}
 use Rattle.cxx_reading.specs.State.{CxxState}
 use Rattle.cxx_reading.specs.Trees.{CxxTree, Label}
 use Rattle.cxx_standard.specs.Views.{operand_at}
+use Rattle.cxx_tree.proofs.Graphs.{length_facts}
 use Rattle.cxx_tree.specs.Arena.{label_at}
 use Rattle.cxx_tree.specs.Held.{Held, meaning, tree, trees}
 use Rattle.cxx_tree.specs.Later.{Later}
@@ -21,7 +22,7 @@ use Rattle.cxx_expr.specs.Making.{AreTreesHeld, trees_held}
 use Rattle.cxx_expr.specs.Names.{word_in}
 use Rattle.cxx_expr.specs.Operands.{judged, judged_each}
 use Rattle.cxx_expr.specs.Questions.{CxxChosen, CxxQuestion, Questions}
-use Rattle.cxx_expr.specs.Views.{AreOperandsBelow, numbered, numbered_in, operands_in, question_of}
+use Rattle.cxx_expr.specs.Views.{AreFactsBelow, AreFactsKnown, AreOperandsBelow, numbered, numbered_in, operands_in, question_of}
 use Rattle.cxx_expr.proofs.Kept.{number_at, operand_kept, operand_later}
 
 pub operands_more : (types : List CxxType) (found : List Operand) (one : Operand) → operands_in types (found ++ one ∷ []) ≡ operands_in types found ++ operand_at types one ∷ []
@@ -65,6 +66,18 @@ judged_end q first new found numbers i whole past same =
     sym (append-nil (operands_in new.types found))
     ∙ sym (at_drop_all (λ ns. operands_in new.types found ++ judged_each q (trees_held first ns) (meaning first)) numbers i past)
     ∙ same
+
+-- ---- the question
+
+facts_count : (held : Held) → length held.graph.facts ≡ length (meaning held).graph.facts
+unfolding meaning
+facts_count held = sym (length_facts held.types held.graph.facts)
+
+-- the declarations are there as before
+pub facts_known : (old mid : Held) (functions : List FactId) → meaning mid ≡ meaning old → AreFactsKnown old functions → AreFactsKnown mid functions
+facts_known old mid functions same ok =
+    let count : length old.graph.facts ≡ length mid.graph.facts = facts_count old ∙ ap (λ (s : CxxState). length s.graph.facts) (sym same) ∙ sym (facts_count mid) in
+    subst (λ n. AreFactsBelow n functions) count ok
 
 -- the operands were made before
 pub question_is : (q : Questions) (old mid : Held) (node : Node) (functions : List FactId) (arguments : List TreeId) (operands : List Operand) → meaning mid ≡ meaning old → operands_in mid.types operands ≡ judged_each q (trees_held old arguments) (meaning old) →

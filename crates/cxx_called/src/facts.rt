@@ -143,12 +143,18 @@ fn type_declared(what: Entity) -> Option<TypeId>
     }
 }
 
-#[tactic(auto, using(crate::proofs::Declared::declared_some, crate::proofs::Declared::declared_none, cxx_names::proofs::Clashing::fact_below))]
+fn fact_found(graph: &Graph, number: FactId) -> Option<&Fact>
+    ensures { option_copied result ≡ slice_get graph.now.facts number.0 }
+{
+    graph.facts().get(number.0 as usize)
+}
+
+#[tactic(auto, using(crate::proofs::Declared::declared_some, crate::proofs::Declared::declared_none))]
 fn type_by_fact(state: &State, target: FactId) -> Option<TypeId>
     ensures is { type_of_option (state.now).types result ≡ definition.type_by_fact (slice_get (meaning state.now).graph.facts target.0) }
     ensures below { IsTypeNumberBelow (length (state.now).types) result }
 {
-    match state.graph().facts().get(target.0 as usize) {
+    match fact_found(state.graph(), target) {
         Some(fact) => type_declared(fact.what),
         None => None,
     }

@@ -73,7 +73,7 @@ fn place_in_path(path: &Path) -> Place
 
 /// The last word of the name of a node.
 pub(crate) fn word_in(node: &Node) -> &[u8]
-    ensures { (types : List CxxType) → result.now ≡ (definition.word_in (label_at types node.now)).word }
+    ensures { result.now ≡ (definition.word_in (label_at [] node.now)).word }
 {
     match &node.path {
         Some(path) => word_in_path(path),
@@ -82,7 +82,7 @@ pub(crate) fn word_in(node: &Node) -> &[u8]
 }
 
 fn place_in(node: &Node) -> Place
-    ensures { (types : List CxxType) → result ≡ (definition.word_in (label_at types node.now)).place }
+    ensures { result ≡ (definition.word_in (label_at [] node.now)).place }
 {
     match &node.path {
         Some(path) => place_in_path(path),
@@ -100,14 +100,14 @@ fn several_at(alloc: Global, place: Place) -> Result<Box<Fault>, AllocError>
 }
 
 fn undeclared(alloc: Global, node: &Node) -> Result<Box<Fault>, AllocError>
-    ensures { (types : List CxxType) → IfOk result (λ at. Faulty at.value ≡ definition.no_value_at (definition.word_in (label_at types node.now)) []) }
+    ensures { IfOk result (λ at. Faulty at.value ≡ definition.no_value_at (definition.word_in (label_at [] node.now)) []) }
 {
     let word = Word::from_slice(alloc, word_in(node))?;
     fault(alloc, place_in(node), FaultText::UndeclaredName(word))
 }
 
 fn wrong_kind(alloc: Global, node: &Node, other: Place) -> Result<Box<Fault>, AllocError>
-    ensures { (types : List CxxType) → IfOk result (λ at. Faulty at.value ≡ definition.wrong_kind_at (definition.word_in (label_at types node.now)) other) }
+    ensures { IfOk result (λ at. Faulty at.value ≡ definition.wrong_kind_at (definition.word_in (label_at [] node.now)) other) }
 {
     let word = Word::from_slice(alloc, word_in(node))?;
     let mut evidence = Listed::new(alloc);
@@ -150,6 +150,13 @@ fn is_open_list(list: Option<EnumId>, number: EnumId) -> bool
     }
 }
 
+#[tactic(auto, unfolding(cxx_tree::specs::Held::meaning))]
+fn is_open(state: &State, number: EnumId) -> bool
+    ensures { result ≡ definition.is_open_list (meaning state.now).here.enumeration number.0 }
+{
+    is_open_list(state.enumeration(), number)
+}
+
 // The first type that holds a value.
 fn holder(value: i128) -> Option<Base>
     ensures { result ≡ promoted_of_values (value ∷ []) }
@@ -188,16 +195,11 @@ fn base_or_list(state: &mut State, number: EnumId, of: Option<Base>) -> Result<T
 }
 
 // While the list of its enumeration is read, an enumerator is of the first type that holds its value.
-fn enumerator_type(
-    state: &mut State,
-    list: Option<EnumId>,
-    number: EnumId,
-    value: i128,
-) -> Result<TypeId, Stop>
+fn enumerator_type(state: &mut State, number: EnumId, value: i128) -> Result<TypeId, Stop>
     requires { number.0 < enumerations (state.old).graph.facts }
-    ensures { GrowsType state.old state.new result (definition.enumerator_type (enumeration_of_option list) number.0 value) }
+    ensures { GrowsType state.old state.new result (definition.enumerator_type (meaning state.old).here.enumeration number.0 value) }
 {
-    if is_open_list(list, number) {
+    if is_open(state, number) {
         base_or_list(state, number, holder(value))
     } else {
         list_type(state, number)
@@ -206,15 +208,14 @@ fn enumerator_type(
 
 fn means_enumerator(
     state: &mut State,
-    list: Option<EnumId>,
     target: FactId,
     number: EnumId,
     value: i128,
 ) -> Result<Meant, Stop>
     requires { number.0 < enumerations (state.old).graph.facts }
-    ensures { IsAnswered means_of IsMeant state.old state.new result (Ok (definition.means_enumerator (enumeration_of_option list) target.0 number.0 value, meaning state.old)) }
+    ensures { IsAnswered means_of IsMeant state.old state.new result (Ok (definition.means_enumerator (meaning state.old).here.enumeration target.0 number.0 value, meaning state.old)) }
 {
-    let of = enumerator_type(state, list, number, value)?;
+    let of = enumerator_type(state, number, value)?;
     Ok(Meant {
         target,
         operand: Operand {
@@ -261,7 +262,7 @@ fn means_function(
     Err(Stop::Fault(several_at(alloc, place)?))
 }
 
-#[tactic(auto, using(cxx_expr::proofs::Kept::later_refl, crate::proofs::Declared::enumeration_is))]
+#[tactic(auto, using(cxx_expr::proofs::Kept::later_refl))]
 fn means_first(
     alloc: Global,
     state: &mut State,
@@ -280,10 +281,7 @@ fn means_first(
         Entity::Enumerator {
             number: list,
             value,
-        } => {
-            let open = state.enumeration();
-            means_enumerator(state, open, number, list, value)
-        }
+        } => means_enumerator(state, number, list, value),
         Entity::Function { of, first, .. } => {
             means_function(alloc, state, place, first_or(number, first), of, all)
         }
