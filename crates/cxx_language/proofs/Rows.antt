@@ -77,7 +77,7 @@ use Rattle.cxx_overload.specs.Viability.{rated_one, rated as rated_of_viability}
 use Rattle.cxx_language.specs.Answers.{name_here, bound_here, call_here, size_here, is_null_here, constant_here as constant_here_of_answers_here, questions, asking}
 use Rattle.cxx_language.specs.Known.{noted, note_known}
 use Rattle.cxx_language.specs.Objects.{some_elements, initialized_part, without_initializer, defined_part as defined_part_of_objects_here, defined_later as defined_later_of_objects_here, extern_part as extern_part_of_objects_here}
-use Rattle.cxx_language.specs.Readers.{valued as valued_of_readers_here, bound_value as bound_value_of_readers_here, bound_at as bound_at_of_readers_here, value_at as value_at_of_readers_here, enumerator_at as enumerator_at_of_readers_here, enumerator_step as enumerator_step_of_readers_here, enumerators_at as enumerators_at_of_readers_here, both}
+use Rattle.cxx_knot.specs.Readers.{valued as valued_of_readers_here, bound_value as bound_value_of_readers_here, bound_at as bound_at_of_readers_here, value_at as value_at_of_readers_here, enumerator_at as enumerator_at_of_readers_here, enumerator_step as enumerator_step_of_readers_here, enumerators_at as enumerators_at_of_readers_here, both}
 use Rattle.cxx_language.specs.Text.{plain_text as plain_text_of_text_here, functions_of_text as functions_of_text_of_text_here}
 use Rattle.cxx_language.specs.Units.{extern_object as extern_object_of_units_here, defined_object as defined_object_of_units_here, init_declarator_at as init_declarator_at_of_units_here, declarator_step as declarator_step_of_units_here, declarators_at as declarators_at_of_units_here, declarators_of as declarators_of_of_units_here, simple_declaration_at as simple_declaration_at_of_units_here, plain_declaration_at as plain_declaration_at_of_units_here, linked_one as linked_one_of_units_here, declaration_by as declaration_by_of_units_here, linkage_opened as linkage_opened_of_units_here, declaration_at as declaration_at_of_units_here, unit_step as unit_step_of_units_here, unit_reading as unit_reading_of_units_here}
 

@@ -21,7 +21,7 @@ use Rattle.cxx_reading.specs.Trees.{CxxTree, CxxPath}
 use Rattle.cxx_overload.specs.Calls.{CxxDecision, decided}
 use Rattle.cxx_expr.specs.Elaborating.{elaborate}
 use Rattle.cxx_expr.specs.Questions.{Questions, CxxQuestion, CxxChosen}
-use Rattle.cxx_language.specs.Readers.{Asking}
+use Rattle.cxx_knot.specs.Readers.{Asking}
 
 -- ---- names (3.4.1)
 

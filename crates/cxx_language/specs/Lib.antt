@@ -1,5 +1,4 @@
 -- The reading of a unit with expressions, and its plain form.
-pub mod Readers
 pub mod Answers
 pub mod Known
 pub mod Objects

@@ -22,7 +22,7 @@ use Rattle.cxx_expr.specs.Questions.{Questions}
 use Rattle.cxx_phrases.specs.Phrases.{Phrases, Inner}
 use Rattle.cxx_language.specs.Answers.{questions, asking}
 use Rattle.cxx_language.specs.Objects.{defined_part, extern_part}
-use Rattle.cxx_language.specs.Readers.{Asking, Both, both, here}
+use Rattle.cxx_knot.specs.Readers.{Asking, Both, both, here}
 
 -- ---- what is asked
 

@@ -99,7 +99,11 @@ both_by asks room inner = record {
   phrases = inner_by (here asks inner room) inner.phrases asks.kinds inner.types;
 }
 
+-- where there is no room for a bracket
+abbrev pub too_deep : {S : Type 0} → Both S
+too_deep = record { types = declarations.too_deep; phrases = expressions.too_deep }
+
 -- The readers behind a bracket with room for so many more. What is asked may depend on the room.
 unfoldable pub both : {S : Type 0} → (ℕ → Asking S) → ℕ → Both S
-both asks zero = record { types = declarations.too_deep; phrases = expressions.too_deep }
+both asks zero = too_deep
 both asks (suc room) = both_by (asks room) room (both asks room)

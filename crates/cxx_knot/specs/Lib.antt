@@ -1,0 +1,3 @@
+-- How the readers of declarations and those of expressions nest.
+pub mod Readers
+pub mod Knot

@@ -1,0 +1,195 @@
+//! The readers tied together: what stands behind a bracket is read by the same readers, with one room less.
+
+ghost use Rattle.std.specs.Prelude.{◌≡◌};
+ghost use Rattle.cxx_knot.specs.Knot.{Follows, Nests, asking_by};
+ghost use Rattle.cxx_knot.specs.Readers.{both, both_by, here, too_deep as too_deep_readers};
+ghost use Rattle.cxx_phrases.specs.Initializers.{initializer_at};
+ghost use Rattle.cxx_phrases.specs.Views.{IsInitializer, initializer_of};
+ghost use Rattle.cxx_reading.specs.Specifiers.{specifiers_at};
+ghost use Rattle.cxx_reading.specs.Syntax.{declarator_at};
+ghost use Rattle.cxx_syntax.specs.Reading.{IsRead};
+ghost use Rattle.cxx_syntax.specs.Views.{AreSpecifiers, IsDeclarator, declarator_of, specifiers_of};
+ghost use Rattle.cxx_tree.specs.Held.{meaning};
+
+use crate::asking::Asking;
+use crate::behind::{Behind, Entrance, Found};
+use crate::values::Values;
+use cxx_model::{LimitKind, Stop};
+use cxx_phrases::{
+    Initializer, TypeShape, read_expression, read_initializer as initializer_behind, read_sized,
+    type_id_at, type_passed_at,
+};
+use cxx_reading::{Naming, SpecifierPlace};
+use cxx_syntax::{Cursor, Declarator, Reader, Specifiers};
+use cxx_tree::State;
+
+// Where there is no room for a bracket.
+#[tactic(auto, using(cxx_syntax::proofs::Kept::later_refl))]
+pub(crate) fn too_deep(state: &State, cursor: &Cursor<'_>, what: Entrance) -> Result<Found, Stop>
+    ensures { Follows too_deep_readers what state.now cursor.now result state.now cursor.now }
+{
+    let _ = state;
+    let _ = cursor;
+    match what {
+        Entrance::Pointed(_) => Err(Stop::Limit(LimitKind::Nesting)),
+        Entrance::Referred(_) => Err(Stop::Limit(LimitKind::Nesting)),
+        Entrance::Grouped(_) => Err(Stop::Limit(LimitKind::Nesting)),
+        Entrance::Bound(_) => Err(Stop::Limit(LimitKind::Nesting)),
+        Entrance::Parameters => Err(Stop::Limit(LimitKind::Nesting)),
+        Entrance::Enumerators(_) => Err(Stop::Limit(LimitKind::Nesting)),
+        Entrance::HoldsParameters => Ok(Found::Holds(true)),
+        Entrance::Expression(_) => Err(Stop::Limit(LimitKind::Nesting)),
+        Entrance::Sized => Err(Stop::Limit(LimitKind::Nesting)),
+        Entrance::TypeId => Err(Stop::Limit(LimitKind::Nesting)),
+        Entrance::TypePassed => Ok(Found::Shape(TypeShape::NoType)),
+    }
+}
+
+// What stands behind a bracket, with room for so many more.
+pub(crate) fn opened<
+    K: Asking,
+    F: Fn(&K, &mut State, &mut Cursor<'_>, Entrance, u32) -> Result<Found, Stop>,
+>(
+    behind: &Behind<'_, K, F>,
+    state: &mut State,
+    cursor: &mut Cursor<'_>,
+    what: Entrance,
+) -> Result<Found, Stop>
+    requires { Nests K.asks K.wholes K.is_ready F.Fn behind.now.kinds.now behind.now.room behind.now.read }
+    ensures { Follows (both_by (asking_by K.asks K.wholes behind.now.kinds.now behind.now.room) behind.now.room (both (asking_by K.asks K.wholes behind.now.kinds.now) behind.now.room)) what state.old cursor.old result state.new cursor.new }
+{
+    let types = Reader {
+        kinds: behind.kinds,
+        room: behind.room,
+        nested: behind,
+    };
+    let values = Values {
+        kinds: behind.kinds,
+        room: behind.room,
+        phrases: behind,
+    };
+    match what {
+        Entrance::Pointed(naming) => {
+            Ok(Found::Declarator(types.pointed_at(state, cursor, naming)?))
+        }
+        Entrance::Referred(naming) => {
+            Ok(Found::Declarator(types.referred_at(state, cursor, naming)?))
+        }
+        Entrance::Grouped(naming) => {
+            Ok(Found::Declarator(types.grouped_at(state, cursor, naming)?))
+        }
+        Entrance::Bound(is_first) => {
+            let (value, parts) = values.bound_at(state, cursor, is_first)?;
+            Ok(Found::Value(value, parts))
+        }
+        Entrance::Parameters => Ok(Found::Parameters(types.parameters_at(state, cursor)?)),
+        Entrance::Enumerators(number) => {
+            Ok(Found::Trees(values.enumerators_at(state, cursor, number)?))
+        }
+        Entrance::HoldsParameters => Ok(Found::Holds(types.parameters_shape(state, cursor)?)),
+        Entrance::Expression(level) => {
+            Ok(Found::Tree(read_expression(behind, state, cursor, level)?))
+        }
+        Entrance::Sized => {
+            let (of, parts) = read_sized(behind, state, cursor)?;
+            Ok(Found::Sized(of, parts))
+        }
+        Entrance::TypeId => {
+            let (of, parts) = type_id_at(&types, state, cursor)?;
+            Ok(Found::Written(of, parts))
+        }
+        Entrance::TypePassed => Ok(Found::Shape(type_passed_at(&types, state, cursor)?)),
+    }
+}
+
+// What stands behind a bracket that was taken, with room for so many more, that one counted.
+#[tactic(auto, using(crate::proofs::Nesting::both_zero, crate::proofs::Nesting::both_more))]
+pub(crate) fn read<K: Asking>(
+    kinds: &K,
+    state: &mut State,
+    cursor: &mut Cursor<'_>,
+    what: Entrance,
+    room: u32,
+) -> Result<Found, Stop>
+    requires { K.is_ready kinds.now }
+    ensures { Follows (both (asking_by K.asks K.wholes kinds.now) room) what state.old cursor.old result state.new cursor.new }
+{
+    if room == 0 {
+        return too_deep(state, cursor, what);
+    }
+    let behind = Behind {
+        kinds,
+        room: room - 1,
+        read: read::<K>,
+    };
+    opened(&behind, state, cursor, what)
+}
+
+/// The specifiers of a declaration (7.1), with room for so many brackets and operators inside one another. A limit is that
+/// of nesting, that of parameters or that of arguments, or one of the user's.
+pub fn read_specifiers<K: Asking>(
+    kinds: &K,
+    state: &mut State,
+    cursor: &mut Cursor<'_>,
+    place: SpecifierPlace,
+    room: u32,
+) -> Result<Specifiers, Stop>
+    requires { K.is_ready kinds.now }
+    ensures { IsRead specifiers_of AreSpecifiers state.old state.new cursor.new result (specifiers_at (K.asks kinds.now room) (both (asking_by K.asks K.wholes kinds.now) room).types place (meaning state.old) cursor.old) }
+{
+    let behind = Behind {
+        kinds,
+        room,
+        read: read::<K>,
+    };
+    let reader = Reader {
+        kinds,
+        room,
+        nested: &behind,
+    };
+    reader.specifiers_at(state, cursor, place)
+}
+
+/// A declarator (8), with room for so many brackets and operators inside one another. A limit is that of nesting, that of
+/// parameters or that of arguments, or one of the user's.
+pub fn read_declarator<K: Asking>(
+    kinds: &K,
+    state: &mut State,
+    cursor: &mut Cursor<'_>,
+    naming: Naming,
+    room: u32,
+) -> Result<Declarator, Stop>
+    requires { K.is_ready kinds.now }
+    ensures { IsRead declarator_of IsDeclarator state.old state.new cursor.new result (declarator_at (K.asks kinds.now room) (both (asking_by K.asks K.wholes kinds.now) room).types naming (meaning state.old) cursor.old) }
+{
+    let behind = Behind {
+        kinds,
+        room,
+        read: read::<K>,
+    };
+    let reader = Reader {
+        kinds,
+        room,
+        nested: &behind,
+    };
+    reader.declarator_at(state, cursor, naming)
+}
+
+/// An initializer, from its `=` or `(` on (8.5), with room for so many brackets and operators inside one another. A limit
+/// is that of nesting, that of parameters or that of arguments, or one of the user's.
+pub fn read_initializer<K: Asking>(
+    kinds: &K,
+    state: &mut State,
+    cursor: &mut Cursor<'_>,
+    room: u32,
+) -> Result<Initializer, Stop>
+    requires { K.is_ready kinds.now }
+    ensures { IsRead initializer_of IsInitializer state.old state.new cursor.new result (initializer_at (here (asking_by K.asks K.wholes kinds.now room) (both (asking_by K.asks K.wholes kinds.now) room) room) (both (asking_by K.asks K.wholes kinds.now) room).phrases (meaning state.old) cursor.old) }
+{
+    let behind = Behind {
+        kinds,
+        room,
+        read: read::<K>,
+    };
+    initializer_behind(&behind, state, cursor)
+}

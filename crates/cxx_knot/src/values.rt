@@ -1,0 +1,214 @@
+//! Bounds (8.3.4) and the values of enumerators (7.2), which are constant expressions (5.19).
+
+ghost use Rattle.std.specs.Prelude.{◌≡◌, [], ◌∷◌, IfOk};
+ghost use Rattle.cxx_knot.specs.Knot.{asking_by};
+ghost use Rattle.cxx_knot.specs.Readers as definition;
+ghost use Rattle.cxx_reading.specs.Reads.{count_ahead, give, repeat};
+ghost use Rattle.cxx_reading.specs.Syntax as syntax;
+ghost use Rattle.cxx_syntax.specs.Reading.{IsRead};
+ghost use Rattle.cxx_syntax.specs.Views.{AreTreesHeld, IsTreesTurn, IsValue, lexeme_at, trees_held, trees_turn, value_of};
+ghost use Rattle.cxx_tree.specs.Held.{meaning};
+
+use crate::asking::Asking;
+use cxx_model::{EnumId, Listed, Stop, TreeId, TreeIdList, punct};
+use cxx_phrases::{Level, Phrases, read_expression};
+use cxx_syntax::{Cursor, Spelled, Turn, is_name, is_punct, joined};
+use cxx_tree::State;
+use std::alloc::{AllocError, Global};
+
+/// The readers of constant expressions, and who is asked for their values, with room for so many more brackets.
+#[derive_where(Clone, Copy)]
+pub(crate) struct Values<'n, K, P> {
+    pub kinds: &'n K,
+    pub room: u32,
+    pub phrases: &'n P,
+}
+
+// A list of one tree.
+fn one_tree(alloc: Global, number: TreeId) -> Result<TreeIdList, AllocError>
+    ensures { IfOk result (λ all. all ≡ number ∷ []) }
+{
+    let mut all = Listed::new(alloc);
+    all.push(number)?;
+    Ok(all)
+}
+
+// Behind an enumerator.
+#[tactic(auto, using(cxx_syntax::proofs::Kept::later_refl), unfolding(cxx_reading::specs::Syntax::enumerator_ended))]
+fn enumerator_ended(
+    state: &State,
+    cursor: &mut Cursor<'_>,
+    so_far: TreeIdList,
+) -> Result<Turn<TreeIdList, TreeIdList>, Stop>
+    requires { AreTreesHeld state.now so_far }
+    ensures { IsRead trees_turn IsTreesTurn state.now state.now cursor.new result (syntax.enumerator_ended (trees_held state.now so_far) (meaning state.now) cursor.old) }
+{
+    let _ = state;
+    if is_punct(punct::COMMA, cursor.kind()) {
+        cursor.advance();
+        return Ok(Turn::More(so_far));
+    }
+    if is_punct(punct::RIGHT_BRACE, cursor.kind()) {
+        cursor.advance();
+        return Ok(Turn::Done(so_far));
+    }
+    Err(Stop::Fault(cursor.refused()?))
+}
+
+impl<K: Asking, P: Phrases> Values<'_, K, P> {
+    // A constant expression, with its value, which is asked before what follows is looked at (5.19).
+    #[tactic(auto, using(cxx_syntax::proofs::Kept::trees_kept, cxx_syntax::proofs::Kept::trees_later, cxx_syntax::proofs::Kept::trees_append, cxx_syntax::proofs::Kept::trees_below_append, cxx_syntax::proofs::Kept::later_trans, cxx_syntax::proofs::Kept::later_refl), unfolding(crate::specs::Readers::valued))]
+    fn valued(
+        &self,
+        state: &mut State,
+        cursor: &mut Cursor<'_>,
+    ) -> Result<(Option<i128>, TreeIdList), Stop>
+        requires ready { K.is_ready self.now.kinds.now }
+        requires phrases { P.is_ready self.now.phrases.now }
+        ensures { IsRead value_of IsValue state.old state.new cursor.new result (definition.valued (asking_by K.asks K.wholes self.now.kinds.now self.now.room) (P.asks self.now.phrases.now) (P.inner self.now.phrases.now) (meaning state.old) cursor.old) }
+    {
+        let number = read_expression(self.phrases, state, cursor, Level::Constant)?;
+        let value = self.kinds.constant(state, number, self.room)?;
+        Ok((Some(value), one_tree(cursor.alloc(), number)?))
+    }
+
+    // The value of a bound, and its end.
+    #[tactic(auto, using(cxx_syntax::proofs::Kept::trees_kept, cxx_syntax::proofs::Kept::trees_later, cxx_syntax::proofs::Kept::trees_append, cxx_syntax::proofs::Kept::trees_below_append, cxx_syntax::proofs::Kept::later_trans, cxx_syntax::proofs::Kept::later_refl), unfolding(crate::specs::Readers::bound_value))]
+    fn bound_value(
+        &self,
+        state: &mut State,
+        cursor: &mut Cursor<'_>,
+    ) -> Result<(Option<i128>, TreeIdList), Stop>
+        requires ready { K.is_ready self.now.kinds.now }
+        requires phrases { P.is_ready self.now.phrases.now }
+        ensures { IsRead value_of IsValue state.old state.new cursor.new result (definition.bound_value (asking_by K.asks K.wholes self.now.kinds.now self.now.room) (P.asks self.now.phrases.now) (P.inner self.now.phrases.now) (meaning state.old) cursor.old) }
+    {
+        let value = self.valued(state, cursor)?;
+        cursor.punct(punct::RIGHT_BRACKET)?;
+        Ok(value)
+    }
+
+    // Behind `[` (8.3.4).
+    #[tactic(auto, using(cxx_syntax::proofs::Kept::trees_kept, cxx_syntax::proofs::Kept::trees_later, cxx_syntax::proofs::Kept::trees_append, cxx_syntax::proofs::Kept::trees_below_append, cxx_syntax::proofs::Kept::later_trans, cxx_syntax::proofs::Kept::later_refl), unfolding(crate::specs::Readers::bound_at))]
+    pub fn bound_at(
+        &self,
+        state: &mut State,
+        cursor: &mut Cursor<'_>,
+        is_first: bool,
+    ) -> Result<(Option<i128>, TreeIdList), Stop>
+        requires ready { K.is_ready self.now.kinds.now }
+        requires phrases { P.is_ready self.now.phrases.now }
+        ensures { IsRead value_of IsValue state.old state.new cursor.new result (definition.bound_at (asking_by K.asks K.wholes self.now.kinds.now self.now.room) (P.asks self.now.phrases.now) (P.inner self.now.phrases.now) is_first (meaning state.old) cursor.old) }
+    {
+        if !is_punct(punct::RIGHT_BRACKET, cursor.kind()) {
+            return self.bound_value(state, cursor);
+        }
+        if !is_first {
+            return Err(Stop::Fault(cursor.refused()?));
+        }
+        cursor.advance();
+        Ok((None, Listed::new(cursor.alloc())))
+    }
+
+    // The value of an enumerator, where one is written.
+    #[tactic(auto, using(cxx_syntax::proofs::Kept::trees_kept, cxx_syntax::proofs::Kept::trees_later, cxx_syntax::proofs::Kept::trees_append, cxx_syntax::proofs::Kept::trees_below_append, cxx_syntax::proofs::Kept::later_trans, cxx_syntax::proofs::Kept::later_refl), unfolding(crate::specs::Readers::value_at, cxx_reading::specs::Syntax::no_value))]
+    fn value_at(
+        &self,
+        state: &mut State,
+        cursor: &mut Cursor<'_>,
+    ) -> Result<(Option<i128>, TreeIdList), Stop>
+        requires ready { K.is_ready self.now.kinds.now }
+        requires phrases { P.is_ready self.now.phrases.now }
+        ensures { IsRead value_of IsValue state.old state.new cursor.new result (definition.value_at (asking_by K.asks K.wholes self.now.kinds.now self.now.room) (P.asks self.now.phrases.now) (P.inner self.now.phrases.now) (meaning state.old) cursor.old) }
+    {
+        if !is_punct(punct::EQUALS, cursor.kind()) {
+            return Ok((None, Listed::new(cursor.alloc())));
+        }
+        cursor.advance();
+        self.valued(state, cursor)
+    }
+
+    // An enumerator, which is declared before what follows is looked at (7.2).
+    #[tactic(auto, using(cxx_syntax::proofs::Kept::trees_kept, cxx_syntax::proofs::Kept::trees_later, cxx_syntax::proofs::Kept::trees_append, cxx_syntax::proofs::Kept::trees_below_append, cxx_syntax::proofs::Kept::later_trans, cxx_syntax::proofs::Kept::later_refl), unfolding(crate::specs::Readers::enumerator_at))]
+    fn enumerator_at(
+        &self,
+        state: &mut State,
+        cursor: &mut Cursor<'_>,
+        number: EnumId,
+        so_far: TreeIdList,
+        name: Spelled<'_>,
+    ) -> Result<TreeIdList, Stop>
+        requires known { AreTreesHeld state.old so_far }
+        requires ready { K.is_ready self.now.kinds.now }
+        requires phrases { P.is_ready self.now.phrases.now }
+        ensures { IsRead trees_held AreTreesHeld state.old state.new cursor.new result (definition.enumerator_at (asking_by K.asks K.wholes self.now.kinds.now self.now.room) (P.asks self.now.phrases.now) (P.inner self.now.phrases.now) number.0 (trees_held state.old so_far) (lexeme_at name.entry) (meaning state.old) cursor.old) }
+    {
+        let (value, parts) = self.value_at(state, cursor)?;
+        self.kinds
+            .enumerator(state, number, name, value, self.room)?;
+        Ok(joined(so_far, parts)?)
+    }
+
+    // An enumerator, and what separates it from the next.
+    #[tactic(auto, using(cxx_syntax::proofs::Kept::trees_kept, cxx_syntax::proofs::Kept::trees_later, cxx_syntax::proofs::Kept::trees_append, cxx_syntax::proofs::Kept::trees_below_append, cxx_syntax::proofs::Kept::later_trans, cxx_syntax::proofs::Kept::later_refl), unfolding(crate::specs::Readers::enumerator_step))]
+    fn enumerator_step(
+        &self,
+        state: &mut State,
+        cursor: &mut Cursor<'_>,
+        number: EnumId,
+        so_far: TreeIdList,
+    ) -> Result<Turn<TreeIdList, TreeIdList>, Stop>
+        requires known { AreTreesHeld state.old so_far }
+        requires ready { K.is_ready self.now.kinds.now }
+        requires phrases { P.is_ready self.now.phrases.now }
+        ensures { IsRead trees_turn IsTreesTurn state.old state.new cursor.new result (definition.enumerator_step (asking_by K.asks K.wholes self.now.kinds.now self.now.room) (P.asks self.now.phrases.now) (P.inner self.now.phrases.now) number.0 (trees_held state.old so_far) (meaning state.old) cursor.old) }
+    {
+        if !is_name(cursor.kind()) {
+            return Err(Stop::Fault(cursor.refused()?));
+        }
+        let name = cursor.token();
+        let all = self.enumerator_at(state, cursor, number, so_far, name)?;
+        enumerator_ended(state, cursor, all)
+    }
+
+    // Behind the `{` of an enumeration (7.2).
+    #[tactic(auto, using(cxx_syntax::proofs::Kept::trees_kept, cxx_syntax::proofs::Kept::trees_later, cxx_syntax::proofs::Kept::trees_append, cxx_syntax::proofs::Kept::trees_below_append, cxx_syntax::proofs::Kept::later_trans, cxx_syntax::proofs::Kept::later_refl), unfolding(crate::specs::Readers::enumerators_at))]
+    pub fn enumerators_at(
+        &self,
+        state: &mut State,
+        cursor: &mut Cursor<'_>,
+        number: EnumId,
+    ) -> Result<TreeIdList, Stop>
+        requires ready { K.is_ready self.now.kinds.now }
+        requires phrases { P.is_ready self.now.phrases.now }
+        ensures { IsRead trees_held AreTreesHeld state.old state.new cursor.new result (definition.enumerators_at (asking_by K.asks K.wholes self.now.kinds.now self.now.room) (P.asks self.now.phrases.now) (P.inner self.now.phrases.now) number.0 (meaning state.old) cursor.old) }
+    {
+        if is_punct(punct::RIGHT_BRACE, cursor.kind()) {
+            cursor.advance();
+            return Ok(Listed::new(cursor.alloc()));
+        }
+        self.enumerators_run(state, cursor, number)
+    }
+
+    // One enumerator after another.
+    #[tactic(auto, using(cxx_syntax::proofs::Loops::turn, cxx_syntax::proofs::Loops::no_turn, cxx_syntax::proofs::Kept::later_trans, cxx_syntax::proofs::Kept::later_refl))]
+    fn enumerators_run(
+        &self,
+        state: &mut State,
+        cursor: &mut Cursor<'_>,
+        number: EnumId,
+    ) -> Result<TreeIdList, Stop>
+        requires ready { K.is_ready self.now.kinds.now }
+        requires phrases { P.is_ready self.now.phrases.now }
+        ensures { IsRead trees_held AreTreesHeld state.old state.new cursor.new result (repeat (definition.enumerator_step (asking_by K.asks K.wholes self.now.kinds.now self.now.room) (P.asks self.now.phrases.now) (P.inner self.now.phrases.now) number.0) give (count_ahead cursor.old) [] (meaning state.old) cursor.old) }
+    {
+        let mut so_far = Listed::new(cursor.alloc());
+        for _turn in 0..cursor.count() {
+            match self.enumerator_step(state, cursor, number, so_far)? {
+                Turn::More(next) => so_far = next,
+                Turn::Done(all) => return Ok(all),
+            }
+        }
+        Ok(so_far)
+    }
+}
