@@ -1,6 +1,6 @@
 -- What a name means and what a call means stay the same while the state grows.
-use Rattle.std.specs.Prelude.{◌≡◌, ◌<◌, ◌≤◌, List, length}
-use Rattle.std.proofs.Common.{ap, ◌∙◌, arith}
+use Rattle.std.specs.Prelude.{◌≡◌, List}
+use Rattle.std.proofs.Common.{ap, ◌∙◌}
 use Rattle.cxx_model.specs.Types.Numbers.{type_at}
 use Rattle.cxx_model.specs.Types.Trees.{CxxType}
 use Rattle.cxx_tree.specs.Held.{Held}

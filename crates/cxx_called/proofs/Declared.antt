@@ -8,14 +8,12 @@ use Rattle.cxx_model.specs.declared.facts.Entity.TheVariants as entity
 use Rattle.cxx_model.specs.declared.facts.Fact.{Fact}
 use Rattle.cxx_model.specs.declared.place.Place.{Place}
 use Rattle.cxx_model.specs.declared.types.FactId.{FactId}
-use Rattle.cxx_model.specs.Facts.Declarations.{CxxFact, CxxGraph, Declares, declares_at, fact_at, facts_at, type_of_option}
+use Rattle.cxx_model.specs.Facts.Declarations.{CxxFact, CxxGraph, Declares, declares_at, fact_at, facts_at}
 use Rattle.cxx_model.specs.Facts.Fitted.{Fitted, IsEntityBelow}
 use Rattle.cxx_model.specs.Facts.Graph.{EachMayFollow, Graph, InRange, IsEntityInRange, MayFollow, enumerations}
 use Rattle.cxx_model.specs.Types.Trees.{CxxType}
 use Rattle.cxx_meaning.specs.Lookups.Wanted.{hides_types, is_function}
-use Rattle.cxx_reading.specs.Reads.{Asks}
 use Rattle.cxx_reading.specs.Seen.{Numbered, kept}
-use Rattle.cxx_reading.specs.State.{CxxState}
 use Rattle.cxx_reading.specs.Trees.{CxxPathPart, CxxTree}
 use Rattle.cxx_names.proofs.Clashing.{fact_below}
 use Rattle.cxx_tree.proofs.Graphs.{enumerations_append}
@@ -23,7 +21,7 @@ use Rattle.cxx_tree.specs.Held.{Held, meaning}
 use Rattle.cxx_expr.specs.Calls.{called_first, function_call, value_call}
 use Rattle.cxx_expr.specs.Names.{are_one_function, is_function_with, means_first, means_value, no_value_at, type_by_fact, type_declared, values_among, wrong_kind_at}
 use Rattle.cxx_expr.specs.Questions.{Questions}
-use Rattle.cxx_expr.specs.Views.{AreFactsBelow, AreFactsKnown, numbered, numbered_in, with_fact}
+use Rattle.cxx_expr.specs.Views.{AreFactsBelow, numbered, numbered_in, with_fact}
 use Rattle.cxx_called.specs.Views.{IsOfThere}
 
 -- ---- one declaration

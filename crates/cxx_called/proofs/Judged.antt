@@ -1,17 +1,16 @@
 -- What the arguments of a call give, and the question that they make.
 use Rattle.std.specs.Prelude.{ℕ, ◌≡◌, ◌<◌, ◌≤◌, ◌+◌, List, [], ◌∷◌, ◌++◌, length, refl}
-use Rattle.std.proofs.Common.{ap, sym, subst, ◌∙◌, arith, append_assoc, get_or, drop}
+use Rattle.std.proofs.Common.{ap, sym, subst, ◌∙◌, append_assoc, get_or, drop}
 use Rattle.std.proofs.lemmas.List.{append-nil, at_drop_more, at_drop_all}
 use Rattle.cxx_model.specs.declared.sequence.Operand.{Operand}
 use Rattle.cxx_model.specs.declared.tree.Node.{Node}
 use Rattle.cxx_model.specs.declared.types.FactId.{FactId}
 use Rattle.cxx_model.specs.declared.types.TreeId.{TreeId}
-use Rattle.cxx_model.specs.Stops.{Answer}
 use Rattle.cxx_model.specs.Types.Trees.{CxxType}
 use Rattle.cxx_meaning.specs.Conversions.Standard.{CxxOperand}
 use Rattle.cxx_reading.specs.Seen.{Numbered}
 use Rattle.cxx_reading.specs.State.{CxxState}
-use Rattle.cxx_reading.specs.Trees.{CxxTree, Label}
+use Rattle.cxx_reading.specs.Trees.{CxxTree}
 use Rattle.cxx_standard.specs.Views.{operand_at}
 use Rattle.cxx_tree.proofs.Graphs.{length_facts}
 use Rattle.cxx_tree.specs.Arena.{label_at}
@@ -21,7 +20,7 @@ use Rattle.cxx_expr.specs.Calls.{bare_word, question}
 use Rattle.cxx_expr.specs.Making.{AreTreesHeld, trees_held}
 use Rattle.cxx_expr.specs.Names.{word_in}
 use Rattle.cxx_expr.specs.Operands.{judged, judged_each}
-use Rattle.cxx_expr.specs.Questions.{CxxChosen, CxxQuestion, Questions}
+use Rattle.cxx_expr.specs.Questions.{CxxQuestion, Questions}
 use Rattle.cxx_expr.specs.Views.{AreFactsBelow, AreFactsKnown, AreOperandsBelow, numbered, numbered_in, operands_in, question_of}
 use Rattle.cxx_expr.proofs.Kept.{number_at, operand_kept, operand_later}
 

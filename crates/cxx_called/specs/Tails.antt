@@ -1,5 +1,5 @@
 -- Calls by what is left of them once a part is done.
-use Rattle.std.specs.Prelude.{ℕ, ◌<◌, List, [], ◌∷◌, length, ◌-◌, Option, Some, None}
+use Rattle.std.specs.Prelude.{ℕ, ◌<◌, List, [], length, ◌-◌, Option, Some, None}
 use Rattle.cxx_model.specs.declared.types.TreeId.{TreeId}
 use Rattle.cxx_reading.specs.Reads.{Asks}
 use Rattle.cxx_reading.specs.State.{CxxState}

@@ -1,11 +1,9 @@
 //! Calls (5.2.2).
 
-ghost use Rattle.std.specs.Prelude.{◌≡◌, ◌<◌, ◌-◌, [], length, None, IfOk};
+ghost use Rattle.std.specs.Prelude.{◌≡◌, ◌<◌, ◌-◌, [], length, IfOk};
 ghost use Rattle.cxx_model.specs.Facts.Declarations.{declares_at};
-ghost use Rattle.cxx_model.specs.Facts.Fitted.{IsTypeNumberBelow};
 ghost use Rattle.cxx_model.specs.Stops.{Faulty};
 ghost use Rattle.cxx_meaning.specs.Lookups.Wanted as wanted;
-ghost use Rattle.cxx_standard.specs.Views.{operand_at};
 ghost use Rattle.cxx_tree.specs.Answered.{IsAnswered};
 ghost use Rattle.cxx_tree.specs.Arena.{label_at};
 ghost use Rattle.cxx_tree.specs.Held.{Held, meaning, tree, trees, type_of};

@@ -1,6 +1,6 @@
 //! What a name means in an expression (3.3.7, 3.4, 5.1, 7.2).
 
-ghost use Rattle.std.specs.Prelude.{List, ◌≡◌, ◌<◌, ◌-◌, ◌∷◌, [], length, option_map, IfOk, Ok};
+ghost use Rattle.std.specs.Prelude.{◌≡◌, ◌<◌, ◌-◌, ◌∷◌, [], length, option_map, IfOk, Ok};
 ghost use Rattle.std.specs.List.{slice_get};
 ghost use Rattle.std.specs.Option.{option_copied};
 ghost use Rattle.cxx_model.specs.Facts.Declarations.{declares_at};
@@ -8,7 +8,7 @@ ghost use Rattle.cxx_model.specs.Facts.Fitted.{IsEntityBelow};
 ghost use Rattle.cxx_model.specs.Facts.Graph.{enumerations};
 ghost use Rattle.cxx_model.specs.Stops.{Faulty};
 ghost use Rattle.cxx_model.specs.Types.Integral.{promoted_of_values};
-ghost use Rattle.cxx_model.specs.Types.Trees.{CxxType, enumeration};
+ghost use Rattle.cxx_model.specs.Types.Trees.{enumeration};
 ghost use Rattle.cxx_tree.specs.Answered.{IsAnswered};
 ghost use Rattle.cxx_tree.specs.Arena.{label_at, path_at, path_part_at};
 ghost use Rattle.cxx_tree.specs.Held.{enumeration_of_option, meaning, tree, type_of};
