@@ -1,0 +1,10 @@
+//! What one expression means whose parts were read (clause 5): that of its production.
+#![tactic(auto)]
+
+mod asking;
+mod brackets;
+mod elaborating;
+mod open;
+
+pub use asking::whole;
+pub use elaborating::elaborate;
