@@ -1,0 +1,122 @@
+-- What is kept where it is asked which function a call means, and that what stops such a question is true.
+use Rattle.std.proofs.Common.{◌≡◌, ℕ, Bool, true, false, List, [], ◌∷◌, ◌++◌, Option, Some, None, Result, Ok, Err, refl, sym, ap, subst, ◌∙◌, ◌⊎◌, inl, inr}
+use Rattle.std.specs.List.{AllByRecursion}
+use Rattle.std.proofs.lemmas.List.{append-nil}
+use Rattle.cxx_model.specs.declared.evidence.Reason.{Reason}
+use Rattle.cxx_model.specs.declared.place.Place.{Place}
+use Rattle.cxx_model.specs.declared.fault.FaultText.TheVariants as says
+use Rattle.cxx_model.specs.declared.types.ClassId.{ClassId}
+use Rattle.cxx_model.specs.Facts.Declarations.{CxxGraph, CxxName, spelled}
+use Rattle.cxx_model.specs.Stops.{Answer, Stopped, Faulty}
+use Rattle.cxx_meaning.specs.Conversions.Asking.{Asked, ◌>>=◌}
+use Rattle.cxx_meaning.specs.Conversions.Standard.{CxxOperand}
+use Rattle.cxx_reading.specs.Initializers.{with_call}
+use Rattle.cxx_reading.specs.Reads.{Ahead}
+use Rattle.cxx_reading.specs.State.{CxxState, CxxCall}
+use Rattle.cxx_overload.specs.Calls.{CxxDecision, call_fault, call_of, decided}
+use Rattle.cxx_overload.specs.Candidates.{CxxCandidate, candidates}
+use Rattle.cxx_overload.specs.Choices.{position_of}
+use Rattle.cxx_overload.specs.Decided.{IsDecided, IsUndecided, NoneViable, IsAmbiguous}
+use Rattle.cxx_overload.specs.Sequences.{CxxSequence, sequences_of}
+use Rattle.cxx_overload.specs.Viability.{Rated, by_count, by_sequences, first_without, misfit, rated, rated_one}
+use Rattle.cxx_overload.specs.Words.{IsOutcome}
+use Rattle.cxx_language.specs.Answers.{called_as}
+use Rattle.cxx_language_laws.specs.Best.{IsBestCall, IsRatedSo, values_of}
+use Rattle.cxx_language_laws.specs.Told.{IsUnitCall, meant, operands, no_viable_function, ambiguous_call}
+use Rattle.cxx_language_laws.proofs.Later.{IsLater, grown_same, each_widened}
+use Rattle.cxx_language_laws.proofs.Reached.{Told, reached_here, IsChosen}
+use Rattle.cxx_language_laws.proofs.Scopes.{scopes_same}
+use Rattle.cxx_overload.proofs.Deciding.{decision_best, undecided_why}
+use Rattle.cxx_overload.proofs.Reasons.{outcome_is}
+use Rattle.cxx_language_laws.proofs.Tells.{ToldBy, tells_answer, tells_refusal}
+
+-- ---- why candidates are not viable
+
+abbrev AskedAre : {A : Type 0} → Asked A → Asked A → Type 0
+AskedAre one two = one ≡ two
+
+ok_is : {A : Type 0} (x y : A) → AskedAre (Ok x) (Ok y) → x ≡ y
+ok_is x y e = cc
+
+by_sequences_of : (candidate : CxxCandidate) (sequences : List CxxSequence) (missing : Option ℕ) → (by_sequences candidate sequences missing).candidate ≡ candidate
+by_sequences_of candidate sequences None = refl
+by_sequences_of candidate sequences (Some position) = refl
+
+sequences_rated : (candidate : CxxCandidate) (asked : Asked (List CxxSequence)) (one : Rated) → AskedAre (asked >>= λ sequences. Ok (by_sequences candidate sequences (first_without 1 sequences))) (Ok one) → one.candidate ≡ candidate
+sequences_rated candidate (Ok sequences) one e = ap (λ (r : Rated). r.candidate) (sym (ok_is _ one e)) ∙ by_sequences_of candidate sequences (first_without 1 sequences)
+sequences_rated candidate (Err class) one e = absurd cc
+
+count_rated : (graph : CxxGraph) (operands : List CxxOperand) (candidate : CxxCandidate) (fault : Option Reason) (one : Rated) → AskedAre (by_count graph operands candidate fault) (Ok one) → one.candidate ≡ candidate
+count_rated graph operands candidate (Some reason) one e = ap (λ (r : Rated). r.candidate) (sym (ok_is _ one e))
+count_rated graph operands candidate None one e = sequences_rated candidate (sequences_of graph operands candidate.parameters candidate.ellipsis) one e
+
+one_rated : (graph : CxxGraph) (operands : List CxxOperand) (candidate : CxxCandidate) (one : Rated) → rated_one graph operands candidate ≡ Ok one → one.candidate ≡ candidate
+unfolding rated_one
+one_rated graph operands candidate one e = count_rated graph operands candidate _ one e
+
+one_so : (graph : CxxGraph) (operands : List CxxOperand) (candidate : CxxCandidate) (one : Rated) → rated_one graph operands candidate ≡ Ok one → IsRatedSo graph operands one
+one_so graph operands candidate one e = subst (λ (c : CxxCandidate). IsOutcome graph operands c one.sequences one.outcome) (sym (one_rated graph operands candidate one e)) (outcome_is graph operands candidate one e)
+
+others_so : (graph : CxxGraph) (operands : List CxxOperand) (one : Rated) (later : Asked (List Rated)) (all : List Rated) → IsRatedSo graph operands one
+    → ((rest : List Rated) → later ≡ Ok rest → AllByRecursion (IsRatedSo graph operands) rest) → AskedAre (later >>= λ others. Ok (one ∷ others)) (Ok all) → AllByRecursion (IsRatedSo graph operands) all
+others_so graph operands one (Ok rest) all here behind e = subst (AllByRecursion (IsRatedSo graph operands)) (ok_is (one ∷ rest) all e) (here, behind rest refl)
+others_so graph operands one (Err class) all here behind e = absurd cc
+
+first_so : (graph : CxxGraph) (operands : List CxxOperand) (candidate : CxxCandidate) (first : Asked Rated) (later : Asked (List Rated)) (all : List Rated) → rated_one graph operands candidate ≡ first
+    → ((rest : List Rated) → later ≡ Ok rest → AllByRecursion (IsRatedSo graph operands) rest) → AskedAre (first >>= λ one. later >>= λ others. Ok (one ∷ others)) (Ok all) → AllByRecursion (IsRatedSo graph operands) all
+first_so graph operands candidate (Ok one) later all is behind e = others_so graph operands one later all (one_so graph operands candidate one is) behind e
+first_so graph operands candidate (Err class) later all is behind e = absurd cc
+
+-- each has its true reason
+pub rated_hold : (graph : CxxGraph) (operands : List CxxOperand) (some : List CxxCandidate) (all : List Rated) → rated graph operands some ≡ Ok all → AllByRecursion (IsRatedSo graph operands) all
+unfolding rated
+rated_hold graph operands [] all e = subst (AllByRecursion (IsRatedSo graph operands)) (ok_is [] all e) tt
+rated_hold graph operands (candidate ∷ others) all e = first_so graph operands candidate (rated_one graph operands candidate) (rated graph operands others) all refl (λ rest is. rated_hold graph operands others rest is) e
+
+-- ---- a call that is decided
+
+one_more_call : (state : CxxState) (call : CxxCall) → IsBestCall (with_call call state) call → (calls : List CxxCall) → AllByRecursion (IsBestCall (with_call call state)) calls → AllByRecursion (IsBestCall (with_call call state)) (calls ++ call ∷ [])
+one_more_call state call best [] all = (best, tt)
+one_more_call state call best (first ∷ calls) all = (all.0, one_more_call state call best calls all.1)
+
+call_added : (state : CxxState) (call : CxxCall) → IsBestCall (with_call call state) call → IsLater state (with_call call state)
+call_added state call best = record {
+  grown = grown_same state (with_call call state) refl;
+  scopes = scopes_same state (with_call call state) refl refl;
+  best = λ all. one_more_call state call best state.calls (each_widened state (with_call call state) (grown_same state (with_call call state) refl) state.calls all);
+}
+
+best_call : (state : CxxState) (new : CxxState) (place : Place) (operands : List CxxOperand) (scope : ℕ) (name : CxxName) (decision : CxxDecision) → new.graph ≡ state.graph → IsDecided place operands state.graph (values_of state.graph scope name) decision → IsBestCall new decision.call
+best_call state new place operands scope name decision same is = subst (IsBestCall new) (sym is.keeps) (record {
+  before = state.graph;
+  later = [];
+  stands = ap (λ (g : CxxGraph). g.facts) same ∙ sym (append-nil state.graph.facts);
+  scope = scope;
+  name = name;
+  all = is.all;
+  rated_so = is.rated_so;
+  reasons = rated_hold state.graph operands (candidates (values_of state.graph scope name)) is.all is.rated_so;
+  meant = is.meant;
+  best = is.best;
+  keeps = refl;
+})
+
+-- ---- a call that is not
+
+fault_told : (state : CxxState) (ahead : Ahead) (room : ℕ) (call : IsUnitCall room state ahead) (why : Stopped) → IsUndecided call.name.place (operands call) call.at.graph (meant call) why → Told state ahead why
+fault_told state ahead room call why (inl many) = subst (Told state ahead) (sym many.why_is) tt
+fault_told state ahead room call why (inr (inl class)) = subst (Told state ahead) (sym class.why_is) tt
+fault_told state ahead room call why (inr (inr (inl none))) = subst (Told state ahead) (sym none.why_is) (reached_here state ahead (IsChosen (record { place = call.name.place; text = says.NoViableFunction; evidence = none.lines })) (no_viable_function room call (subst (NoneViable call.name.place (operands call) call.at.graph (meant call)) none.why_is none)))
+fault_told state ahead room call why (inr (inr (inr tied))) = subst (Told state ahead) (sym tied.why_is) (reached_here state ahead (IsChosen (record { place = call.name.place; text = says.AmbiguousCall; evidence = tied.lines })) (ambiguous_call room call (subst (IsAmbiguous call.name.place (operands call) call.at.graph (meant call)) tied.why_is tied)))
+
+-- ---- the question of a call
+
+called_tells : (state : CxxState) (ahead rest : Ahead) (room : ℕ) (call : IsUnitCall room state ahead) (answer : Answer CxxDecision) → decided call.name.place (operands call) call.at.graph (meant call) ≡ answer
+    → ToldBy IsLater (λ t ahead' why. Told state ahead why) call.at rest (called_as call.at answer)
+called_tells state ahead rest room call (Ok one) is = tells_answer _ (call_added call.at one.call (best_call call.at (with_call one.call call.at) call.name.place (operands call) call.at.here.scope (spelled call.name.spelling) one refl (decision_best _ _ _ _ one is)))
+called_tells state ahead rest room call (Err why) is = tells_refusal why (fault_told state ahead room call why (undecided_why _ _ _ _ why is))
+
+-- in the state in which the arguments of the call are read
+pub call_asked_tells : (state : CxxState) (ahead rest : Ahead) (room : ℕ) (call : IsUnitCall room state ahead)
+    → ToldBy IsLater (λ t ahead' why. Told state ahead why) call.at rest (called_as call.at (decided call.name.place (operands call) call.at.graph (meant call)))
+call_asked_tells state ahead rest room call = called_tells state ahead rest room call (decided call.name.place (operands call) call.at.graph (meant call)) refl

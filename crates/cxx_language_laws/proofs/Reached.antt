@@ -1,0 +1,65 @@
+-- What is true of what stops a reader: it is true in a state and with tokens ahead that come later.
+use Rattle.std.proofs.Common.{◌≡◌, refl, sym, subst}
+use Rattle.std.specs.Prelude.{ℕ, List, []}
+use Rattle.cxx_model.specs.declared.stop.Fault.{Fault}
+use Rattle.cxx_model.specs.Stops.{Stopped, Faulty, Limited}
+use Rattle.cxx_reading.specs.Reads.{Ahead}
+use Rattle.cxx_reading.specs.State.{CxxState}
+use Rattle.cxx_language_laws.specs.Told.{EndsIn, IsChoiceFault, IsUnknown}
+use Rattle.cxx_language_laws.proofs.Later.{IsLater, later_is_kept}
+use Rattle.cxx_language_laws.proofs.Tells.{Saying, choosing, undeclared, nothing, saying, IsQuiet, IsTold, whole_stands, ends_later}
+
+pub record Reached (state : CxxState) (ahead : Ahead) (P : CxxState → Ahead → Type 0) : Type 0 where
+  pub at : CxxState
+  pub rest : Ahead
+  pub later : IsLater state at
+  pub stands : EndsIn ahead.tokens rest.tokens
+  pub is : P at rest
+
+pub reached_here : (state : CxxState) (ahead : Ahead) (P : CxxState → Ahead → Type 0) → P state ahead → Reached state ahead P
+reached_here state ahead P is = record { at = state; rest = ahead; later = later_is_kept.same state; stands = whole_stands ahead.tokens; is = is }
+
+reached_sooner : (s t : CxxState) (ahead rest : Ahead) (P : CxxState → Ahead → Type 0) → IsLater s t → EndsIn ahead.tokens rest.tokens → Reached t rest P → Reached s ahead P
+reached_sooner s t ahead rest P first stands told = record {
+  at = told.at;
+  rest = told.rest;
+  later = later_is_kept.later s t told.at first told.later;
+  stands = ends_later ahead.tokens rest.tokens told.rest.tokens stands told.stands;
+  is = told.is;
+}
+
+pub record IsUndeclared (fault : Fault) (word : List ℕ) (at : CxxState) (rest : Ahead) : Type 0 where
+  pub is : IsUnknown at rest fault word
+  pub bare : fault.evidence ≡ []
+
+abbrev pub IsChosen : Fault → CxxState → Ahead → Type 0
+IsChosen fault at rest = IsChoiceFault at rest fault
+
+abbrev pub ToldSo : CxxState → Ahead → Fault → Saying → Type 0
+ToldSo state ahead fault choosing = Reached state ahead (IsChosen fault)
+ToldSo state ahead fault (undeclared word) = Reached state ahead (IsUndeclared fault word)
+ToldSo state ahead fault nothing = Unit {0}
+
+abbrev pub Told : CxxState → Ahead → Stopped → Type 0
+Told state ahead (Faulty fault) = ToldSo state ahead fault (saying fault.text)
+Told state ahead (Limited kind) = Unit {0}
+
+quiet_told : (state : CxxState) (ahead : Ahead) (why : Stopped) → IsQuiet why → Told state ahead why
+quiet_told state ahead (Faulty fault) quiet = subst (ToldSo state ahead fault) (sym quiet) tt
+quiet_told state ahead (Limited kind) quiet = tt
+
+so_sooner : (s t : CxxState) (ahead rest : Ahead) (fault : Fault) (what : Saying) → IsLater s t → EndsIn ahead.tokens rest.tokens → ToldSo t rest fault what → ToldSo s ahead fault what
+so_sooner s t ahead rest fault choosing first stands told = reached_sooner s t ahead rest (IsChosen fault) first stands told
+so_sooner s t ahead rest fault (undeclared word) first stands told = reached_sooner s t ahead rest (IsUndeclared fault word) first stands told
+so_sooner s t ahead rest fault nothing first stands told = tt
+
+told_sooner : (s t : CxxState) (ahead rest : Ahead) (why : Stopped) → IsLater s t → EndsIn ahead.tokens rest.tokens → Told t rest why → Told s ahead why
+told_sooner s t ahead rest (Faulty fault) first stands told = so_sooner s t ahead rest fault (saying fault.text) first stands told
+told_sooner s t ahead rest (Limited kind) first stands told = tt
+
+pub later_is_told : IsTold IsLater Told
+later_is_told = record { keeps = later_is_kept; quiet = quiet_told; sooner = told_sooner }
+
+-- what is true of a stop in one state and with these tokens ahead, wherever that comes
+pub later_is_told_of : (state : CxxState) (ahead : Ahead) → IsTold IsLater (λ t rest why. Told state ahead why)
+later_is_told_of state ahead = record { keeps = later_is_kept; quiet = λ t rest why quiet. quiet_told state ahead why quiet; sooner = λ s t one two why first stands told. told }

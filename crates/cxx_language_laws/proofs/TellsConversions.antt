@@ -1,0 +1,72 @@
+-- What literals, conversions and sizes keep of the state, and what stops them.
+use Rattle.std.proofs.Common.{◌≡◌, refl}
+use Rattle.std.specs.Prelude.{ℕ, Bool, true, false, if◌then◌else◌, List, [], ◌∷◌, ◌++◌, Option, Some, None, Result, Ok, Err}
+use Rattle.cxx_model.specs.declared.fault.FaultText.{FaultText}
+use Rattle.cxx_model.specs.declared.place.Place.{Place}
+use Rattle.cxx_model.specs.Stops.{Stopped}
+use Rattle.cxx_model.specs.Types.Trees.{CxxType}
+use Rattle.cxx_meaning.specs.declared.size.SizeReason.{SizeReason}
+use Rattle.cxx_meaning.specs.declared.size.SizeReason.TheVariants as reason
+use Rattle.cxx_meaning.specs.Conversions.Asking.{Asked}
+use Rattle.cxx_meaning.specs.Conversions.Kinds.{is_array, kind_of}
+use Rattle.cxx_meaning.specs.Conversions.Sizes.{referred}
+use Rattle.cxx_meaning.specs.Conversions.Standard.{CxxOperand, CxxStandard, is_class}
+use Rattle.cxx_reading.specs.Reads.{Ahead}
+use Rattle.cxx_reading.specs.State.{CxxState}
+use Rattle.cxx_reading.specs.Trees.{CxxTree}
+use Rattle.cxx_expr.specs.Converting.{by_step, by_sequence, sequence_to, convert_known, stays, convert, types_after, convert_next, convert_more, convert_each}
+use Rattle.cxx_expr.specs.Literals.{literal_by, literal, operand_of_literal}
+use Rattle.cxx_expr.specs.Operands.{given_over}
+use Rattle.cxx_expr.specs.Questions.{Questions}
+use Rattle.cxx_expr.specs.SizesOf.{measured, no_size_text, size_tree, size_by, size}
+use Rattle.cxx_language_laws.proofs.QuestionsTell.{QuestionsTell, quiet_by, same_by, if_by, then_by, give_by}
+use Rattle.cxx_language_laws.proofs.Tells.{IsTold, Answers, saying, nothing}
+use Rattle.cxx_language_laws.proofs.TellsSyntax.{quiet_if}
+
+-- ---- literals
+
+literal_by_tells : {kept : CxxState → CxxState → Type 0} {told : CxxState → Ahead → Stopped → Type 0} → IsTold kept told → (tree : CxxTree) (operand : Option CxxOperand) → Answers kept told (literal_by tree operand)
+literal_by_tells is tree None state ahead = quiet_by is refl
+literal_by_tells is tree (Some operand) state ahead = same_by is (given_over tree operand []) state ahead
+
+pub literal_tells : {kept : CxxState → CxxState → Type 0} {told : CxxState → Ahead → Stopped → Type 0} → IsTold kept told → (tree : CxxTree) → Answers kept told (literal tree)
+unfolding literal
+literal_tells is tree = literal_by_tells is tree (operand_of_literal tree.label.spelling)
+
+-- ---- conversions
+
+by_sequence_tells : {kept : CxxState → CxxState → Type 0} {told : CxxState → Ahead → Stopped → Type 0} → IsTold kept told → (place : Place) (of : CxxType) (tree : CxxTree) (found : Asked (Option CxxStandard)) → Answers kept told (by_sequence place of tree found)
+by_sequence_tells is place of tree (Ok (Some sequence)) state ahead = same_by is (by_step of tree sequence.second) state ahead
+by_sequence_tells is place of tree (Ok None) state ahead = quiet_by is refl
+by_sequence_tells is place of tree (Err class) state ahead = quiet_by is refl
+
+pub convert_tells : {kept : CxxState → CxxState → Type 0} {told : CxxState → Ahead → Stopped → Type 0} → IsTold kept told → (q : Questions) (place : Place) (of : CxxType) (tree : CxxTree) → Answers kept told (convert q place of tree)
+unfolding convert convert_known
+convert_tells is q place of tree state ahead = if_by (stays of tree) (same_by is tree state ahead) (by_sequence_tells is place of tree (sequence_to q of tree state) state ahead)
+
+convert_next_tells : {kept : CxxState → CxxState → Type 0} {told : CxxState → Ahead → Stopped → Type 0} → IsTold kept told → (q : Questions) (place : Place) (types : List CxxType) (tree : CxxTree) → Answers kept told (convert_next q place types tree)
+convert_next_tells is q place [] tree = give_by is tree
+convert_next_tells is q place (of ∷ types) tree = convert_tells is q place of tree
+
+convert_more_tells : {kept : CxxState → CxxState → Type 0} {told : CxxState → Ahead → Stopped → Type 0} → IsTold kept told → (q : Questions) (place : Place) (types : List CxxType) (done : List CxxTree) (tree : CxxTree) → Answers kept told (convert_more q place types done tree)
+unfolding convert_more
+convert_more_tells is q place types done tree state ahead = then_by is (convert_next_tells is q place types tree state ahead) (λ next. give_by is (done ++ next ∷ []))
+
+pub convert_each_tells : {kept : CxxState → CxxState → Type 0} {told : CxxState → Ahead → Stopped → Type 0} → IsTold kept told → (q : Questions) (place : Place) (types : List CxxType) (done trees : List CxxTree) → Answers kept told (convert_each q place types done trees)
+unfolding convert_each
+convert_each_tells is q place types done [] state ahead = give_by is done state ahead
+convert_each_tells is q place types done (tree ∷ trees) state ahead = then_by is (convert_more_tells is q place types done tree state ahead) (λ more. convert_each_tells is q place (types_after types) more trees)
+
+-- ---- sizes
+
+no_size_quiet : (of : CxxType) → saying (no_size_text of) ≡ nothing
+no_size_quiet of = quiet_if (is_array of) _ _ refl (quiet_if (is_class (kind_of of)) _ _ refl refl)
+
+size_by_tells : {kept : CxxState → CxxState → Type 0} {told : CxxState → Ahead → Stopped → Type 0} → IsTold kept told → (tree : CxxTree) (of : CxxType) (found : Result ℕ SizeReason) → Answers kept told (size_by tree of found)
+size_by_tells is tree of (Ok n) state ahead = give_by is (size_tree tree n) state ahead
+size_by_tells is tree of (Err reason.TooLarge) state ahead = quiet_by is refl
+size_by_tells is tree of (Err reason.NoSize) state ahead = quiet_by is (no_size_quiet (referred of))
+
+pub size_tells : {kept : CxxState → CxxState → Type 0} {told : CxxState → Ahead → Stopped → Type 0} → IsTold kept told → {q : Questions} → QuestionsTell kept told q → (tree : CxxTree) → Answers kept told (size q tree)
+unfolding size
+size_tells is asks tree state ahead = then_by is (asks.size (measured tree state) state ahead) (size_by_tells is tree (measured tree state))

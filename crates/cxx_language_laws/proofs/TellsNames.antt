@@ -1,0 +1,120 @@
+-- What names and calls keep of the state, and what stops them.
+use Rattle.std.proofs.Common.{◌≡◌, refl, sym, subst}
+use Rattle.std.specs.Prelude.{Bool, true, false, if◌then◌else◌, ℕ, zero, suc, ◌+◌, ◌-◌, List, [], ◌∷◌, ◌++◌, length, Option, Some, None, Ok, Err}
+use Rattle.cxx_model.specs.declared.place.Place.{Place}
+use Rattle.cxx_model.specs.Facts.Declarations as facts
+use Rattle.cxx_model.specs.Facts.Declarations.{CxxGraph, Declares}
+use Rattle.cxx_model.specs.Facts.Entities.{first_or}
+use Rattle.cxx_model.specs.declared.fault.FaultText.TheVariants as says
+use Rattle.cxx_model.specs.Stops.{Stopped, fault, not_built_at, undeclared_at}
+use Rattle.cxx_expr.specs.Asking.{then_asked}
+use Rattle.cxx_model.specs.Types.Trees.{CxxType}
+use Rattle.cxx_meaning.specs.Lookups.Wanted.{is_function}
+use Rattle.cxx_reading.specs.Reads.{Ahead}
+use Rattle.cxx_reading.specs.Seen.{Numbered}
+use Rattle.cxx_reading.specs.State.{CxxState}
+use Rattle.cxx_reading.specs.Trees.{CxxPathPart, CxxTree, Label}
+use Rattle.cxx_expr.specs.Calls.{fallback_more, fallbacks, chosen_tree, chosen_call, question, function_call, Signature, fits_count, through_tree, through_signature, through_counted, no_callee, through_by, signature_by, through, called_label, without_name, value_call, called_first, called, name_call}
+use Rattle.cxx_expr.specs.Names.{Means, are_one_function, means_enumerator, means_first, means_function, means_object, means_value, meant_by, named, named_tree, path_in, values_among, word_in}
+use Rattle.cxx_expr.specs.Operands.{is_of_class}
+use Rattle.cxx_expr.specs.Questions.{CxxChosen, Questions}
+use Rattle.cxx_reading.specs.Initializers.{operand_of}
+use Rattle.cxx_meaning.specs.Conversions.BuiltIn.{operand_kind}
+use Rattle.cxx_language_laws.proofs.QuestionsTell.{QuestionsTell, quiet_by, same_by, if_by, then_by, then_by_from, from_by, give_by}
+use Rattle.cxx_language_laws.proofs.Tells.{IsTold, IsQuiet, ToldBy, tells_refusal, Answers}
+use Rattle.cxx_language_laws.proofs.TellsConversions.{convert_each_tells}
+
+-- ---- names
+
+means_function_tells : {kept : CxxState → CxxState → Type 0} {told : CxxState → Ahead → Stopped → Type 0} → IsTold kept told → (place : Place) (graph : CxxGraph) (target : ℕ) (own : CxxType) (all : List Numbered) → Answers kept told (means_function place graph target own all)
+means_function_tells is place graph target own all state ahead = if_by (are_one_function target all) (same_by is (means_object graph target own) state ahead) (quiet_by is refl)
+
+means_first_tells : {kept : CxxState → CxxState → Type 0} {told : CxxState → Ahead → Stopped → Type 0} → IsTold kept told → (place : Place) (graph : CxxGraph) (list : Option ℕ) (all : List Numbered) (number : ℕ) (what : Declares) → Answers kept told (means_first place graph list all number what)
+means_first_tells is place graph list all number (facts.object of kind is_mutable value first) state ahead = give_by is (means_object graph (first_or number first) of) state ahead
+means_first_tells is place graph list all number (facts.enumerator n value) state ahead = give_by is (means_enumerator list number n value) state ahead
+means_first_tells is place graph list all number (facts.function of kind flags defaults first) state ahead = means_function_tells is place graph (first_or number first) of all state ahead
+means_first_tells is place graph list all number _ state ahead = quiet_by is refl
+
+-- a name that has no declarations at all is told of
+means_value_tells : {kept : CxxState → CxxState → Type 0} {told : CxxState → Ahead → Stopped → Type 0} → IsTold kept told → (part : CxxPathPart) (place : Place) (all values : List Numbered) (state : CxxState) (ahead : Ahead) → (all ≡ [] → told state ahead (undeclared_at part.place part.word)) → ToldBy kept told state ahead (means_value part place all values state)
+means_value_tells is part place [] [] state ahead unknown = tells_refusal _ (unknown refl)
+means_value_tells is part place (one ∷ others) [] state ahead unknown = quiet_by is refl
+means_value_tells is part place all (one ∷ others) state ahead unknown = means_first_tells is place state.graph state.here.enumeration (one ∷ others) one.number one.fact.what state ahead
+
+pub named_tells : {kept : CxxState → CxxState → Type 0} {told : CxxState → Ahead → Stopped → Type 0} → IsTold kept told → {q : Questions} → QuestionsTell kept told q → (label : Label) (all : List Numbered) (state : CxxState) (ahead : Ahead) → (all ≡ [] → told state ahead (undeclared_at (word_in label).place (word_in label).word)) → ToldBy kept told state ahead (named q label all state)
+unfolding named meant_by
+named_tells is asks label all state ahead unknown = then_by is (means_value_tells is (word_in label) label.place all (values_among state.graph all) state ahead unknown) (λ means state ahead. then_by is (asks.bound label.place means.target state ahead) (λ noted. give_by is (named_tree label means)))
+
+-- ---- what is called by an expression
+
+through_signature_tells : {kept : CxxState → CxxState → Type 0} {told : CxxState → Ahead → Stopped → Type 0} → IsTold kept told → (q : Questions) (tree callee : CxxTree) (arguments : List CxxTree) (signature : Signature) → Answers kept told (through_signature q tree callee arguments signature)
+unfolding through_signature
+through_signature_tells is q tree callee arguments signature state ahead = then_by is (convert_each_tells is q tree.label.start signature.parameters (callee ∷ []) arguments state ahead) (λ parts. give_by is (through_tree tree signature.result parts))
+
+through_counted_tells : {kept : CxxState → CxxState → Type 0} {told : CxxState → Ahead → Stopped → Type 0} → IsTold kept told → (q : Questions) (tree callee : CxxTree) (arguments : List CxxTree) (signature : Signature) → Answers kept told (through_counted q tree callee arguments signature)
+through_counted_tells is q tree callee arguments signature state ahead = if_by (fits_count signature (length arguments)) (through_signature_tells is q tree callee arguments signature state ahead) (quiet_by is refl)
+
+no_callee_tells : {A : Type 0} → {kept : CxxState → CxxState → Type 0} {told : CxxState → Ahead → Stopped → Type 0} → IsTold kept told → (start : Place) (callee : CxxTree) (state : CxxState) (ahead : Ahead) → ToldBy {A = A} kept told state ahead (Err (no_callee start callee))
+no_callee_tells {kept = kept} {told = told} is start callee state ahead = quiet_by is (by (is_of_class callee))
+  where
+    by : (b : Bool) → IsQuiet (if b then not_built_at start else fault start says.OperandsDoNotFit)
+    by true = refl
+    by false = refl
+
+through_by_tells : {kept : CxxState → CxxState → Type 0} {told : CxxState → Ahead → Stopped → Type 0} → IsTold kept told → (q : Questions) (tree callee : CxxTree) (arguments : List CxxTree) (signature : Option Signature) → Answers kept told (through_by q tree callee arguments signature)
+through_by_tells is q tree callee arguments (Some signature) state ahead = through_counted_tells is q tree callee arguments signature state ahead
+through_by_tells is q tree callee arguments None state ahead = no_callee_tells is tree.label.start callee state ahead
+
+pub through_tells : {kept : CxxState → CxxState → Type 0} {told : CxxState → Ahead → Stopped → Type 0} → IsTold kept told → (q : Questions) (tree callee : CxxTree) (arguments : List CxxTree) → Answers kept told (through q tree callee arguments)
+unfolding through
+through_tells is q tree callee arguments = through_by_tells is q tree callee arguments (signature_by (operand_kind (operand_of callee)))
+
+-- ---- what is called by its name
+
+fallback_more_tells : {kept : CxxState → CxxState → Type 0} {told : CxxState → Ahead → Stopped → Type 0} → IsTold kept told → {q : Questions} → QuestionsTell kept told q → (target index : ℕ) (done : List CxxTree) → Answers kept told (fallback_more q target index done)
+unfolding fallback_more
+fallback_more_tells is asks target index done state ahead = then_by is (asks.fallback target index state ahead) (λ next. give_by is (done ++ next ∷ []))
+
+fallbacks_tell : {kept : CxxState → CxxState → Type 0} {told : CxxState → Ahead → Stopped → Type 0} → IsTold kept told → {q : Questions} → QuestionsTell kept told q → (target index : ℕ) (done : List CxxTree) (count : ℕ) → Answers kept told (fallbacks q target index done count)
+unfolding fallbacks
+fallbacks_tell is asks target index done zero state ahead = give_by is done state ahead
+fallbacks_tell is asks target index done (suc count) state ahead = then_by is (fallback_more_tells is asks target index done state ahead) (λ more. fallbacks_tell is asks target (index + 1) more count)
+
+chosen_call_tells : {kept : CxxState → CxxState → Type 0} {told : CxxState → Ahead → Stopped → Type 0} → IsTold kept told → {q : Questions} → QuestionsTell kept told q → (tree : CxxTree) (arguments : List CxxTree) (chosen : CxxChosen) → Answers kept told (chosen_call q tree arguments chosen)
+unfolding chosen_call
+chosen_call_tells is {q = q} asks tree arguments chosen state ahead = then_by is (asks.bound tree.label.place chosen.target state ahead) (λ noted state ahead. then_by is (convert_each_tells is q tree.label.place chosen.parameters [] arguments state ahead) (λ given state ahead. then_by is (fallbacks_tell is asks chosen.target (length arguments) given (length chosen.parameters - length arguments) state ahead) (λ all. give_by is (chosen_tree tree chosen all))))
+
+-- what is asked of the called name, where it has these declarations
+abbrev pub AskedOf : (CxxState → CxxState → Type 0) → (CxxState → Ahead → Stopped → Type 0) → Questions → CxxTree → List CxxTree → List Numbered → CxxState → Ahead → Type 0
+AskedOf kept told q tree arguments all state ahead = ToldBy kept told state ahead (q.call (question q tree.label (values_among state.graph all) arguments state) state)
+
+value_call_tells : {kept : CxxState → CxxState → Type 0} {told : CxxState → Ahead → Stopped → Type 0} → IsTold kept told → {q : Questions} → QuestionsTell kept told q → (tree : CxxTree) (all : List Numbered) (arguments : List CxxTree) (state : CxxState) (ahead : Ahead) → (all ≡ [] → told state ahead (undeclared_at (word_in tree.label).place (word_in tree.label).word)) → ToldBy kept told state ahead (value_call q tree all arguments state)
+unfolding value_call
+value_call_tells is {q = q} asks tree all arguments state ahead unknown = then_by is (named_tells is asks (called_label tree.label arguments) all state ahead unknown) (λ callee. through_tells is q (without_name tree) callee arguments)
+
+function_call_tells : {kept : CxxState → CxxState → Type 0} {told : CxxState → Ahead → Stopped → Type 0} → IsTold kept told → {q : Questions} → QuestionsTell kept told q → (tree : CxxTree) (functions : List Numbered) (arguments : List CxxTree) (state : CxxState) (ahead : Ahead) → ToldBy kept told state ahead (q.call (question q tree.label functions arguments state) state) → ToldBy kept told state ahead (function_call q tree functions arguments state)
+unfolding function_call
+function_call_tells is asks tree functions arguments state ahead answered = then_by is answered (chosen_call_tells is asks tree arguments)
+
+called_first_tells : {kept : CxxState → CxxState → Type 0} {told : CxxState → Ahead → Stopped → Type 0} → IsTold kept told → {q : Questions} → QuestionsTell kept told q → (tree : CxxTree) (all : List Numbered) (arguments : List CxxTree) (values : List Numbered) (state : CxxState) (ahead : Ahead) → (all ≡ [] → told state ahead (undeclared_at (word_in tree.label).place (word_in tree.label).word))
+    → ToldBy kept told state ahead (q.call (question q tree.label values arguments state) state) → ToldBy kept told state ahead (called_first q tree all arguments values state)
+called_first_tells is asks tree all arguments [] state ahead unknown answered = value_call_tells is asks tree all arguments state ahead unknown
+called_first_tells is asks tree all arguments (one ∷ others) state ahead unknown answered = if_by (is_function state.graph one.fact.what) (function_call_tells is asks tree (one ∷ others) arguments state ahead answered) (value_call_tells is asks tree all arguments state ahead unknown)
+
+called_tells : {kept : CxxState → CxxState → Type 0} {told : CxxState → Ahead → Stopped → Type 0} → IsTold kept told → {q : Questions} → QuestionsTell kept told q → (tree : CxxTree) (arguments : List CxxTree) (all : List Numbered) (state : CxxState) (ahead : Ahead) → (all ≡ [] → told state ahead (undeclared_at (word_in tree.label).place (word_in tree.label).word))
+    → AskedOf kept told q tree arguments all state ahead → ToldBy kept told state ahead (called q tree arguments all state)
+unfolding called
+called_tells is asks tree arguments all state ahead unknown answered = called_first_tells is asks tree all arguments (values_among state.graph all) state ahead unknown answered
+
+-- what is known of the answer to the question of a name
+pub record NameTells (kept : CxxState → CxxState → Type 0) (told : CxxState → Ahead → Stopped → Type 0) (q : Questions) (label : Label) (state : CxxState) (ahead : Ahead) : Type 0 where
+  pub answers : ToldBy kept told state ahead (q.name (path_in label) state)
+  pub unknown : (one : List Numbered × CxxState) → q.name (path_in label) state ≡ Ok one → one.0 ≡ [] → told one.1 ahead (undeclared_at (word_in label).place (word_in label).word)
+
+pub name_call_tells : {kept : CxxState → CxxState → Type 0} {told : CxxState → Ahead → Stopped → Type 0} → IsTold kept told → {q : Questions} → QuestionsTell kept told q → (tree : CxxTree) (arguments : List CxxTree) (state : CxxState) (ahead : Ahead) → NameTells kept told q tree.label state ahead
+    → ((one : List Numbered × CxxState) → q.name (path_in tree.label) state ≡ Ok one → AskedOf kept told q tree arguments one.0 one.1 ahead) → ToldBy kept told state ahead (name_call q tree arguments state)
+unfolding name_call
+name_call_tells is {q = q} asks tree arguments state ahead name calls = then_by_from (called q tree arguments) name.answers (λ one is_so keeps. from_by is state one.1 ahead keeps (called_tells is asks tree arguments one.0 one.1 ahead (name.unknown one is_so) (calls one is_so)))
+
+pub name_alone_tells : {kept : CxxState → CxxState → Type 0} {told : CxxState → Ahead → Stopped → Type 0} → IsTold kept told → {q : Questions} → QuestionsTell kept told q → (label : Label) (state : CxxState) (ahead : Ahead) → NameTells kept told q label state ahead → ToldBy kept told state ahead (then_asked (q.name (path_in label) state) (named q label))
+name_alone_tells is {q = q} asks label state ahead name = then_by_from (named q label) name.answers (λ one is_so keeps. from_by is state one.1 ahead keeps (named_tells is asks label one.0 one.1 ahead (name.unknown one is_so)))

@@ -1,0 +1,141 @@
+-- What the readers of postfix and unary expressions and of casts keep of the state, and what stops them.
+use Rattle.std.proofs.Common.{◌≡◌, refl}
+use Rattle.std.specs.Prelude.{Bool, true, false, List, [], ◌∷◌, Option, Some, None, codes}
+use Rattle.cxx_model.specs.declared.keyword.TheConstants as keyword
+use Rattle.cxx_model.specs.declared.punct.TheConstants as punct
+use Rattle.cxx_model.specs.declared.tree.Kind.{Kind}
+use Rattle.cxx_model.specs.declared.tree.Kind.TheVariants as kind
+use Rattle.cxx_model.specs.Stops.{Answer, Stopped}
+use Rattle.cxx_model.specs.Text.Lexemes.{Lexeme}
+use Rattle.cxx_phrases.specs.declared.level.Level.TheVariants as level
+use Rattle.cxx_phrases.specs.declared.shape.TypeShape.{TypeShape}
+use Rattle.cxx_phrases.specs.declared.shape.TypeShape.TheVariants as shape
+use Rattle.cxx_phrases.specs.Brackets.{called_name}
+use Rattle.cxx_phrases.specs.Forms.{called_tree, subscript_tree, step_tree, prefix_tree, size_tree, cast_tree}
+use Rattle.cxx_phrases.specs.Operands.{call_step, subscript_step, step_step, postfix_step, postfixes_at, cast_at, parenthesis_part, cast_by, cast_or_parenthesis, called_part, called_by, called_or_not, bracket_by, bracket_at, prefix_at, size_at, primary_part, operand_at, sized_operand, sized_type, sized_by, sized_at}
+use Rattle.cxx_phrases.specs.Operators.{is_prefix, is_step, is_member_access, operator_ahead}
+use Rattle.cxx_phrases.specs.Phrases.{Phrases, Inner}
+use Rattle.cxx_reading.specs.Reads.{Ahead, Got, More, Done, give, then_read, beside, count_ahead, kind_ahead, behind}
+use Rattle.cxx_reading.specs.Specifiers.{path_of}
+use Rattle.cxx_reading.specs.Tokens.{is_name, is_punct, is_keyword, punct_taken}
+use Rattle.cxx_reading.specs.Trees.{CxxTree}
+use Rattle.cxx_language_laws.specs.Told.{EndsIn}
+use Rattle.cxx_language_laws.proofs.PhrasesTell.{PhrasesTell, InnerTell, asked_in}
+use Rattle.cxx_language_laws.proofs.Tells.{IsTold, ToldIn, Tells, quiet_in, if_in, past_in, then_in, ask_in, same_in, repeat_tells, taken_in, looked_in, punct_in, give_in, returned_in, tokens_in, unit_is_told}
+use Rattle.cxx_language_laws.proofs.TellsBrackets.{NameIn, stops_quietly, finds_none, finds_name, called_name_finds, begins_cast_tells}
+use Rattle.cxx_language_laws.proofs.TellsPrimary.{arguments_tell, called_tells, parenthesis_tells, primary_tells}
+
+-- ---- postfix expressions
+
+call_step_tells : {S : Type 0} {kept : S → S → Type 0} {told : S → Ahead → Stopped → Type 0} → IsTold kept told → {asks : Phrases S} {inner : Inner S} → PhrasesTell kept told asks inner → InnerTell kept told inner → (from : Ahead) (function : CxxTree) → Tells kept told (call_step asks inner from function)
+unfolding call_step
+call_step_tells is asks inner from function state ahead = then_in is (arguments_tell is asks inner state ahead) (λ arguments state ahead. then_in is (looked_in is state ahead) (λ to state ahead. then_in is (ask_in ahead (asks.whole (called_tree function arguments from to) (refl, refl) state ahead)) (λ tree. give_in is (More tree))))
+
+subscript_step_tells : {S : Type 0} {kept : S → S → Type 0} {told : S → Ahead → Stopped → Type 0} → IsTold kept told → {asks : Phrases S} {inner : Inner S} → PhrasesTell kept told asks inner → InnerTell kept told inner → (from : Ahead) (object : CxxTree) → Tells kept told (subscript_step asks inner from object)
+unfolding subscript_step
+subscript_step_tells is asks inner from object state ahead = then_in is (taken_in is state ahead) (λ place state ahead. then_in is (inner.expression level.Whole state ahead) (λ index state ahead. then_in is (tokens_in is (punct_in unit_is_told punct.RIGHT_BRACKET) state ahead) (λ closed state ahead. then_in is (looked_in is state ahead) (λ to state ahead. then_in is (ask_in ahead (asks.whole (subscript_tree place object index from to) (refl, refl) state ahead)) (λ tree. give_in is (More tree))))))
+
+step_step_tells : {S : Type 0} {kept : S → S → Type 0} {told : S → Ahead → Stopped → Type 0} → IsTold kept told → {asks : Phrases S} {inner : Inner S} → PhrasesTell kept told asks inner → InnerTell kept told inner → (from : Ahead) (operand : CxxTree) → Tells kept told (step_step asks from operand)
+unfolding step_step
+step_step_tells is asks inner from operand state ahead = then_in is (looked_in is state ahead) (λ at state ahead. then_in is (taken_in is state ahead) (λ place state ahead. then_in is (looked_in is state ahead) (λ to state ahead. then_in is (ask_in ahead (asks.whole (step_tree (operator_ahead at) place operand from to) (refl, refl) state ahead)) (λ tree. give_in is (More tree)))))
+
+postfix_step_tells : {S : Type 0} {kept : S → S → Type 0} {told : S → Ahead → Stopped → Type 0} → IsTold kept told → {asks : Phrases S} {inner : Inner S} → PhrasesTell kept told asks inner → InnerTell kept told inner → (from : Ahead) (so_far : CxxTree) → Tells kept told (postfix_step asks inner from so_far)
+unfolding postfix_step
+postfix_step_tells is asks inner from so_far state ahead =
+    if_in (is_punct punct.LEFT_PARENTHESIS (kind_ahead ahead)) (call_step_tells is asks inner from so_far state ahead) (
+    if_in (is_punct punct.LEFT_BRACKET (kind_ahead ahead)) (subscript_step_tells is asks inner from so_far state ahead) (
+    if_in (is_step (kind_ahead ahead)) (step_step_tells is asks inner from so_far state ahead) (
+    if_in (is_member_access (kind_ahead ahead)) (quiet_in is refl) (same_in is (Done so_far) state ahead))))
+
+pub postfixes_tell : {S : Type 0} {kept : S → S → Type 0} {told : S → Ahead → Stopped → Type 0} → IsTold kept told → {asks : Phrases S} {inner : Inner S} → PhrasesTell kept told asks inner → InnerTell kept told inner → (from : Ahead) (first : CxxTree) → Tells kept told (postfixes_at asks inner from first)
+unfolding postfixes_at
+postfixes_tell is {asks = a} {inner = i} asks inner from first state ahead = repeat_tells is (postfix_step a i from) give (postfix_step_tells is asks inner from) (give_in is) (count_ahead ahead) first state ahead
+
+-- ---- brackets
+
+cast_tells : {S : Type 0} {kept : S → S → Type 0} {told : S → Ahead → Stopped → Type 0} → IsTold kept told → {asks : Phrases S} {inner : Inner S} → PhrasesTell kept told asks inner → InnerTell kept told inner → Tells kept told (cast_at asks inner)
+unfolding cast_at
+cast_tells is asks inner state ahead = then_in is (looked_in is state ahead) (λ from state ahead. then_in is (taken_in is state ahead) (λ opened state ahead. then_in is (inner.type_id state ahead) (λ of state ahead. then_in is (tokens_in is (punct_in unit_is_told punct.RIGHT_PARENTHESIS) state ahead) (λ closed state ahead. then_in is (inner.expression level.Operand state ahead) (λ operand state ahead. then_in is (looked_in is state ahead) (λ to state ahead. ask_in ahead (asks.whole (cast_tree (codes "(") of operand from to) (refl, refl) state ahead)))))))
+
+parenthesis_part_tells : {S : Type 0} {kept : S → S → Type 0} {told : S → Ahead → Stopped → Type 0} → IsTold kept told → {asks : Phrases S} {inner : Inner S} → PhrasesTell kept told asks inner → InnerTell kept told inner → Tells kept told (parenthesis_part asks inner)
+unfolding parenthesis_part
+parenthesis_part_tells is asks inner state ahead = then_in is (parenthesis_tells is asks inner state ahead) (postfixes_tell is asks inner ahead)
+
+cast_by_tells : {S : Type 0} {kept : S → S → Type 0} {told : S → Ahead → Stopped → Type 0} → IsTold kept told → {asks : Phrases S} {inner : Inner S} → PhrasesTell kept told asks inner → InnerTell kept told inner → (casts : Bool) → Tells kept told (cast_by asks inner casts)
+cast_by_tells is asks inner true state ahead = cast_tells is asks inner state ahead
+cast_by_tells is asks inner false state ahead = parenthesis_part_tells is asks inner state ahead
+
+cast_or_parenthesis_tells : {S : Type 0} {kept : S → S → Type 0} {told : S → Ahead → Stopped → Type 0} → IsTold kept told → {asks : Phrases S} {inner : Inner S} → PhrasesTell kept told asks inner → InnerTell kept told inner → Tells kept told (cast_or_parenthesis asks inner)
+unfolding cast_or_parenthesis
+cast_or_parenthesis_tells is asks inner state ahead = then_in is (begins_cast_tells is inner state ahead) (cast_by_tells is asks inner)
+
+-- a name that stands in brackets, with what is ahead of its arguments
+called_part_tells : {S : Type 0} {kept : S → S → Type 0} {told : S → Ahead → Stopped → Type 0} → IsTold kept told → {asks : Phrases S} {inner : Inner S} → PhrasesTell kept told asks inner → InnerTell kept told inner → (state : S) (ahead rest : Ahead) (name : Lexeme) (others : List Lexeme) → EndsIn ahead.tokens (name ∷ others) → EndsIn others rest.tokens → is_name name.kind ≡ true
+    → ToldIn kept told state ahead (called_part asks inner ahead name state rest)
+unfolding called_part
+called_part_tells is asks inner state ahead rest name others stands follows named = then_in is (called_tells is asks inner state ahead rest (codes "(") ahead name others stands follows named) (postfixes_tell is asks inner ahead)
+
+called_by_tells : {S : Type 0} {kept : S → S → Type 0} {told : S → Ahead → Stopped → Type 0} → IsTold kept told → {asks : Phrases S} {inner : Inner S} → PhrasesTell kept told asks inner → InnerTell kept told inner → (kind : Kind) (state : S) (ahead rest : Ahead) (name : Lexeme) (others : List Lexeme) → EndsIn ahead.tokens (name ∷ others) → EndsIn others rest.tokens → is_name name.kind ≡ true
+    → ToldIn kept told state ahead (called_by asks inner ahead name kind state rest)
+called_by_tells is asks inner kind.OfType state ahead rest name others stands follows named = cast_or_parenthesis_tells is asks inner state ahead
+called_by_tells is asks inner kind.OfTemplate state ahead rest name others stands follows named = called_part_tells is asks inner state ahead rest name others stands follows named
+called_by_tells is asks inner kind.OfBoth state ahead rest name others stands follows named = called_part_tells is asks inner state ahead rest name others stands follows named
+called_by_tells is asks inner kind.Space state ahead rest name others stands follows named = called_part_tells is asks inner state ahead rest name others stands follows named
+called_by_tells is asks inner kind.Value state ahead rest name others stands follows named = called_part_tells is asks inner state ahead rest name others stands follows named
+
+called_or_not_tells : {S : Type 0} {kept : S → S → Type 0} {told : S → Ahead → Stopped → Type 0} → IsTold kept told → {asks : Phrases S} {inner : Inner S} → PhrasesTell kept told asks inner → InnerTell kept told inner → (state : S) (ahead rest : Ahead) (name : Lexeme) (others : List Lexeme) → EndsIn ahead.tokens (name ∷ others) → EndsIn others rest.tokens → is_name name.kind ≡ true
+    → ToldIn kept told state ahead (called_or_not asks inner ahead name state rest)
+unfolding called_or_not
+called_or_not_tells is asks inner state ahead rest name others stands follows named = asked_in is _ rest (asks.kind (path_of name) state ahead) (λ kind state. called_by_tells is asks inner kind state ahead rest name others stands follows named)
+
+bracket_by_tells : {S : Type 0} {kept : S → S → Type 0} {told : S → Ahead → Stopped → Type 0} → IsTold kept told → {asks : Phrases S} {inner : Inner S} → PhrasesTell kept told asks inner → InnerTell kept told inner → (state : S) (ahead : Ahead) {r : Answer (Got (Unit {0}) (Option Lexeme))} → NameIn ahead r → ToldIn kept told state ahead (then_read (beside state r) (bracket_by asks inner ahead))
+bracket_by_tells is asks inner state ahead (stops_quietly why quiet) = quiet_in is quiet
+bracket_by_tells is asks inner state ahead (finds_none rest) = cast_or_parenthesis_tells is asks inner state ahead
+bracket_by_tells is asks inner state ahead (finds_name name others rest stands follows named) = called_or_not_tells is asks inner state ahead rest name others stands follows named
+
+bracket_tells : {S : Type 0} {kept : S → S → Type 0} {told : S → Ahead → Stopped → Type 0} → IsTold kept told → {asks : Phrases S} {inner : Inner S} → PhrasesTell kept told asks inner → InnerTell kept told inner → Tells kept told (bracket_at asks inner)
+unfolding bracket_at
+bracket_tells is {asks = a} asks inner state ahead = bracket_by_tells is asks inner state ahead (called_name_finds a.room ahead)
+
+-- ---- unary expressions
+
+prefix_tells : {S : Type 0} {kept : S → S → Type 0} {told : S → Ahead → Stopped → Type 0} → IsTold kept told → {asks : Phrases S} {inner : Inner S} → PhrasesTell kept told asks inner → InnerTell kept told inner → Tells kept told (prefix_at asks inner)
+unfolding prefix_at
+prefix_tells is asks inner state ahead = then_in is (looked_in is state ahead) (λ from state ahead. then_in is (taken_in is state ahead) (λ operator state ahead. then_in is (inner.expression level.Operand state ahead) (λ operand state ahead. then_in is (looked_in is state ahead) (λ to state ahead. ask_in ahead (asks.whole (prefix_tree (operator_ahead from) operand from to) (refl, refl) state ahead)))))
+
+size_tells : {S : Type 0} {kept : S → S → Type 0} {told : S → Ahead → Stopped → Type 0} → IsTold kept told → {asks : Phrases S} {inner : Inner S} → PhrasesTell kept told asks inner → InnerTell kept told inner → Tells kept told (size_at asks inner)
+unfolding size_at
+size_tells is asks inner state ahead = then_in is (looked_in is state ahead) (λ from state ahead. then_in is (taken_in is state ahead) (λ word state ahead. then_in is (inner.sized state ahead) (λ sized state ahead. then_in is (looked_in is state ahead) (λ to state ahead. ask_in ahead (asks.whole (size_tree sized from to) (refl, refl) state ahead)))))
+
+primary_part_tells : {S : Type 0} {kept : S → S → Type 0} {told : S → Ahead → Stopped → Type 0} → IsTold kept told → {asks : Phrases S} {inner : Inner S} → PhrasesTell kept told asks inner → InnerTell kept told inner → Tells kept told (primary_part asks inner)
+unfolding primary_part
+primary_part_tells is asks inner state ahead = then_in is (primary_tells is asks inner state ahead) (postfixes_tell is asks inner ahead)
+
+pub operand_tells : {S : Type 0} {kept : S → S → Type 0} {told : S → Ahead → Stopped → Type 0} → IsTold kept told → {asks : Phrases S} {inner : Inner S} → PhrasesTell kept told asks inner → InnerTell kept told inner → Tells kept told (operand_at asks inner)
+unfolding operand_at
+operand_tells is asks inner state ahead =
+    if_in (is_prefix (kind_ahead ahead)) (prefix_tells is asks inner state ahead) (
+    if_in (is_keyword keyword.SIZEOF (kind_ahead ahead)) (size_tells is asks inner state ahead) (
+    if_in (is_punct punct.LEFT_PARENTHESIS (kind_ahead ahead)) (bracket_tells is asks inner state ahead)
+    (primary_part_tells is asks inner state ahead)))
+
+-- ---- behind `sizeof`
+
+sized_operand_tells : {S : Type 0} {kept : S → S → Type 0} {told : S → Ahead → Stopped → Type 0} → IsTold kept told → {asks : Phrases S} {inner : Inner S} → PhrasesTell kept told asks inner → InnerTell kept told inner → Tells kept told (sized_operand asks inner)
+unfolding sized_operand
+sized_operand_tells is asks inner state ahead = then_in is (operand_tells is asks inner state ahead) (λ operand. give_in is (None, operand ∷ []))
+
+sized_type_tells : {S : Type 0} {kept : S → S → Type 0} {told : S → Ahead → Stopped → Type 0} → IsTold kept told → {inner : Inner S} → InnerTell kept told inner → Tells kept told (sized_type inner)
+unfolding sized_type
+sized_type_tells is inner state ahead = then_in is (taken_in is state ahead) (λ opened state ahead. then_in is (inner.type_id state ahead) (λ of state ahead. then_in is (tokens_in is (punct_in unit_is_told punct.RIGHT_PARENTHESIS) state ahead) (λ closed. give_in is (Some of.0, of.1))))
+
+sized_by_tells : {S : Type 0} {kept : S → S → Type 0} {told : S → Ahead → Stopped → Type 0} → IsTold kept told → {asks : Phrases S} {inner : Inner S} → PhrasesTell kept told asks inner → InnerTell kept told inner → (found : TypeShape) → Tells kept told (sized_by asks inner found)
+sized_by_tells is asks inner shape.NoType state ahead = sized_operand_tells is asks inner state ahead
+sized_by_tells is asks inner shape.Closed state ahead = sized_type_tells is inner state ahead
+sized_by_tells is asks inner shape.Surely state ahead = sized_type_tells is inner state ahead
+
+pub sized_tells : {S : Type 0} {kept : S → S → Type 0} {told : S → Ahead → Stopped → Type 0} → IsTold kept told → {asks : Phrases S} {inner : Inner S} → PhrasesTell kept told asks inner → InnerTell kept told inner → Tells kept told (sized_at asks inner)
+unfolding sized_at
+sized_tells is asks inner state ahead =
+    if_in (is_punct punct.LEFT_PARENTHESIS (kind_ahead ahead)) (then_in is (returned_in ahead (past_in is (inner.type_passed state (behind ahead)))) (sized_by_tells is asks inner))
+    (sized_operand_tells is asks inner state ahead)

@@ -1,0 +1,150 @@
+-- What the readers of primary expressions keep of the state, and what stops them.
+use Rattle.std.proofs.Common.{◌≡◌, refl, ap}
+use Rattle.std.specs.Prelude.{ℕ, Bool, true, false, ◌||◌, ◌==◌, List, [], ◌∷◌, ◌++◌, Option, Some, None, Ok}
+use Rattle.cxx_model.specs.declared.base.Base.{Base}
+use Rattle.cxx_model.specs.declared.keyword.TheConstants as keyword
+use Rattle.cxx_model.specs.declared.limits.TheConstants as limits
+use Rattle.cxx_model.specs.declared.place.Place.{Place}
+use Rattle.cxx_model.specs.declared.punct.TheConstants as punct
+use Rattle.cxx_model.specs.declared.tree.Kind.{Kind}
+use Rattle.cxx_model.specs.declared.tree.Kind.TheVariants as kind
+use Rattle.cxx_model.specs.Stops.{Stopped}
+use Rattle.cxx_model.specs.Text.Lexemes.{Lexeme, kind_of}
+use Rattle.cxx_model.specs.Types.Trees.{CxxType, fundamental}
+use Rattle.cxx_phrases.specs.declared.level.Level.TheVariants as level
+use Rattle.cxx_phrases.specs.Arguments.{argument_ended, argument_step, arguments_over, some_arguments, arguments_behind, arguments_at}
+use Rattle.cxx_phrases.specs.Forms.{literal_tree, parenthesis_tree, functional_tree, cast_tree}
+use Rattle.cxx_phrases.specs.Operators.{is_literal, is_cast_word, base_of_kind, begins_expression}
+use Rattle.cxx_phrases.specs.Phrases.{Phrases, Inner}
+use Rattle.cxx_phrases.specs.Primary.{literal_part, name_at, called_at, named_call, value_name_at, functional_cast, functional_at, type_name_at, named_by, named_at, word_at, cast_opened, cast_closed, cast_word_at, parenthesis_at, word_by, primary_at}
+use Rattle.cxx_reading.specs.Reads.{Ahead, More, Done, kind_ahead, word_ahead, behind}
+use Rattle.cxx_reading.specs.Tokens.{is_name, is_punct, is_keyword, is_plain_name, path_ahead, token_in, punct_taken}
+use Rattle.cxx_reading.specs.Trees.{CxxTree}
+use Rattle.cxx_language_laws.specs.Told.{EndsIn}
+use Rattle.cxx_language_laws.proofs.PhrasesTell.{PhrasesTell, InnerTell, asked_in}
+use Rattle.cxx_language_laws.proofs.Tells.{IsTold, ToldIn, Tells, quiet_in, if_in, when_in, past_in, then_in, then_from, from_in, ask_from, ask_in, same_in, next_in, repeat_tells, taken_in, looked_in, token_told, punct_in, give_in, tokens_in, unit_is_told, whole_stands, ends_later, behind_stands}
+use Rattle.cxx_language_laws.proofs.TellsBrackets.{left_true}
+use Rattle.cxx_language_laws.proofs.TellsSyntax.{no_expression_tells}
+
+-- ---- arguments
+
+argument_ended_tells : {S : Type 0} {kept : S → S → Type 0} {told : S → Ahead → Stopped → Type 0} → IsTold kept told → (so_far : List CxxTree) (tree : CxxTree) → Tells kept told (argument_ended {S = S} so_far tree)
+unfolding argument_ended
+argument_ended_tells is so_far tree state ahead = if_in (is_punct punct.COMMA (kind_ahead ahead)) (next_in is (More (so_far ++ tree ∷ [])) state ahead) (if_in (is_punct punct.RIGHT_PARENTHESIS (kind_ahead ahead)) (next_in is (Done (so_far ++ tree ∷ [])) state ahead) (quiet_in is refl))
+
+argument_step_tells : {S : Type 0} {kept : S → S → Type 0} {told : S → Ahead → Stopped → Type 0} → IsTold kept told → {inner : Inner S} → InnerTell kept told inner → (so_far : List CxxTree) → Tells kept told (argument_step inner so_far)
+unfolding argument_step
+argument_step_tells is inner so_far state ahead = then_in is (inner.expression level.Assignment state ahead) (argument_ended_tells is so_far)
+
+arguments_over_tells : {A : Type 0} → {S : Type 0} {kept : S → S → Type 0} {told : S → Ahead → Stopped → Type 0} → IsTold kept told → (so_far : List CxxTree) → Tells kept told (arguments_over {S = S} {A = A} so_far)
+unfolding arguments_over
+arguments_over_tells is so_far state ahead = if_in (begins_expression (kind_ahead ahead) || is_keyword keyword.THROW (kind_ahead ahead)) (quiet_in is refl) (quiet_in is refl)
+
+pub some_arguments_tell : {S : Type 0} {kept : S → S → Type 0} {told : S → Ahead → Stopped → Type 0} → IsTold kept told → {inner : Inner S} → InnerTell kept told inner → Tells kept told (some_arguments inner)
+unfolding some_arguments
+some_arguments_tell is {inner = i} inner = repeat_tells is (argument_step i) arguments_over (argument_step_tells is inner) (arguments_over_tells is) limits.MOST_ARGUMENTS []
+
+arguments_behind_tell : {S : Type 0} {kept : S → S → Type 0} {told : S → Ahead → Stopped → Type 0} → IsTold kept told → {inner : Inner S} → InnerTell kept told inner → Tells kept told (arguments_behind inner)
+unfolding arguments_behind
+arguments_behind_tell is inner state ahead = if_in (is_punct punct.RIGHT_PARENTHESIS (kind_ahead ahead)) (next_in is [] state ahead) (some_arguments_tell is inner state ahead)
+
+pub arguments_tell : {S : Type 0} {kept : S → S → Type 0} {told : S → Ahead → Stopped → Type 0} → IsTold kept told → {asks : Phrases S} {inner : Inner S} → PhrasesTell kept told asks inner → InnerTell kept told inner → Tells kept told (arguments_at asks inner)
+unfolding arguments_at
+arguments_tell is {asks = a} asks inner state ahead = if_in (a.room == 0) (quiet_in is refl) (past_in is (arguments_behind_tell is inner state (behind ahead)))
+
+-- ---- literals
+
+literal_part_tells : {S : Type 0} {kept : S → S → Type 0} {told : S → Ahead → Stopped → Type 0} → IsTold kept told → {asks : Phrases S} {inner : Inner S} → PhrasesTell kept told asks inner → InnerTell kept told inner → Tells kept told (literal_part asks)
+unfolding literal_part
+literal_part_tells is asks inner state ahead = then_in is (looked_in is state ahead) (λ from state ahead. then_in is (taken_in is state ahead) (λ token state ahead. then_in is (looked_in is state ahead) (λ to state ahead. ask_in ahead (asks.whole (literal_tree from to) (refl, refl) state ahead))))
+
+-- ---- names
+
+cons_parts : (name : Lexeme) (others last : List Lexeme) (follows : EndsIn others last) → name ∷ others ≡ (name ∷ follows.first) ++ last
+cons_parts name others last follows = ap (λ ls. name ∷ ls) follows.parts
+
+-- a name is ahead
+name_tells : {S : Type 0} {kept : S → S → Type 0} {told : S → Ahead → Stopped → Type 0} → IsTold kept told → {asks : Phrases S} {inner : Inner S} → PhrasesTell kept told asks inner → InnerTell kept told inner → (state : S) (ahead : Ahead) → is_name (kind_ahead ahead) ≡ true → ToldIn kept told state ahead (name_at asks state ahead)
+unfolding name_at
+name_tells is asks inner state ahead named = ask_from (behind ahead) (behind_stands ahead) (asks.name state ahead named)
+
+-- behind a name that is ahead the arguments begin
+pub called_tells : {S : Type 0} {kept : S → S → Type 0} {told : S → Ahead → Stopped → Type 0} → IsTold kept told → {asks : Phrases S} {inner : Inner S} → PhrasesTell kept told asks inner → InnerTell kept told inner → (state : S) (ahead opened : Ahead) (spelling : List ℕ) (from : Ahead) (name : Lexeme) (others : List Lexeme) → EndsIn ahead.tokens (name ∷ others) → EndsIn others opened.tokens → is_name name.kind ≡ true
+    → ToldIn kept told state ahead (called_at asks inner spelling from name state opened)
+unfolding called_at
+called_tells is asks inner state ahead opened spelling from name others stands follows named =
+    then_from _ (from_in is state state ahead opened (is.keeps.same state) (ends_later ahead.tokens (name ∷ others) opened.tokens stands (record { first = name ∷ follows.first; parts = cons_parts name others opened.tokens follows })) (arguments_tell is asks inner state opened))
+    (λ one lists keeps ends. ask_from one.rest ends (asks.call state ahead (record { name = name; behind = others; stands = stands; named = named; opened = opened; follows = follows; arguments = one.value; at = one.state; rest = one.rest; lists = lists }) keeps spelling from))
+
+named_call_tells : {S : Type 0} {kept : S → S → Type 0} {told : S → Ahead → Stopped → Type 0} → IsTold kept told → {asks : Phrases S} {inner : Inner S} → PhrasesTell kept told asks inner → InnerTell kept told inner → (state : S) (ahead : Ahead) → is_name (kind_ahead ahead) ≡ true → ToldIn kept told state ahead (named_call asks inner state ahead)
+unfolding named_call is_name
+named_call_tells {kept = kept} {told = told} is {asks = a} {inner = i} asks inner state ahead named = by ahead.last ahead.tokens named
+  where
+    by : (last : Place) (tokens : List Lexeme) → is_name (kind_of tokens) ≡ true → ToldIn kept told state (record { last = last; tokens = tokens }) (called_at a i [] (record { last = last; tokens = tokens }) (token_in tokens) state (behind (record { last = last; tokens = tokens })))
+    by last [] named = absurd cc
+    by last (name ∷ others) named = called_tells is asks inner state (record { last = last; tokens = name ∷ others }) (record { last = name.place; tokens = others }) [] (record { last = last; tokens = name ∷ others }) name others (whole_stands (name ∷ others)) (whole_stands others) named
+
+value_name_tells : {S : Type 0} {kept : S → S → Type 0} {told : S → Ahead → Stopped → Type 0} → IsTold kept told → {asks : Phrases S} {inner : Inner S} → PhrasesTell kept told asks inner → InnerTell kept told inner → (state : S) (ahead : Ahead) → is_name (kind_ahead ahead) ≡ true → ToldIn kept told state ahead (value_name_at asks inner state ahead)
+unfolding value_name_at
+value_name_tells is asks inner state ahead named = if_in (is_punct punct.LEFT_PARENTHESIS (kind_ahead (behind ahead))) (named_call_tells is asks inner state ahead named) (name_tells is asks inner state ahead named)
+
+functional_cast_tells : {S : Type 0} {kept : S → S → Type 0} {told : S → Ahead → Stopped → Type 0} → IsTold kept told → {asks : Phrases S} {inner : Inner S} → PhrasesTell kept told asks inner → InnerTell kept told inner → (from : Ahead) (of : CxxType) → Tells kept told (functional_cast asks inner from of)
+unfolding functional_cast
+functional_cast_tells is asks inner from of state ahead = then_in is (arguments_tell is asks inner state ahead) (λ arguments state ahead. then_in is (looked_in is state ahead) (λ to state ahead. ask_in ahead (asks.whole (functional_tree of arguments from to) (refl, refl) state ahead)))
+
+functional_tells : {S : Type 0} {kept : S → S → Type 0} {told : S → Ahead → Stopped → Type 0} → IsTold kept told → {asks : Phrases S} {inner : Inner S} → PhrasesTell kept told asks inner → InnerTell kept told inner → (from : Ahead) (of : CxxType) → Tells kept told (functional_at asks inner from of)
+unfolding functional_at
+functional_tells is asks inner from of state ahead = if_in (is_punct punct.LEFT_PARENTHESIS (kind_ahead ahead)) (functional_cast_tells is asks inner from of state ahead) (quiet_in is refl)
+
+type_name_tells : {S : Type 0} {kept : S → S → Type 0} {told : S → Ahead → Stopped → Type 0} → IsTold kept told → {asks : Phrases S} {inner : Inner S} → PhrasesTell kept told asks inner → InnerTell kept told inner → Tells kept told (type_name_at asks inner)
+unfolding type_name_at
+type_name_tells is asks inner state ahead = then_in is (looked_in is state ahead) (λ from state ahead. then_in is (ask_in ahead (asks.type_named (path_ahead from) state ahead)) (λ of state ahead. then_in is (taken_in is state ahead) (λ name. functional_tells is asks inner from of)))
+
+named_by_tells : {S : Type 0} {kept : S → S → Type 0} {told : S → Ahead → Stopped → Type 0} → IsTold kept told → {asks : Phrases S} {inner : Inner S} → PhrasesTell kept told asks inner → InnerTell kept told inner → (kind : Kind) (state : S) (ahead : Ahead) → is_name (kind_ahead ahead) ≡ true → ToldIn kept told state ahead (named_by asks inner kind state ahead)
+named_by_tells is asks inner kind.OfType state ahead named = type_name_tells is asks inner state ahead
+named_by_tells is asks inner kind.OfTemplate state ahead named = value_name_tells is asks inner state ahead named
+named_by_tells is asks inner kind.OfBoth state ahead named = value_name_tells is asks inner state ahead named
+named_by_tells is asks inner kind.Space state ahead named = value_name_tells is asks inner state ahead named
+named_by_tells is asks inner kind.Value state ahead named = value_name_tells is asks inner state ahead named
+
+named_tells : {S : Type 0} {kept : S → S → Type 0} {told : S → Ahead → Stopped → Type 0} → IsTold kept told → {asks : Phrases S} {inner : Inner S} → PhrasesTell kept told asks inner → InnerTell kept told inner → (state : S) (ahead : Ahead) → is_name (kind_ahead ahead) ≡ true → ToldIn kept told state ahead (named_at asks inner state ahead)
+unfolding named_at
+named_tells is asks inner state ahead named = asked_in is _ ahead (asks.kind (path_ahead ahead) state ahead) (λ kind state. named_by_tells is asks inner kind state ahead named)
+
+word_tells : {S : Type 0} {kept : S → S → Type 0} {told : S → Ahead → Stopped → Type 0} → IsTold kept told → {asks : Phrases S} {inner : Inner S} → PhrasesTell kept told asks inner → InnerTell kept told inner → (base : Base) → Tells kept told (word_at asks inner base)
+unfolding word_at
+word_tells is asks inner base state ahead = then_in is (looked_in is state ahead) (λ from state ahead. then_in is (taken_in is state ahead) (λ word. functional_tells is asks inner from (fundamental base)))
+
+-- ---- casts by a word
+
+cast_opened_tells : {S : Type 0} {kept : S → S → Type 0} {told : S → Ahead → Stopped → Type 0} → IsTold kept told → {asks : Phrases S} {inner : Inner S} → PhrasesTell kept told asks inner → InnerTell kept told inner → Tells kept told (cast_opened asks)
+unfolding cast_opened
+cast_opened_tells is asks inner state ahead = then_in is (taken_in is state ahead) (λ word state ahead. then_in is (tokens_in is (punct_in unit_is_told punct.LESS) state ahead) (λ less state ahead. then_in is (asks.type_id state ahead) (λ of state ahead. then_in is (tokens_in is (punct_in unit_is_told punct.GREATER) state ahead) (λ greater. give_in is of))))
+
+cast_closed_tells : {S : Type 0} {kept : S → S → Type 0} {told : S → Ahead → Stopped → Type 0} → IsTold kept told → {asks : Phrases S} {inner : Inner S} → PhrasesTell kept told asks inner → InnerTell kept told inner → (from : Ahead) (of : CxxType × List CxxTree) → Tells kept told (cast_closed asks inner from of)
+unfolding cast_closed
+cast_closed_tells is asks inner from of state ahead = then_in is (tokens_in is (punct_in unit_is_told punct.LEFT_PARENTHESIS) state ahead) (λ opened state ahead. then_in is (inner.expression level.Whole state ahead) (λ operand state ahead. then_in is (tokens_in is (punct_in unit_is_told punct.RIGHT_PARENTHESIS) state ahead) (λ closed state ahead. then_in is (looked_in is state ahead) (λ to state ahead. ask_in ahead (asks.whole (cast_tree (word_ahead from) of operand from to) (refl, refl) state ahead)))))
+
+cast_word_tells : {S : Type 0} {kept : S → S → Type 0} {told : S → Ahead → Stopped → Type 0} → IsTold kept told → {asks : Phrases S} {inner : Inner S} → PhrasesTell kept told asks inner → InnerTell kept told inner → Tells kept told (cast_word_at asks inner)
+unfolding cast_word_at
+cast_word_tells is asks inner state ahead = then_in is (looked_in is state ahead) (λ from state ahead. then_in is (cast_opened_tells is asks inner state ahead) (cast_closed_tells is asks inner from))
+
+-- ---- parentheses
+
+pub parenthesis_tells : {S : Type 0} {kept : S → S → Type 0} {told : S → Ahead → Stopped → Type 0} → IsTold kept told → {asks : Phrases S} {inner : Inner S} → PhrasesTell kept told asks inner → InnerTell kept told inner → Tells kept told (parenthesis_at asks inner)
+unfolding parenthesis_at
+parenthesis_tells is asks inner state ahead = then_in is (looked_in is state ahead) (λ from state ahead. then_in is (taken_in is state ahead) (λ opened state ahead. then_in is (inner.expression level.Whole state ahead) (λ inside state ahead. then_in is (tokens_in is (punct_in unit_is_told punct.RIGHT_PARENTHESIS) state ahead) (λ closed state ahead. then_in is (looked_in is state ahead) (λ to state ahead. ask_in ahead (asks.whole (parenthesis_tree inside from to) (refl, refl) state ahead))))))
+
+-- ---- all of them
+
+word_by_tells : {S : Type 0} {kept : S → S → Type 0} {told : S → Ahead → Stopped → Type 0} → IsTold kept told → {asks : Phrases S} {inner : Inner S} → PhrasesTell kept told asks inner → InnerTell kept told inner → (base : Option Base) → Tells kept told (word_by asks inner base)
+word_by_tells is asks inner (Some base) state ahead = word_tells is asks inner base state ahead
+word_by_tells is asks inner None state ahead = no_expression_tells is state ahead
+
+pub primary_tells : {S : Type 0} {kept : S → S → Type 0} {told : S → Ahead → Stopped → Type 0} → IsTold kept told → {asks : Phrases S} {inner : Inner S} → PhrasesTell kept told asks inner → InnerTell kept told inner → Tells kept told (primary_at asks inner)
+unfolding primary_at
+primary_tells is asks inner state ahead =
+    if_in (is_literal (kind_ahead ahead)) (literal_part_tells is asks inner state ahead) (
+    when_in (is_plain_name ahead) (λ named. named_tells is asks inner state ahead (left_true _ _ named)) (
+    if_in (is_cast_word (kind_ahead ahead)) (cast_word_tells is asks inner state ahead)
+    (word_by_tells is asks inner (base_of_kind (kind_ahead ahead)) state ahead)))

@@ -1,0 +1,127 @@
+-- What the readers of specifiers keep of the state, and what stops them.
+use Rattle.std.proofs.Common.{◌≡◌, refl}
+use Rattle.std.specs.Prelude.{ℕ, true, [], ◌∷◌, ◌++◌, Option, Some, None}
+use Rattle.cxx_model.specs.Stops.{Stopped}
+use Rattle.cxx_reading.specs.Tokens.{is_name, token_in}
+use Rattle.cxx_model.specs.declared.token.TokenKind.{TokenKind}
+use Rattle.cxx_model.specs.declared.token.TokenKind.TheVariants.{Name, Keyword, Punct, Integer, Character, Text, End}
+use Rattle.cxx_model.specs.declared.tree.Kind.{Kind}
+use Rattle.cxx_model.specs.declared.tree.Kind.TheVariants as kind
+use Rattle.cxx_model.specs.Text.Lexemes.{Lexeme}
+use Rattle.cxx_model.specs.Types.Trees.{enumeration}
+use Rattle.cxx_reading.specs.declared.specifier.SpecifierPlace.{SpecifierPlace}
+use Rattle.cxx_reading.specs.declared.specifier.StorageWord.{StorageWord}
+use Rattle.cxx_reading.specs.declared.specifier.TypeWords.{TypeWords}
+use Rattle.cxx_reading.specs.Declarators.{Specifiers, TypeWord, type_word, with_word}
+use Rattle.cxx_reading.specs.Kinds.{Kinds, Readers}
+use Rattle.cxx_reading.specs.Reads.{Ahead, Reads, More, kind_ahead, behind}
+use Rattle.cxx_reading.specs.Specifiers.{elaborated_tree, enumeration_tree, storage_word, storage_step, inline_step, const_step, volatile_step, word_step, worded, named_step, named_by, elaborated_step, defined_step, enumeration_body, list_step, key_named_step, key_step, enumeration_step, class_step, other_step, stored_by, worded_by, keyword_step, step_by, specifier_step, typed, specifiers_at}
+use Rattle.cxx_reading.specs.Trees.{CxxPath}
+use Rattle.cxx_language_laws.proofs.Tells.{IsTold, Tells, ToldIn, quiet_in, KindsTell, ReadersTell, if_in, when_in, if_reads, past_in, then_in, ask_from, ask_in, same_in, next_in, repeat_tells, taken_in, looked_in, behind_stands, give_in}
+
+pub storage_tells : {S : Type 0} {kept : S → S → Type 0} {told : S → Ahead → Stopped → Type 0} → IsTold kept told → (place : SpecifierPlace) (word : StorageWord) (so_far : Specifiers) → Tells kept told (storage_step {S = S} place word so_far)
+unfolding storage_step
+storage_tells is place word so_far state ahead = if_in _ (next_in is _ state ahead) (quiet_in is refl)
+
+pub inline_tells : {S : Type 0} {kept : S → S → Type 0} {told : S → Ahead → Stopped → Type 0} → IsTold kept told → (place : SpecifierPlace) (so_far : Specifiers) → Tells kept told (inline_step {S = S} place so_far)
+unfolding inline_step
+inline_tells is place so_far state ahead = if_in _ (next_in is _ state ahead) (quiet_in is refl)
+
+pub const_tells : {S : Type 0} {kept : S → S → Type 0} {told : S → Ahead → Stopped → Type 0} → IsTold kept told → (so_far : Specifiers) → Tells kept told (const_step {S = S} so_far)
+unfolding const_step
+const_tells is so_far state ahead = if_in _ (quiet_in is refl) (next_in is _ state ahead)
+
+pub volatile_tells : {S : Type 0} {kept : S → S → Type 0} {told : S → Ahead → Stopped → Type 0} → IsTold kept told → (so_far : Specifiers) → Tells kept told (volatile_step {S = S} so_far)
+unfolding volatile_step
+volatile_tells is so_far state ahead = if_in _ (quiet_in is refl) (next_in is _ state ahead)
+
+worded_tells : {S : Type 0} {kept : S → S → Type 0} {told : S → Ahead → Stopped → Type 0} → IsTold kept told → (words : Option TypeWords) (so_far : Specifiers) → Tells kept told (worded {S = S} words so_far)
+worded_tells is (Some words) so_far state ahead = next_in is _ state ahead
+worded_tells is None so_far state ahead = quiet_in is refl
+
+pub word_tells : {S : Type 0} {kept : S → S → Type 0} {told : S → Ahead → Stopped → Type 0} → IsTold kept told → (word : TypeWord) (so_far : Specifiers) → Tells kept told (word_step {S = S} word so_far)
+unfolding word_step
+word_tells is word so_far state ahead = if_in _ (quiet_in is refl) (worded_tells is (with_word word so_far.words) so_far state ahead)
+
+named_by_tells : {S : Type 0} {kept : S → S → Type 0} {told : S → Ahead → Stopped → Type 0} → IsTold kept told → {asks : Kinds S} → KindsTell kept told asks → (path : CxxPath) (so_far : Specifiers) (kind : Kind) → Tells kept told (named_by asks path so_far kind)
+named_by_tells is asks path so_far kind.OfType state ahead = then_in is (ask_in ahead (asks.type_named path state ahead)) (λ of state ahead. then_in is (taken_in is state ahead) (λ place. give_in is (More (record so_far { named = Some of }))))
+named_by_tells is asks path so_far kind.OfTemplate state ahead = same_in is _ state _
+named_by_tells is asks path so_far kind.OfBoth state ahead = same_in is _ state _
+named_by_tells is asks path so_far kind.Space state ahead = same_in is _ state _
+named_by_tells is asks path so_far kind.Value state ahead = same_in is _ state _
+
+pub named_tells : {S : Type 0} {kept : S → S → Type 0} {told : S → Ahead → Stopped → Type 0} → IsTold kept told → {asks : Kinds S} → KindsTell kept told asks → (so_far : Specifiers) → Tells kept told (named_step asks so_far)
+unfolding named_step
+named_tells is asks so_far state ahead = if_in _ (same_in is _ state _) (if_in _ (quiet_in is refl) (then_in is (ask_in ahead (asks.kind _ state ahead)) (named_by_tells is asks _ so_far)))
+
+pub elaborated_tells : {S : Type 0} {kept : S → S → Type 0} {told : S → Ahead → Stopped → Type 0} → IsTold kept told → {asks : Kinds S} → KindsTell kept told asks → (from : Ahead) (so_far : Specifiers) (state : S) (ahead : Ahead) → is_name (kind_ahead ahead) ≡ true
+    → ToldIn kept told state ahead (elaborated_step asks from (token_in ahead.tokens) so_far state (behind ahead))
+unfolding elaborated_step
+elaborated_tells is asks from so_far state ahead named = then_in is (ask_from (behind ahead) (behind_stands ahead) (asks.elaborated state ahead named)) (λ of state rest. then_in is (looked_in is state rest) (λ to. give_in is (More (record so_far { named = Some of; parts = so_far.parts ++ elaborated_tree (token_in ahead.tokens) of from to ∷ [] }))))
+
+pub body_tells : {S : Type 0} {kept : S → S → Type 0} {told : S → Ahead → Stopped → Type 0} → IsTold kept told → {asks : Kinds S} → KindsTell kept told asks → {inner : Readers S} → ReadersTell kept told inner → (number : ℕ) → Tells kept told (enumeration_body asks inner number)
+unfolding enumeration_body
+body_tells is asks inner number state ahead = then_in is (taken_in is state ahead) (λ opened state ahead. then_in is (inner.enumerators number state ahead) (λ values state ahead. then_in is (ask_in ahead (asks.enumerated number state ahead)) (λ ended. give_in is values)))
+
+pub defined_tells : {S : Type 0} {kept : S → S → Type 0} {told : S → Ahead → Stopped → Type 0} → IsTold kept told → {asks : Kinds S} → KindsTell kept told asks → {inner : Readers S} → ReadersTell kept told inner → (from : Ahead) (name : Option Lexeme) (so_far : Specifiers) → Tells kept told (defined_step asks inner from name so_far)
+unfolding defined_step
+defined_tells is asks inner from name so_far state ahead = then_in is (ask_in ahead (asks.enumeration _ _ state ahead)) (λ number state ahead. then_in is (body_tells is asks inner number state ahead) (λ values state ahead. then_in is (looked_in is state ahead) (λ to. give_in is (More (record so_far { named = Some (enumeration number); is_enumeration = true; parts = so_far.parts ++ enumeration_tree name number values from to ∷ [] })))))
+
+pub list_tells : {S : Type 0} {kept : S → S → Type 0} {told : S → Ahead → Stopped → Type 0} → IsTold kept told → {asks : Kinds S} → KindsTell kept told asks → {inner : Readers S} → ReadersTell kept told inner → (place : SpecifierPlace) (from : Ahead) (name : Option Lexeme) (so_far : Specifiers) → Tells kept told (list_step asks inner place from name so_far)
+unfolding list_step
+list_tells is asks inner place from name so_far state ahead = if_in _ (defined_tells is asks inner from name so_far state ahead) (quiet_in is refl)
+
+-- behind the name, which was ahead
+pub key_named_tells : {S : Type 0} {kept : S → S → Type 0} {told : S → Ahead → Stopped → Type 0} → IsTold kept told → {asks : Kinds S} → KindsTell kept told asks → {inner : Readers S} → ReadersTell kept told inner → (place : SpecifierPlace) (from : Ahead) (so_far : Specifiers) (state : S) (ahead : Ahead) → is_name (kind_ahead ahead) ≡ true
+    → ToldIn kept told state ahead (key_named_step asks inner place from so_far (token_in ahead.tokens) state (behind ahead))
+unfolding key_named_step
+key_named_tells is asks inner place from so_far state ahead named = if_in _ (past_in is (list_tells is asks inner place from (Some (token_in ahead.tokens)) so_far state _)) (elaborated_tells is asks from so_far state ahead named)
+
+pub key_tells : {S : Type 0} {kept : S → S → Type 0} {told : S → Ahead → Stopped → Type 0} → IsTold kept told → {asks : Kinds S} → KindsTell kept told asks → {inner : Readers S} → ReadersTell kept told inner → (place : SpecifierPlace) (from : Ahead) (so_far : Specifiers) → Tells kept told (key_step asks inner place from so_far)
+unfolding key_step
+key_tells is asks inner place from so_far state ahead = if_in _ (list_tells is asks inner place from None so_far state ahead) (if_in _ (quiet_in is refl) (when_in (is_name (kind_ahead ahead)) (λ named. key_named_tells is asks inner place from so_far state ahead named) (quiet_in is refl)))
+
+pub enumeration_tells : {S : Type 0} {kept : S → S → Type 0} {told : S → Ahead → Stopped → Type 0} → IsTold kept told → {asks : Kinds S} → KindsTell kept told asks → {inner : Readers S} → ReadersTell kept told inner → (place : SpecifierPlace) (so_far : Specifiers) → Tells kept told (enumeration_step asks inner place so_far)
+unfolding enumeration_step
+enumeration_tells is asks inner place so_far state ahead = if_in _ (quiet_in is refl) (past_in is (key_tells is asks inner place ahead so_far state _))
+
+pub class_tells : {S : Type 0} {kept : S → S → Type 0} {told : S → Ahead → Stopped → Type 0} → IsTold kept told → (so_far : Specifiers) → Tells kept told (class_step {S = S} so_far)
+unfolding class_step
+class_tells is so_far state ahead = if_in _ (quiet_in is refl) (quiet_in is refl)
+
+pub other_tells : {S : Type 0} {kept : S → S → Type 0} {told : S → Ahead → Stopped → Type 0} → IsTold kept told → {asks : Kinds S} → KindsTell kept told asks → {inner : Readers S} → ReadersTell kept told inner → (place : SpecifierPlace) (n : ℕ) (so_far : Specifiers) → Tells kept told (other_step asks inner place n so_far)
+unfolding other_step
+other_tells is asks inner place n so_far state ahead = if_in _ (const_tells is so_far state ahead) (if_in _ (volatile_tells is so_far state ahead) (if_in _ (inline_tells is place so_far state ahead) (if_in _ (enumeration_tells is asks inner place so_far state ahead) (if_in _ (class_tells is so_far state ahead) (if_in _ (quiet_in is refl) (same_in is _ state _))))))
+
+worded_by_tells : {S : Type 0} {kept : S → S → Type 0} {told : S → Ahead → Stopped → Type 0} → IsTold kept told → (word : Option TypeWord) (others : Reads S _) → Tells kept told others → (so_far : Specifiers) → Tells kept told (worded_by word others so_far)
+worded_by_tells is (Some word) others keeps so_far state ahead = word_tells is word so_far state ahead
+worded_by_tells is None others keeps so_far state ahead = keeps state ahead
+
+stored_by_tells : {S : Type 0} {kept : S → S → Type 0} {told : S → Ahead → Stopped → Type 0} → IsTold kept told → (word : Option StorageWord) (others : Reads S _) → Tells kept told others → (place : SpecifierPlace) (so_far : Specifiers) → Tells kept told (stored_by word others place so_far)
+stored_by_tells is (Some word) others keeps place so_far state ahead = storage_tells is place word so_far state ahead
+stored_by_tells is None others keeps place so_far state ahead = keeps state ahead
+
+pub keyword_tells : {S : Type 0} {kept : S → S → Type 0} {told : S → Ahead → Stopped → Type 0} → IsTold kept told → {asks : Kinds S} → KindsTell kept told asks → {inner : Readers S} → ReadersTell kept told inner → (place : SpecifierPlace) (n : ℕ) (so_far : Specifiers) → Tells kept told (keyword_step asks inner place n so_far)
+unfolding keyword_step
+keyword_tells is {asks = a} asks {inner = i} inner place n so_far = stored_by_tells is (storage_word n) (worded_by (type_word n) (other_step a i place n so_far) so_far) (worded_by_tells is (type_word n) (other_step a i place n so_far) (other_tells is asks inner place n so_far) so_far) place so_far
+
+step_by_tells : {S : Type 0} {kept : S → S → Type 0} {told : S → Ahead → Stopped → Type 0} → IsTold kept told → {asks : Kinds S} → KindsTell kept told asks → {inner : Readers S} → ReadersTell kept told inner → (place : SpecifierPlace) (kind : TokenKind) (so_far : Specifiers) (state : S) (ahead : Ahead) → ToldIn kept told state ahead (step_by asks inner place kind so_far state ahead)
+step_by_tells is asks inner place (Keyword n) so_far state ahead = keyword_tells is asks inner place n so_far state ahead
+step_by_tells is asks inner place Name so_far state ahead = named_tells is asks so_far state ahead
+step_by_tells is asks inner place (Punct n) so_far state ahead = if_reads _ (named_tells is asks so_far) (λ state ahead. same_in is _ state _) state ahead
+step_by_tells is asks inner place Integer so_far state ahead = same_in is _ state _
+step_by_tells is asks inner place Character so_far state ahead = same_in is _ state _
+step_by_tells is asks inner place Text so_far state ahead = same_in is _ state _
+step_by_tells is asks inner place End so_far state ahead = same_in is _ state _
+
+pub specifier_tells : {S : Type 0} {kept : S → S → Type 0} {told : S → Ahead → Stopped → Type 0} → IsTold kept told → {asks : Kinds S} → KindsTell kept told asks → {inner : Readers S} → ReadersTell kept told inner → (place : SpecifierPlace) (so_far : Specifiers) → Tells kept told (specifier_step asks inner place so_far)
+unfolding specifier_step
+specifier_tells is asks inner place so_far state ahead = step_by_tells is asks inner place (kind_ahead ahead) so_far state ahead
+
+pub typed_tells : {S : Type 0} {kept : S → S → Type 0} {told : S → Ahead → Stopped → Type 0} → IsTold kept told → (place : SpecifierPlace) (so_far : Specifiers) → Tells kept told (typed {S = S} place so_far)
+unfolding typed
+typed_tells is place so_far state ahead = if_in _ (same_in is _ state _) (if_in _ (quiet_in is refl) (quiet_in is refl))
+
+pub specifiers_tell : {S : Type 0} {kept : S → S → Type 0} {told : S → Ahead → Stopped → Type 0} → IsTold kept told → {asks : Kinds S} → KindsTell kept told asks → {inner : Readers S} → ReadersTell kept told inner → (place : SpecifierPlace) → Tells kept told (specifiers_at asks inner place)
+unfolding specifiers_at
+specifiers_tell is asks inner place state ahead = then_in is (repeat_tells is _ _ (specifier_tells is asks inner place) (λ so_far state ahead. same_in is _ state _) _ _ state ahead) (typed_tells is place)

@@ -1,0 +1,3 @@
+-- What holds of every reading of a unit with expressions.
+pub mod Best
+pub mod Told

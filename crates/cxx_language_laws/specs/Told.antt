@@ -1,0 +1,168 @@
+-- What is true of the fault with which the reading of a unit stops, where that is one of a call (13.3) or of a name (3.4).
+use Rattle.std.specs.Prelude.{ℕ, ◌≡◌, ◌≢◌, ◌⊎◌, List, [], ◌∷◌, ◌++◌, Ok, Err, true, false}
+use Rattle.cxx_model.specs.declared.fault.FaultText.{FaultText}
+use Rattle.cxx_model.specs.declared.fault.FaultText.TheVariants as says
+use Rattle.cxx_model.specs.declared.keyword.TheConstants as keyword
+use Rattle.cxx_model.specs.declared.limits.TheConstants as limits
+use Rattle.cxx_model.specs.declared.stop.Fault.{Fault}
+use Rattle.cxx_model.specs.Facts.Declarations.{CxxFact, CxxGraph, CxxName, spelled}
+use Rattle.cxx_model.specs.Stops.{Faulty}
+use Rattle.cxx_model.specs.Text.Lexemes.{Lexeme, first_place}
+use Rattle.cxx_meaning.specs.Conversions.Standard.{CxxOperand}
+use Rattle.cxx_meaning.specs.Lookups.Wanted.{names_type}
+use Rattle.cxx_reading.specs.Reads.{Ahead, Got, Reads, got, kind_ahead}
+use Rattle.cxx_reading.specs.Seen.{Numbered, declared_in, kept, found, found_types}
+use Rattle.cxx_reading.specs.State.{CxxState, first_state, unit_scope}
+use Rattle.cxx_reading.specs.Tokens.{is_name, is_end}
+use Rattle.cxx_reading.specs.Trees.{CxxTree}
+use Rattle.cxx_reading.specs.Units.{with_part}
+use Rattle.cxx_phrases.specs.Arguments.{arguments_at}
+use Rattle.cxx_phrases.specs.Phrases.{Phrases, Inner}
+use Rattle.cxx_expr.specs.Operands.{judged_each}
+use Rattle.cxx_overload.specs.Decided.{NoneViable, IsAmbiguous}
+use Rattle.cxx_language.specs.Units.{answers, declaration_at, inner_at, phrases_at}
+use Rattle.cxx_language_laws.specs.Best.{values_of}
+
+-- ---- tokens
+
+-- some tokens stand at the end of others
+pub record EndsIn (all last : List Lexeme) : Type 0 where
+  pub first : List Lexeme
+  pub parts : all ≡ first ++ last
+
+-- a reader reads a value from a state with these tokens ahead, to another
+abbrev pub Gives : {S A : Type 0} → Reads S A → S → Ahead → A → S → Ahead → Type 0
+Gives read state ahead value after rest = read state ahead ≡ got value after rest
+
+-- ---- the fault of one call
+
+-- 13.3: the texts that only the choice of a function gives
+abbrev pub IsChoiceText : FaultText → Type 0
+IsChoiceText text = (text ≡ says.NoViableFunction) ⊎ (text ≡ says.AmbiguousCall)
+
+-- 5.2.2: A call by a name stands ahead: the name, with brackets round it or none, and behind it arguments in brackets. These
+-- are read from a state, and then reading stands in another.
+pub record IsCall {S : Type 0} (asks : Phrases S) (inner : Inner S) (before : S) (ahead : Ahead) : Type 0 where
+  pub name : Lexeme
+  pub behind : List Lexeme
+  pub stands : EndsIn ahead.tokens (name ∷ behind)
+  pub named : is_name name.kind ≡ true
+  pub opened : Ahead
+  pub follows : EndsIn behind opened.tokens
+  pub arguments : List CxxTree
+  pub at : S
+  pub rest : Ahead
+  pub lists : Gives (arguments_at asks inner) before opened arguments at rest
+
+-- the same with room for so many brackets, of a unit
+abbrev pub IsUnitCall : ℕ → CxxState → Ahead → Type 0
+IsUnitCall room before ahead = IsCall (phrases_at room) (inner_at room).phrases before ahead
+
+-- 3.4.1: what is declared of the called name where its arguments are read
+abbrev pub declared : {room : ℕ} {before : CxxState} {ahead : Ahead} → IsUnitCall room before ahead → List Numbered
+declared call = found call.at.graph call.at.here.scope (spelled call.name.spelling)
+
+-- 13.3.1: what it means, but for the types that are hidden there
+abbrev pub meant : {room : ℕ} {before : CxxState} {ahead : Ahead} → IsUnitCall room before ahead → List Numbered
+meant call = values_of call.at.graph call.at.here.scope (spelled call.name.spelling)
+
+-- what its arguments give
+abbrev pub operands : {room : ℕ} {before : CxxState} {ahead : Ahead} → IsUnitCall room before ahead → List CxxOperand
+operands call = judged_each answers call.arguments call.at
+
+-- 13.3: A true fault of the call, with its evidence: no function of its name is viable, each for its reason, or some are
+-- and none is better than every other one.
+pub data IsChoiceFault (before : CxxState) (ahead : Ahead) (fault : Fault) : Type 0 where
+  no_viable_function : (room : ℕ) (call : IsUnitCall room before ahead) → NoneViable call.name.place (operands call) call.at.graph (meant call) (Faulty fault) → IsChoiceFault before ahead fault
+  ambiguous_call : (room : ℕ) (call : IsUnitCall room before ahead) → IsAmbiguous call.name.place (operands call) call.at.graph (meant call) (Faulty fault) → IsChoiceFault before ahead fault
+
+-- ---- the fault of one name
+
+-- where the fault is stands a name with this spelling
+pub record IsNamed (token : Lexeme) (fault : Fault) (word : List ℕ) : Type 0 where
+  pub named : is_name token.kind ≡ true
+  pub spelled_so : token.spelling ≡ word
+  pub is_at : token.place ≡ fault.place
+
+-- 3.4.1: a name stands ahead, and nothing is declared that it means
+pub record IsUnknownName (at : CxxState) (ahead : Ahead) (fault : Fault) (word : List ℕ) : Type 0 where
+  pub token : Lexeme
+  pub behind : List Lexeme
+  pub stands : ahead.tokens ≡ token ∷ behind
+  pub is_named : IsNamed token fault word
+  pub unknown : found at.graph at.here.scope (spelled word) ≡ []
+
+-- 3.4.1: a call stands ahead, and where its arguments are read nothing is declared that its name means
+pub record IsUnknownCall (before : CxxState) (ahead : Ahead) (fault : Fault) (word : List ℕ) : Type 0 where
+  pub room : ℕ
+  pub call : IsUnitCall room before ahead
+  pub is_named : IsNamed call.name fault word
+  pub unknown : declared call ≡ []
+
+-- 3.4.4: a name stands ahead, behind `enum`, and no type is declared that it means
+pub record IsUnknownType (at : CxxState) (ahead : Ahead) (fault : Fault) (word : List ℕ) : Type 0 where
+  pub token : Lexeme
+  pub behind : List Lexeme
+  pub stands : ahead.tokens ≡ token ∷ behind
+  pub is_named : IsNamed token fault word
+  pub unknown : found_types at.graph at.here.scope (spelled word) ≡ []
+
+-- 3.4: a name that is not declared, in an expression, a call or behind `enum`
+pub data IsUnknown (at : CxxState) (ahead : Ahead) (fault : Fault) (word : List ℕ) : Type 0 where
+  unknown_name : IsUnknownName at ahead fault word → IsUnknown at ahead fault word
+  unknown_call : IsUnknownCall at ahead fault word → IsUnknown at ahead fault word
+  unknown_type : IsUnknownType at ahead fault word → IsUnknown at ahead fault word
+
+-- 3.3.5: So it is not declared in the scope of the unit; behind `enum`, no type of that name is.
+abbrev pub IsNotOfUnit : {at : CxxState} {ahead : Ahead} {fault : Fault} {word : List ℕ} → IsUnknown at ahead fault word → Type 0
+IsNotOfUnit {at = at} {word = word} (unknown_name is) = declared_in at.graph unit_scope.scope (spelled word) ≡ []
+IsNotOfUnit {word = word} (unknown_call is) = declared_in is.call.at.graph unit_scope.scope (spelled word) ≡ []
+IsNotOfUnit {at = at} {word = word} (unknown_type is) = kept (names_type at.graph) (declared_in at.graph unit_scope.scope (spelled word)) ≡ []
+
+-- ---- the fault of a unit
+
+-- Clause 7: whole declarations are read one after another, from a state with these tokens ahead to another.
+pub data ReadsTo : CxxState → Ahead → CxxState → Ahead → Type 0 where
+  none_more : (state : CxxState) (ahead : Ahead) → ReadsTo state ahead state ahead
+  one_more : (state : CxxState) (ahead : Ahead) (one : Got CxxState CxxTree) (after : CxxState) (rest : Ahead)
+      → is_end (kind_ahead ahead) ≡ false → declaration_at limits.MOST_NESTING state ahead ≡ Ok one → ReadsTo (with_part one.value one.state) one.rest after rest → ReadsTo state ahead after rest
+
+-- what is ahead of a whole unit
+abbrev pub whole : List Lexeme → Ahead
+whole tokens = record { last = first_place; tokens = tokens }
+
+-- clause 7: the declarations before one were read, and reading stops in it with this fault
+pub record StopsIn (tokens : List Lexeme) (fault : Fault) : Type 0 where
+  pub before : CxxState
+  pub ahead : Ahead
+  pub reads : ReadsTo first_state (whole tokens) before ahead
+  pub stands : EndsIn tokens ahead.tokens
+  pub goes_on : is_end (kind_ahead ahead) ≡ false
+  pub stops : declaration_at limits.MOST_NESTING before ahead ≡ Err (Faulty fault)
+
+-- what is declared in a state is what is declared in another, and behind that some more
+pub record IsGrown (before at : CxxState) : Type 0 where
+  pub own : List CxxFact
+  pub declared : at.graph ≡ record before.graph { facts = before.graph.facts ++ own }
+
+-- The declaration in which reading stops, and in it a state that keeps what was declared before, and may have more, with
+-- the last of its tokens ahead.
+pub record StopsAt (tokens : List Lexeme) (fault : Fault) : Type 0 where
+  pub declaration : StopsIn tokens fault
+  pub at : CxxState
+  pub ahead : Ahead
+  pub grown : IsGrown declaration.before at
+  pub stands : EndsIn declaration.ahead.tokens ahead.tokens
+
+-- 13.3: In the declaration where reading stops a call stands, and the fault is a true one of it.
+pub record IsToldFault (tokens : List Lexeme) (fault : Fault) : Type 0 where
+  pub stop : StopsAt tokens fault
+  pub is : IsChoiceFault stop.at stop.ahead fault
+
+-- 3.4: In the declaration where reading stops a name stands, and it is not declared.
+pub record IsUndeclaredFault (tokens : List Lexeme) (fault : Fault) (word : List ℕ) : Type 0 where
+  pub stop : StopsAt tokens fault
+  pub is : IsUnknown stop.at stop.ahead fault word
+  pub in_unit : IsNotOfUnit is
+  pub is_text : fault.text ≡ says.UndeclaredName word
+  pub bare : fault.evidence ≡ []
