@@ -1,31 +1,29 @@
 -- What is asked while a unit is read keeps the declarations and the calls so far, and what stops it is true.
 use Rattle.std.proofs.Common.{◌≡◌, refl, sym, ap, subst}
-use Rattle.std.specs.Prelude.{ℕ, zero, suc, List, [], ◌∷◌, Option, Some, None, Ok, Err, true}
+use Rattle.std.specs.Prelude.{ℕ, List, [], ◌∷◌, Option, Some, None, Ok, Err, true}
 use Rattle.cxx_model.specs.declared.fault.FaultText.TheVariants as says
 use Rattle.cxx_model.specs.declared.place.Place.{Place}
 use Rattle.cxx_model.specs.declared.stop.Fault.{Fault}
-use Rattle.cxx_model.specs.Facts.Declarations.{CxxGraph, spelled}
+use Rattle.cxx_model.specs.Facts.Declarations.{spelled}
 use Rattle.cxx_model.specs.Stops.{Answer, Stopped, undeclared_at}
-use Rattle.cxx_model.specs.Text.Lexemes.{Lexeme, kind_of, place_of, spelling_ahead}
-use Rattle.cxx_model.specs.Types.Trees.{CxxType}
+use Rattle.cxx_model.specs.Text.Lexemes.{Lexeme, kind_of}
 use Rattle.cxx_constant.specs.Constants.{CxxValue, not_constant, overflow, divide_by_zero, constant}
 use Rattle.cxx_phrases.specs.Forms.{name_tree, call_tree}
-use Rattle.cxx_phrases.specs.Phrases.{Phrases, Inner}
 use Rattle.cxx_reading.specs.Declaring.{elaborated_here, elaborated_by, enumeration_in, last_part, name_in}
-use Rattle.cxx_reading.specs.Reads.{Ahead, Asks, kind_ahead, behind}
+use Rattle.cxx_reading.specs.Reads.{Ahead, kind_ahead, behind}
 use Rattle.cxx_reading.specs.Seen.{Numbered, found, found_types}
 use Rattle.cxx_reading.specs.Specifiers.{path_of}
 use Rattle.cxx_reading.specs.State.{CxxState}
 use Rattle.cxx_reading.specs.Tokens.{is_name, token_in}
-use Rattle.cxx_reading.specs.Trees.{CxxTree, CxxTrees, children_of, each_tree, in_turn, tree_of, Label}
+use Rattle.cxx_reading.specs.Trees.{CxxTree, children_of, each_tree, in_turn, Label}
 use Rattle.cxx_expr.specs.Names.{path_in, word_in}
 use Rattle.cxx_expr.specs.Elaborating.{elaborate}
 use Rattle.cxx_language.specs.Answers.{asking, bound_here, call_here, constant_by, constant_here, name_here, questions, size_here, with_use}
-use Rattle.cxx_language.specs.Units.{answers, asked, inner_at, no_fallback, phrases_at}
-use Rattle.cxx_language_laws.specs.Told.{IsCall, IsUnitCall, IsUnknown, unknown_name, unknown_call, unknown_type, declared}
+use Rattle.cxx_language.specs.Units.{answers, asked, inner_at, phrases_at}
+use Rattle.cxx_language_laws.specs.Told.{IsUnitCall, unknown_name, unknown_call, unknown_type, declared}
 use Rattle.cxx_language_laws.proofs.CallsTell.{call_asked_tells}
 use Rattle.cxx_language_laws.proofs.Later.{IsLater, later_same, later_is_kept, calmly, enter_tells, leave_tells, parameter_answer_tells, enumeration_answer_tells, enumerator_answer_tells, enumerated_tells, kind_tells, type_tells}
-use Rattle.cxx_language_laws.proofs.PhrasesTell.{IsPlain, PhrasesTell, InnerTell}
+use Rattle.cxx_language_laws.proofs.PhrasesTell.{PhrasesTell}
 use Rattle.cxx_language_laws.proofs.QuestionsTell.{QuestionsTell, quiet_by, same_by}
 use Rattle.cxx_language_laws.proofs.Reached.{Told, IsUndeclared, reached_here, later_is_told, later_is_told_of}
 use Rattle.cxx_language_laws.proofs.Tells.{IsTold, KindsTell, ReadersTell, ToldBy, tells_answer, tells_refusal, Answers}

@@ -1,13 +1,12 @@
 -- The readers of a unit inside one another keep the declarations and the calls so far, and what stops them is true.
 use Rattle.std.proofs.Common.{refl}
 use Rattle.std.specs.Prelude.{ℕ, zero, suc, true}
-use Rattle.cxx_reading.specs.Reads.{give}
 use Rattle.cxx_phrases.specs.declared.shape.TypeShape.TheVariants as shape
 use Rattle.cxx_language.specs.Readers.{both}
 use Rattle.cxx_language.specs.Units.{asked, inner_at, phrases_at}
 use Rattle.cxx_language_laws.proofs.Asked.{kinds_tell, phrases_tell}
 use Rattle.cxx_language_laws.proofs.Later.{IsLater}
-use Rattle.cxx_language_laws.proofs.PhrasesTell.{PhrasesTell, InnerTell}
+use Rattle.cxx_language_laws.proofs.PhrasesTell.{InnerTell}
 use Rattle.cxx_language_laws.proofs.Reached.{Told, later_is_told}
 use Rattle.cxx_language_laws.proofs.Tells.{ReadersTell, quiet_in, same_in}
 use Rattle.cxx_language_laws.proofs.TellsKnot.{inner_tells}

@@ -1,24 +1,22 @@
 -- What is kept where it is asked which function a call means, and that what stops such a question is true.
-use Rattle.std.proofs.Common.{◌≡◌, ℕ, Bool, true, false, List, [], ◌∷◌, ◌++◌, Option, Some, None, Result, Ok, Err, refl, sym, ap, subst, ◌∙◌, ◌⊎◌, inl, inr}
+use Rattle.std.proofs.Common.{◌≡◌, ℕ, List, [], ◌∷◌, ◌++◌, Option, Some, None, Ok, Err, refl, sym, ap, subst, ◌∙◌, inl, inr}
 use Rattle.std.specs.List.{AllByRecursion}
 use Rattle.std.proofs.lemmas.List.{append-nil}
 use Rattle.cxx_model.specs.declared.evidence.Reason.{Reason}
 use Rattle.cxx_model.specs.declared.place.Place.{Place}
 use Rattle.cxx_model.specs.declared.fault.FaultText.TheVariants as says
-use Rattle.cxx_model.specs.declared.types.ClassId.{ClassId}
 use Rattle.cxx_model.specs.Facts.Declarations.{CxxGraph, CxxName, spelled}
-use Rattle.cxx_model.specs.Stops.{Answer, Stopped, Faulty}
+use Rattle.cxx_model.specs.Stops.{Answer, Stopped}
 use Rattle.cxx_meaning.specs.Conversions.Asking.{Asked, ◌>>=◌}
 use Rattle.cxx_meaning.specs.Conversions.Standard.{CxxOperand}
 use Rattle.cxx_reading.specs.Initializers.{with_call}
 use Rattle.cxx_reading.specs.Reads.{Ahead}
 use Rattle.cxx_reading.specs.State.{CxxState, CxxCall}
-use Rattle.cxx_overload.specs.Calls.{CxxDecision, call_fault, call_of, decided}
+use Rattle.cxx_overload.specs.Calls.{CxxDecision, decided}
 use Rattle.cxx_overload.specs.Candidates.{CxxCandidate, candidates}
-use Rattle.cxx_overload.specs.Choices.{position_of}
 use Rattle.cxx_overload.specs.Decided.{IsDecided, IsUndecided, NoneViable, IsAmbiguous}
 use Rattle.cxx_overload.specs.Sequences.{CxxSequence, sequences_of}
-use Rattle.cxx_overload.specs.Viability.{Rated, by_count, by_sequences, first_without, misfit, rated, rated_one}
+use Rattle.cxx_overload.specs.Viability.{Rated, by_count, by_sequences, first_without, rated, rated_one}
 use Rattle.cxx_overload.specs.Words.{IsOutcome}
 use Rattle.cxx_language.specs.Answers.{called_as}
 use Rattle.cxx_language_laws.specs.Best.{IsBestCall, IsRatedSo, values_of}

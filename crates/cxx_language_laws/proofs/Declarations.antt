@@ -1,5 +1,5 @@
 -- The readers of declarations keep the declarations and the calls so far, and what stops them is true.
-use Rattle.std.specs.Prelude.{ℕ, zero, suc, Bool, true, false, List, [], ◌∷◌, ◌++◌}
+use Rattle.std.specs.Prelude.{ℕ, zero, suc, Bool, true, false, List, []}
 use Rattle.std.proofs.Common.{refl}
 use Rattle.cxx_model.specs.declared.punct.TheConstants as punct
 use Rattle.cxx_reading.specs.declared.specifier.Naming.TheVariants as naming

@@ -1,16 +1,12 @@
 -- The readers of initialized objects keep the declarations and the calls so far, and what stops them is true.
 use Rattle.std.proofs.Common.{refl}
-use Rattle.std.specs.Prelude.{true, false, ℕ, ◌||◌, List, [], ◌∷◌, ◌++◌}
+use Rattle.std.specs.Prelude.{true, false, ℕ, ◌||◌, [], ◌∷◌, ◌++◌}
 use Rattle.cxx_model.specs.Facts.Declarations.{spelled}
-use Rattle.cxx_model.specs.Stops.{Answer}
 use Rattle.cxx_model.specs.Text.Lexemes.{Lexeme}
 use Rattle.cxx_model.specs.Types.Trees.{CxxType}
-use Rattle.cxx_phrases.specs.Initializers.{Initializer}
-use Rattle.cxx_phrases.specs.Phrases.{Phrases, Inner}
 use Rattle.cxx_reading.specs.Declarators.{Declarator, declared_type}
 use Rattle.cxx_reading.specs.Declaring.{fact_here}
 use Rattle.cxx_reading.specs.Reads.{Ahead, kind_ahead}
-use Rattle.cxx_reading.specs.State.{CxxState}
 use Rattle.cxx_reading.specs.Trees.{CxxTree}
 use Rattle.cxx_reading.specs.Units.{Said, declarator_tree, ends_declarator, is_unbounded, name_in}
 use Rattle.cxx_language.specs.Known.{entity_number, is_some_value, known_answer, known_object, known_value, note_known, noted, type_known, type_so_far}

@@ -1,13 +1,13 @@
 -- What is asked while an expression is read, and the readers of what stands in it: what they keep of the state, and what
 -- stops them.
-use Rattle.std.proofs.Common.{◌≡◌, refl}
-use Rattle.std.specs.Prelude.{ℕ, true, false, nat_eq, List, None, Ok, Err}
+use Rattle.std.proofs.Common.{◌≡◌}
+use Rattle.std.specs.Prelude.{ℕ, true, false, nat_eq, List, None}
 use Rattle.cxx_model.specs.Stops.{Answer, Stopped}
 use Rattle.cxx_phrases.specs.declared.level.Level.{Level}
 use Rattle.cxx_phrases.specs.Forms.{name_tree, call_tree}
 use Rattle.cxx_phrases.specs.Phrases.{Phrases, Inner}
 use Rattle.cxx_phrases.specs.Productions as phrase
-use Rattle.cxx_reading.specs.Reads.{Ahead, Reads, Asks, then_read, answered, kind_ahead, behind}
+use Rattle.cxx_reading.specs.Reads.{Ahead, Reads, then_read, answered, kind_ahead, behind}
 use Rattle.cxx_reading.specs.Tokens.{is_name}
 use Rattle.cxx_reading.specs.Trees.{CxxTree, CxxPath}
 use Rattle.cxx_language_laws.specs.Told.{IsCall}

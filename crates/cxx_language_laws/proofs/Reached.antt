@@ -1,5 +1,5 @@
 -- What is true of what stops a reader: it is true in a state and with tokens ahead that come later.
-use Rattle.std.proofs.Common.{◌≡◌, refl, sym, subst}
+use Rattle.std.proofs.Common.{◌≡◌, sym, subst}
 use Rattle.std.specs.Prelude.{ℕ, List, []}
 use Rattle.cxx_model.specs.declared.stop.Fault.{Fault}
 use Rattle.cxx_model.specs.Stops.{Stopped, Faulty, Limited}

@@ -1,6 +1,6 @@
 -- What the tests of brackets keep of the state, and what stops them.
 use Rattle.std.proofs.Common.{◌≡◌, refl}
-use Rattle.std.specs.Prelude.{ℕ, suc, Bool, true, false, ◌&&◌, if◌then◌else◌, List, [], ◌∷◌, Option, Some, None, Ok, Err}
+use Rattle.std.specs.Prelude.{ℕ, suc, Bool, true, false, ◌&&◌, if◌then◌else◌, List, [], ◌∷◌, Option, Some, None, Err}
 use Rattle.cxx_model.specs.declared.place.Place.{Place}
 use Rattle.cxx_model.specs.declared.punct.TheConstants as punct
 use Rattle.cxx_model.specs.Stops.{Answer, Stopped}
@@ -8,8 +8,8 @@ use Rattle.cxx_model.specs.Text.Lexemes.{Lexeme}
 use Rattle.cxx_phrases.specs.declared.shape.TypeShape.{TypeShape}
 use Rattle.cxx_phrases.specs.declared.shape.TypeShape.TheVariants as shape
 use Rattle.cxx_phrases.specs.Brackets.{opened_step, opened_over, opened_passed, closed_step, give_true, closed_passed, called_by, name_closed, name_opened, called_name, is_cast, cast_passed, begins_cast}
-use Rattle.cxx_phrases.specs.Phrases.{Phrases, Inner}
-use Rattle.cxx_reading.specs.Reads.{Ahead, Got, More, Done, then_read, got, give, kind_ahead, behind}
+use Rattle.cxx_phrases.specs.Phrases.{Inner}
+use Rattle.cxx_reading.specs.Reads.{Ahead, Got, More, Done, then_read, got, kind_ahead, behind}
 use Rattle.cxx_reading.specs.Tokens.{is_name, is_punct, is_plain_name, token_in}
 use Rattle.cxx_language_laws.specs.Told.{EndsIn}
 use Rattle.cxx_language_laws.proofs.PhrasesTell.{InnerTell}

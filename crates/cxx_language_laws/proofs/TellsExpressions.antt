@@ -1,6 +1,6 @@
 -- What is kept of the state, and what stops the unit, where it is found what an expression or an initializer means.
-use Rattle.std.proofs.Common.{◌≡◌, refl, sym, ap}
-use Rattle.std.specs.Prelude.{ℕ, zero, Bool, true, false, nat_eq, nat_lt, if◌then◌else◌, List, [], ◌∷◌, length, Option, Some, None, Ok, Err}
+use Rattle.std.proofs.Common.{◌≡◌, refl, ap}
+use Rattle.std.specs.Prelude.{ℕ, zero, nat_eq, List, [], ◌∷◌, length, Option, Some, None, Ok}
 use Rattle.cxx_model.specs.declared.place.Place.{Place}
 use Rattle.cxx_model.specs.declared.punct.TheConstants as punct
 use Rattle.cxx_model.specs.Stops.{Stopped}
@@ -8,10 +8,10 @@ use Rattle.cxx_model.specs.Text.Lexemes.{Lexeme}
 use Rattle.cxx_model.specs.Types.Trees.{CxxType, CxxBound, array_of, number_bound}
 use Rattle.cxx_meaning.specs.Conversions.Kinds.{kind_of}
 use Rattle.cxx_meaning.specs.Conversions.Standard.{is_class}
-use Rattle.cxx_reading.specs.Reads.{Ahead, Asks, behind}
+use Rattle.cxx_reading.specs.Reads.{Ahead, Asks}
 use Rattle.cxx_reading.specs.Seen.{Numbered}
 use Rattle.cxx_reading.specs.State.{CxxState}
-use Rattle.cxx_reading.specs.Trees.{CxxPath, CxxTree, children_of}
+use Rattle.cxx_reading.specs.Trees.{CxxTree, children_of}
 use Rattle.cxx_phrases.specs.Forms.{name_tree, call_tree}
 use Rattle.cxx_expr.specs.declared.production.TheConstants as production
 use Rattle.cxx_expr.specs.Calls.{call, expression_call, split_first}

@@ -1,6 +1,6 @@
 -- What the readers of types in expressions keep of the state, and what stops them.
 use Rattle.std.proofs.Common.{refl}
-use Rattle.std.specs.Prelude.{Bool, true, false, if◌then◌else◌, ◌++◌}
+use Rattle.std.specs.Prelude.{Bool, ◌++◌}
 use Rattle.cxx_model.specs.declared.punct.TheConstants as punct
 use Rattle.cxx_model.specs.Stops.{Stopped}
 use Rattle.cxx_model.specs.Types.Trees.{CxxType}

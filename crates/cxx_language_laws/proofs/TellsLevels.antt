@@ -1,5 +1,5 @@
 -- What the readers of binary operators, conditionals, assignments and commas keep of the state, and what stops them.
-use Rattle.std.proofs.Common.{◌≡◌, refl}
+use Rattle.std.proofs.Common.{refl}
 use Rattle.std.specs.Prelude.{ℕ, zero, suc}
 use Rattle.cxx_model.specs.declared.keyword.TheConstants as keyword
 use Rattle.cxx_model.specs.declared.punct.TheConstants as punct
@@ -11,7 +11,7 @@ use Rattle.cxx_phrases.specs.Operators.{outermost, is_of_level, selects_member, 
 use Rattle.cxx_phrases.specs.Phrases.{Phrases, Inner}
 use Rattle.cxx_phrases.specs.Productions as phrase
 use Rattle.cxx_reading.specs.Reads.{Ahead, Reads, More, Done, give, count_ahead, kind_ahead}
-use Rattle.cxx_reading.specs.Tokens.{is_punct, is_keyword, punct_taken}
+use Rattle.cxx_reading.specs.Tokens.{is_punct, is_keyword}
 use Rattle.cxx_reading.specs.Trees.{CxxTree}
 use Rattle.cxx_language_laws.proofs.PhrasesTell.{PhrasesTell, InnerTell}
 use Rattle.cxx_language_laws.proofs.Tells.{IsTold, Tells, quiet_in, if_in, then_in, ask_in, same_in, repeat_tells, taken_in, looked_in, punct_in, give_in, tokens_in, unit_is_told}

@@ -1,5 +1,5 @@
 -- What names and calls keep of the state, and what stops them.
-use Rattle.std.proofs.Common.{◌≡◌, refl, sym, subst}
+use Rattle.std.proofs.Common.{◌≡◌, refl}
 use Rattle.std.specs.Prelude.{Bool, true, false, if◌then◌else◌, ℕ, zero, suc, ◌+◌, ◌-◌, List, [], ◌∷◌, ◌++◌, length, Option, Some, None, Ok, Err}
 use Rattle.cxx_model.specs.declared.place.Place.{Place}
 use Rattle.cxx_model.specs.Facts.Declarations as facts
@@ -15,7 +15,7 @@ use Rattle.cxx_reading.specs.Seen.{Numbered}
 use Rattle.cxx_reading.specs.State.{CxxState}
 use Rattle.cxx_reading.specs.Trees.{CxxPathPart, CxxTree, Label}
 use Rattle.cxx_expr.specs.Calls.{fallback_more, fallbacks, chosen_tree, chosen_call, question, function_call, Signature, fits_count, through_tree, through_signature, through_counted, no_callee, through_by, signature_by, through, called_label, without_name, value_call, called_first, called, name_call}
-use Rattle.cxx_expr.specs.Names.{Means, are_one_function, means_enumerator, means_first, means_function, means_object, means_value, meant_by, named, named_tree, path_in, values_among, word_in}
+use Rattle.cxx_expr.specs.Names.{are_one_function, means_enumerator, means_first, means_function, means_object, means_value, meant_by, named, named_tree, path_in, values_among, word_in}
 use Rattle.cxx_expr.specs.Operands.{is_of_class}
 use Rattle.cxx_expr.specs.Questions.{CxxChosen, Questions}
 use Rattle.cxx_reading.specs.Initializers.{operand_of}

@@ -10,14 +10,13 @@ use Rattle.cxx_model.specs.Text.Lexemes.{Lexeme}
 use Rattle.cxx_phrases.specs.declared.level.Level.TheVariants as level
 use Rattle.cxx_phrases.specs.declared.shape.TypeShape.{TypeShape}
 use Rattle.cxx_phrases.specs.declared.shape.TypeShape.TheVariants as shape
-use Rattle.cxx_phrases.specs.Brackets.{called_name}
 use Rattle.cxx_phrases.specs.Forms.{called_tree, subscript_tree, step_tree, prefix_tree, size_tree, cast_tree}
 use Rattle.cxx_phrases.specs.Operands.{call_step, subscript_step, step_step, postfix_step, postfixes_at, cast_at, parenthesis_part, cast_by, cast_or_parenthesis, called_part, called_by, called_or_not, bracket_by, bracket_at, prefix_at, size_at, primary_part, operand_at, sized_operand, sized_type, sized_by, sized_at}
 use Rattle.cxx_phrases.specs.Operators.{is_prefix, is_step, is_member_access, operator_ahead}
 use Rattle.cxx_phrases.specs.Phrases.{Phrases, Inner}
 use Rattle.cxx_reading.specs.Reads.{Ahead, Got, More, Done, give, then_read, beside, count_ahead, kind_ahead, behind}
 use Rattle.cxx_reading.specs.Specifiers.{path_of}
-use Rattle.cxx_reading.specs.Tokens.{is_name, is_punct, is_keyword, punct_taken}
+use Rattle.cxx_reading.specs.Tokens.{is_name, is_punct, is_keyword}
 use Rattle.cxx_reading.specs.Trees.{CxxTree}
 use Rattle.cxx_language_laws.specs.Told.{EndsIn}
 use Rattle.cxx_language_laws.proofs.PhrasesTell.{PhrasesTell, InnerTell, asked_in}

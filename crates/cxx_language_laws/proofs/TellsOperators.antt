@@ -1,10 +1,9 @@
 -- What operators and casts keep of the state, and what stops them.
-use Rattle.std.proofs.Common.{◌≡◌, refl}
-use Rattle.std.specs.Prelude.{ℕ, Bool, true, false, ◌||◌, if◌then◌else◌, bytes_eq, codes, List, [], ◌∷◌, Option, Some, None, Ok, Err}
+use Rattle.std.proofs.Common.{refl}
+use Rattle.std.specs.Prelude.{ℕ, Bool, true, false, ◌||◌, bytes_eq, codes, List, [], ◌∷◌, Option, Some, None, Ok, Err}
 use Rattle.cxx_model.specs.declared.base.Base.TheVariants as base
 use Rattle.cxx_model.specs.declared.place.Place.{Place}
-use Rattle.cxx_model.specs.declared.punct.TheConstants as punct
-use Rattle.cxx_model.specs.Stops.{Answer, Stopped}
+use Rattle.cxx_model.specs.Stops.{Stopped}
 use Rattle.cxx_model.specs.Types.Trees.{fundamental}
 use Rattle.cxx_meaning.specs.Conversions.Asking.{Asked}
 use Rattle.cxx_meaning.specs.Conversions.BuiltIn.{CxxBuiltIn, bool_type, built_in_result}
@@ -22,7 +21,7 @@ use Rattle.cxx_expr.specs.Operands.{all_three, asks_operator, both, built_operan
 use Rattle.cxx_expr.specs.Operators.{misshapen, operator_in, meaning_at, with_meaning, built, built_by, prefix_built, prefix_of, prefix, step_built, step_of, step, operand_beside, binary_built, binary_of, binary_by, arms_built, arms, conditional_built, any_class, is_test, conditional_of, conditional}
 use Rattle.cxx_expr.specs.Questions.{Questions}
 use Rattle.cxx_language_laws.proofs.QuestionsTell.{quiet_by, same_by, if_by, then_by, give_by}
-use Rattle.cxx_language_laws.proofs.Tells.{IsTold, IsQuiet, ToldBy, Answers}
+use Rattle.cxx_language_laws.proofs.Tells.{IsTold, Answers}
 use Rattle.cxx_language_laws.proofs.TellsConversions.{convert_tells, convert_each_tells}
 
 pub misshapen_tells : {kept : CxxState → CxxState → Type 0} {told : CxxState → Ahead → Stopped → Type 0} → IsTold kept told → (tree : CxxTree) → Answers kept told (misshapen tree)

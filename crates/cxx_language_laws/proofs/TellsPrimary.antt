@@ -1,6 +1,6 @@
 -- What the readers of primary expressions keep of the state, and what stops them.
 use Rattle.std.proofs.Common.{◌≡◌, refl, ap}
-use Rattle.std.specs.Prelude.{ℕ, Bool, true, false, ◌||◌, ◌==◌, List, [], ◌∷◌, ◌++◌, Option, Some, None, Ok}
+use Rattle.std.specs.Prelude.{ℕ, true, ◌||◌, ◌==◌, List, [], ◌∷◌, ◌++◌, Option, Some, None}
 use Rattle.cxx_model.specs.declared.base.Base.{Base}
 use Rattle.cxx_model.specs.declared.keyword.TheConstants as keyword
 use Rattle.cxx_model.specs.declared.limits.TheConstants as limits
@@ -18,11 +18,11 @@ use Rattle.cxx_phrases.specs.Operators.{is_literal, is_cast_word, base_of_kind, 
 use Rattle.cxx_phrases.specs.Phrases.{Phrases, Inner}
 use Rattle.cxx_phrases.specs.Primary.{literal_part, name_at, called_at, named_call, value_name_at, functional_cast, functional_at, type_name_at, named_by, named_at, word_at, cast_opened, cast_closed, cast_word_at, parenthesis_at, word_by, primary_at}
 use Rattle.cxx_reading.specs.Reads.{Ahead, More, Done, kind_ahead, word_ahead, behind}
-use Rattle.cxx_reading.specs.Tokens.{is_name, is_punct, is_keyword, is_plain_name, path_ahead, token_in, punct_taken}
+use Rattle.cxx_reading.specs.Tokens.{is_name, is_punct, is_keyword, is_plain_name, path_ahead, token_in}
 use Rattle.cxx_reading.specs.Trees.{CxxTree}
 use Rattle.cxx_language_laws.specs.Told.{EndsIn}
 use Rattle.cxx_language_laws.proofs.PhrasesTell.{PhrasesTell, InnerTell, asked_in}
-use Rattle.cxx_language_laws.proofs.Tells.{IsTold, ToldIn, Tells, quiet_in, if_in, when_in, past_in, then_in, then_from, from_in, ask_from, ask_in, same_in, next_in, repeat_tells, taken_in, looked_in, token_told, punct_in, give_in, tokens_in, unit_is_told, whole_stands, ends_later, behind_stands}
+use Rattle.cxx_language_laws.proofs.Tells.{IsTold, ToldIn, Tells, quiet_in, if_in, when_in, past_in, then_in, then_from, from_in, ask_from, ask_in, next_in, repeat_tells, taken_in, looked_in, punct_in, give_in, tokens_in, unit_is_told, whole_stands, ends_later, behind_stands}
 use Rattle.cxx_language_laws.proofs.TellsBrackets.{left_true}
 use Rattle.cxx_language_laws.proofs.TellsSyntax.{no_expression_tells}
 

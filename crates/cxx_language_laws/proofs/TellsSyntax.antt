@@ -14,7 +14,7 @@ use Rattle.cxx_reading.specs.declared.specifier.SpecifierPlace.TheVariants as wh
 use Rattle.cxx_reading.specs.Constants.{constant_at, literal_tree, literal_by, literal_at, keyword_text, begins_operand, begins_unary, expression_text, no_expression, is_member_pointer, continues, ends_by, literal_ended}
 use Rattle.cxx_reading.specs.Declarators.{Specifiers, pointer_layer, reference_layer, Declarator, no_declarator_yet, outward, is_named, ParameterTypes, parameter_type}
 use Rattle.cxx_reading.specs.Specifiers.{with_const, with_volatile}
-use Rattle.cxx_reading.specs.Tokens.{is_punct, is_keyword, is_name, is_qualified, no_declarator, is_number, punct_taken}
+use Rattle.cxx_reading.specs.Tokens.{is_punct, is_keyword, is_name, is_qualified, no_declarator, is_number}
 use Rattle.cxx_reading.specs.Trees.{CxxTree}
 use Rattle.cxx_model.specs.declared.base.Base.{Base}
 use Rattle.cxx_model.specs.declared.token.TokenKind.{TokenKind}

@@ -6,7 +6,7 @@ use Rattle.cxx_model.specs.Stops.{Stopped}
 use Rattle.cxx_model.specs.Text.Lexemes.{Lexeme}
 use Rattle.cxx_phrases.specs.Phrases.{Phrases, Inner}
 use Rattle.cxx_reading.specs.Reads.{Ahead, give, count_ahead, kind_ahead, behind}
-use Rattle.cxx_reading.specs.Tokens.{is_punct, is_name, punct_taken}
+use Rattle.cxx_reading.specs.Tokens.{is_punct, is_name}
 use Rattle.cxx_reading.specs.Syntax.{no_value}
 use Rattle.cxx_reading.specs.Trees.{CxxTree}
 use Rattle.cxx_language.specs.Readers.{Asking, valued, bound_value, bound_at, value_at, enumerator_at, enumerator_step, enumerators_at}

@@ -1,5 +1,5 @@
 -- What holds of whole readings: each of their calls is the best, and the fault with which one stops is true.
-use Rattle.std.proofs.Common.{◌≡◌, inl, inr, refl, sym, ap, subst, ◌∙◌}
+use Rattle.std.proofs.Common.{◌≡◌, inl, inr, refl, ap, subst, ◌∙◌}
 use Rattle.std.specs.Prelude.{ℕ, zero, suc, Bool, true, false, List, [], Ok, Err, if◌then◌else◌}
 use Rattle.cxx_model.specs.declared.fault.FaultText.{FaultText}
 use Rattle.cxx_model.specs.declared.fault.FaultText.TheVariants as says
