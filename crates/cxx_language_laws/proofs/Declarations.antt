@@ -1,79 +1,184 @@
--- The readers of declarations keep the declarations and the calls so far, and what stops them is true.
-use Rattle.std.specs.Prelude.{ℕ, zero, suc, Bool, true, false, List, []}
-use Rattle.std.proofs.Common.{refl}
+-- Where the reading of a declaration stops.
+use Rattle.std.proofs.Common.{◌≡◌, refl}
+use Rattle.std.specs.Prelude.{ℕ, zero, suc, Bool, true, false, not, ◌&&◌, ◌||◌, List, [], ◌∷◌, ◌++◌, Ok, if◌then◌else◌}
+use Rattle.cxx_model.specs.declared.fault.FaultText.TheVariants as says
 use Rattle.cxx_model.specs.declared.punct.TheConstants as punct
+use Rattle.cxx_model.specs.Text.Lexemes.{Lexeme}
+use Rattle.cxx_model.specs.Types.Trees.{CxxType}
 use Rattle.cxx_reading.specs.declared.specifier.Naming.TheVariants as naming
 use Rattle.cxx_reading.specs.declared.specifier.SpecifierPlace.TheVariants as where_
-use Rattle.cxx_reading.specs.Declarators.{Declarator, Specifiers, declared_type, is_function_type}
-use Rattle.cxx_reading.specs.Reads.{Ahead, Reads, give, count_ahead, kind_ahead}
+use Rattle.cxx_reading.specs.Declarators.{Declarator, declared_type, refused_in, is_refused, Specifiers, is_void, is_function_type}
+use Rattle.cxx_reading.specs.Declaring.{declare_object, define_object, define_declared}
+use Rattle.cxx_reading.specs.Reads.{Ahead, Reads, More, Done, ◌>>=◌, then_read, fault_at, give, got, count_ahead, kind_ahead, behind}
 use Rattle.cxx_reading.specs.State.{CxxState}
 use Rattle.cxx_reading.specs.Tokens.{is_punct}
 use Rattle.cxx_reading.specs.Trees.{CxxTree}
-use Rattle.cxx_reading.specs.Units.{Said, Listed, specifiers_tree, give_trees, no_declarators, said_by, simple_tree, empty_tree, another_ahead, inside_step}
-use Rattle.cxx_language.specs.Units.{declaration_at, declaration_by, declarator_step, declarators_at, declarators_of, declared_by, init_declarator_at, linkage_by, linkage_opened, linked_by, linked_one, plain_declaration_at, simple_declaration_at}
+use Rattle.cxx_reading.specs.Units.{specifiers_tree, declarator_tree, name_in as name_of_declarator, declared_fits, ends_declarator, give_trees, no_declarators, said_by, simple_tree, empty_tree, another_ahead, linkages_passed, linkage_list, inside_step, Said, Listed}
+use Rattle.cxx_language.specs.Known.{type_so_far}
+use Rattle.cxx_language.specs.Objects.{begins_initializer, defined_later, defined_part, extern_part, without_initializer}
+use Rattle.cxx_language.specs.Units.{answers, declaration_at, declaration_by, declarator_step, declarators_at, declarators_of, declared_by, defined_object, extern_object, init_declarator_at, inner_at, linkage_by, linkage_opened, linked_by, linked_one, phrases_at, plain_declaration_at, simple_declaration_at}
+use Rattle.cxx_language_laws.specs.Stopping.{Gives, Initializes, Leads, Part, a_declaration, a_declarator, a_simple_declaration, an_initializer, by_definition, by_extern, declarator_of, in_declaration, in_declarator, in_specifiers, initializer_of, linked_declarations, next_declaration, next_declarator, some_declarators, some_specifiers, specifiers_of, to_braces, to_declarators, to_initializer, to_linked, to_unlinked}
+use Rattle.cxx_language_laws.specs.Told.{EndsIn}
 use Rattle.cxx_language_laws.proofs.Asked.{kinds_tell}
 use Rattle.cxx_language_laws.proofs.Both.{both_tell}
-use Rattle.cxx_language_laws.proofs.Declared.{declared_fits_tells, declared_function_tells, declared_synonym_tells, declarator_ended_tells, give_trees_tells, inside_step_tells, linkage_list_tells, linkages_tell, linked_tree_tells, no_declaration_tells, nothing_tells, one_tree_tells}
-use Rattle.cxx_language_laws.proofs.Later.{IsLater}
-use Rattle.cxx_language_laws.proofs.Objects.{defined_object_tells, extern_object_tells}
-use Rattle.cxx_language_laws.proofs.Reached.{Told, later_is_told}
-use Rattle.cxx_language_laws.proofs.Tells.{Tells, quiet_in, if_in, if_reads, then_in, next_in, repeat_tells, looked_in, give_in}
+use Rattle.cxx_language_laws.proofs.Declared.{declared_function_tells, declared_synonym_tells, declarator_ended_tells, give_trees_tells, linkages_tell, linked_tree_tells, no_declaration_tells, nothing_tells, one_tree_tells, uninitialized_tells}
+use Rattle.cxx_language_laws.proofs.Later.{IsLater, define_later_tells, define_tells, later_is_quiet, object_tells}
+use Rattle.cxx_language_laws.proofs.Objects.{initialized_tells}
+use Rattle.cxx_language_laws.proofs.Reached.{later_is_told}
+use Rattle.cxx_language_laws.proofs.Stopping.{Inside, Stops, calm, calm_from, innermost_stops, leads_here, leads_in, repeat_stops, then_asked, then_calm, which_in, whole_calm, whole_stops}
+use Rattle.cxx_language_laws.proofs.Tells.{tells_stop, then_from, then_in, if_in, same_in, next_in, give_in, looked_in, past_stands, quiet_in}
 use Rattle.cxx_language_laws.proofs.TellsSpecifiers.{specifiers_tell}
 use Rattle.cxx_language_laws.proofs.TellsSyntax.{declarator_tells}
 
-declared_by_tells : (room : ℕ) (said : Said) (is_first : Bool) (from : Ahead) (declarator : Declarator) → Tells IsLater Told (declared_by room said is_first from declarator)
-declared_by_tells room said is_first from declarator = if_reads said.is_typedef (declared_synonym_tells said declarator from) (if_reads (is_function_type (declared_type declarator.layers said.of)) (declared_function_tells said is_first declarator from) (if_reads said.is_extern (extern_object_tells room said declarator from) (defined_object_tells room said declarator from)))
+-- ---- innermost parts
 
-init_declarator_tells : (room : ℕ) (said : Said) (is_first : Bool) → Tells IsLater Told (init_declarator_at room said is_first)
+specifiers_stop : (room : ℕ) (state : CxxState) (ahead : Ahead) → Stops (some_specifiers room) state ahead (specifiers_of room state ahead)
+specifiers_stop room state ahead = innermost_stops tt (λ fault is. is) (specifiers_tell later_is_told (kinds_tell room) (both_tell room).types where_.Declaration state ahead)
+
+declarator_stops : (room : ℕ) (state : CxxState) (ahead : Ahead) → Stops (a_declarator room) state ahead (declarator_of room state ahead)
+declarator_stops room state ahead = innermost_stops tt (λ fault is. is) (declarator_tells later_is_told (kinds_tell room) (both_tell room).types naming.Required state ahead)
+
+initializer_stops : (room : ℕ) (name : Lexeme) (of : CxxType) (number : ℕ) (state : CxxState) (ahead : Ahead) → Stops (an_initializer room name of number) state ahead (initializer_of room name of number state ahead)
+initializer_stops room name of number state ahead = innermost_stops tt (λ fault is. is) (initialized_tells room name of number state ahead)
+
+-- ---- what follows a declarator
+
+defined_part_stops : {part : Part} {state : CxxState} {ahead : Ahead} (after : CxxState) (rest : Ahead) (room : ℕ) (name : Lexeme) (of : CxxType) (number : ℕ) → (begins_initializer rest ≡ true → Leads part state ahead (an_initializer room name of number) after rest) → IsLater state after → EndsIn ahead.tokens rest.tokens
+    → Inside part state ahead (defined_part answers (phrases_at room) (inner_at room).phrases name of number after rest)
+unfolding defined_part without_initializer
+defined_part_stops after rest room name of number leads later stands =
+    which_in (begins_initializer rest) (λ begins. leads_in (leads begins) later stands (initializer_stops room name of number after rest)) (λ none. calm_from later stands (
+    if_in (ends_declarator (kind_ahead rest)) (uninitialized_tells name (type_so_far after number of) after rest) (quiet_in later_is_quiet refl)))
+
+defined_later_stops : {part : Part} {state : CxxState} {ahead : Ahead} (between : CxxState) (rest : Ahead) (room : ℕ) (name : Lexeme) (of : CxxType) (number : ℕ) → ((defined : Unit {0} × CxxState) → define_declared name number between ≡ Ok defined → Leads part state ahead (an_initializer room name of number) defined.1 rest) → IsLater state between → EndsIn ahead.tokens rest.tokens
+    → Inside part state ahead (defined_later answers (phrases_at room) (inner_at room).phrases name of number between rest)
+unfolding defined_later
+defined_later_stops between rest room name of number leads later stands =
+    then_asked (λ defined. initializer_of room name of number) (define_declared name number) (define_later_tells name number between rest) later stands (λ defined is later. leads_in (leads defined is) later stands (initializer_stops room name of number defined.1 rest))
+
+extern_part_stops : {part : Part} {state : CxxState} {ahead : Ahead} (between : CxxState) (rest : Ahead) (room : ℕ) (name : Lexeme) (of : CxxType) (number : ℕ)
+    → (begins_initializer rest ≡ true → (defined : Unit {0} × CxxState) → define_declared name number between ≡ Ok defined → Leads part state ahead (an_initializer room name of number) defined.1 rest)
+    → IsLater state between → EndsIn ahead.tokens rest.tokens → Inside part state ahead (extern_part answers (phrases_at room) (inner_at room).phrases name of number between rest)
+unfolding extern_part
+extern_part_stops between rest room name of number leads later stands =
+    which_in (begins_initializer rest) (λ begins. defined_later_stops between rest room name of number (leads begins) later stands) (λ none. calm_from later stands (
+    if_in (ends_declarator (kind_ahead rest)) (same_in later_is_quiet [] between rest) (quiet_in later_is_quiet refl)))
+
+-- ---- one declarator
+
+-- from an initializer of this declarator
+abbrev LeadsOn : ℕ → Said → Listed → Declarator → CxxState → Ahead → CxxState → Ahead → Type 0
+LeadsOn room said so_far declarator state ahead between rest = (number : ℕ) (after : CxxState) → Initializes said declarator between number after → begins_initializer rest ≡ true → Leads (some_declarators room said so_far) state ahead (an_initializer room (name_of_declarator declarator) (declared_type declarator.layers said.of) number) after rest
+
+extern_object_stops : (room : ℕ) (said : Said) (so_far : Listed) (declarator : Declarator) (from : Ahead) (state between : CxxState) (ahead rest : Ahead) → said.is_extern ≡ true → LeadsOn room said so_far declarator state ahead between rest → IsLater state between → EndsIn ahead.tokens rest.tokens
+    → Inside (some_declarators room said so_far) state ahead (extern_object room said declarator from between rest)
+unfolding extern_object
+extern_object_stops room said so_far declarator from state between ahead rest is_extern leads later stands =
+    let name = name_of_declarator declarator in
+    let of = declared_type declarator.layers said.of in
+    then_asked _ (declare_object name of) (object_tells name of between rest) later stands (λ answer is_declared later.
+    then_calm (extern_part_stops answer.1 rest room name of answer.0 (λ begins defined is_defined. leads answer.0 defined.1 (by_extern answer defined is_extern is_declared is_defined) begins) later stands) (λ parts state ahead.
+    then_in later_is_quiet (looked_in later_is_quiet state ahead) (λ to. give_in later_is_quiet (declarator_tree true name of answer.0 (declarator.parts ++ parts) from to))))
+
+defined_object_stops : (room : ℕ) (said : Said) (so_far : Listed) (declarator : Declarator) (from : Ahead) (state between : CxxState) (ahead rest : Ahead) → said.is_extern ≡ false → LeadsOn room said so_far declarator state ahead between rest → IsLater state between → EndsIn ahead.tokens rest.tokens
+    → Inside (some_declarators room said so_far) state ahead (defined_object room said declarator from between rest)
+unfolding defined_object
+defined_object_stops room said so_far declarator from state between ahead rest no_extern leads later stands =
+    let name = name_of_declarator declarator in
+    let of = declared_type declarator.layers said.of in
+    then_asked _ (define_object name of) (define_tells name of between rest) later stands (λ answer is_defined later.
+    then_calm (defined_part_stops answer.1 rest room name of answer.0 (leads answer.0 answer.1 (by_definition answer no_extern is_defined)) later stands) (λ parts state ahead.
+    then_in later_is_quiet (looked_in later_is_quiet state ahead) (λ to. give_in later_is_quiet (declarator_tree false name of answer.0 (declarator.parts ++ parts) from to))))
+
+which_reads : {A : Type 0} {part : Part} {state : CxxState} {ahead : Ahead} (b : Bool) (x y : Reads CxxState A) (after : CxxState) (rest : Ahead) → (b ≡ true → Inside part state ahead (x after rest)) → (b ≡ false → Inside part state ahead (y after rest)) → Inside part state ahead ((if b then x else y) after rest)
+which_reads true x y after rest one two = one refl
+which_reads false x y after rest one two = two refl
+
+declared_by_stops : (room : ℕ) (said : Said) (so_far : Listed) (is_first : Bool) (from : Ahead) (declarator : Declarator) (state between : CxxState) (ahead rest : Ahead) → Gives (declarator_of room) state ahead declarator between rest → IsLater state between → EndsIn ahead.tokens rest.tokens
+    → Inside (some_declarators room said so_far) state ahead (declared_by room said is_first from declarator between rest)
+declared_by_stops room said so_far is_first from declarator state between ahead rest is later stands =
+    which_reads said.is_typedef _ _ between rest (λ synonym. calm_from later stands (declared_synonym_tells said declarator from between rest)) (λ no_synonym.
+    which_reads (is_function_type (declared_type declarator.layers said.of)) _ _ between rest (λ function. calm_from later stands (declared_function_tells said is_first declarator from between rest)) (λ no_function.
+    let leads : LeadsOn room said so_far declarator state ahead between rest = λ number after initializes begins. to_initializer is no_synonym no_function initializes begins in
+    which_reads said.is_extern _ _ between rest (λ is_extern. extern_object_stops room said so_far declarator from state between ahead rest is_extern leads later stands)
+    (λ no_extern. defined_object_stops room said so_far declarator from state between ahead rest no_extern leads later stands)))
+
+-- what follows where a declarator fits
+fits_stops : {B : Type 0} {part : Part} {state : CxxState} {ahead : Ahead} (said : Said) (declarator : Declarator) (go : Unit {0} → Reads CxxState B) (after : CxxState) (rest : Ahead) → Inside part state ahead (go tt after rest) → Inside part state ahead (then_read (declared_fits said declarator after rest) go)
+unfolding declared_fits
+fits_stops {B = B} {part = part} {state = state} {ahead = ahead} said declarator go after rest stops = by (is_refused (refused_in declarator.layers said.of) || (not said.is_typedef && is_void (declared_type declarator.layers said.of)))
+  where
+    by : (b : Bool) → Inside part state ahead (then_read (if b then fault_at (name_of_declarator declarator).place says.OperandsDoNotFit after rest else got tt after rest) go)
+    by true = tells_stop _ tt
+    by false = stops
+
+init_declarator_stops : (room : ℕ) (said : Said) (so_far : Listed) (state : CxxState) (ahead : Ahead) → Inside (some_declarators room said so_far) state ahead (init_declarator_at room said so_far.is_first state ahead)
 unfolding init_declarator_at
-init_declarator_tells room said is_first state ahead = then_in later_is_told (looked_in later_is_told state ahead) (λ from state ahead. then_in later_is_told (declarator_tells later_is_told (kinds_tell room) (both_tell room).types naming.Required state ahead) (λ declarator state ahead. then_in later_is_told (declared_fits_tells said declarator state ahead) (λ fits. declared_by_tells room said is_first from declarator)))
+init_declarator_stops room said so_far state ahead =
+    then_from (λ declarator. declared_fits said declarator >>= λ fits. declared_by room said so_far.is_first ahead declarator) (leads_here in_declarator (declarator_stops room state ahead)) (λ one is later stands.
+    fits_stops said one.value (λ fits. declared_by room said so_far.is_first ahead one.value) one.state one.rest (declared_by_stops room said so_far so_far.is_first ahead one.value state one.state ahead one.rest is later stands))
 
-declarator_step_tells : (room : ℕ) (said : Said) (so_far : Listed) → Tells IsLater Told (declarator_step room said so_far)
+declarator_step_stops : (room : ℕ) (said : Said) (so_far : Listed) (state : CxxState) (ahead : Ahead) → Inside (some_declarators room said so_far) state ahead (declarator_step room said so_far state ahead)
 unfolding declarator_step
-declarator_step_tells room said so_far state ahead = then_in later_is_told (init_declarator_tells room said so_far.is_first state ahead) (declarator_ended_tells so_far)
+declarator_step_stops room said so_far state ahead = then_calm (init_declarator_stops room said so_far state ahead) (declarator_ended_tells so_far)
 
-declarators_tell : (room : ℕ) (said : Said) → Tells IsLater Told (declarators_at room said)
+declarators_stop : (room : ℕ) (said : Said) (state : CxxState) (ahead : Ahead) → Stops (some_declarators room said no_declarators) state ahead (declarators_at room said state ahead)
 unfolding declarators_at
-declarators_tell room said state ahead = repeat_tells later_is_told (declarator_step room said) give_trees (declarator_step_tells room said) give_trees_tells (count_ahead ahead) no_declarators state ahead
+declarators_stop room said state ahead = repeat_stops (some_declarators room said) (declarator_step room said) give_trees (λ so_far s ahead fault is. is) (λ so_far more s t ahead rest is. next_declarator is) (declarator_step_stops room said) give_trees_tells (count_ahead ahead) no_declarators state ahead
 
-declarators_of_tell : (room : ℕ) (counts_as_extern : Bool) (specifiers : Specifiers) → Tells IsLater Told (declarators_of room counts_as_extern specifiers)
+-- ---- one declaration
+
+declarators_of_stop : (room : ℕ) (as_extern : Bool) (specifiers : Specifiers) (state : CxxState) (ahead : Ahead) → Stops (some_declarators room (said_by as_extern specifiers) no_declarators) state ahead (declarators_of room as_extern specifiers state ahead)
 unfolding declarators_of
-declarators_of_tell room counts_as_extern specifiers state ahead = if_in (is_punct punct.SEMICOLON (kind_ahead ahead)) (nothing_tells specifiers state ahead) (declarators_tell room (said_by counts_as_extern specifiers) state ahead)
+declarators_of_stop room as_extern specifiers state ahead = if_in (is_punct punct.SEMICOLON (kind_ahead ahead)) (whole_calm (nothing_tells specifiers state ahead)) (declarators_stop room (said_by as_extern specifiers) state ahead)
 
-simple_tells : (room : ℕ) (counts_as_extern : Bool) → Tells IsLater Told (simple_declaration_at room counts_as_extern)
+simple_stops : (room : ℕ) (as_extern : Bool) (state : CxxState) (ahead : Ahead) → Stops (a_simple_declaration room as_extern) state ahead (simple_declaration_at room as_extern state ahead)
 unfolding simple_declaration_at
-simple_tells room counts_as_extern state ahead =
-    then_in later_is_told (looked_in later_is_told state ahead) (λ from state ahead.
-    then_in later_is_told (specifiers_tell later_is_told (kinds_tell room) (both_tell room).types where_.Declaration state ahead) (λ specifiers state ahead.
-    then_in later_is_told (looked_in later_is_told state ahead) (λ between state ahead.
-    then_in later_is_told (declarators_of_tell room counts_as_extern specifiers state ahead) (λ declarators state ahead.
-    then_in later_is_told (looked_in later_is_told state ahead) (λ to.
-    give_in later_is_told (simple_tree (specifiers_tree specifiers from between) declarators from to))))))
+simple_stops room as_extern state ahead =
+    whole_stops (λ fault is. is) (then_from _ (leads_here in_specifiers (specifiers_stop room state ahead)) (λ one is later stands.
+    then_calm (leads_in (to_declarators is) later stands (declarators_of_stop room as_extern one.value one.state one.rest)) (λ declarators state rest.
+    then_in later_is_quiet (looked_in later_is_quiet state rest) (λ to. give_in later_is_quiet (simple_tree (specifiers_tree one.value ahead one.rest) declarators ahead to)))))
 
-plain_declaration_tells : (room : ℕ) (counts_as_extern : Bool) → Tells IsLater Told (plain_declaration_at room counts_as_extern)
+plain_stops : (room : ℕ) (as_extern : Bool) (state : CxxState) (ahead : Ahead) → Stops (a_simple_declaration room as_extern) state ahead (plain_declaration_at room as_extern state ahead)
 unfolding plain_declaration_at
-plain_declaration_tells room counts_as_extern state ahead = if_in (is_punct punct.SEMICOLON (kind_ahead ahead)) (next_in later_is_told (empty_tree ahead) state ahead) (if_in (another_ahead (kind_ahead ahead)) (no_declaration_tells state ahead) (simple_tells room counts_as_extern state ahead))
+plain_stops room as_extern state ahead = if_in (is_punct punct.SEMICOLON (kind_ahead ahead)) (whole_calm (next_in later_is_quiet (empty_tree ahead) state ahead)) (if_in (another_ahead (kind_ahead ahead)) (whole_calm (no_declaration_tells state ahead)) (simple_stops room as_extern state ahead))
 
-linked_one_tells : (room : ℕ) → Tells IsLater Told (linked_one room)
-unfolding linked_one
-linked_one_tells room state ahead = then_in later_is_told (plain_declaration_tells room true state ahead) one_tree_tells
+-- ---- linkage
 
-linked_by_tells : (room : ℕ) (inside : Reads CxxState (List CxxTree)) → Tells IsLater Told inside → Tells IsLater Told (linked_by room inside)
-linked_by_tells room inside tells state ahead = if_in (is_punct punct.LEFT_BRACE (kind_ahead ahead)) (linkage_list_tells inside tells state ahead) (linked_one_tells room state ahead)
+-- what stands between braces
+abbrev BracesStop : ℕ → Type 0
+BracesStop room = (state after : CxxState) (ahead rest : Ahead) → Gives linkages_passed state ahead true after rest → is_punct punct.LEFT_BRACE (kind_ahead rest) ≡ true → IsLater state after → EndsIn ahead.tokens rest.tokens → Inside (a_declaration room) state ahead (linkage_opened room after (behind rest))
 
-linkage_by_tells : (room : ℕ) (inside : Reads CxxState (List CxxTree)) → Tells IsLater Told inside → (from : Ahead) (any : Bool) → Tells IsLater Told (linkage_by room inside from any)
-linkage_by_tells room inside tells from true state ahead = then_in later_is_told (linked_by_tells room inside tells state ahead) (linked_tree_tells from)
-linkage_by_tells room inside tells from false state ahead = plain_declaration_tells room false state ahead
+linked_by_stops : (room : ℕ) → BracesStop room → (state after : CxxState) (ahead rest : Ahead) → Gives linkages_passed state ahead true after rest → IsLater state after → EndsIn ahead.tokens rest.tokens
+    → Inside (a_declaration room) state ahead (linked_by room (linkage_opened room) after rest)
+unfolding linkage_list linked_one
+linked_by_stops room braces state after ahead rest is later stands =
+    which_in (is_punct punct.LEFT_BRACE (kind_ahead rest)) (λ brace. braces state after ahead rest is brace later stands)
+    (λ no_brace. then_calm (leads_in (to_linked is no_brace) later stands (plain_stops room true after rest)) one_tree_tells)
 
-declaration_by_tells : (room : ℕ) (inside : Reads CxxState (List CxxTree)) → Tells IsLater Told inside → Tells IsLater Told (declaration_by room inside)
-unfolding declaration_by
-declaration_by_tells room inside tells state ahead = then_in later_is_told (linkages_tell state ahead) (linkage_by_tells room inside tells ahead)
+linkage_by_stops : (room : ℕ) → BracesStop room → (any : Bool) (state after : CxxState) (ahead rest : Ahead) → Gives linkages_passed state ahead any after rest → IsLater state after → EndsIn ahead.tokens rest.tokens
+    → Inside (a_declaration room) state ahead (linkage_by room (linkage_opened room) ahead any after rest)
+linkage_by_stops room braces true state after ahead rest is later stands = then_calm (linked_by_stops room braces state after ahead rest is later stands) (linked_tree_tells ahead)
+linkage_by_stops room braces false state after ahead rest is later stands = leads_in (to_unlinked is) later stands (plain_stops room false after rest)
 
-linkage_opened_tells : (room : ℕ) → Tells IsLater Told (linkage_opened room)
-unfolding linkage_opened
-linkage_opened_tells zero state ahead = quiet_in later_is_told refl
-linkage_opened_tells (suc room) state ahead = repeat_tells later_is_told (inside_step (declaration_by room (linkage_opened room))) give (inside_step_tells (declaration_by room (linkage_opened room)) (declaration_by_tells room (linkage_opened room) (linkage_opened_tells room))) (give_in later_is_told) (count_ahead ahead) [] state ahead
+a_declaration_stops : (room : ℕ) → BracesStop room → (state : CxxState) (ahead : Ahead) → Stops (a_declaration room) state ahead (declaration_at room state ahead)
+unfolding declaration_at declaration_by
+a_declaration_stops room braces state ahead =
+    whole_stops (λ fault is. is) (then_from (linkage_by room (linkage_opened room) ahead) (calm (linkages_tell state ahead)) (λ one is later stands. linkage_by_stops room braces one.value state one.state ahead one.rest is later stands))
 
-pub declaration_tells : (room : ℕ) → Tells IsLater Told (declaration_at room)
-unfolding declaration_at
-declaration_tells room state ahead = declaration_by_tells room (linkage_opened room) (linkage_opened_tells room) state ahead
+inside_step_stops : (room : ℕ) → BracesStop room → (so_far : List CxxTree) (state : CxxState) (ahead : Ahead) → Inside (linked_declarations room so_far) state ahead (inside_step (declaration_at room) so_far state ahead)
+unfolding inside_step
+inside_step_stops room braces so_far state ahead =
+    if_in (is_punct punct.RIGHT_BRACE (kind_ahead ahead)) (calm (next_in later_is_quiet (Done so_far) state ahead))
+    (then_calm (leads_here in_declaration (a_declaration_stops room braces state ahead)) (λ tree. give_in later_is_quiet (More (so_far ++ tree ∷ []))))
+
+braces_stop : (room : ℕ) → BracesStop room
+unfolding linkage_opened declaration_at
+braces_stop zero state after ahead rest is brace later stands = calm (quiet_in later_is_quiet refl)
+braces_stop (suc room) state after ahead rest is brace later stands =
+    leads_in (to_braces is brace) later (past_stands ahead rest stands)
+    (repeat_stops (linked_declarations room) (inside_step (declaration_at room)) give (λ so_far s ahead fault is. is) (λ so_far more s t ahead rest is. next_declaration is) (inside_step_stops room (braces_stop room)) (λ so_far. give_in later_is_quiet so_far) (count_ahead (behind rest)) [] after (behind rest))
+
+-- what stops a declaration is true where its reading stops
+pub declaration_stops : (room : ℕ) (state : CxxState) (ahead : Ahead) → Stops (a_declaration room) state ahead (declaration_at room state ahead)
+declaration_stops room state ahead = a_declaration_stops room (braces_stop room) state ahead

@@ -23,5 +23,6 @@ pub mod Asked
 pub mod Both
 pub mod Declared
 pub mod Objects
+pub mod Stopping
 pub mod Declarations
 pub mod Whole

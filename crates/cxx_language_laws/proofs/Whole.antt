@@ -17,24 +17,37 @@ use Rattle.cxx_reading.specs.Trees.{CxxTree}
 use Rattle.cxx_reading.specs.Units.{CxxReading, with_part, part_added, read_as}
 use Rattle.cxx_language.specs.Units.{declaration_at, unit_reading, unit_step}
 use Rattle.cxx_language_laws.specs.Best.{AreBestCalls, EachCallIsBest}
+use Rattle.cxx_language_laws.specs.Stopping.{a_declaration}
 use Rattle.cxx_language_laws.specs.Told.{EndsIn, IsChoiceText, ReadsTo, none_more, one_more, whole, StopsIn, StopsAt, IsToldFault, IsUnitCall, IsUnknown, unknown_name, unknown_call, unknown_type, IsNotOfUnit, IsUndeclaredFault}
 use Rattle.cxx_language_laws.proofs.Asked.{phrases_tell}
 use Rattle.cxx_language_laws.proofs.Both.{both_tell}
 use Rattle.cxx_language_laws.proofs.Scopes.{InScopes, scopes_same, scopes_first, none_in_unit, no_type_in_unit}
 use Rattle.cxx_language_laws.proofs.TellsPrimary.{arguments_tell}
-use Rattle.cxx_language_laws.proofs.Declarations.{declaration_tells}
-use Rattle.cxx_language_laws.proofs.Later.{IsLater, later_same}
-use Rattle.cxx_language_laws.proofs.Reached.{IsChosen, IsUndeclared, Reached, Told, ToldSo, later_is_told}
-use Rattle.cxx_language_laws.proofs.Tells.{Saying, choosing, undeclared, saying, whole_stands, ends_later, ToldIn, tells_read, tells_stop, Tells, Answers, tells_answer, if_in, then_in, ask_in, same_in, repeat_tells, give_in}
+use Rattle.cxx_language_laws.proofs.Declarations.{declaration_stops}
+use Rattle.cxx_language_laws.proofs.Later.{IsLater, later_is_kept, later_same}
+use Rattle.cxx_language_laws.proofs.Reached.{IsChosen, IsUndeclared, Reached, later_is_told}
+use Rattle.cxx_language_laws.proofs.Stopping.{Chained, ChainedOf, ChainedSo, Stops, whole_part}
+use Rattle.cxx_language_laws.proofs.Tells.{Saying, choosing, undeclared, saying, IsTold, whole_stands, ends_later, ToldIn, tells_read, tells_stop, Tells, Answers, tells_answer, if_in, then_in, ask_in, same_in, repeat_tells, give_in}
 
 -- ---- the calls of a whole reading
 
-part_tells : (tree : CxxTree) → Answers IsLater Told (part_added tree)
+-- nothing is said of what stops a reader
+abbrev Anyhow : CxxState → Ahead → Stopped → Type 0
+Anyhow state ahead why = Unit {0}
+
+anyhow : IsTold IsLater Anyhow
+anyhow = record { keeps = later_is_kept; quiet = λ s ahead why quiet. tt; sooner = λ s t ahead rest why first stands told. tt }
+
+any_way : {A : Type 0} {told : CxxState → Ahead → Stopped → Type 0} {state : CxxState} {ahead : Ahead} {r : Answer (Got CxxState A)} → ToldIn IsLater told state ahead r → ToldIn IsLater Anyhow state ahead r
+any_way (tells_read one later stands) = tells_read one later stands
+any_way (tells_stop why true_of) = tells_stop why tt
+
+part_tells : (tree : CxxTree) → Answers IsLater Anyhow (part_added tree)
 part_tells tree state ahead = tells_answer (tt, with_part tree state) (later_same state (with_part tree state) refl refl refl)
 
-unit_step_tells : (so_far : Unit {0}) → Tells IsLater Told (unit_step so_far)
+unit_step_tells : (so_far : Unit {0}) → Tells IsLater Anyhow (unit_step so_far)
 unfolding unit_step
-unit_step_tells so_far state ahead = if_in (is_end (kind_ahead ahead)) (same_in later_is_told (Done tt) state ahead) (then_in later_is_told (declaration_tells limits.MOST_NESTING state ahead) (λ tree state ahead. then_in later_is_told (ask_in ahead (part_tells tree state ahead)) (λ added. give_in later_is_told (More tt))))
+unit_step_tells so_far state ahead = if_in (is_end (kind_ahead ahead)) (same_in anyhow (Done tt) state ahead) (then_in anyhow (any_way (declaration_stops limits.MOST_NESTING state ahead)) (λ tree state ahead. then_in anyhow (ask_in ahead (part_tells tree state ahead)) (λ added. give_in anyhow (More tt))))
 
 abbrev AreReadings : Answer CxxReading → Answer CxxReading → Type 0
 AreReadings one two = one ≡ two
@@ -42,16 +55,16 @@ AreReadings one two = one ≡ two
 reading_is : (x y : CxxReading) → AreReadings (Ok x) (Ok y) → x ≡ y
 reading_is x y e = cc
 
-best_of : (options : Options) (ahead : Ahead) (answer : Answer (Got CxxState (Unit {0}))) (reading : CxxReading) → ToldIn IsLater Told first_state ahead answer → read_as options answer ≡ Ok reading → EachCallIsBest reading
+best_of : (options : Options) (ahead : Ahead) (answer : Answer (Got CxxState (Unit {0}))) (reading : CxxReading) → ToldIn IsLater Anyhow first_state ahead answer → read_as options answer ≡ Ok reading → EachCallIsBest reading
 best_of options ahead (Ok one) reading tells e = subst EachCallIsBest (reading_is _ _ e) (read_best tells)
   where
-    read_best : ToldIn IsLater Told first_state ahead (Ok one) → AreBestCalls one.state
+    read_best : ToldIn IsLater Anyhow first_state ahead (Ok one) → AreBestCalls one.state
     read_best (tells_read one later stands) = later.best tt
 best_of options ahead (Err why) reading tells e = absurd cc
 
 pub each_call_is_best : (options : Options) (tokens : List Lexeme) (reading : CxxReading) → unit_reading options tokens ≡ Ok reading → EachCallIsBest reading
 unfolding unit_reading
-each_call_is_best options tokens reading e = best_of options (whole tokens) (repeat unit_step give (count_ahead (whole tokens)) tt first_state (whole tokens)) reading (repeat_tells later_is_told unit_step give unit_step_tells (give_in later_is_told) _ tt first_state _) e
+each_call_is_best options tokens reading e = best_of options (whole tokens) (repeat unit_step give (count_ahead (whole tokens)) tt first_state (whole tokens)) reading (repeat_tells anyhow unit_step give unit_step_tells (give_in anyhow) _ tt first_state _) e
 
 -- ---- where it stops
 
@@ -94,7 +107,7 @@ here state ahead fault goes_on stops = record { before = state; rest = ahead; re
 abbrev AreDeclarations : Answer (Got CxxState CxxTree) → Answer (Got CxxState CxxTree) → Type 0
 AreDeclarations one two = one ≡ two
 
-read_stands : (state : CxxState) (ahead : Ahead) (one : Got CxxState CxxTree) {answer : Answer (Got CxxState CxxTree)} → ToldIn IsLater Told state ahead answer → answer ≡ Ok one → EndsIn ahead.tokens one.rest.tokens
+read_stands : (state : CxxState) (ahead : Ahead) (one : Got CxxState CxxTree) {answer : Answer (Got CxxState CxxTree)} → Stops (a_declaration limits.MOST_NESTING) state ahead answer → answer ≡ Ok one → EndsIn ahead.tokens one.rest.tokens
 read_stands state ahead one (tells_read other keeps stands) e = subst (λ (g : Got CxxState CxxTree). EndsIn ahead.tokens g.rest.tokens) (by e) stands
   where
     by : AreDeclarations (Ok other) (Ok one) → other ≡ one
@@ -107,7 +120,7 @@ later state ahead one fault goes_on is from = record {
   before = from.before;
   rest = from.rest;
   reads = one_more state ahead one from.before from.rest goes_on is from.reads;
-  stands = ends_later ahead.tokens one.rest.tokens from.rest.tokens (read_stands state ahead one (declaration_tells limits.MOST_NESTING state ahead) is) from.stands;
+  stands = ends_later ahead.tokens one.rest.tokens from.rest.tokens (read_stands state ahead one (declaration_stops limits.MOST_NESTING state ahead) is) from.stands;
   goes_on = from.goes_on;
   stops = from.stops;
 }
@@ -146,7 +159,7 @@ unit_stops options tokens fault e =
 
 -- ---- scopes
 
-read_later : {A : Type 0} (state : CxxState) (ahead : Ahead) (one : Got CxxState A) {answer : Answer (Got CxxState A)} → ToldIn IsLater Told state ahead answer → answer ≡ Ok one → IsLater state one.state
+read_later : {A : Type 0} {told : CxxState → Ahead → Stopped → Type 0} (state : CxxState) (ahead : Ahead) (one : Got CxxState A) {answer : Answer (Got CxxState A)} → ToldIn IsLater told state ahead answer → answer ≡ Ok one → IsLater state one.state
 read_later {A = A} state ahead one (tells_read other keeps stands) e = subst (λ (g : Got CxxState A). IsLater state g.state) (by e) keeps
   where
     same : Answer (Got CxxState A) → Answer (Got CxxState A) → Type 0
@@ -159,7 +172,7 @@ read_later state ahead one (tells_stop why true_of) e = absurd cc
 read_scopes : (state : CxxState) (ahead : Ahead) (after : CxxState) (rest : Ahead) → ReadsTo state ahead after rest → InScopes state → InScopes after
 read_scopes state ahead after rest (none_more s a) is = is
 read_scopes state ahead after rest (one_more s a one t b goes_on read others) is =
-    read_scopes (with_part one.value one.state) one.rest t b others (scopes_same one.state (with_part one.value one.state) refl refl ((read_later s a one (declaration_tells limits.MOST_NESTING s a) read).scopes is))
+    read_scopes (with_part one.value one.state) one.rest t b others (scopes_same one.state (with_part one.value one.state) refl refl ((read_later s a one (declaration_stops limits.MOST_NESTING s a) read).scopes is))
 
 -- the arguments of a call come later
 call_scopes : (room : ℕ) (before : CxxState) (ahead : Ahead) (call : IsUnitCall room before ahead) → InScopes before → InScopes call.at
@@ -175,20 +188,32 @@ not_of_unit at ahead fault word scopes (unknown_type is) = no_type_in_unit at (s
 
 -- ---- what is true of the fault
 
-stop_told : (before : CxxState) (ahead : Ahead) (fault : Fault) {answer : Answer (Got CxxState CxxTree)} → ToldIn IsLater Told before ahead answer → answer ≡ Err (Faulty fault) → Told before ahead (Faulty fault)
+stop_told : (before : CxxState) (ahead : Ahead) (fault : Fault) {answer : Answer (Got CxxState CxxTree)} → Stops (a_declaration limits.MOST_NESTING) before ahead answer → answer ≡ Err (Faulty fault) → ChainedOf whole_part (a_declaration limits.MOST_NESTING) before ahead (Faulty fault)
 stop_told before ahead fault (tells_read one keeps stands) e = absurd cc
-stop_told before ahead fault (tells_stop why true_of) e = subst (Told before ahead) (by e) true_of
+stop_told before ahead fault (tells_stop why true_of) e = subst (ChainedOf whole_part (a_declaration limits.MOST_NESTING) before ahead) (by e) true_of
   where
     by : AreDeclarations (Err why) (Err (Faulty fault)) → why ≡ Faulty fault
     by e = cc
 
-told_as : (tokens : List Lexeme) (fault : Fault) (declaration : StopsIn tokens fault) (what : Saying) → saying fault.text ≡ what → ToldSo declaration.before declaration.ahead fault what
+told_as : (tokens : List Lexeme) (fault : Fault) (declaration : StopsIn tokens fault) (what : Saying) → saying fault.text ≡ what → ChainedSo whole_part (a_declaration limits.MOST_NESTING) declaration.before declaration.ahead fault what
 told_as tokens fault declaration what is =
-    subst (ToldSo declaration.before declaration.ahead fault) is
-    (stop_told declaration.before declaration.ahead fault (declaration_tells limits.MOST_NESTING declaration.before declaration.ahead) declaration.stops)
+    subst (ChainedSo whole_part (a_declaration limits.MOST_NESTING) declaration.before declaration.ahead fault) is
+    (stop_told declaration.before declaration.ahead fault (declaration_stops limits.MOST_NESTING declaration.before declaration.ahead) declaration.stops)
 
-stop_at : (tokens : List Lexeme) (fault : Fault) (declaration : StopsIn tokens fault) (P : CxxState → Ahead → Type 0) → Reached declaration.before declaration.ahead P → StopsAt tokens fault
-stop_at tokens fault declaration P told = record { declaration = declaration; at = told.at; ahead = told.rest; grown = told.later.grown; stands = told.stands }
+stop_at : (tokens : List Lexeme) (fault : Fault) (declaration : StopsIn tokens fault) (P : CxxState → Ahead → Type 0) → Chained (a_declaration limits.MOST_NESTING) declaration.before declaration.ahead fault (λ before from. Reached before from P) → StopsAt tokens fault
+stop_at tokens fault declaration P told = record {
+  declaration = declaration;
+  part = told.last;
+  before = told.before;
+  from = told.from;
+  stops = told.stops;
+  innermost = told.innermost;
+  at = told.is.at;
+  ahead = told.is.rest;
+  grown = told.is.later.grown;
+  part_stands = told.stands;
+  stands = told.is.stands;
+}
 
 choosing_by : (text : FaultText) → IsChoiceText text → saying text ≡ choosing
 choosing_by text (inl is) = ap saying is
@@ -199,12 +224,12 @@ unfolding stop_at
 fault_is_told options tokens fault e text =
     let declaration = unit_stops options tokens fault e in
     let told = told_as tokens fault declaration choosing (choosing_by fault.text text) in
-    record { stop = stop_at tokens fault declaration (IsChosen fault) told; is = told.is }
+    record { stop = stop_at tokens fault declaration (IsChosen fault) told; is = told.is.is }
 
 pub undeclared_is_told : (options : Options) (tokens : List Lexeme) (fault : Fault) (word : List ℕ) → unit_reading options tokens ≡ Err (Faulty fault) → fault.text ≡ says.UndeclaredName word → IsUndeclaredFault tokens fault word
 unfolding stop_at
 undeclared_is_told options tokens fault word e text =
     let declaration = unit_stops options tokens fault e in
     let told = told_as tokens fault declaration (undeclared word) (ap saying text) in
-    let scopes = told.later.scopes (read_scopes first_state (whole tokens) declaration.before declaration.ahead declaration.reads scopes_first) in
-    record { stop = stop_at tokens fault declaration (IsUndeclared fault word) told; is = told.is.is; in_unit = not_of_unit told.at told.rest fault word scopes told.is.is; is_text = text; bare = told.is.bare }
+    let scopes = told.is.later.scopes (told.later.scopes (read_scopes first_state (whole tokens) declaration.before declaration.ahead declaration.reads scopes_first)) in
+    record { stop = stop_at tokens fault declaration (IsUndeclared fault word) told; is = told.is.is.is; in_unit = not_of_unit told.is.at told.is.rest fault word scopes told.is.is.is; is_text = text; bare = told.is.is.bare }

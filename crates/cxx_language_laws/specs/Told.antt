@@ -9,7 +9,7 @@ use Rattle.cxx_model.specs.Stops.{Faulty}
 use Rattle.cxx_model.specs.Text.Lexemes.{Lexeme, first_place}
 use Rattle.cxx_meaning.specs.Conversions.Standard.{CxxOperand}
 use Rattle.cxx_meaning.specs.Lookups.Wanted.{names_type}
-use Rattle.cxx_reading.specs.Reads.{Ahead, Got, Reads, got, kind_ahead}
+use Rattle.cxx_reading.specs.Reads.{Ahead, Got, kind_ahead}
 use Rattle.cxx_reading.specs.Seen.{Numbered, declared_in, kept, found, found_types}
 use Rattle.cxx_reading.specs.State.{CxxState, first_state, unit_scope}
 use Rattle.cxx_reading.specs.Tokens.{is_name, is_end}
@@ -21,6 +21,7 @@ use Rattle.cxx_expr.specs.Operands.{judged_each}
 use Rattle.cxx_overload.specs.Decided.{NoneViable, IsAmbiguous}
 use Rattle.cxx_language.specs.Units.{answers, declaration_at, inner_at, phrases_at}
 use Rattle.cxx_language_laws.specs.Best.{values_of}
+use Rattle.cxx_language_laws.specs.Stopping.{Gives, IsInnermost, Part, StopsWithin, a_declaration}
 
 -- ---- tokens
 
@@ -28,10 +29,6 @@ use Rattle.cxx_language_laws.specs.Best.{values_of}
 pub record EndsIn (all last : List Lexeme) : Type 0 where
   pub first : List Lexeme
   pub parts : all ≡ first ++ last
-
--- a reader reads a value from a state with these tokens ahead, to another
-abbrev pub Gives : {S A : Type 0} → Reads S A → S → Ahead → A → S → Ahead → Type 0
-Gives read state ahead value after rest = read state ahead ≡ got value after rest
 
 -- ---- the fault of one call
 
@@ -144,21 +141,28 @@ pub record IsGrown (before at : CxxState) : Type 0 where
   pub own : List CxxFact
   pub declared : at.graph ≡ record before.graph { facts = before.graph.facts ++ own }
 
--- The declaration in which reading stops, and in it a state that keeps what was declared before, and may have more, with
--- the last of its tokens ahead.
+-- Where the reading of a unit stops: in which declaration, and in which part of that, in which state and with which tokens
+-- ahead. Within that part a place is reached in a state that keeps what was declared and may have more, and with the last of
+-- these tokens ahead.
 pub record StopsAt (tokens : List Lexeme) (fault : Fault) : Type 0 where
   pub declaration : StopsIn tokens fault
+  pub part : Part
+  pub before : CxxState
+  pub from : Ahead
+  pub stops : StopsWithin fault (a_declaration limits.MOST_NESTING) declaration.before declaration.ahead part before from
+  pub innermost : IsInnermost part
   pub at : CxxState
   pub ahead : Ahead
-  pub grown : IsGrown declaration.before at
-  pub stands : EndsIn declaration.ahead.tokens ahead.tokens
+  pub grown : IsGrown before at
+  pub part_stands : EndsIn declaration.ahead.tokens from.tokens
+  pub stands : EndsIn from.tokens ahead.tokens
 
--- 13.3: In the declaration where reading stops a call stands, and the fault is a true one of it.
+-- 13.3: In the part where reading stops a call stands, and the fault is a true one of it.
 pub record IsToldFault (tokens : List Lexeme) (fault : Fault) : Type 0 where
   pub stop : StopsAt tokens fault
   pub is : IsChoiceFault stop.at stop.ahead fault
 
--- 3.4: In the declaration where reading stops a name stands, and it is not declared.
+-- 3.4: In the part where reading stops a name stands, and it is not declared.
 pub record IsUndeclaredFault (tokens : List Lexeme) (fault : Fault) (word : List ℕ) : Type 0 where
   pub stop : StopsAt tokens fault
   pub is : IsUnknown stop.at stop.ahead fault word
