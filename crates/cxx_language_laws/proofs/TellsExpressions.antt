@@ -92,8 +92,8 @@ one_of_tells is q place of (one ∷ []) state ahead = if_by (is_braces one) (qui
 one_of_tells is q place of [] state ahead = quiet_by is refl
 one_of_tells is q place of (one ∷ two ∷ others) state ahead = quiet_by is refl
 
-value_part_tells : {kept : CxxState → CxxState → Type 0} {told : CxxState → Ahead → Stopped → Type 0} → IsTold kept told → (q : Questions) (place : Place) (of : CxxType) (tree : CxxTree) → Answers kept told (value_part q place of tree)
-value_part_tells is q place of tree state ahead = if_by (is_class (kind_of of)) (quiet_by is refl) (if_by (is_braces tree) (one_of_tells is q place of (children_of tree) state ahead) (convert_tells is q place of tree state ahead))
+value_part_tells : {kept : CxxState → CxxState → Type 0} {told : CxxState → Ahead → Stopped → Type 0} → IsTold kept told → (q : Questions) (of : CxxType) (tree : CxxTree) → Answers kept told (value_part q of tree)
+value_part_tells is q of tree state ahead = if_by (is_class (kind_of of)) (quiet_by is refl) (if_by (is_braces tree) (one_of_tells is q tree.label.start of (children_of tree) state ahead) (convert_tells is q tree.label.start of tree state ahead))
 
 element_in_tells : {kept : CxxState → CxxState → Type 0} {told : CxxState → Ahead → Stopped → Type 0} → IsTold kept told → (place : Place) (element : CxxTree → Asks CxxState CxxTree) → ((one : CxxTree) → Answers kept told (element one)) → (bound : CxxBound) (one : CxxTree) → Answers kept told (element_in place element bound one)
 element_in_tells is place element tells (number_bound zero) one state ahead = quiet_by is refl
@@ -113,20 +113,20 @@ braces_part_tells : {kept : CxxState → CxxState → Type 0} {told : CxxState �
 braces_part_tells is place element tells of bound tree (Some text) = text_part_tells is place bound text
 braces_part_tells is place element tells of bound tree None = list_part_tells is place element tells of bound tree
 
-array_part_tells : {kept : CxxState → CxxState → Type 0} {told : CxxState → Ahead → Stopped → Type 0} → IsTold kept told → (place : Place) (element : CxxTree → Asks CxxState CxxTree) → ((one : CxxTree) → Answers kept told (element one)) → (of : CxxType) (bound : CxxBound) (tree : CxxTree) → Answers kept told (array_part place element of bound tree)
-array_part_tells is place element tells of bound tree state ahead = if_by (is_braces tree) (braces_part_tells is place element tells of bound tree (text_in of (children_of tree)) state ahead) (if_by (is_text_for of tree) (text_part_tells is place bound tree state ahead) (quiet_by is refl))
+array_part_tells : {kept : CxxState → CxxState → Type 0} {told : CxxState → Ahead → Stopped → Type 0} → IsTold kept told → (element : CxxTree → Asks CxxState CxxTree) → ((one : CxxTree) → Answers kept told (element one)) → (of : CxxType) (bound : CxxBound) (tree : CxxTree) → Answers kept told (array_part element of bound tree)
+array_part_tells is element tells of bound tree state ahead = if_by (is_braces tree) (braces_part_tells is tree.label.start element tells of bound tree (text_in of (children_of tree)) state ahead) (if_by (is_text_for of tree) (text_part_tells is tree.label.start bound tree state ahead) (quiet_by is refl))
 
-part_tells : {kept : CxxState → CxxState → Type 0} {told : CxxState → Ahead → Stopped → Type 0} → IsTold kept told → (q : Questions) (place : Place) (of : CxxType) (tree : CxxTree) → Answers kept told (part q place of tree)
+part_tells : {kept : CxxState → CxxState → Type 0} {told : CxxState → Ahead → Stopped → Type 0} → IsTold kept told → (q : Questions) (of : CxxType) (tree : CxxTree) → Answers kept told (part q of tree)
 unfolding part
-part_tells is q place (array_of of bound) tree = array_part_tells is place (part q place of) (part_tells is q place of) of bound tree
-part_tells is q place of tree = value_part_tells is q place of tree
+part_tells is q (array_of of bound) tree = array_part_tells is (part q of) (part_tells is q of) of bound tree
+part_tells is q of tree = value_part_tells is q of tree
 
 text_whole_tells : {kept : CxxState → CxxState → Type 0} {told : CxxState → Ahead → Stopped → Type 0} → IsTold kept told → (place : Place) (of : CxxType) (bound : CxxBound) (tree text : CxxTree) → Answers kept told (text_whole place of bound tree text)
 text_whole_tells is place of bound tree text state ahead = then_by is (text_part_tells is place bound text state ahead) (λ fits. give_by is (as_copy tree (array_with of bound (text_count text)) (text ∷ [])))
 
 array_braces_tells : {kept : CxxState → CxxState → Type 0} {told : CxxState → Ahead → Stopped → Type 0} → IsTold kept told → (q : Questions) (place : Place) (of : CxxType) (bound : CxxBound) (tree : CxxTree) (text : Option CxxTree) → Answers kept told (array_braces q place of bound tree text)
 array_braces_tells is q place of bound tree (Some text) = text_whole_tells is place of bound tree text
-array_braces_tells is q place of bound tree None = list_part_tells is place (part q place of) (part_tells is q place of) of bound tree
+array_braces_tells is q place of bound tree None = list_part_tells is place (part q of) (part_tells is q of) of bound tree
 
 array_from_tells : {kept : CxxState → CxxState → Type 0} {told : CxxState → Ahead → Stopped → Type 0} → IsTold kept told → (q : Questions) (place : Place) (of : CxxType) (bound : CxxBound) (tree : CxxTree) (text : Option CxxTree) → Answers kept told (array_from q place of bound tree text)
 array_from_tells is q place of bound tree (Some text) state ahead = text_whole_tells is place of bound tree text state ahead
