@@ -22,7 +22,8 @@ use Rattle.cxx_language.specs.Answers.{asking, bound_here, call_here, constant_b
 use Rattle.cxx_language.specs.Units.{answers, asked, inner_at, phrases_at}
 use Rattle.cxx_language_laws.specs.Told.{IsUnitCall, unknown_name, unknown_call, unknown_type, declared}
 use Rattle.cxx_language_laws.proofs.CallsTell.{call_asked_tells}
-use Rattle.cxx_language_laws.proofs.Later.{IsLater, later_same, later_is_kept, calmly, enter_tells, leave_tells, parameter_answer_tells, enumeration_answer_tells, enumerator_answer_tells, enumerated_tells, kind_tells, type_tells}
+use Rattle.cxx_language_laws.proofs.Later.{IsLater, later_same, later_is_kept, calmly, parameter_answer_tells, enumeration_answer_tells, enumerator_answer_tells, enumerated_tells, kind_tells, type_tells}
+use Rattle.cxx_language_laws.proofs.Lists.{listed_tells}
 use Rattle.cxx_language_laws.proofs.PhrasesTell.{PhrasesTell}
 use Rattle.cxx_language_laws.proofs.QuestionsTell.{QuestionsTell, quiet_by, same_by}
 use Rattle.cxx_language_laws.proofs.Reached.{Told, IsUndeclared, reached_here, later_is_told, later_is_told_of}
@@ -85,9 +86,8 @@ kinds_tell room = record {
   enumerator = λ number name value. calmly later_is_told (enumerator_answer_tells number name value);
   enumerated = λ number. calmly later_is_told (enumerated_tells number);
   constant = constant_tells;
-  enter_parameters = calmly later_is_told enter_tells;
   parameter = λ name place of. calmly later_is_told (parameter_answer_tells name place of);
-  leave_parameters = calmly later_is_told leave_tells;
+  listed = listed_tells;
 }
 
 -- ---- expressions

@@ -82,6 +82,7 @@ call_added state call best = record {
   grown = grown_same state (with_call call state) refl;
   scopes = scopes_same state (with_call call state) refl refl;
   best = λ all. one_more_call state call best state.calls (each_widened state (with_call call state) (grown_same state (with_call call state) refl) state.calls all);
+  here = refl;
 }
 
 best_call : (state : CxxState) (new : CxxState) (place : Place) (operands : List CxxOperand) (scope : ℕ) (name : CxxName) (decision : CxxDecision) → new.graph ≡ state.graph → IsDecided place operands state.graph (values_of state.graph scope name) decision → IsBestCall new decision.call

@@ -12,15 +12,14 @@ use Rattle.cxx_model.specs.Text.Lexemes.{Lexeme}
 use Rattle.cxx_model.specs.Types.Integral.{one_holds}
 use Rattle.cxx_model.specs.Types.Trees.{CxxType}
 use Rattle.cxx_meaning.specs.Conversions.Enumerations.{values_in}
-use Rattle.cxx_reading.specs.Declaring.{with_fact, added, free, free_by, declare, declare_synonym, declare_function, declare_object, define_object, define_declared, undefined, undefined_by, defined_as, with_definition, enter_parameters, parameters_scope, at_scope, entered_as, leave_parameters, declare_parameter, declare_enumeration, begun_as, declare_enumerator, declare_value, held, end_enumeration, kind_here, type_here, most_facts, fact_here, object_here, scope_count, enumeration_count}
+use Rattle.cxx_reading.specs.Declaring.{with_fact, added, free, free_by, declare, declare_synonym, declare_function, declare_object, define_object, define_declared, undefined, undefined_by, defined_as, with_definition, declare_parameter, declare_enumeration, begun_as, declare_enumerator, declare_value, held, end_enumeration, kind_here, type_here, most_facts, fact_here, object_here, enumeration_count}
 use Rattle.cxx_reading.specs.Reads.{Ahead, Asks}
-use Rattle.cxx_reading.specs.Seen.{parent_of}
 use Rattle.cxx_reading.specs.State.{CxxState, CxxCall}
 use Rattle.cxx_reading.specs.Trees.{CxxPath}
 use Rattle.cxx_reading.proofs.Keeps.{IsKept}
 use Rattle.cxx_language_laws.specs.Best.{IsBestCall, AreBestCalls}
 use Rattle.cxx_language_laws.specs.Told.{IsGrown}
-use Rattle.cxx_language_laws.proofs.Scopes.{InScopes, scopes_same, scopes_added, scopes_entered, scopes_left}
+use Rattle.cxx_language_laws.proofs.Scopes.{InScopes, scopes_same, scopes_added}
 use Rattle.cxx_language_laws.proofs.Tells.{IsQuiet, Quietly, quiet_is_told, IsTold, ToldBy, tells_answer, tells_refusal, Answers}
 
 -- ---- what a state keeps
@@ -28,11 +27,13 @@ use Rattle.cxx_language_laws.proofs.Tells.{IsQuiet, Quietly, quiet_is_told, IsTo
 abbrev with_facts : List CxxFact → CxxGraph → CxxGraph
 with_facts own graph = record graph { facts = graph.facts ++ own }
 
--- a state keeps what is declared, and that each scope is held by an earlier one, and that each call is the best
+-- a state keeps what is declared, the scope in which it stands, that each scope is held by an earlier one, and that each
+-- call is the best
 pub record IsLater (old new : CxxState) : Type 0 where
   pub grown : IsGrown old new
   pub scopes : InScopes old → InScopes new
   pub best : AreBestCalls old → AreBestCalls new
+  pub here : new.here.scope ≡ old.here.scope
 
 pub grown_by : (old new : CxxState) (own : List CxxFact) → new.graph ≡ with_facts own old.graph → IsGrown old new
 grown_by old new own declared = record { own = own; declared = declared }
@@ -41,7 +42,7 @@ grown_by old new own declared = record { own = own; declared = declared }
 pub grown_same : (old new : CxxState) → new.graph ≡ old.graph → IsGrown old new
 grown_same old new same = grown_by old new [] (same ∙ ap (λ fs. record old.graph { facts = fs }) (sym (append-nil old.graph.facts)))
 
-grown_later : (s t u : CxxState) → IsGrown s t → IsGrown t u → IsGrown s u
+pub grown_later : (s t u : CxxState) → IsGrown s t → IsGrown t u → IsGrown s u
 grown_later s t u one two = grown_by s u (one.own ++ two.own) (two.declared ∙ (ap (with_facts two.own) one.declared ∙ ap (λ fs. record s.graph { facts = fs }) (append_assoc s.graph.facts one.own two.own)))
 
 -- more declarations behind a call make no difference to it
@@ -64,19 +65,19 @@ pub each_widened : (old new : CxxState) → IsGrown old new → (calls : List Cx
 each_widened old new grown [] all = all
 each_widened old new grown (call ∷ calls) all = (widened old new grown call all.0, each_widened old new grown calls all.1)
 
-same_calls : (old new : CxxState) → IsGrown old new → new.calls ≡ old.calls → AreBestCalls old → AreBestCalls new
+pub same_calls : (old new : CxxState) → IsGrown old new → new.calls ≡ old.calls → AreBestCalls old → AreBestCalls new
 same_calls old new grown calls all = subst (λ cs. AllByRecursion (IsBestCall new) cs) (sym calls) (each_widened old new grown old.calls all)
 
-pub later_by : (old new : CxxState) → IsGrown old new → (InScopes old → InScopes new) → new.calls ≡ old.calls → IsLater old new
-later_by old new grown scopes calls = record { grown = grown; scopes = scopes; best = same_calls old new grown calls }
+pub later_by : (old new : CxxState) → IsGrown old new → (InScopes old → InScopes new) → new.calls ≡ old.calls → new.here.scope ≡ old.here.scope → IsLater old new
+later_by old new grown scopes calls here = record { grown = grown; scopes = scopes; best = same_calls old new grown calls; here = here }
 
 pub later_same : (old new : CxxState) → new.graph ≡ old.graph → new.here.scope ≡ old.here.scope → new.calls ≡ old.calls → IsLater old new
-later_same old new same here calls = later_by old new (grown_same old new same) (scopes_same old new same here) calls
+later_same old new same here calls = later_by old new (grown_same old new same) (scopes_same old new same here) calls here
 
 pub later_is_kept : IsKept IsLater
 later_is_kept = record {
   same = λ s. later_same s s refl refl refl;
-  later = λ s t u one two. record { grown = grown_later s t u one.grown two.grown; scopes = λ is. two.scopes (one.scopes is); best = λ is. two.best (one.best is) };
+  later = λ s t u one two. record { grown = grown_later s t u one.grown two.grown; scopes = λ is. two.scopes (one.scopes is); best = λ is. two.best (one.best is); here = two.here ∙ one.here };
 }
 
 pub later_is_quiet : IsTold IsLater Quietly
@@ -127,7 +128,7 @@ added_tells fact state ahead here = by (nat_eq (length state.graph.facts + lengt
   where
     by : (b : Bool) → ToldBy IsLater Quietly state ahead (if b then Err (Limited Facts) else Ok (length state.graph.facts, with_fact fact state))
     by true = quietly state ahead (Limited Facts) refl
-    by false = tells_answer _ (later_by state (with_fact fact state) (grown_by state (with_fact fact state) (fact ∷ []) refl) (scopes_added state fact here) refl)
+    by false = tells_answer _ (later_by state (with_fact fact state) (grown_by state (with_fact fact state) (fact ∷ []) refl) (scopes_added state fact here) refl refl)
 
 declare_tells : (fact : CxxFact) (word : List ℕ) (state : CxxState) (ahead : Ahead) → fact.scope ≡ state.here.scope → ToldBy IsLater Quietly state ahead (declare fact word state)
 unfolding declare
@@ -158,18 +159,6 @@ define_tells name of state ahead =
 pub define_later_tells : (name : Lexeme) (number : ℕ) → Answers IsLater Quietly (define_declared name number)
 unfolding define_declared
 define_later_tells name number state ahead = by_then state ahead _ (undefined_quiet state name.place name.spelling number _) (λ is_first. tells_answer (tt, with_definition number state) (later_same state (with_definition number state) refl refl refl))
-
-pub enter_tells : Answers IsLater Quietly enter_parameters
-unfolding enter_parameters added
-enter_tells state ahead = by (nat_eq (length state.graph.facts + length state.graph.classes) most_facts)
-  where
-    by : (b : Bool) → ToldBy IsLater Quietly state ahead ((if b then Err (Limited Facts) else Ok (length state.graph.facts, with_fact (parameters_scope state) state)) >>= λ answer. Ok (entered_as (scope_count state.graph) answer))
-    by true = quietly state ahead (Limited Facts) refl
-    by false = tells_answer _ (later_by state (at_scope (scope_count state.graph) (with_fact (parameters_scope state) state)) (grown_by state (at_scope (scope_count state.graph) (with_fact (parameters_scope state) state)) (parameters_scope state ∷ []) refl) (scopes_entered state) refl)
-
-pub leave_tells : Answers IsLater Quietly leave_parameters
-unfolding leave_parameters
-leave_tells state ahead = tells_answer _ (later_by state (at_scope (parent_of state.graph state.here.scope) state) (grown_same state (at_scope (parent_of state.graph state.here.scope) state) refl) (scopes_left state) refl)
 
 pub parameter_answer_tells : (name : Option Lexeme) (place : Place) (of : CxxType) → Answers IsLater Quietly (declare_parameter name place of)
 unfolding declare_parameter

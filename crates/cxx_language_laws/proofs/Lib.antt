@@ -17,6 +17,7 @@ pub mod TellsExpressions
 pub mod Scopes
 pub mod Later
 pub mod Reached
+pub mod Lists
 pub mod CallsTell
 pub mod TellsValues
 pub mod Asked

@@ -1,29 +1,62 @@
 -- What is true of what stops a reader: it is true in a state and with tokens ahead that come later.
-use Rattle.std.proofs.Common.{◌≡◌, sym, subst}
+use Rattle.std.proofs.Common.{arith, ◌≡◌, ◌≤◌, ◌∙◌, ◌++◌, ◌∷◌, length, sym, subst, inl, inr}
 use Rattle.std.specs.Prelude.{ℕ, List, []}
+use Rattle.cxx_model.specs.Facts.Declarations as facts
+use Rattle.cxx_model.specs.Facts.Declarations.{CxxFact, CxxGraph, Declares}
+use Rattle.cxx_model.specs.Facts.Entities.{scope_kinds}
+use Rattle.cxx_reading.specs.Declaring.{scope_count}
 use Rattle.cxx_model.specs.declared.stop.Fault.{Fault}
 use Rattle.cxx_model.specs.Stops.{Stopped, Faulty, Limited}
 use Rattle.cxx_reading.specs.Reads.{Ahead}
 use Rattle.cxx_reading.specs.State.{CxxState}
-use Rattle.cxx_language_laws.specs.Told.{EndsIn, IsChoiceFault, IsUnknown}
-use Rattle.cxx_language_laws.proofs.Later.{IsLater, later_is_kept}
+use Rattle.cxx_language_laws.specs.Told.{EndsIn, IsChoiceFault, IsGrown, IsScopeSince, IsUnknown}
+use Rattle.cxx_language_laws.proofs.Later.{IsLater, grown_later, later_is_kept}
+use Rattle.cxx_language_laws.proofs.Scopes.{InScopes}
 use Rattle.cxx_language_laws.proofs.Tells.{Saying, choosing, undeclared, nothing, saying, IsQuiet, IsTold, whole_stands, ends_later}
+
+-- A state that is reached keeps what is declared. It stands in the same scope, or in one that begins later.
+pub record IsReached (old new : CxxState) : Type 0 where
+  pub grown : IsGrown old new
+  pub scopes : InScopes old → InScopes new
+  pub scope : IsScopeSince old new
+
+scopes_more : (xs ys : List CxxFact) → length (scope_kinds xs) ≤ length (scope_kinds (xs ++ ys))
+scopes_more [] ys = omega arith
+scopes_more (x ∷ xs) ys = by x.what (scopes_more xs ys)
+  where
+    by : (what : Declares) → length (scope_kinds xs) ≤ length (scope_kinds (xs ++ ys)) → length (scope_kinds (record x { what = what } ∷ xs)) ≤ length (scope_kinds (record x { what = what } ∷ (xs ++ ys)))
+    by (facts.scope parent kind) e = omega (arith, e)
+    by _ e = e
+
+count_more : (old new : CxxState) → IsGrown old new → scope_count old.graph ≤ scope_count new.graph
+count_more old new grown = subst (λ (g : CxxGraph). scope_count old.graph ≤ scope_count g) (sym grown.declared) (scopes_more old.graph.facts grown.own)
+
+scope_later : (s t u : CxxState) → IsGrown s t → IsScopeSince s t → IsScopeSince t u → IsScopeSince s u
+scope_later s t u grown (inl one) (inl two) = inl (two ∙ one)
+scope_later s t u grown (inr one) (inl two) = inr (subst (λ (n : ℕ). scope_count s.graph ≤ n) (sym two) one)
+scope_later s t u grown one (inr two) = let more = count_more s t grown in inr (omega (arith, more, two))
+
+pub reached_by_later : (old new : CxxState) → IsLater old new → IsReached old new
+reached_by_later old new later = record { grown = later.grown; scopes = later.scopes; scope = inl later.here }
+
+pub reached_later : (s t u : CxxState) → IsReached s t → IsReached t u → IsReached s u
+reached_later s t u one two = record { grown = grown_later s t u one.grown two.grown; scopes = λ is. two.scopes (one.scopes is); scope = scope_later s t u one.grown one.scope two.scope }
 
 pub record Reached (state : CxxState) (ahead : Ahead) (P : CxxState → Ahead → Type 0) : Type 0 where
   pub at : CxxState
   pub rest : Ahead
-  pub later : IsLater state at
+  pub later : IsReached state at
   pub stands : EndsIn ahead.tokens rest.tokens
   pub is : P at rest
 
 pub reached_here : (state : CxxState) (ahead : Ahead) (P : CxxState → Ahead → Type 0) → P state ahead → Reached state ahead P
-reached_here state ahead P is = record { at = state; rest = ahead; later = later_is_kept.same state; stands = whole_stands ahead.tokens; is = is }
+reached_here state ahead P is = record { at = state; rest = ahead; later = reached_by_later state state (later_is_kept.same state); stands = whole_stands ahead.tokens; is = is }
 
-reached_sooner : (s t : CxxState) (ahead rest : Ahead) (P : CxxState → Ahead → Type 0) → IsLater s t → EndsIn ahead.tokens rest.tokens → Reached t rest P → Reached s ahead P
+reached_sooner : (s t : CxxState) (ahead rest : Ahead) (P : CxxState → Ahead → Type 0) → IsReached s t → EndsIn ahead.tokens rest.tokens → Reached t rest P → Reached s ahead P
 reached_sooner s t ahead rest P first stands told = record {
   at = told.at;
   rest = told.rest;
-  later = later_is_kept.later s t told.at first told.later;
+  later = reached_later s t told.at first told.later;
   stands = ends_later ahead.tokens rest.tokens told.rest.tokens stands told.stands;
   is = told.is;
 }
@@ -48,17 +81,17 @@ quiet_told : (state : CxxState) (ahead : Ahead) (why : Stopped) → IsQuiet why 
 quiet_told state ahead (Faulty fault) quiet = subst (ToldSo state ahead fault) (sym quiet) tt
 quiet_told state ahead (Limited kind) quiet = tt
 
-so_sooner : (s t : CxxState) (ahead rest : Ahead) (fault : Fault) (what : Saying) → IsLater s t → EndsIn ahead.tokens rest.tokens → ToldSo t rest fault what → ToldSo s ahead fault what
+so_sooner : (s t : CxxState) (ahead rest : Ahead) (fault : Fault) (what : Saying) → IsReached s t → EndsIn ahead.tokens rest.tokens → ToldSo t rest fault what → ToldSo s ahead fault what
 so_sooner s t ahead rest fault choosing first stands told = reached_sooner s t ahead rest (IsChosen fault) first stands told
 so_sooner s t ahead rest fault (undeclared word) first stands told = reached_sooner s t ahead rest (IsUndeclared fault word) first stands told
 so_sooner s t ahead rest fault nothing first stands told = tt
 
-told_sooner : (s t : CxxState) (ahead rest : Ahead) (why : Stopped) → IsLater s t → EndsIn ahead.tokens rest.tokens → Told t rest why → Told s ahead why
+pub told_sooner : (s t : CxxState) (ahead rest : Ahead) (why : Stopped) → IsReached s t → EndsIn ahead.tokens rest.tokens → Told t rest why → Told s ahead why
 told_sooner s t ahead rest (Faulty fault) first stands told = so_sooner s t ahead rest fault (saying fault.text) first stands told
 told_sooner s t ahead rest (Limited kind) first stands told = tt
 
 pub later_is_told : IsTold IsLater Told
-later_is_told = record { keeps = later_is_kept; quiet = quiet_told; sooner = told_sooner }
+later_is_told = record { keeps = later_is_kept; quiet = quiet_told; sooner = λ s t ahead rest why first stands told. told_sooner s t ahead rest why (reached_by_later s t first) stands told }
 
 -- what is true of a stop in one state and with these tokens ahead, wherever that comes
 pub later_is_told_of : (state : CxxState) (ahead : Ahead) → IsTold IsLater (λ t rest why. Told state ahead why)

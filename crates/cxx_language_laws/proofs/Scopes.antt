@@ -22,7 +22,7 @@ scopes_last (x ∷ xs) fact = by x.what (scopes_last xs fact)
     by (facts.scope parent kind) e = ap (λ (fs : List CxxFact). record x { what = facts.scope parent kind } ∷ fs) e
     by _ e = e
 
-scopes_counted : (all : List CxxFact) → length (scope_kinds all) ≡ length (scope_facts all)
+pub scopes_counted : (all : List CxxFact) → length (scope_kinds all) ≡ length (scope_facts all)
 scopes_counted [] = refl
 scopes_counted (x ∷ xs) = by x.what (scopes_counted xs)
   where

@@ -9,8 +9,9 @@ use Rattle.cxx_model.specs.declared.place.Place.{Place}
 use Rattle.cxx_model.specs.Stops.{Answer, Stopped, Faulty, Limited}
 use Rattle.cxx_model.specs.Text.Lexemes.{Lexeme}
 use Rattle.cxx_model.specs.Types.Trees.{CxxType}
+use Rattle.cxx_reading.specs.Declarators.{ParameterTypes}
 use Rattle.cxx_reading.specs.Kinds.{Kinds, Readers}
-use Rattle.cxx_reading.specs.Reads.{Ahead, Got, Reads, Asks, Turn, More, Done, then_read, got, give, answered, go_on, repeat, looked, taken, beside, tokens, behind, kind_ahead}
+use Rattle.cxx_reading.specs.Reads.{Ahead, Got, Reads, Asks, Turn, More, Done, ◌>>=◌, ask, then_read, got, give, answered, go_on, repeat, looked, taken, beside, tokens, behind, kind_ahead}
 use Rattle.cxx_reading.specs.Shapes.{returned}
 use Rattle.cxx_reading.specs.declared.specifier.Naming.{Naming}
 use Rattle.cxx_reading.specs.Specifiers.{path_of}
@@ -187,9 +188,9 @@ pub record KindsTell {S : Type 0} (kept : S → S → Type 0) (told : S → Ahea
   pub enumerator : (number : ℕ) (name : Lexeme) (value : Option ℤ) → Answers kept told (asks.enumerator number name value)
   pub enumerated : (number : ℕ) → Answers kept told (asks.enumerated number)
   pub constant : (tree : CxxTree) → Answers kept told (asks.constant tree)
-  pub enter_parameters : Answers kept told asks.enter_parameters
   pub parameter : (name : Option Lexeme) (place : Place) (of : CxxType) → Answers kept told (asks.parameter name place of)
-  pub leave_parameters : Answers kept told asks.leave_parameters
+  -- 3.3.2: of a list of parameters in a scope of its own
+  pub listed : (list : ℕ → Reads S ParameterTypes) → ((scope : ℕ) → Tells kept told (list scope)) → Tells kept told (ask asks.enter_parameters >>= λ scope. list scope >>= λ read. ask asks.leave_parameters >>= λ left. give read)
 
 pub record ReadersTell {S : Type 0} (kept : S → S → Type 0) (told : S → Ahead → Stopped → Type 0) (inner : Readers S) : Type 0 where
   pub pointed : (naming : Naming) → Tells kept told (inner.pointed naming)

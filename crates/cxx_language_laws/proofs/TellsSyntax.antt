@@ -210,7 +210,7 @@ parameter_list_tells is asks inner scope state ahead = if_in (is_punct punct.RIG
 
 pub parameters_tell : {S : Type 0} {kept : S → S → Type 0} {told : S → Ahead → Stopped → Type 0} → IsTold kept told → {asks : Kinds S} → KindsTell kept told asks → {inner : Readers S} → ReadersTell kept told inner → Tells kept told (parameters_at asks inner)
 unfolding parameters_at
-parameters_tell is asks inner state ahead = then_in is (ask_in ahead (asks.enter_parameters state ahead)) (λ scope state ahead. then_in is (parameter_list_tells is asks inner scope state ahead) (λ list state ahead. then_in is (ask_in ahead (asks.leave_parameters state ahead)) (λ left. give_in is list)))
+parameters_tell is {asks = a} asks {inner = i} inner state ahead = asks.listed (list_at a i) (parameter_list_tells is asks inner) state ahead
 
 pub value_tells : {S : Type 0} {kept : S → S → Type 0} {told : S → Ahead → Stopped → Type 0} → IsTold kept told → {asks : Kinds S} → KindsTell kept told asks → Tells kept told (value_at asks)
 unfolding value_at no_value

@@ -211,6 +211,7 @@ stop_at tokens fault declaration P told = record {
   at = told.is.at;
   ahead = told.is.rest;
   grown = told.is.later.grown;
+  scope = told.is.later.scope;
   part_stands = told.stands;
   stands = told.is.stands;
 }

@@ -1,5 +1,5 @@
 -- What is true of the fault with which the reading of a unit stops, where that is one of a call (13.3) or of a name (3.4).
-use Rattle.std.specs.Prelude.{ℕ, ◌≡◌, ◌⊎◌, List, [], ◌∷◌, ◌++◌, Ok, Err, true, false}
+use Rattle.std.specs.Prelude.{ℕ, ◌≤◌, ◌≡◌, ◌⊎◌, List, [], ◌∷◌, ◌++◌, Ok, Err, true, false}
 use Rattle.cxx_model.specs.declared.fault.FaultText.{FaultText}
 use Rattle.cxx_model.specs.declared.fault.FaultText.TheVariants as says
 use Rattle.cxx_model.specs.declared.limits.TheConstants as limits
@@ -9,6 +9,7 @@ use Rattle.cxx_model.specs.Stops.{Faulty}
 use Rattle.cxx_model.specs.Text.Lexemes.{Lexeme, first_place}
 use Rattle.cxx_meaning.specs.Conversions.Standard.{CxxOperand}
 use Rattle.cxx_meaning.specs.Lookups.Wanted.{names_type}
+use Rattle.cxx_reading.specs.Declaring.{scope_count}
 use Rattle.cxx_reading.specs.Reads.{Ahead, Got, kind_ahead}
 use Rattle.cxx_reading.specs.Seen.{Numbered, declared_in, kept, found, found_types}
 use Rattle.cxx_reading.specs.State.{CxxState, first_state, unit_scope}
@@ -141,6 +142,10 @@ pub record IsGrown (before at : CxxState) : Type 0 where
   pub own : List CxxFact
   pub declared : at.graph ≡ record before.graph { facts = before.graph.facts ++ own }
 
+-- 3.3.2: a state stands in the same scope as another, or in one of parameters that begins later
+abbrev pub IsScopeSince : CxxState → CxxState → Type 0
+IsScopeSince before at = (at.here.scope ≡ before.here.scope) ⊎ (scope_count before.graph ≤ at.here.scope)
+
 -- Where the reading of a unit stops: in which declaration, and in which part of that, in which state and with which tokens
 -- ahead. Within that part a place is reached in a state that keeps what was declared and may have more, and with the last of
 -- these tokens ahead.
@@ -154,6 +159,7 @@ pub record StopsAt (tokens : List Lexeme) (fault : Fault) : Type 0 where
   pub at : CxxState
   pub ahead : Ahead
   pub grown : IsGrown before at
+  pub scope : IsScopeSince before at
   pub part_stands : EndsIn declaration.ahead.tokens from.tokens
   pub stands : EndsIn from.tokens ahead.tokens
 
