@@ -9,7 +9,7 @@ use Rattle.cxx_reading.specs.Reads.{Ahead, give, count_ahead, kind_ahead, behind
 use Rattle.cxx_reading.specs.Tokens.{is_punct, is_name}
 use Rattle.cxx_reading.specs.Syntax.{no_value}
 use Rattle.cxx_reading.specs.Trees.{CxxTree}
-use Rattle.cxx_language.specs.Readers.{Asking, valued, bound_value, bound_at, value_at, enumerator_at, enumerator_step, enumerators_at}
+use Rattle.cxx_knot.specs.Readers.{Asking, valued, bound_value, bound_at, value_at, enumerator_at, enumerator_step, enumerators_at}
 use Rattle.cxx_language_laws.proofs.PhrasesTell.{PhrasesTell, InnerTell}
 use Rattle.cxx_language_laws.proofs.Tells.{IsTold, Tells, quiet_in, KindsTell, if_in, past_in, then_in, ask_in, same_in, next_in, repeat_tells, token_told, punct_in, give_in, tokens_in, unit_is_told}
 use Rattle.cxx_language_laws.proofs.TellsLevels.{conditional_tells}
