@@ -1,2 +1,3 @@
+mod Bases
 mod Plain
 mod Ranks

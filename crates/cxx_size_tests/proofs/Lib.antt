@@ -1,2 +1,3 @@
 mod Reserved
 mod Sampled
+mod Typed

@@ -3,9 +3,10 @@ ghost use Rattle.std.specs.Prelude.{IfOk};
 ghost use Rattle.cxx_size_tests.specs.Sample.{IsSound};
 
 use crate::classes::{class_of, is_derived_from, size_of};
+use crate::meanings::order_of;
 use crate::stopped::Stopped;
 use crate::unit::{Unit, empty_unit};
-use cxx_model::ClassId;
+use cxx_model::{ClassId, Order};
 use std::alloc::Global;
 use std::test::Fail;
 
@@ -77,5 +78,23 @@ fn too_large_a_class(rt: HostRuntime) -> Result<(), Fail> {
     assert!(rt; size_of(unit, last)? == Some(4611686018427387904));
     let (unit, last) = diamond(alloc, 63)?;
     assert!(rt; size_of(unit, last)?.is_none());
+    Ok(())
+}
+
+// 13.3.3.2: a pointer is converted to one to the nearer base.
+#[test]
+fn pointers_in_two_thousand_levels(rt: HostRuntime) -> Result<(), Fail> {
+    let alloc = rt.alloc();
+    let (unit, last) = chain(alloc, 1999)?;
+    assert!(rt; order_of(alloc, unit, last, ClassId(1000), ClassId(0))? == Order::Better);
+    Ok(())
+}
+
+// Class 45 is the last one of the level halfway. Whether a base is ambiguous is not asked yet.
+#[test]
+fn pointers_in_thirty_levels_of_two_bases(rt: HostRuntime) -> Result<(), Fail> {
+    let alloc = rt.alloc();
+    let (unit, last) = diamond(alloc, 30)?;
+    assert!(rt; order_of(alloc, unit, last, ClassId(0), ClassId(45))? == Order::Worse);
     Ok(())
 }
