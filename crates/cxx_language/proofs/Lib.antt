@@ -1,1 +1,5 @@
+pub mod Further
+mod Opened
+pub mod Parts
 mod Rows
+pub mod Typing

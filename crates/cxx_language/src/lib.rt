@@ -1,5 +1,21 @@
-//! What a unit is whose initializers, bounds and enumerators are expressions: the definitions, in `specs/`.
+//! What a unit is whose initializers, bounds and enumerators are expressions: the definitions, in `specs/`, and the reader of
+//! such a unit.
 //!
-//! There is no code here that runs. They tie the readers of declarations and those of expressions together, answer what
-//! these ask by the declarations so far, and say what the plain form of such a unit is.
+//! The definitions tie the readers of declarations and those of expressions together, answer what these ask by the
+//! declarations so far, and say what the plain form of such a unit is. The reader stands over anyone who reads specifiers,
+//! declarators and initializers as they say.
 #![tactic(auto)]
+
+mod declarations;
+mod declarators;
+mod declares;
+mod functions;
+mod initializers;
+mod known;
+mod objects;
+mod typed;
+mod unit;
+
+pub use declares::Declares;
+pub use known::constant_value;
+pub use unit::read_unit;

@@ -1,2 +1,2 @@
+mod Best
 mod Opened
-mod Whole

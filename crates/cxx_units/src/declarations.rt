@@ -16,9 +16,9 @@ use cxx_model::{LimitKind, Listed, Stop, TreeId, TreeIdList, punct};
 use cxx_syntax::{Cursor, Specifiers, Turn, is_punct};
 use cxx_tree::State;
 
-// The tree of a declaration, with that of its specifiers.
+/// The tree of a declaration, with that of its specifiers.
 #[tactic(auto, using(cxx_syntax::proofs::Kept::trees_kept, cxx_syntax::proofs::Kept::trees_later, cxx_syntax::proofs::Kept::later_refl, cxx_syntax::proofs::Kept::later_trans))]
-fn declaration_tree(
+pub fn declaration_tree(
     state: &mut State,
     specifiers: Specifiers,
     declarators: TreeIdList,

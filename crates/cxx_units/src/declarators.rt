@@ -41,7 +41,7 @@ fn is_unfit(state: &State, said: Said, declarator: &Declarator) -> bool
 
 /// The declared type is made of what it may be made of, and no object is `void` (8.3, 3.9.1).
 #[tactic(auto, using(cxx_syntax::proofs::Kept::later_refl), unfolding(cxx_reading::specs::Units::declared_fits))]
-fn declared_fits(
+pub fn declared_fits(
     state: &State,
     cursor: &Cursor<'_>,
     said: Said,
@@ -68,9 +68,9 @@ fn with_declarator(so_far: ListedTrees, number: TreeId) -> Result<ListedTrees, A
     })
 }
 
-// Behind a declarator.
+/// Behind a declarator.
 #[tactic(auto, using(cxx_syntax::proofs::Kept::trees_append, cxx_syntax::proofs::Kept::trees_below_append, cxx_syntax::proofs::Kept::later_refl), unfolding(cxx_reading::specs::Units::declarator_ended))]
-fn declarator_ended(
+pub fn declarator_ended(
     state: &State,
     cursor: &mut Cursor<'_>,
     so_far: ListedTrees,
@@ -92,7 +92,8 @@ fn declarator_ended(
     Err(Stop::Fault(cursor.refused()?))
 }
 
-fn no_declarators(alloc: Global) -> ListedTrees
+/// Before the first declarator.
+pub fn no_declarators(alloc: Global) -> ListedTrees
     ensures { result ≡ record { trees = []; is_first = true } }
 {
     ListedTrees {

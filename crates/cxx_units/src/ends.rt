@@ -23,7 +23,8 @@ use cxx_syntax::{Cursor, Layer, LayerList, NameToken, Specifiers, is_keyword, is
 use cxx_tree::State;
 use std::alloc::AllocError;
 
-pub(crate) fn ends_declarator(kind: TokenKind) -> bool
+/// What separates declarators, or ends their declaration.
+pub fn ends_declarator(kind: TokenKind) -> bool
     ensures { result ≡ definition.ends_declarator kind }
 {
     is_punct(punct::COMMA, kind) || is_punct(punct::SEMICOLON, kind)
@@ -31,7 +32,7 @@ pub(crate) fn ends_declarator(kind: TokenKind) -> bool
 
 /// Behind the declarator of a synonym (7.1.3).
 #[tactic(auto, using(cxx_syntax::proofs::Kept::later_refl), unfolding(cxx_reading::specs::Units::synonym_ended))]
-pub(crate) fn synonym_ended(state: &State, cursor: &Cursor<'_>) -> Result<(), Stop>
+pub fn synonym_ended(state: &State, cursor: &Cursor<'_>) -> Result<(), Stop>
     ensures { IsRead itself AnyKnown state.now state.now cursor.now result (definition.synonym_ended (meaning state.now) cursor.now) }
 {
     let _ = state;
@@ -70,7 +71,7 @@ fn body_ahead(state: &State, cursor: &Cursor<'_>) -> Result<(), Stop>
 
 /// Behind the declarator of a function.
 #[tactic(auto, using(cxx_syntax::proofs::Kept::later_refl))]
-pub(crate) fn function_ended(
+pub fn function_ended(
     state: &State,
     cursor: &Cursor<'_>,
     is_first: bool,
@@ -89,7 +90,7 @@ pub(crate) fn function_ended(
 
 /// An object without an initializer that has to have one (8.5).
 #[tactic(auto, using(cxx_syntax::proofs::Kept::later_refl), unfolding(cxx_reading::specs::Units::uninitialized))]
-pub(crate) fn uninitialized(
+pub fn uninitialized(
     state: &State,
     cursor: &Cursor<'_>,
     name: &NameToken,
@@ -118,7 +119,7 @@ fn is_some_storage(word: Option<StorageWord>) -> bool
 
 /// Without a declarator a declaration has to declare or name an enumeration (clause 7).
 #[tactic(auto, using(cxx_syntax::proofs::Kept::later_refl), unfolding(cxx_reading::specs::Units::nothing_declared))]
-pub(crate) fn nothing_declared(
+pub fn nothing_declared(
     state: &State,
     cursor: &mut Cursor<'_>,
     specifiers: &Specifiers,
@@ -143,7 +144,7 @@ fn begins_another(number: u8) -> bool
 }
 
 /// A keyword with which another declaration begins (7.3, 7.4, 14).
-pub(crate) fn another_ahead(kind: TokenKind) -> bool
+pub fn another_ahead(kind: TokenKind) -> bool
     ensures { result ≡ definition.another_ahead kind }
 {
     match kind {
@@ -189,7 +190,7 @@ fn form_of_kind(kind: TokenKind) -> FaultText
 }
 
 /// What stands where a declaration would begin (clause 7).
-pub(crate) fn no_declaration(cursor: &Cursor<'_>) -> Result<Box<Fault>, AllocError>
+pub fn no_declaration(cursor: &Cursor<'_>) -> Result<Box<Fault>, AllocError>
     ensures { IfOk result (λ at. Faulty at.value ≡ fault (place_ahead cursor.now) (if token.is_qualified cursor.now then says.NotBuilt else token.form_of_kind (kind_ahead cursor.now))) }
 {
     if cursor.is_qualified() {

@@ -3,15 +3,17 @@
 
 mod declarations;
 mod declarators;
-mod ends;
+pub mod ends;
 mod functions;
-mod linkage;
+pub mod linkage;
 mod objects;
 mod reader;
-mod said;
-mod trees;
-mod types;
+pub mod said;
+pub mod trees;
+pub mod types;
 mod unit;
 
+pub use declarations::declaration_tree;
+pub use declarators::{declarator_ended, declared_fits, no_declarators};
 pub use reader::Declares;
-pub use unit::read_unit;
+pub use unit::{begun, first_place, part_added, read_unit, whole};

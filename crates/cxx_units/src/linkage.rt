@@ -51,7 +51,7 @@ fn linkage_step(state: &State, cursor: &mut Cursor<'_>, any: bool) -> Result<Tur
 
 /// Specifications of linkage, one after another: whether there are any.
 #[tactic(auto, using(cxx_syntax::proofs::Loops::turn, cxx_syntax::proofs::Loops::no_turn, cxx_syntax::proofs::Kept::later_refl), unfolding(cxx_reading::specs::Units::linkages_passed))]
-pub(crate) fn linkages_passed(state: &State, cursor: &mut Cursor<'_>) -> Result<bool, Stop>
+pub fn linkages_passed(state: &State, cursor: &mut Cursor<'_>) -> Result<bool, Stop>
     ensures { IsRead itself AnyKnown state.now state.now cursor.new result (definition.linkages_passed (meaning state.now) cursor.old) }
 {
     let mut any = false;

@@ -16,7 +16,7 @@ use cxx_tree::State;
 
 /// What the specifiers say of each declarator.
 #[derive(Clone, Copy)]
-pub(crate) struct Said {
+pub struct Said {
     pub of: TypeId,
     pub is_typedef: bool,
     pub is_extern: bool,
@@ -24,7 +24,7 @@ pub(crate) struct Said {
 
 /// The trees of declarators that were read, and whether the next is the first.
 #[derive(Drop)]
-pub(crate) struct Listed {
+pub struct Listed {
     pub trees: TreeIdList,
     pub is_first: bool,
 }
@@ -120,7 +120,7 @@ pub(crate) fn type_of_specifiers(
 }
 
 /// What the specifiers say; a linkage without braces counts as `extern` for its one declaration (7.5).
-pub(crate) fn said_by(
+pub fn said_by(
     state: &mut State,
     counts_as_extern: bool,
     specifiers: &Specifiers,

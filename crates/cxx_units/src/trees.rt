@@ -34,7 +34,7 @@ mod production {
 }
 
 /// A fault that rests on nothing but its place.
-pub(crate) fn faulty(alloc: Global, place: Place, text: FaultText) -> Result<Box<Fault>, AllocError>
+pub fn faulty(alloc: Global, place: Place, text: FaultText) -> Result<Box<Fault>, AllocError>
     ensures { IfOk result (λ at. Faulty at.value ≡ fault place text) }
 {
     Ok(Box::new(
@@ -48,7 +48,7 @@ pub(crate) fn faulty(alloc: Global, place: Place, text: FaultText) -> Result<Box
 }
 
 /// The name of a declarator that has one.
-pub(crate) fn token_or(alloc: Global, name: Option<NameToken>) -> NameToken
+pub fn token_or(alloc: Global, name: Option<NameToken>) -> NameToken
     ensures { name_at result ≡ definition.token_or (name_of_option name) }
 {
     match name {
@@ -62,7 +62,7 @@ pub(crate) fn token_or(alloc: Global, name: Option<NameToken>) -> NameToken
 }
 
 /// A list of one tree.
-pub(crate) fn one_tree(alloc: Global, number: TreeId) -> Result<TreeIdList, AllocError>
+pub fn one_tree(alloc: Global, number: TreeId) -> Result<TreeIdList, AllocError>
     ensures { IfOk result (λ all. all ≡ number ∷ []) }
 {
     let mut all = Listed::new(alloc);
@@ -71,7 +71,7 @@ pub(crate) fn one_tree(alloc: Global, number: TreeId) -> Result<TreeIdList, Allo
 }
 
 /// One tree more.
-pub(crate) fn with_tree(trees: TreeIdList, number: TreeId) -> Result<TreeIdList, AllocError>
+pub fn with_tree(trees: TreeIdList, number: TreeId) -> Result<TreeIdList, AllocError>
     ensures { IfOk result (λ all. all ≡ trees ++ number ∷ []) }
 {
     let mut all = trees;
@@ -80,7 +80,7 @@ pub(crate) fn with_tree(trees: TreeIdList, number: TreeId) -> Result<TreeIdList,
 }
 
 /// `;` alone (clause 7).
-pub(crate) fn empty_tree(state: &mut State, from: &Cursor<'_>) -> Result<TreeId, Stop>
+pub fn empty_tree(state: &mut State, from: &Cursor<'_>) -> Result<TreeId, Stop>
     ensures { GrowsTree state.old state.new result (definition.empty_tree from.now) }
 {
     let mut behind = from.mark();
@@ -96,7 +96,7 @@ pub(crate) fn empty_tree(state: &mut State, from: &Cursor<'_>) -> Result<TreeId,
 }
 
 /// A specification of linkage with its declarations (7.5).
-pub(crate) fn linkage_tree(
+pub fn linkage_tree(
     state: &mut State,
     inside: TreeIdList,
     from: &Cursor<'_>,
@@ -116,7 +116,7 @@ pub(crate) fn linkage_tree(
 }
 
 /// A declarator of a declaration (8), spelled `extern` where its declaration counts as if it had that word.
-pub(crate) fn declarator_tree(
+pub fn declarator_tree(
     state: &mut State,
     is_extern: bool,
     name: &NameToken,
@@ -166,7 +166,7 @@ fn specifiers_node(
 
 /// The specifiers of a declaration (7.1), spelled by their storage word.
 #[tactic(auto, using(cxx_syntax::proofs::Kept::trees_kept, cxx_syntax::proofs::Kept::trees_later, cxx_syntax::proofs::Kept::later_trans, cxx_syntax::proofs::Kept::later_refl))]
-pub(crate) fn specifiers_tree(
+pub fn specifiers_tree(
     state: &mut State,
     specifiers: Specifiers,
     from: &Cursor<'_>,
@@ -180,7 +180,7 @@ pub(crate) fn specifiers_tree(
 }
 
 /// A declaration of declarators (clause 7).
-pub(crate) fn simple_tree(
+pub fn simple_tree(
     state: &mut State,
     specifiers: TreeId,
     declarators: TreeIdList,

@@ -41,7 +41,8 @@ pub(crate) fn is_arithmetic(types: &TypeTable, number: TypeId) -> bool
     }
 }
 
-pub(crate) fn is_reference(types: &TypeTable, number: TypeId) -> bool
+/// A reference (8.3.2).
+pub fn is_reference(types: &TypeTable, number: TypeId) -> bool
     requires { number.0 < length types.now }
     ensures { result ≡ declarator.is_reference (type_at types.now number.0) }
 {
@@ -51,7 +52,8 @@ pub(crate) fn is_reference(types: &TypeTable, number: TypeId) -> bool
     }
 }
 
-pub(crate) fn is_function_type(types: &TypeTable, number: TypeId) -> bool
+/// A function (8.3.5).
+pub fn is_function_type(types: &TypeTable, number: TypeId) -> bool
     requires { number.0 < length types.now }
     ensures { result ≡ declarator.is_function_type (type_at types.now number.0) }
 {
@@ -62,7 +64,7 @@ pub(crate) fn is_function_type(types: &TypeTable, number: TypeId) -> bool
 }
 
 /// A constant, or an array of constants (8.5).
-pub(crate) fn is_const_type(types: &TypeTable, number: TypeId) -> bool
+pub fn is_const_type(types: &TypeTable, number: TypeId) -> bool
     requires { number.0 < length types.now }
     ensures { result ≡ definition.is_const_type (type_at types.now number.0) }
 {
@@ -84,7 +86,7 @@ fn is_unknown(types: &TypeTable, bound: &Bound) -> bool
 }
 
 /// An array without a bound, or of such arrays (8.3.4).
-pub(crate) fn is_unbounded(types: &TypeTable, number: TypeId) -> bool
+pub fn is_unbounded(types: &TypeTable, number: TypeId) -> bool
     requires { number.0 < length types.now }
     ensures { result ≡ definition.is_unbounded (type_at types.now number.0) }
 {

@@ -21,8 +21,8 @@ use cxx_syntax::{Cursor, Turn, is_end};
 use cxx_tree::State;
 use std::alloc::Global;
 
-// The state before the first declaration.
-fn begun(alloc: Global, bytes: &[u8]) -> Result<State, Stop>
+/// The state before the first declaration.
+pub fn begun(alloc: Global, bytes: &[u8]) -> Result<State, Stop>
     ensures is { IfOk result (λ state. meaning state ≡ first_state) }
     ensures memory { IfErr result (λ why. why ≡ stop.OutOfMemory) }
 {
@@ -32,8 +32,8 @@ fn begun(alloc: Global, bytes: &[u8]) -> Result<State, Stop>
     }
 }
 
-// A declaration is read by itself.
-fn part_added(state: &mut State, number: TreeId) -> Result<(), Stop>
+/// A declaration is read by itself.
+pub fn part_added(state: &mut State, number: TreeId) -> Result<(), Stop>
     requires { number.0 < length (trees state.old) }
     ensures { IsAsked itself AnyKnown state.old state.new result (definition.part_added (tree state.old number) (meaning state.old)) }
 {
@@ -82,8 +82,8 @@ fn unit_steps<D: Declares>(
     Ok(())
 }
 
-// The state, where all declarations were read.
-fn whole(options: Options, state: State, ended: Result<(), Stop>) -> Result<State, Stop>
+/// The state, where all declarations were read.
+pub fn whole(options: Options, state: State, ended: Result<(), Stop>) -> Result<State, Stop>
     ensures { (end : Ahead) (reading : Answer (Got CxxState (Unit {0}))) → Answers itself AnyKnown state end ended reading → Gives (reading_of options) result (definition.read_as options reading) }
 {
     let _ = options;
@@ -127,7 +127,8 @@ pub fn read_unit<D: Declares>(
     read_all(alloc, declares, bytes, tokens, options)
 }
 
-fn first_place() -> Place
+/// Before the first token.
+pub fn first_place() -> Place
     ensures { result ≡ first_place_of_unit }
 {
     Place { line: 1, column: 1 }

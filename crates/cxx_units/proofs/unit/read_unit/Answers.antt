@@ -1,5 +1,5 @@
 use Rattle.cxx_model.specs.Text.Lexemes.{lexemes}
-use Rattle.cxx_units.proofs.Whole.{best}
+use Rattle.cxx_units.proofs.Best.{best}
 use Rattle.cxx_units.proofs.unit.read_unit.Goals as goal
 
 pub returns-clause-best : goal.returns-clause-best

@@ -1,0 +1,39 @@
+-- The type of an object, by its declarations one after another (3.5, 8.3.4).
+use Rattle.std.specs.Prelude.{ℕ, suc, if◌then◌else◌, nat_eq, List, [], ◌∷◌, Option, Some, None}
+use Rattle.cxx_model.specs.declared.facts.Fact.{Fact}
+use Rattle.cxx_model.specs.Facts.Declarations as facts
+use Rattle.cxx_model.specs.Facts.Declarations.{CxxFact, Declares, declares_at}
+use Rattle.cxx_model.specs.Facts.Entities.{first_or, has_no_bound}
+use Rattle.cxx_model.specs.Types.Trees.{CxxType}
+
+-- the first declaration of what a fact with a number declares
+abbrev pub first_of : ℕ → Declares → ℕ
+first_of number (facts.object of member is_mutable value first) = first_or number first
+first_of number _ = number
+
+-- the type that a declaration gives to an object
+abbrev pub typed : ℕ → ℕ → Declares → Option CxxType
+typed entity number (facts.object of member is_mutable value first) = if nat_eq (first_or number first) entity then Some of else None
+typed entity number _ = None
+
+-- but no array without a bound
+abbrev pub bounded : Option CxxType → Option CxxType
+bounded None = None
+bounded (Some of) = if has_no_bound of then None else Some of
+
+abbrev pub typed_bounded : ℕ → ℕ → Declares → Option CxxType
+typed_bounded entity number what = bounded (typed entity number what)
+
+abbrev pub or_later : Option CxxType → Option CxxType → Option CxxType
+or_later None later = later
+or_later (Some of) later = Some of
+
+-- the first of what some declarations say, where the first of them has a number
+abbrev pub first_said : (ℕ → Declares → Option CxxType) → ℕ → List CxxFact → Option CxxType
+first_said says number [] = None
+first_said says number (fact ∷ others) = or_later (says number fact.what) (first_said says (suc number) others)
+
+-- the first declaration of the object that a fact declares, where it is there
+abbrev pub entity_in : List CxxType → ℕ → Option Fact → ℕ
+entity_in types number None = number
+entity_in types number (Some fact) = first_of number (declares_at types fact.what)

@@ -1,0 +1,118 @@
+//! Who reads what a declaration is made of, and answers for the declarations so far.
+
+ghost use Rattle.std.specs.Prelude.{◌≡◌, ◌<◌, length, IfOk};
+ghost use Rattle.cxx_constant.specs.Constants.{constant};
+ghost use Rattle.cxx_expr.specs.Initializing.{initialize};
+ghost use Rattle.cxx_expr.specs.Nodes.{IsNodeHeld, node_tree};
+ghost use Rattle.cxx_language.specs.Known.{value_of};
+ghost use Rattle.cxx_language.specs.Units.{answers, asked, inner_at, phrases_at};
+ghost use Rattle.cxx_phrases.specs.Initializers.{initializer_at};
+ghost use Rattle.cxx_phrases.specs.Views.{IsInitializer, initializer_of};
+ghost use Rattle.cxx_reading.specs.Declaring as definition;
+ghost use Rattle.cxx_reading.specs.Specifiers.{specifiers_at};
+ghost use Rattle.cxx_reading.specs.Syntax.{declarator_at};
+ghost use Rattle.cxx_reading.specs.declared.specifier.Naming.TheVariants as naming;
+ghost use Rattle.cxx_reading.specs.declared.specifier.SpecifierPlace.TheVariants as specifier_place;
+ghost use Rattle.cxx_syntax.specs.Asking.{AnyKnown, IsAsked, IsTreeKnown, itself};
+ghost use Rattle.cxx_syntax.specs.Reading.{IsRead};
+ghost use Rattle.cxx_syntax.specs.Views.{AreSpecifiers, IsDeclarator, declarator_of, name_at, specifiers_of};
+ghost use Rattle.cxx_tree.specs.Answered.{fact_number};
+ghost use Rattle.cxx_tree.specs.Held.{meaning, tree, trees, type_of};
+
+use cxx_model::{FactId, Node, OutOfMemory, Stop, TreeId, TypeId};
+use cxx_phrases::Initializer;
+use cxx_syntax::{Cursor, Declarator, NameToken, Specifiers};
+use cxx_tree::State;
+
+/// Who reads specifiers, declarators and initializers, declares names, and says what expressions mean and what their values
+/// are. What a reader takes is room for so many brackets inside one another.
+pub trait Declares {
+    /// The specifiers of a declaration (7.1).
+    fn specifiers(
+        &self,
+        state: &mut State,
+        cursor: &mut Cursor<'_>,
+        room: u32,
+    ) -> Result<Specifiers, Stop>
+        ensures { IsRead specifiers_of AreSpecifiers state.old state.new cursor.new result (specifiers_at (asked room).kinds (inner_at room).types specifier_place.Declaration (meaning state.old) cursor.old) };
+
+    /// A declarator, which has a name (8).
+    fn declarator(
+        &self,
+        state: &mut State,
+        cursor: &mut Cursor<'_>,
+        room: u32,
+    ) -> Result<Declarator, Stop>
+        ensures { IsRead declarator_of IsDeclarator state.old state.new cursor.new result (declarator_at (asked room).kinds (inner_at room).types naming.Required (meaning state.old) cursor.old) };
+
+    /// An initializer, from its `=` or `(` on (8.5).
+    fn initializer(
+        &self,
+        state: &mut State,
+        cursor: &mut Cursor<'_>,
+        room: u32,
+    ) -> Result<Initializer, Stop>
+        ensures { IsRead initializer_of IsInitializer state.old state.new cursor.new result (initializer_at (phrases_at room) (inner_at room).phrases (meaning state.old) cursor.old) };
+
+    /// How an object of a type is initialized, by the node of its initializer as it was read (8.5).
+    fn initialize(&self, state: &mut State, of: TypeId, node: Node) -> Result<TreeId, Stop>
+        requires of { of.0 < length (state.old).types }
+        requires node { IsNodeHeld state.old node }
+        ensures { IsAsked tree IsTreeKnown state.old state.new result (initialize answers (type_of state.old of) (node_tree state.old node) (meaning state.old)) };
+
+    /// The value of an integral constant expression, where it is one and has a value (5.19).
+    fn value(&self, state: &State, number: TreeId) -> Result<Option<i128>, OutOfMemory>
+        requires { number.0 < length (trees state.now) }
+        ensures { IfOk result (λ value. value ≡ value_of (constant (meaning state.now).graph (tree state.now number))) };
+
+    /// A synonym of a type (7.1.3).
+    fn declare_synonym(
+        &self,
+        state: &mut State,
+        name: &NameToken,
+        of: TypeId,
+    ) -> Result<FactId, Stop>
+        requires { of.0 < length (state.old).types }
+        ensures { IsAsked fact_number AnyKnown state.old state.new result (definition.declare_synonym (name_at name.now) (type_of state.old of) (meaning state.old)) };
+
+    /// A function (8.3.5).
+    fn declare_function(
+        &self,
+        state: &mut State,
+        name: &NameToken,
+        of: TypeId,
+    ) -> Result<FactId, Stop>
+        requires { of.0 < length (state.old).types }
+        ensures { IsAsked fact_number AnyKnown state.old state.new result (definition.declare_function (name_at name.now) (type_of state.old of) (meaning state.old)) };
+
+    /// An object that is declared, and not defined (3.1).
+    fn declare_object(
+        &self,
+        state: &mut State,
+        name: &NameToken,
+        of: TypeId,
+    ) -> Result<FactId, Stop>
+        requires { of.0 < length (state.old).types }
+        ensures { IsAsked fact_number AnyKnown state.old state.new result (definition.declare_object (name_at name.now) (type_of state.old of) (meaning state.old)) };
+
+    /// An object that is defined, once (3.2).
+    fn define_object(&self, state: &mut State, name: &NameToken, of: TypeId) -> Result<FactId, Stop>
+        requires { of.0 < length (state.old).types }
+        ensures { IsAsked fact_number AnyKnown state.old state.new result (definition.define_object (name_at name.now) (type_of state.old of) (meaning state.old)) };
+
+    /// An object that was declared is defined by the initializer that follows (3.1).
+    fn define_declared(
+        &self,
+        state: &mut State,
+        name: &NameToken,
+        number: FactId,
+    ) -> Result<(), Stop>
+        ensures { IsAsked itself AnyKnown state.old state.new result (definition.define_declared (name_at name.now) number.0 (meaning state.old)) };
+}
+
+/// A reader with room for so many more brackets and braces.
+#[derive_where(Clone, Copy)]
+pub(crate) struct Reader<'d, D> {
+    pub declares: &'d D,
+    pub room: u32,
+}

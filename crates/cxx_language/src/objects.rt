@@ -1,0 +1,183 @@
+//! Objects, with what initializes them (8.5).
+
+ghost use Rattle.std.specs.Prelude.{◌≡◌, ◌<◌, length, true, false};
+ghost use Rattle.cxx_language.specs.Objects as definition;
+ghost use Rattle.cxx_language.specs.Parts.{initialized_by as initialized_by_one};
+ghost use Rattle.cxx_language.specs.Units as units;
+ghost use Rattle.cxx_language.specs.Units.{answers, inner_at, phrases_at};
+ghost use Rattle.cxx_syntax.specs.Asking.{IsTreeKnown};
+ghost use Rattle.cxx_syntax.specs.Reading.{IsRead};
+ghost use Rattle.cxx_syntax.specs.Views.{AreTreesHeld, declarator_of, name_at, trees_held};
+ghost use Rattle.cxx_tree.specs.Held.{meaning, tree, type_of};
+ghost use Rattle.cxx_units.specs.Said.{IsDeclared, said_of};
+
+use crate::declares::{Declares, Reader};
+use crate::initializers::{begins_initializer, initializer_node, some_elements};
+use crate::known::{note_known, type_known};
+use crate::typed::type_so_far;
+use cxx_model::{FactId, Listed, Stop, TreeId, TreeIdList, TypeId};
+use cxx_syntax::{Cursor, Declarator, NameToken, joined};
+use cxx_tree::State;
+use cxx_units::ends::{ends_declarator, uninitialized};
+use cxx_units::said::Said;
+use cxx_units::trees::{declarator_tree, one_tree, token_or};
+
+// An object that has no initializer.
+#[tactic(auto, unfolding(crate::specs::Objects::without_initializer))]
+fn without_initializer(
+    state: &State,
+    cursor: &Cursor<'_>,
+    name: &NameToken,
+    of: TypeId,
+    number: FactId,
+) -> Result<TreeIdList, Stop>
+    requires { of.0 < length (state.now).types }
+    ensures { IsRead trees_held AreTreesHeld state.now state.now cursor.now result (definition.without_initializer (name_at name.now) (type_of state.now of) number.0 (meaning state.now) cursor.now) }
+{
+    uninitialized(state, cursor, name, type_so_far(state, number, of))
+}
+
+impl<D: Declares> Reader<'_, D> {
+    // What the initializer of an object says, once it is known how it initializes it.
+    #[tactic(auto, using(cxx_syntax::proofs::Kept::trees_kept, cxx_syntax::proofs::Kept::trees_later, cxx_syntax::proofs::Kept::type_kept, cxx_syntax::proofs::Kept::type_later, cxx_syntax::proofs::Kept::later_refl, cxx_syntax::proofs::Kept::later_trans))]
+    fn initialized_by(
+        &self,
+        state: &mut State,
+        cursor: &Cursor<'_>,
+        name: &NameToken,
+        of: TypeId,
+        number: FactId,
+        given: TreeId,
+    ) -> Result<TreeIdList, Stop>
+        requires of { of.0 < length (state.old).types }
+        requires given { IsTreeKnown state.old given }
+        ensures { IsRead trees_held AreTreesHeld state.old state.new cursor.now result (initialized_by_one (name_at name.now) (type_of state.old of) number.0 (tree state.old given) (meaning state.old) cursor.now) }
+    {
+        let known = type_known(state, of, given);
+        some_elements(state, cursor, name, known)?;
+        note_known(self.declares, state, name, number, of, given)?;
+        Ok(one_tree(cursor.alloc(), given)?)
+    }
+
+    // From `=` or `(` on, of the object with a declaration.
+    #[tactic(auto, using(cxx_syntax::proofs::Kept::trees_kept, cxx_syntax::proofs::Kept::trees_later, cxx_syntax::proofs::Kept::type_kept, cxx_syntax::proofs::Kept::type_later, cxx_syntax::proofs::Kept::later_refl, cxx_syntax::proofs::Kept::later_trans), unfolding(crate::specs::Objects::initialized_part))]
+    fn initialized_part(
+        &self,
+        state: &mut State,
+        cursor: &mut Cursor<'_>,
+        name: &NameToken,
+        of: TypeId,
+        number: FactId,
+    ) -> Result<TreeIdList, Stop>
+        requires { of.0 < length (state.old).types }
+        ensures { IsRead trees_held AreTreesHeld state.old state.new cursor.new result (definition.initialized_part answers (phrases_at self.now.room) (inner_at self.now.room).phrases (name_at name.now) (type_of state.old of) number.0 (meaning state.old) cursor.old) }
+    {
+        let from = cursor.mark();
+        let read = self.declares.initializer(state, cursor, self.room)?;
+        let node = initializer_node(state, read, &from, cursor)?;
+        let given = self.declares.initialize(state, of, node)?;
+        self.initialized_by(state, cursor, name, of, number, given)
+    }
+
+    // Behind the name of an object that is defined.
+    #[tactic(auto, using(cxx_syntax::proofs::Kept::later_refl, cxx_syntax::proofs::Kept::later_trans), unfolding(crate::specs::Objects::defined_part))]
+    fn defined_part(
+        &self,
+        state: &mut State,
+        cursor: &mut Cursor<'_>,
+        name: &NameToken,
+        of: TypeId,
+        number: FactId,
+    ) -> Result<TreeIdList, Stop>
+        requires { of.0 < length (state.old).types }
+        ensures { IsRead trees_held AreTreesHeld state.old state.new cursor.new result (definition.defined_part answers (phrases_at self.now.room) (inner_at self.now.room).phrases (name_at name.now) (type_of state.old of) number.0 (meaning state.old) cursor.old) }
+    {
+        if begins_initializer(cursor) {
+            return self.initialized_part(state, cursor, name, of, number);
+        }
+        if ends_declarator(cursor.kind()) {
+            return without_initializer(state, cursor, name, of, number);
+        }
+        Err(Stop::Fault(cursor.refused()?))
+    }
+
+    #[tactic(auto, using(cxx_syntax::proofs::Kept::type_kept, cxx_syntax::proofs::Kept::type_later, cxx_syntax::proofs::Kept::later_refl, cxx_syntax::proofs::Kept::later_trans), unfolding(crate::specs::Objects::defined_later))]
+    fn defined_later(
+        &self,
+        state: &mut State,
+        cursor: &mut Cursor<'_>,
+        name: &NameToken,
+        of: TypeId,
+        number: FactId,
+    ) -> Result<TreeIdList, Stop>
+        requires { of.0 < length (state.old).types }
+        ensures { IsRead trees_held AreTreesHeld state.old state.new cursor.new result (definition.defined_later answers (phrases_at self.now.room) (inner_at self.now.room).phrases (name_at name.now) (type_of state.old of) number.0 (meaning state.old) cursor.old) }
+    {
+        self.declares.define_declared(state, name, number)?;
+        self.initialized_part(state, cursor, name, of, number)
+    }
+
+    // Behind the name of an object that is declared with `extern`, which an initializer defines (3.1).
+    #[tactic(auto, using(cxx_syntax::proofs::Kept::later_refl, cxx_syntax::proofs::Kept::later_trans), unfolding(crate::specs::Objects::extern_part))]
+    fn extern_part(
+        &self,
+        state: &mut State,
+        cursor: &mut Cursor<'_>,
+        name: &NameToken,
+        of: TypeId,
+        number: FactId,
+    ) -> Result<TreeIdList, Stop>
+        requires { of.0 < length (state.old).types }
+        ensures { IsRead trees_held AreTreesHeld state.old state.new cursor.new result (definition.extern_part answers (phrases_at self.now.room) (inner_at self.now.room).phrases (name_at name.now) (type_of state.old of) number.0 (meaning state.old) cursor.old) }
+    {
+        if begins_initializer(cursor) {
+            return self.defined_later(state, cursor, name, of, number);
+        }
+        if ends_declarator(cursor.kind()) {
+            return Ok(Listed::new(cursor.alloc()));
+        }
+        Err(Stop::Fault(cursor.refused()?))
+    }
+
+    /// An object that is declared with `extern`.
+    #[tactic(auto, using(cxx_syntax::proofs::Kept::trees_kept, cxx_syntax::proofs::Kept::trees_later, cxx_syntax::proofs::Kept::trees_append, cxx_syntax::proofs::Kept::trees_below_append, cxx_syntax::proofs::Kept::type_kept, cxx_syntax::proofs::Kept::type_later, cxx_syntax::proofs::Kept::later_refl, cxx_syntax::proofs::Kept::later_trans), unfolding(crate::specs::Units::extern_object))]
+    pub(crate) fn extern_object(
+        &self,
+        state: &mut State,
+        cursor: &mut Cursor<'_>,
+        said: Said,
+        from: &Cursor<'_>,
+        declarator: Declarator,
+        of: TypeId,
+    ) -> Result<TreeId, Stop>
+        requires { IsDeclared state.old said declarator of }
+        ensures { IsRead tree IsTreeKnown state.old state.new cursor.new result (units.extern_object self.now.room (said_of state.old said) (declarator_of state.old declarator) from.now (meaning state.old) cursor.old) }
+    {
+        let name = token_or(cursor.alloc(), declarator.name);
+        let number = self.declares.declare_object(state, &name, of)?;
+        let parts = self.extern_part(state, cursor, &name, of, number)?;
+        let parts = joined(declarator.parts, parts)?;
+        declarator_tree(state, true, &name, of, number, parts, from, cursor)
+    }
+
+    /// An object that is defined.
+    #[tactic(auto, using(cxx_syntax::proofs::Kept::trees_kept, cxx_syntax::proofs::Kept::trees_later, cxx_syntax::proofs::Kept::trees_append, cxx_syntax::proofs::Kept::trees_below_append, cxx_syntax::proofs::Kept::type_kept, cxx_syntax::proofs::Kept::type_later, cxx_syntax::proofs::Kept::later_refl, cxx_syntax::proofs::Kept::later_trans), unfolding(crate::specs::Units::defined_object))]
+    pub(crate) fn defined_object(
+        &self,
+        state: &mut State,
+        cursor: &mut Cursor<'_>,
+        said: Said,
+        from: &Cursor<'_>,
+        declarator: Declarator,
+        of: TypeId,
+    ) -> Result<TreeId, Stop>
+        requires { IsDeclared state.old said declarator of }
+        ensures { IsRead tree IsTreeKnown state.old state.new cursor.new result (units.defined_object self.now.room (said_of state.old said) (declarator_of state.old declarator) from.now (meaning state.old) cursor.old) }
+    {
+        let name = token_or(cursor.alloc(), declarator.name);
+        let number = self.declares.define_object(state, &name, of)?;
+        let parts = self.defined_part(state, cursor, &name, of, number)?;
+        let parts = joined(declarator.parts, parts)?;
+        declarator_tree(state, false, &name, of, number, parts, from, cursor)
+    }
+}
