@@ -1,5 +1,5 @@
 //! What one expression means whose parts were read (clause 5), and how objects are initialized (8.5): the definitions, and
-//! the code for literals, operators, casts, sizes and conversions. Names, calls and initializers have no code yet.
+//! the code for literals, operators, casts, sizes and conversions.
 #![tactic(auto)]
 
 mod casts;

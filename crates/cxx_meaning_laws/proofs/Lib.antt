@@ -6,4 +6,5 @@ pub mod Operands
 pub mod Arms
 pub mod Identity
 pub mod Grouping
+pub mod Ranking
 mod Rows

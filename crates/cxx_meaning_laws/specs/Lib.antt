@@ -1,2 +1,3 @@
 pub mod Subsequences
 pub mod Converting
+pub mod Ranks

@@ -14,5 +14,5 @@ pub use pointers::{
 };
 pub use sequences::{
     first_criterion_is_proper_subsequence, proper_subsequence_is_better, proper_subsequences_chain,
-    values_keep_their_type,
+    rank_is_that_of_the_worst_step, values_keep_their_type,
 };
