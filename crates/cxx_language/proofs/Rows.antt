@@ -74,7 +74,8 @@ use Rattle.cxx_overload.specs.Calls.{decided}
 use Rattle.cxx_overload.specs.Candidates.{candidates as candidates_of_candidates, candidates_within}
 use Rattle.cxx_overload.specs.Choices.{chosen as chosen_of_choices, refusals as refusals_of_choices, ties as ties_of_choices, choice as choice_of_choices}
 use Rattle.cxx_overload.specs.Viability.{rated_one, rated as rated_of_viability}
-use Rattle.cxx_language.specs.Answers.{name_here, bound_here, call_here, size_here, is_null_here, constant_here as constant_here_of_answers_here, questions, asking}
+use Rattle.cxx_answers.specs.Answers.{name_here, bound_here, call_here, size_here, is_null_here, constant_here as constant_here_of_answers_here, questions}
+use Rattle.cxx_language.specs.Answers.{asking}
 use Rattle.cxx_language.specs.Known.{noted, note_known}
 use Rattle.cxx_language.specs.Objects.{some_elements, initialized_part, without_initializer, defined_part as defined_part_of_objects_here, defined_later as defined_later_of_objects_here, extern_part as extern_part_of_objects_here}
 use Rattle.cxx_knot.specs.Readers.{valued as valued_of_readers_here, bound_value as bound_value_of_readers_here, bound_at as bound_at_of_readers_here, value_at as value_at_of_readers_here, enumerator_at as enumerator_at_of_readers_here, enumerator_step as enumerator_step_of_readers_here, enumerators_at as enumerators_at_of_readers_here, both}

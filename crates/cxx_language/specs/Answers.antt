@@ -1,96 +1,15 @@
--- What the readers of expressions ask, answered by the declarations so far (3.4, 5.19, 13.3).
-use Rattle.std.specs.Prelude.{ℕ, zero, suc, ℤ, pos, Bool, true, false, List, [], ◌∷◌, ◌++◌, length, Option, Some, None, Result, Ok, Err}
-use Rattle.cxx_model.specs.declared.fault.FaultText.TheVariants as says
-use Rattle.cxx_model.specs.declared.place.Place.{Place}
-use Rattle.cxx_model.specs.declared.types.ClassId.{ClassId}
-use Rattle.cxx_model.specs.Facts.Declarations.{CxxGraph}
-use Rattle.cxx_model.specs.Stops.{Answer, Stopped, fault}
-use Rattle.cxx_model.specs.Types.Trees.{CxxType}
-use Rattle.cxx_meaning.specs.declared.size.SizeReason.{SizeReason}
-use Rattle.cxx_meaning.specs.declared.size.SizeReason.TheVariants as reason
-use Rattle.cxx_meaning.specs.Conversions.Asking.{Asked}
-use Rattle.cxx_meaning.specs.Conversions.Sizes as sizes
-use Rattle.cxx_constant.specs.Constants.{CxxFault, CxxValue, not_constant, overflow, divide_by_zero, constant}
-use Rattle.cxx_reading.specs.Declaring.{name_in, kind_here, type_here, elaborated_here, declare_enumeration, declare_enumerator, end_enumeration, enter_parameters, declare_parameter, leave_parameters}
-use Rattle.cxx_reading.specs.Initializers.{with_call}
+-- What the readers of expressions ask, answered by the declarations so far (3.4, 5.19).
+use Rattle.std.specs.Prelude.{ℕ}
+use Rattle.cxx_reading.specs.Declaring.{kind_here, type_here, elaborated_here, declare_enumeration, declare_enumerator, end_enumeration, enter_parameters, declare_parameter, leave_parameters}
 use Rattle.cxx_reading.specs.Kinds.{Kinds}
 use Rattle.cxx_reading.specs.Reads.{Asks}
-use Rattle.cxx_reading.specs.Seen.{Numbered, found}
 use Rattle.cxx_reading.specs.State.{CxxState}
-use Rattle.cxx_reading.specs.Trees.{CxxTree, CxxPath}
-use Rattle.cxx_overload.specs.Calls.{CxxDecision, decided}
+use Rattle.cxx_reading.specs.Trees.{CxxTree}
 use Rattle.cxx_expr.specs.Elaborating.{elaborate}
-use Rattle.cxx_expr.specs.Questions.{Questions, CxxQuestion, CxxChosen}
+use Rattle.cxx_answers.specs.Answers.{constant_here, questions}
 use Rattle.cxx_knot.specs.Readers.{Asking}
 
--- ---- names (3.4.1)
-
-unfoldable pub name_here : CxxPath → Asks CxxState (List Numbered)
-name_here path state = Ok (found state.graph state.here.scope (name_in path), state)
-
-abbrev pub with_use : Place → ℕ → CxxState → CxxState
-with_use place target state = record state { uses = state.uses ++ record { scope = state.here.scope; place = place; target = target } ∷ [] }
-
-unfoldable pub bound_here : Place → ℕ → Asks CxxState (Unit {0})
-bound_here place target state = Ok (tt, with_use place target state)
-
--- ---- calls (13.3)
-
-abbrev pub chosen_as : ℕ → CxxDecision → CxxChosen
-chosen_as number one = record { target = one.meant.number; parameters = one.meant.parameters; result = one.meant.result; ellipsis = one.meant.ellipsis; number = number }
-
-abbrev pub called_as : CxxState → Answer CxxDecision → Answer (CxxChosen × CxxState)
-called_as state (Ok one) = Ok (chosen_as (length state.calls) one, with_call one.call state)
-called_as state (Err why) = Err why
-
-unfoldable pub call_here : CxxQuestion → Asks CxxState CxxChosen
-call_here question state = called_as state (decided question.place question.operands state.graph question.functions)
-
--- ---- sizes (5.3.3)
-
--- a class that is not complete has none
-abbrev pub size_or_none : Asked (Result ℕ SizeReason) → Result ℕ SizeReason
-size_or_none (Ok size) = size
-size_or_none (Err class) = Err reason.NoSize
-
-unfoldable pub size_here : CxxType → Asks CxxState (Result ℕ SizeReason)
-size_here of state = Ok (size_or_none (sizes.size_of state.graph of), state)
-
--- ---- constants (5.19)
-
-abbrev pub is_zero_value : CxxValue → Bool
-is_zero_value (Ok (pos zero)) = true
-is_zero_value _ = false
-
-unfoldable pub is_null_here : CxxTree → CxxState → Bool
-is_null_here tree state = is_zero_value (constant state.graph tree)
-
--- What is no constant is so at its first token; an operator gives no value at its own place.
-abbrev pub constant_fault : CxxFault → Stopped
-constant_fault (not_constant tree) = fault tree.label.start says.NotAConstant
-constant_fault (overflow tree) = fault tree.label.place says.ConstantOverflow
-constant_fault (divide_by_zero tree) = fault tree.label.place says.DivisionByZero
-
-abbrev pub constant_by : CxxState → CxxValue → Answer (ℤ × CxxState)
-constant_by state (Ok value) = Ok (value, state)
-constant_by state (Err why) = Err (constant_fault why)
-
-unfoldable pub constant_here : CxxTree → Asks CxxState ℤ
-constant_here tree state = constant_by state (constant state.graph tree)
-
--- ---- all questions
-
--- what is asked to find what an expression means; `fallback` answers with default arguments (8.3.6)
-unfoldable pub questions : (ℕ → ℕ → Asks CxxState CxxTree) → Questions
-questions fallback = record {
-  name = name_here;
-  bound = bound_here;
-  call = call_here;
-  fallback = fallback;
-  size = size_here;
-  is_null = is_null_here;
-}
-
+-- `fallback` answers with default arguments (8.3.6)
 unfoldable pub asking : (ℕ → ℕ → Asks CxxState CxxTree) → ℕ → Asking CxxState
 asking fallback room = record {
   kinds = record {

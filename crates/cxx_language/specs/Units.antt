@@ -20,7 +20,8 @@ use Rattle.cxx_reading.specs.Trees.{CxxTree}
 use Rattle.cxx_reading.specs.Units.{CxxReading, Said, Listed, read_as, part_added, specifiers_tree, declarator_tree, name_in, declared_fits, declared_function, declared_synonym, one_tree, declarator_ended, give_trees, no_declarators, nothing_declared, said_by, simple_tree, empty_tree, another_ahead, linkages_passed, linkage_list, linked_tree, inside_step}
 use Rattle.cxx_expr.specs.Questions.{Questions}
 use Rattle.cxx_phrases.specs.Phrases.{Phrases, Inner}
-use Rattle.cxx_language.specs.Answers.{questions, asking}
+use Rattle.cxx_answers.specs.Answers.{questions}
+use Rattle.cxx_language.specs.Answers.{asking}
 use Rattle.cxx_language.specs.Objects.{defined_part, extern_part}
 use Rattle.cxx_knot.specs.Readers.{Asking, Both, both, here}
 

@@ -18,7 +18,8 @@ use Rattle.cxx_reading.specs.Tokens.{is_name, token_in}
 use Rattle.cxx_reading.specs.Trees.{CxxTree, children_of, each_tree, in_turn, Label}
 use Rattle.cxx_expr.specs.Names.{path_in, word_in}
 use Rattle.cxx_expr.specs.Elaborating.{elaborate}
-use Rattle.cxx_language.specs.Answers.{asking, bound_here, call_here, constant_by, constant_here, name_here, questions, size_here, with_use}
+use Rattle.cxx_language.specs.Answers.{asking}
+use Rattle.cxx_answers.specs.Answers.{bound_here, call_here, constant_by, constant_here, name_here, questions, size_here, with_use}
 use Rattle.cxx_language.specs.Units.{answers, asked, inner_at, phrases_at}
 use Rattle.cxx_language_laws.specs.Told.{IsUnitCall, unknown_name, unknown_call, unknown_type, declared}
 use Rattle.cxx_language_laws.proofs.CallsTell.{call_asked_tells}

@@ -18,7 +18,7 @@ use Rattle.cxx_overload.specs.Decided.{IsDecided, IsUndecided, NoneViable, IsAmb
 use Rattle.cxx_overload.specs.Sequences.{CxxSequence, sequences_of}
 use Rattle.cxx_overload.specs.Viability.{Rated, by_count, by_sequences, first_without, rated, rated_one}
 use Rattle.cxx_overload.specs.Words.{IsOutcome}
-use Rattle.cxx_language.specs.Answers.{called_as}
+use Rattle.cxx_answers.specs.Answers.{called_as}
 use Rattle.cxx_language_laws.specs.Best.{IsBestCall, IsRatedSo, values_of}
 use Rattle.cxx_language_laws.specs.Told.{IsUnitCall, meant, operands, no_viable_function, ambiguous_call}
 use Rattle.cxx_language_laws.proofs.Later.{IsLater, grown_same, each_widened}

@@ -1,0 +1,150 @@
+//! What is kept of a call that was decided (13.3).
+
+ghost use Rattle.std.specs.Prelude.{◌≡◌, ◌++◌, [], ◌∷◌, length, map, IfOk};
+ghost use Rattle.std.specs.List.{All};
+ghost use Rattle.cxx_answers.specs.Ruled.{IsCallBelow};
+ghost use Rattle.cxx_overload.specs.Calls.{number_of, outcome_of, row_of, standards};
+ghost use Rattle.cxx_overload.specs.Contests.{contender_at, contenders_at, IsContenderBelow};
+ghost use Rattle.cxx_overload.specs.Decisions.{decision_at, IsDecisionBelow};
+ghost use Rattle.cxx_overload.specs.Views.{operands_at, rated_at, ratings_at, AreOperandsBelow};
+ghost use Rattle.cxx_tree.specs.Held.{call_at, numbers_at, row_at, rows_at, sequences_at, AreRowsBelow, AreSequencesBelow};
+
+use cxx_model::{
+    FactList, Listed, Operand, OperandList, Outcome, OutcomeList, Place, StandardSequence,
+    TypeIdList,
+};
+use cxx_overload::{
+    Contender, Conversion, Decision, Rated, Ratings, contenders, standard_sequences,
+};
+use cxx_tree::{Contending, ContendingList, Decided};
+use cxx_types::TypeTable;
+use std::alloc::{AllocError, Global};
+
+// The declarations of the candidates.
+#[tactic(auto, using(crate::proofs::Records::numbers_step))]
+fn numbers(
+    alloc: Global,
+    types: &TypeTable,
+    operands: &[Operand],
+    conversions: &[Conversion],
+    all: &[Rated],
+) -> Result<FactList, AllocError>
+    ensures { IfOk result (λ found. numbers_at found ≡ map number_of (map (rated_at types.now operands.now conversions.now) all.now)) }
+{
+    let _ = types;
+    let _ = operands;
+    let _ = conversions;
+    let mut found = Listed::new(alloc);
+    for one in all {
+        found.push(one.candidate.number)?;
+    }
+    Ok(found)
+}
+
+// Whether each candidate is viable.
+fn outcomes(
+    alloc: Global,
+    types: &TypeTable,
+    operands: &[Operand],
+    conversions: &[Conversion],
+    all: &[Rated],
+) -> Result<OutcomeList, AllocError>
+    ensures { IfOk result (λ found. found ≡ map outcome_of (map (rated_at types.now operands.now conversions.now) all.now)) }
+{
+    let _ = types;
+    let _ = operands;
+    let _ = conversions;
+    let mut found: Listed<Outcome> = Listed::new(alloc);
+    for one in all {
+        found.push(one.outcome)?;
+    }
+    Ok(found)
+}
+
+// The standard sequences of a viable candidate.
+#[tactic(auto, using(crate::proofs::Records::sequences_same, crate::proofs::Records::sequences_below))]
+fn sequences(
+    alloc: Global,
+    types: &TypeTable,
+    operands: &[Operand],
+    one: &Contender,
+) -> Result<Listed<StandardSequence>, AllocError>
+    requires operands { AreOperandsBelow (length types.now) operands.now }
+    requires contender { IsContenderBelow (length types.now) one.now }
+    ensures is { IfOk result (λ found. sequences_at types.now found ≡ standards (contender_at types.now operands.now one.now).sequences) }
+    ensures below { IfOk result (AreSequencesBelow (length types.now)) }
+{
+    let found = standard_sequences(alloc, types, operands, one)?;
+    Ok(Listed::from_vec(found))
+}
+
+// The row of a viable candidate (13.3.3).
+#[tactic(auto, using(crate::proofs::Records::parameters_same))]
+fn row(
+    alloc: Global,
+    types: &TypeTable,
+    operands: &[Operand],
+    one: &Contender,
+) -> Result<Contending, AllocError>
+    requires operands { AreOperandsBelow (length types.now) operands.now }
+    requires contender { IsContenderBelow (length types.now) one.now }
+    ensures is { IfOk result (λ row. row_at types.now row ≡ row_of (contender_at types.now operands.now one.now)) }
+    ensures below { IfOk result (λ row. AreRowsBelow (length types.now) (row ∷ [])) }
+{
+    Ok(Contending {
+        position: one.candidate.position,
+        parameters: TypeIdList::from_slice(alloc, one.candidate.parameters)?,
+        sequences: sequences(alloc, types, operands, one)?,
+    })
+}
+
+#[tactic(auto, using(crate::proofs::Records::rows_step, crate::proofs::Records::rows_below_more))]
+fn rows(
+    alloc: Global,
+    types: &TypeTable,
+    operands: &[Operand],
+    viable: &[Contender],
+) -> Result<ContendingList, AllocError>
+    requires operands { AreOperandsBelow (length types.now) operands.now }
+    requires viable { All (IsContenderBelow (length types.now)) viable.now }
+    ensures is { IfOk result (λ found. rows_at types.now found ≡ map row_of (contenders_at types.now operands.now viable.now)) }
+    ensures below { IfOk result (AreRowsBelow (length types.now)) }
+{
+    let mut found = Listed::new(alloc);
+    for one in viable {
+        let row = row(alloc, types, operands, one)?;
+        found.push(row)?;
+    }
+    Ok(found)
+}
+
+/// What is kept of a call, with its operands.
+#[tactic(auto, using(crate::proofs::Records::operands_same, crate::proofs::Records::operands_below))]
+pub(crate) fn decided(
+    alloc: Global,
+    types: &TypeTable,
+    place: Place,
+    operands: OperandList,
+    decision: &Decision,
+) -> Result<Decided, AllocError>
+    requires operands { AreOperandsBelow (length types.now) operands }
+    requires decision { IsDecisionBelow (length types.now) (length operands) decision.now }
+    ensures is { IfOk result (λ call. call_at types.now call ≡ (decision_at types.now place operands decision.now).call) }
+    ensures below { IfOk result (IsCallBelow (length types.now)) }
+{
+    let ratings = &decision.ratings;
+    let conversions = ratings.conversions.as_slice();
+    let all = ratings.all.as_slice();
+    let viable = contenders(alloc, types, operands.as_slice(), ratings)?;
+    let candidates = numbers(alloc, types, operands.as_slice(), conversions, all)?;
+    let outcomes = outcomes(alloc, types, operands.as_slice(), conversions, all)?;
+    let rows = rows(alloc, types, operands.as_slice(), &viable)?;
+    Ok(Decided {
+        place,
+        operands,
+        candidates,
+        outcomes,
+        rows,
+        chosen: decision.meant.position,
+    })
+}
