@@ -1,7 +1,6 @@
 -- What the readers of expressions ask, answered by the declarations so far (3.4, 5.19).
 use Rattle.std.specs.Prelude.{ℕ}
 use Rattle.cxx_reading.specs.Declaring.{kind_here, type_here, elaborated_here, declare_enumeration, declare_enumerator, end_enumeration, enter_parameters, declare_parameter, leave_parameters}
-use Rattle.cxx_reading.specs.Kinds.{Kinds}
 use Rattle.cxx_reading.specs.Reads.{Asks}
 use Rattle.cxx_reading.specs.State.{CxxState}
 use Rattle.cxx_reading.specs.Trees.{CxxTree}
