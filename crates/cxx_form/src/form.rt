@@ -15,7 +15,7 @@ use crate::book::Book;
 use crate::called::functions_text;
 use crate::calls::on_lines;
 use crate::enumerations::{declared, enumerators};
-use crate::lines::{Line, lines};
+use crate::lines::{Line, plain_lines};
 use crate::names::tags;
 use crate::order::numbering;
 use crate::text::write_lines;
@@ -75,7 +75,7 @@ pub fn print_reading(alloc: Global, state: &State) -> Result<Printed, PlainFault
     ensures is { (options : Options) → IfOk result (IsPrinted (record { options = options; state = meaning state.now })) }
     ensures full { (options : Options) → result ≡ Err PlainFault.Limit → is_past_output (record { options = options; state = meaning state.now }) ≡ true }
 {
-    let found = lines(state, alloc)?;
+    let found = plain_lines(state, alloc)?;
     let rows = enumerators(state, alloc)?;
     let places = declared(state, alloc)?;
     let numbers = numbering(state, &rows, found.as_slice(), alloc)?;

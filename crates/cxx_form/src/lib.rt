@@ -27,3 +27,4 @@ mod words;
 
 pub use cxx_page::PlainFault;
 pub use form::{Printed, print_reading};
+pub use lines::{Line, plain_lines};

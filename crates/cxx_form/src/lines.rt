@@ -20,7 +20,7 @@ use std::alloc::{AllocError, Global};
 
 /// A line of a plain form.
 #[derive(Clone, Copy)]
-pub(crate) enum Line {
+pub enum Line {
     /// An enumeration, and where it is declared (7.2).
     Enumeration(EnumId, FactId),
     /// The first declaration of a function.
@@ -148,7 +148,7 @@ fn add_objects(
 }
 
 /// The lines of the plain form, in order.
-pub(crate) fn lines(state: &State, alloc: Global) -> Result<Vec<Line>, AllocError>
+pub fn plain_lines(state: &State, alloc: Global) -> Result<Vec<Line>, AllocError>
     ensures is { IfOk result (λ found. lines_at (trees state.now) found.items ≡ lines_of (meaning state.now)) }
     ensures below { IfOk result (λ found. AreLinesBelow (length (trees state.now)) found.items) }
 {

@@ -3,4 +3,4 @@
 
 mod reports;
 
-pub use reports::report;
+pub use reports::{report, write, write_count, write_place, write_reason};

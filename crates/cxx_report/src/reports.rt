@@ -8,7 +8,8 @@ use cxx_model::{
 use itoa::Buffer;
 use std::alloc::{AllocError, Global};
 
-fn write(out: &mut Vec<u8>, text: &[u8]) -> Result<(), AllocError>
+/// Writes a text.
+pub fn write(out: &mut Vec<u8>, text: &[u8]) -> Result<(), AllocError>
     ensures { OnOk result (out.new.items ≡ out.old.items ++ text.now) }
 {
     out.extend_from_slice(text)
@@ -21,14 +22,16 @@ fn write_number(out: &mut Vec<u8>, number: u32) -> Result<(), AllocError>
     write(out, digits.format(number).as_bytes())
 }
 
-fn write_count(out: &mut Vec<u8>, number: u64) -> Result<(), AllocError>
+/// Writes a number in decimal digits.
+pub fn write_count(out: &mut Vec<u8>, number: u64) -> Result<(), AllocError>
     ensures { OnOk result (out.new.items ≡ out.old.items ++ decimal number) }
 {
     let mut digits = Buffer::new();
     write(out, digits.format(number).as_bytes())
 }
 
-fn write_place(out: &mut Vec<u8>, place: Place) -> Result<(), AllocError>
+/// Writes a place: `L:C`.
+pub fn write_place(out: &mut Vec<u8>, place: Place) -> Result<(), AllocError>
     ensures { OnOk result (out.new.items ≡ out.old.items ++ place_text place) }
 {
     write_number(out, place.line)?;
@@ -89,7 +92,8 @@ fn write_numbered(
     write(out, back)
 }
 
-fn write_reason(out: &mut Vec<u8>, reason: Reason) -> Result<(), AllocError>
+/// Writes why a candidate is not viable.
+pub fn write_reason(out: &mut Vec<u8>, reason: Reason) -> Result<(), AllocError>
     ensures { OnOk result (out.new.items ≡ out.old.items ++ reason_text reason) }
 {
     match reason {

@@ -6,7 +6,7 @@ use Rattle.std.specs.Prelude.{map}
 use Rattle.cxx_form.specs.Found.{each_declarators}
 use Rattle.cxx_form.specs.Views.{facts_in}
 use Rattle.cxx_form.proofs.Lined.{all_lines, lines_are}
-use Rattle.cxx_form.proofs.lines.lines.Goals as goal
+use Rattle.cxx_form.proofs.lines.plain_lines.Goals as goal
 
 pub returns-clause-is : goal.returns-clause-is
 returns-clause-is c =

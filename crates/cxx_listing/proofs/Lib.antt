@@ -1,0 +1,4 @@
+pub mod Kept
+pub mod Lined
+pub mod Walked
+pub mod Written
