@@ -1,4 +1,5 @@
-//! Reads a C++98 translation unit on standard input and writes its plain form, or says what is wrong with it.
+//! Reads a C++98 translation unit on standard input and writes what the words want of it, its plain form or its calls, or
+//! says what is wrong with it.
 #![tactic(auto)]
 
 use cxx_command::run;

@@ -8,7 +8,9 @@ use Rattle.cxx_model.specs.Printing.Reports.{report, limit_report}
 use Rattle.cxx_command.specs.declared.answers.Answer.{Answer}
 use Rattle.cxx_command.specs.declared.answers.Answer.TheVariants as answer
 use Rattle.cxx_command.specs.Again.{Difference, difference_text}
-use Rattle.cxx_command.specs.Run.{due, AgreesWith, Differs, IsTold, IsUnderstood, Names, Reports, UnitDue, Writes}
+use Rattle.cxx_words.specs.declared.job.Job.{Job}
+use Rattle.cxx_words.specs.Words.{IsUnderstood}
+use Rattle.cxx_command.specs.Run.{due, AgreesWith, Differs, IsTold, Names, Reports, UnitDue, Writes}
 use Rattle.cxx_command.specs.Streams.{Change, HasFailed, IsUntouched}
 
 -- ---- what is told
@@ -38,17 +40,24 @@ IsUnitAnswer unit answer.NotUnderstood = ⊥
 IsUnitAnswer unit answer.CannotRead = ⊥
 IsUnitAnswer unit answer.NoMemory = Unit {0}
 
--- the answer is that of some input that agrees with what the source tells
-pub record IsInputAnswer {S : Type 0} (source : Change S) (given : Answer) : Type 0 where
+-- the answer is that of some input that agrees with what the source tells, for this job
+pub record IsInputAnswer {S : Type 0} (job : Job) (source : Change S) (given : Answer) : Type 0 where
   pub input : List ℕ
   pub agrees : AgreesWith source.told_old input
-  pub is : IsUnitAnswer (due input) given
+  pub is : IsUnitAnswer (due job input) given
 
-abbrev pub IsRunAnswer : {X S : Type 0} → List X → Change S → Answer → Type 0
-IsRunAnswer words source (answer.Writes text) = IsUnderstood words × IsInputAnswer source (answer.Writes text)
-IsRunAnswer words source (answer.Reports text) = IsUnderstood words × IsInputAnswer source (answer.Reports text)
-IsRunAnswer words source (answer.PassesLimit limit) = IsUnderstood words × IsInputAnswer source (answer.PassesLimit limit)
-IsRunAnswer words source (answer.DoesNotReadBack text) = IsUnderstood words × IsInputAnswer source (answer.DoesNotReadBack text)
+-- the answer once a job is understood
+abbrev pub IsJobAnswer : {S : Type 0} → Job → Change S → Answer → Type 0
+IsJobAnswer job source answer.NotUnderstood = ⊥
+IsJobAnswer job source answer.CannotRead = HasFailed source
+IsJobAnswer job source answer.NoMemory = Unit {0}
+IsJobAnswer job source given = IsInputAnswer job source given
+
+-- the words are understood, and this is the answer for the job that they say
+pub record IsUnderstoodAnswer {S : Type 0} (words : List (List ℕ)) (source : Change S) (given : Answer) : Type 0 where
+  pub understood : IsUnderstood words
+  pub job_answer : IsJobAnswer understood.job source given
+
+abbrev pub IsRunAnswer : {S : Type 0} → List (List ℕ) → Change S → Answer → Type 0
 IsRunAnswer words source answer.NotUnderstood = ¬ (IsUnderstood words) × IsUntouched source
-IsRunAnswer words source answer.CannotRead = IsUnderstood words × HasFailed source
-IsRunAnswer words source answer.NoMemory = IsUnderstood words
+IsRunAnswer words source given = IsUnderstoodAnswer words source given

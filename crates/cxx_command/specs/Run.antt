@@ -1,5 +1,5 @@
 -- What a run owes, and what its status says.
-use Rattle.std.specs.Prelude.{◌≡◌, ◌≢◌, ◌⊎◌, ℕ, if◌then◌else◌, List, [], Option, Some, None, Ok, ⊤, codes}
+use Rattle.std.specs.Prelude.{◌≡◌, ◌≢◌, ◌⊎◌, ℕ, true, if◌then◌else◌, List, Option, Some, None, Ok, ⊤, codes}
 use Rattle.cxx_model.specs.declared.fault.FaultText.TheVariants as says
 use Rattle.cxx_model.specs.declared.options.Options.{Options}
 use Rattle.cxx_model.specs.declared.stop.Fault.{Fault}
@@ -10,17 +10,19 @@ use Rattle.cxx_model.specs.Text.Lexemes.{lexemes}
 use Rattle.cxx_model.specs.Printing.Reports.{report, limit_report}
 use Rattle.cxx_model.specs.Text.Tokens.{tokens_of}
 use Rattle.cxx_form.specs.Called.{is_past_output}
+use Rattle.cxx_listing.specs.Lines.{calls_text}
+use Rattle.cxx_listing.specs.Listing.{AreListed}
 use Rattle.cxx_reading.specs.Bound.{EachCallIsBest}
 use Rattle.cxx_reading.specs.Plain.{plain_text}
 use Rattle.cxx_reading.specs.Units.{CxxReading}
 use Rattle.cxx_told.specs.Told.{IsChoiceText, IsToldFault, IsUndeclaredFault}
+use Rattle.cxx_words.specs.declared.job.Job.{Job}
+use Rattle.cxx_words.specs.declared.job.Mode.{Mode}
+use Rattle.cxx_words.specs.declared.job.Mode.TheVariants.{Bind, Calls}
+use Rattle.cxx_words.specs.Words.{IsUnderstood, options_of}
 use Rattle.cxx_command.specs.Again.{Difference, IsTooLarge, ReadsBack, difference_text, read_again}
 use Rattle.cxx_command.specs.Outcome.{UnitOutcome, Whole, Broken, PastLimit, outcome_of}
 use Rattle.cxx_command.specs.Streams.{Change, HasFailed, IsUntouched, TookAll, TookPart}
-
--- no words choose the options: the depth of instances is 64
-abbrev pub default_options : Options
-default_options = record { depth = 64 }
 
 -- ---- what a run owes for a unit
 
@@ -35,19 +37,20 @@ abbrev pub due_again : CxxReading → Option Difference → UnitDue
 due_again reading None = Writes (plain_text reading)
 due_again reading (Some difference) = Differs difference
 
--- The plain form of a whole reading, where it is not past the limit on output, and reads back or is too large to.
-abbrev pub due_of : UnitOutcome → UnitDue
-due_of (Whole reading) = if is_past_output reading then Names Output else due_again reading (read_again default_options reading)
-due_of (Broken fault) = Reports fault
-due_of (PastLimit limit) = Names limit
+-- The plain form of a whole reading, where it is not past the limit on output, and reads back or is too large to; or its
+-- calls, which need no plain form.
+abbrev pub due_whole : Mode → Options → CxxReading → UnitDue
+due_whole Bind options reading = if is_past_output reading then Names Output else due_again reading (read_again options reading)
+due_whole Calls options reading = Writes (calls_text reading)
+
+abbrev pub due_of : Mode → Options → UnitOutcome → UnitDue
+due_of mode options (Whole reading) = due_whole mode options reading
+due_of mode options (Broken fault) = Reports fault
+due_of mode options (PastLimit limit) = Names limit
 
 -- what a run owes for the bytes of a unit
-unfoldable pub due : List ℕ → UnitDue
-due input = due_of (outcome_of default_options input)
-
--- only an empty list of words is understood
-abbrev pub IsUnderstood : {X : Type 0} → List X → Type 0
-IsUnderstood words = words ≡ []
+unfoldable pub due : Job → List ℕ → UnitDue
+due job input = due_of job.mode (options_of job) (outcome_of (options_of job) input)
 
 -- the source tells what it has left, and that is this input
 abbrev pub Tells : {S : Type 0} → Change S → List ℕ → Type 0
@@ -98,13 +101,18 @@ Delivers NoMemory out err status = IsTold err out (codes "out of memory\n") 6 st
 -- ---- why it is due
 
 -- for some input that agrees with what the source tells, this is the unit's due
-pub record IsUnitDue (told : Option (List ℕ)) (unit : UnitDue) : Type 0 where
+pub record IsUnitDue (job : Job) (told : Option (List ℕ)) (unit : UnitDue) : Type 0 where
   pub input : List ℕ
   pub agrees : AgreesWith told input
-  pub is : due input ≡ unit
+  pub is : due job input ≡ unit
 
-abbrev pub IsDue : {X S : Type 0} → List X → Change S → Due → Type 0
-IsDue words source (ForUnit unit) = IsUnderstood words × IsUnitDue source.told_old unit
+-- the words are understood, and for the job that they say this is the unit's due
+pub record IsDueUnit (words : List (List ℕ)) (told : Option (List ℕ)) (unit : UnitDue) : Type 0 where
+  pub understood : IsUnderstood words
+  pub unit_due : IsUnitDue understood.job told unit
+
+abbrev pub IsDue : {S : Type 0} → List (List ℕ) → Change S → Due → Type 0
+IsDue words source (ForUnit unit) = IsDueUnit words source.told_old unit
 IsDue words source NotUnderstood = ¬ (IsUnderstood words) × IsUntouched source
 IsDue words source CannotRead = IsUnderstood words × HasFailed source
 IsDue words source NoMemory = IsUnderstood words
@@ -115,22 +123,39 @@ IsExcused source out err status = ((status ≡ 3) × HasFailed source) ⊎ ((sta
 
 -- ---- the whole contract of a run
 
--- the input is this whole unit, and its plain form was written
-pub record IsWritten {K E : Type 0} (input : List ℕ) (reading : CxxReading) (out : Change K) (err : Change E) : Type 0 where
-  pub outcome : outcome_of default_options input ≡ Whole reading
-  pub written : TookAll out (plain_text reading)
+-- what is written of a whole unit
+abbrev pub text_of : Mode → CxxReading → List ℕ
+text_of Bind reading = plain_text reading
+text_of Calls reading = calls_text reading
+
+-- What holds of the text besides: a plain form reads back, or is too large to be read again; calls have a line for each of
+-- their candidates.
+abbrev pub IsSound : Mode → Options → CxxReading → Type 0
+IsSound Bind options reading = ReadsBack options (plain_text reading) reading ⊎ IsTooLarge options (plain_text reading)
+IsSound Calls options reading = AreListed reading.state
+
+-- the input is this whole unit, and what the job wants of it was written
+pub record IsWritten {K E : Type 0} (job : Job) (input : List ℕ) (reading : CxxReading) (out : Change K) (err : Change E) : Type 0 where
+  pub outcome : outcome_of (options_of job) input ≡ Whole reading
+  pub written : TookAll out (text_of job.mode reading)
   pub quiet : IsUntouched err
   pub best : EachCallIsBest reading
-  pub reads_back : ReadsBack default_options (plain_text reading) reading ⊎ IsTooLarge default_options (plain_text reading)
+  pub sound : IsSound job.mode (options_of job) reading
 
 -- the input is this whole unit, whose plain form neither reads back nor is too large to, as was told
-pub record IsNotReadBack {E : Type 0} (input : List ℕ) (reading : CxxReading) (err : Change E) : Type 0 where
-  pub outcome : outcome_of default_options input ≡ Whole reading
-  pub differs : ¬ (ReadsBack default_options (plain_text reading) reading)
-  pub within : ¬ (IsTooLarge default_options (plain_text reading))
+pub record IsNotReadBack {E : Type 0} (job : Job) (input : List ℕ) (reading : CxxReading) (err : Change E) : Type 0 where
+  pub mode : job.mode ≡ Bind
+  pub outcome : outcome_of (options_of job) input ≡ Whole reading
+  pub differs : ¬ (ReadsBack (options_of job) (plain_text reading) reading)
+  pub within : ¬ (IsTooLarge (options_of job) (plain_text reading))
   pub difference : Difference
-  pub is : read_again default_options reading ≡ Some difference
+  pub is : read_again (options_of job) reading ≡ Some difference
   pub told : TookAll err (difference_text difference)
+
+-- the limit is met as the unit is read, or it is that on output, the job wants the plain form, and this is too long
+pub data IsMetLimit (job : Job) (input : List ℕ) (limit : LimitKind) : Type 0 where
+  met_reading : outcome_of (options_of job) input ≡ PastLimit limit → IsMetLimit job input limit
+  met_printing : (reading : CxxReading) → job.mode ≡ Bind → limit ≡ Output → outcome_of (options_of job) input ≡ Whole reading → is_past_output reading ≡ true → IsMetLimit job input limit
 
 -- Where the fault is of the choice of a function, the input is tokens, the reading of these stops at a call, and the fault
 -- is a true one of it. Where it is an undeclared name, the input is tokens, and the reading of these stops at this name,
@@ -139,28 +164,30 @@ pub record IsTrueFault (input : List ℕ) (fault : Fault) : Type 0 where
   pub choice : IsChoiceText fault.text → (tokens : List Token) × (tokens_of input ≡ Ok tokens) × IsToldFault (lexemes input tokens) fault
   pub undeclared : (word : List ℕ) → fault.text ≡ says.UndeclaredName word → (tokens : List Token) × (tokens_of input ≡ Ok tokens) × IsUndeclaredFault (lexemes input tokens) fault word
 
-pub record IsAnswer {X S K E : Type 0} (words : List X) (source : Change S) (out : Change K) (err : Change E) (status : ℕ) : Type 0 where
+pub record IsAnswer {S K E : Type 0} (words : List (List ℕ)) (source : Change S) (out : Change K) (err : Change E) (status : ℕ) : Type 0 where
   -- What is due is delivered. The rest follows from this, and says it status by status.
   pub what : Due
   pub is_due : IsDue words source what
   pub delivered : Delivers what out err status
-  -- 0: where the words are understood, the source tells its bytes, nothing fails and the unit is whole, exactly the
-  -- plain form is appended to `out`, and nothing to `err`
-  pub complete : (input text : List ℕ) → Tells source input → IsUnderstood words → due input ≡ Writes text
+  -- 0: where the words are understood, the source tells its bytes, nothing fails and the unit is whole, exactly what the
+  -- words want of it is appended to `out`, and nothing to `err`
+  pub complete : (input text : List ℕ) → Tells source input → (understood : IsUnderstood words) → due understood.job input ≡ Writes text
       → ¬ (HasFailed source) → ¬ (HasFailed out) → ¬ (HasFailed err) → ((status ≡ 0) × TookAll out text × IsUntouched err) ⊎ (status ≡ 6)
-  -- 0: only then; the unit is whole, each of its calls names the viable function that is better than every other, and
-  -- the text that was written reads back, or is too large to be read again
-  pub whole : (input : List ℕ) → Tells source input → status ≡ 0 → (reading : CxxReading) × IsWritten input reading out err
+  -- 0: only then; the unit is whole, and each of its calls names the viable function that is better than every other. Where
+  -- the words want the plain form, that was written, and it reads back, or is too large to be read again; where they want
+  -- the calls, those were written, with a line for each of their candidates.
+  pub whole : (input : List ℕ) → Tells source input → status ≡ 0 → (understood : IsUnderstood words) × (reading : CxxReading) × IsWritten understood.job input reading out err
   -- 1: exactly where the unit is broken, with the report of its first fault; a call that is ambiguous or has no viable
   -- function is so among what is declared where the reading stops, and each line of its evidence is true; an undeclared
   -- name stands where the fault is, and means nothing that is declared there
-  pub broken : (input : List ℕ) → Tells source input → status ≡ 1 → (fault : Fault) × (due input ≡ Reports fault) × TookAll err (report fault) × IsTrueFault input fault
-  -- 5: exactly where a limit is passed, with its name
-  pub limited : (input : List ℕ) → Tells source input → status ≡ 5 → (limit : LimitKind) × (due input ≡ Names limit) × TookAll err (limit_report limit)
-  -- 7: exactly where the unit is whole, and its plain form neither reads back nor is too large to
-  pub unlike : (input : List ℕ) → Tells source input → status ≡ 7 → (reading : CxxReading) × IsNotReadBack input reading err
+  pub broken : (input : List ℕ) → Tells source input → status ≡ 1 → (understood : IsUnderstood words) × (fault : Fault) × (due understood.job input ≡ Reports fault) × TookAll err (report fault) × IsTrueFault input fault
+  -- 5: exactly where a limit is passed, with its name; that on output by a plain form alone
+  pub limited : (input : List ℕ) → Tells source input → status ≡ 5 → (understood : IsUnderstood words) × (limit : LimitKind) × (due understood.job input ≡ Names limit) × TookAll err (limit_report limit) × IsMetLimit understood.job input limit
+  -- 7: exactly where the words want the plain form, the unit is whole, and its plain form neither reads back nor is too
+  -- large to
+  pub unlike : (input : List ℕ) → Tells source input → status ≡ 7 → (understood : IsUnderstood words) × (reading : CxxReading) × IsNotReadBack understood.job input reading err
   -- 1, 5 and 7 come where they are due, unless 3, 4 or 6 stands in their place; so does 0
-  pub by_input : (input : List ℕ) → Tells source input → IsUnderstood words → (status ≡ status_of_unit (due input)) ⊎ IsExcused source out err status
+  pub by_input : (input : List ℕ) → Tells source input → (understood : IsUnderstood words) → (status ≡ status_of_unit (due understood.job input)) ⊎ IsExcused source out err status
   -- 2: exactly where the words are not understood, unless a sink failed; the source is then as before
   pub not_understood : status ≡ 2 → ¬ (IsUnderstood words)
   pub not_understood_back : ¬ (IsUnderstood words) → (status ≡ 2) ⊎ (status ≡ 4)

@@ -1,18 +1,18 @@
 //! What reading a plain form again shows.
 ghost use Rattle.std.specs.Prelude.{◌≡◌, ◌++◌, IfOk, OnOk, codes, decimal};
 ghost use Rattle.cxx_form.specs.Printed.{IsPrinted};
+ghost use Rattle.cxx_model.specs.declared.options.Options.{Options as OptionsOfRun};
 ghost use Rattle.cxx_model.specs.Printing.Reports.{report as report_of};
 ghost use Rattle.cxx_reading.specs.Units.{CxxReading};
 ghost use Rattle.cxx_units.specs.Read.{reading_of};
 ghost use Rattle.cxx_command.specs.Again as definition;
 ghost use Rattle.cxx_command.specs.Again.{OtherCall, OtherLine, difference_of, heading, numbered};
 ghost use Rattle.cxx_command.specs.Outcome.{Whole};
-ghost use Rattle.cxx_command.specs.Run.{default_options};
 ghost use Rattle.cxx_command.specs.Shown.{IsShown, IsTextOf};
 
 use crate::unit::{Outcome, read_bytes};
 use cxx_form::{PlainFault, Printed, print_reading};
-use cxx_model::Fault;
+use cxx_model::{Fault, Options};
 use cxx_report::report;
 use cxx_tree::State;
 use itoa::Buffer;
@@ -123,7 +123,7 @@ fn between(alloc: Global, one: &Printed, two: &Printed) -> Shown
 
 // The plain form is a whole unit.
 fn printed_again(alloc: Global, one: &Printed, state: &State) -> Shown
-    ensures { (first : CxxReading) → IsPrinted first one.now → IsShown (definition.shown_by first (Whole (reading_of default_options state.now))) result }
+    ensures { (options : OptionsOfRun) (first : CxxReading) → IsPrinted first one.now → IsShown (definition.shown_by first (Whole (reading_of options state.now))) result }
 {
     match print_reading(alloc, state) {
         Ok(two) => between(alloc, one, &two),
@@ -134,10 +134,10 @@ fn printed_again(alloc: Global, one: &Printed, state: &State) -> Shown
 
 /// What reading the plain form of a reading again shows.
 #[tactic(auto, unfolding(crate::specs::Again::read_again))]
-pub(crate) fn again(alloc: Global, one: &Printed) -> Shown
-    ensures { (first : CxxReading) → IsPrinted first one.now → IsShown (definition.read_again default_options first) result }
+pub(crate) fn again(alloc: Global, one: &Printed, options: Options) -> Shown
+    ensures { (first : CxxReading) → IsPrinted first one.now → IsShown (definition.read_again options first) result }
 {
-    match read_bytes(alloc, one.text.as_slice()) {
+    match read_bytes(alloc, one.text.as_slice(), options) {
         Outcome::Whole(state) => printed_again(alloc, one, &state),
         Outcome::Broken(fault) => told(broken_text(alloc, &fault)),
         Outcome::PassesLimit(_) => Shown::Nothing,

@@ -1,12 +1,15 @@
 //! What a unit is: whole, broken, or past a limit.
-ghost use Rattle.std.specs.Prelude.{◌≡◌, ◌≤◌, ◌<◌, ◌^◌, [], length, IfOk};
+ghost use Rattle.std.specs.Prelude.{◌≡◌, ◌≤◌, ◌<◌, ◌^◌, [], ℕ, length, IfOk, List, Result};
+ghost use Rattle.cxx_model.specs.declared.token.Token.{Token as TokenOfText};
+ghost use Rattle.cxx_model.specs.Text.Tokens.{Unread};
+ghost use Rattle.cxx_tokens.specs.Answers.{IsFault};
 ghost use Rattle.cxx_model.specs.declared.limits.TheConstants as limits;
+ghost use Rattle.cxx_model.specs.declared.options.Options.{Options as OptionsOfRun};
 ghost use Rattle.cxx_model.specs.Stops.{Faulty, Stopped, fault};
 ghost use Rattle.cxx_model.specs.Text.Lexemes.{lexemes};
 ghost use Rattle.cxx_model.specs.declared.fault.FaultText.TheVariants as says;
 ghost use Rattle.cxx_reading.specs.Units.{unit_reading};
-ghost use Rattle.cxx_command.specs.Outcome.{outcome_of, read_outcome, stopped_outcome};
-ghost use Rattle.cxx_command.specs.Run.{default_options};
+ghost use Rattle.cxx_command.specs.Outcome.{outcome_of, read_outcome, stopped_outcome, tokens_outcome};
 ghost use Rattle.cxx_command.specs.Outcomes.{IsOutcome};
 
 use cxx_declaring::Declaring;
@@ -18,9 +21,6 @@ use cxx_tokens::{TokenFault, tokens};
 use cxx_tree::State;
 use cxx_units::read_unit;
 use std::alloc::{AllocError, Global};
-
-/// What no words choose.
-const DEFAULT_OPTIONS: Options = Options { depth: 64 };
 
 /// What the bytes of a unit are.
 #[derive(Drop)]
@@ -43,7 +43,7 @@ fn bad_token(alloc: Global, place: Place, reason: TokenReason) -> Result<Box<Fau
 }
 
 fn broken(found: Result<Box<Fault>, AllocError>) -> Outcome
-    ensures { (why : Stopped) → IfOk found (λ given. Faulty given.value ≡ why) → IsOutcome (stopped_outcome why) result }
+    ensures { (options : OptionsOfRun) (why : Stopped) → IfOk found (λ given. Faulty given.value ≡ why) → IsOutcome options (stopped_outcome why) result }
 {
     match found {
         Ok(fault) => Outcome::Broken(fault),
@@ -51,11 +51,11 @@ fn broken(found: Result<Box<Fault>, AllocError>) -> Outcome
     }
 }
 
-fn read(alloc: Global, bytes: &[u8], tokens: &[Token]) -> Outcome
+fn read(alloc: Global, bytes: &[u8], tokens: &[Token], options: Options) -> Outcome
     requires { length tokens.now < 2 ^ 32 }
-    ensures { IsOutcome (read_outcome (unit_reading default_options (lexemes bytes.now tokens.now))) result }
+    ensures { IsOutcome options (read_outcome (unit_reading options (lexemes bytes.now tokens.now))) result }
 {
-    match read_unit(alloc, &Declaring, bytes, tokens, DEFAULT_OPTIONS) {
+    match read_unit(alloc, &Declaring, bytes, tokens, options) {
         Ok(state) => Outcome::Whole(state),
         Err(Stop::Fault(fault)) => Outcome::Broken(fault),
         Err(Stop::Limit(limit)) => Outcome::PassesLimit(limit),
@@ -63,18 +63,33 @@ fn read(alloc: Global, bytes: &[u8], tokens: &[Token]) -> Outcome
     }
 }
 
+fn bad(alloc: Global, place: Place, reason: TokenReason) -> Outcome
+    ensures { (options : OptionsOfRun) → IsOutcome options (stopped_outcome (fault place (says.BadToken reason))) result }
+{
+    broken(bad_token(alloc, place, reason))
+}
+
+// The bytes are no list of tokens.
+fn unread(alloc: Global, fault: TokenFault) -> Outcome
+    ensures { (options : OptionsOfRun) (bytes : List ℕ) (found : Result (List TokenOfText) Unread) → IsFault fault found → IsOutcome options (tokens_outcome options bytes found) result }
+{
+    match fault {
+        TokenFault::Bad(place, reason) => bad(alloc, place, reason),
+        TokenFault::Limit(limit) => Outcome::PassesLimit(limit),
+        TokenFault::OutOfMemory => Outcome::NoMemory,
+    }
+}
+
 /// Reads the bytes of a unit.
 #[tactic(auto, unfolding(crate::specs::Outcome::outcome_of))]
-pub(crate) fn read_bytes(alloc: Global, bytes: &[u8]) -> Outcome
-    ensures { IsOutcome (outcome_of default_options bytes.now) result }
+pub(crate) fn read_bytes(alloc: Global, bytes: &[u8], options: Options) -> Outcome
+    ensures { IsOutcome options (outcome_of options bytes.now) result }
 {
     if bytes.len() > MOST_BYTES as usize {
         return Outcome::PassesLimit(LimitKind::Bytes);
     }
     match tokens(alloc, bytes) {
-        Ok(tokens) => read(alloc, bytes, &tokens),
-        Err(TokenFault::Bad(place, reason)) => broken(bad_token(alloc, place, reason)),
-        Err(TokenFault::Limit(limit)) => Outcome::PassesLimit(limit),
-        Err(TokenFault::OutOfMemory) => Outcome::NoMemory,
+        Ok(tokens) => read(alloc, bytes, &tokens, options),
+        Err(fault) => unread(alloc, fault),
     }
 }

@@ -110,16 +110,33 @@ fn leaves_a_part_of_a_report(alloc: Global) -> Result<bool, Fail> {
 }
 
 #[test]
-fn understands_no_word(rt: HostRuntime) -> Result<(), Fail> {
-    assert!(rt; refuses_words(rt.alloc())?);
+fn refuses_other_words(rt: HostRuntime) -> Result<(), Fail> {
+    let end = End {
+        status: 2,
+        out: b"",
+        err: b"words not understood\n",
+    };
+    assert!(rt; says(rt.alloc(), "--depth=0", &end)?);
     Ok(())
 }
 
-fn refuses_words(alloc: Global) -> Result<bool, Fail> {
+#[test]
+fn lists_the_calls(rt: HostRuntime) -> Result<(), Fail> {
+    let end = End {
+        status: 0,
+        out: b"1:34: candidate 2 at 1:17\n  candidate 1 at 1:5: beaten\n",
+        err: b"",
+    };
+    assert!(rt; says(rt.alloc(), "--mode=calls", &end)?);
+    Ok(())
+}
+
+/// Whether a run with one word ends so.
+fn says(alloc: Global, word: &str, end: &End) -> Result<bool, Fail> {
     let mut source = MemorySource::new(alloc, UNIT, ROOM, &[])?;
     let mut out = MemorySink::new(alloc, ROOM, ROOM, &[])?;
     let mut err = MemorySink::new(alloc, ROOM, ROOM, &[])?;
-    let words = vec![in alloc; String::from_str(alloc, "--")?]?;
+    let words = vec![in alloc; String::from_str(alloc, word)?]?;
     let status = run(alloc, &words, &mut source, &mut out, &mut err);
-    Ok(status == 2 && err.bytes() == b"words not understood\n".as_slice() && out.bytes().is_empty())
+    Ok(status == end.status && out.bytes() == end.out && err.bytes() == end.err)
 }

@@ -1,5 +1,7 @@
-use Rattle.cxx_command.proofs.Runs.{past_bytes, no_words}
+use Rattle.std.proofs.Common.{sym}
+use Rattle.std.specs.Prelude.{map, string_bytes}
+use Rattle.cxx_command.proofs.Runs.{job_answered, not_clear}
 use Rattle.cxx_command.proofs.answers.read_and_answer.Goals as goal
 
-pub returns-in-Err-TooLong : goal.returns-in-Err-TooLong
-returns-in-Err-TooLong g c = (no_words _ (cc), past_bytes _ (c.read_all.ensures.longer (cc)))
+pub returns-in-Some : goal.returns-in-Some
+returns-in-Some g c = job_answered (map string_bytes c.args.words.now) _ c.in-Some.job c.answer_job.result (sym c.in-Some.ensures) c.answer_job.ensures
