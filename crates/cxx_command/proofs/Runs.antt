@@ -1,5 +1,5 @@
 -- The contract of a run follows from what is due and where it was told.
-use Rattle.std.proofs.Common.{◌≡◌, ◌≢◌, ◌⊎◌, inl, inr, ◌∙◌, ℕ, suc, ◌<◌, Bool, true, false, cond, List, [], length, replicate, nat_lt, ◌∷◌, arith, refl, sym, ap, subst}
+use Rattle.std.proofs.Common.{◌≡◌, ◌≢◌, ◌⊎◌, inl, inr, ◌∙◌, ℕ, suc, ◌<◌, Bool, true, false, cond, List, length, replicate, nat_lt, arith, refl, sym, ap, subst}
 use Rattle.std.proofs.lemmas.Bool.{lt-ltb}
 use Rattle.std.proofs.lemmas.List.{length-replicate}
 use Rattle.std.specs.Prelude.{Option, Result, Some, None, codes, Ok, Err}
@@ -31,7 +31,7 @@ use Rattle.cxx_words.specs.Words.{IsUnderstood, options_of, understood}
 use Rattle.cxx_command.specs.declared.answers.Answer.{Answer}
 use Rattle.cxx_command.specs.declared.answers.Answer.TheVariants as answer
 use Rattle.cxx_command.specs.Again.{Difference, difference_text, read_again}
-use Rattle.cxx_command.specs.Answers.{IsInputAnswer, IsJobAnswer, IsRunAnswer, IsUnderstoodAnswer, IsUnitAnswer, DeliversAnswer}
+use Rattle.cxx_command.specs.Answers.{IsInputAnswer, IsJobAnswer, IsRunAnswer, IsUnitAnswer, DeliversAnswer}
 use Rattle.cxx_command.specs.Outcome.{UnitOutcome, Whole, Broken, PastLimit, outcome_of, read_outcome, tokens_outcome}
 use Rattle.cxx_command.specs.Run.{due, due_again, due_of, due_whole, text_of, AgreesWith, ForUnit, NotUnderstood, CannotRead, NoMemory, status_of_unit, IsToldTo, IsTold, Delivers, IsUnitDue, IsDueUnit, IsDue, IsSound, IsWritten, IsNotReadBack, IsMetLimit, met_reading, met_printing, IsTrueFault, IsAnswer, UnitDue, Writes, Reports, Names, Differs}
 use Rattle.cxx_command.specs.Streams.{Change, HasFailed, IsUntouched, TookAll, TookPart}

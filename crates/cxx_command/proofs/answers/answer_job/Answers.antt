@@ -1,4 +1,4 @@
-use Rattle.cxx_command.proofs.Runs.{past_bytes, unit_answered}
+use Rattle.cxx_command.proofs.Runs.{past_bytes}
 use Rattle.cxx_command.proofs.answers.answer_job.Goals as goal
 
 pub returns-in-Err-TooLong : goal.returns-in-Err-TooLong

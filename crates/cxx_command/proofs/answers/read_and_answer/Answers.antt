@@ -1,6 +1,6 @@
 use Rattle.std.proofs.Common.{sym}
 use Rattle.std.specs.Prelude.{map, string_bytes}
-use Rattle.cxx_command.proofs.Runs.{job_answered, not_clear}
+use Rattle.cxx_command.proofs.Runs.{job_answered}
 use Rattle.cxx_command.proofs.answers.read_and_answer.Goals as goal
 
 pub returns-in-Some : goal.returns-in-Some
