@@ -1,5 +1,5 @@
 -- A further declaration of an object, with what its initializer makes known.
-use Rattle.std.specs.Prelude.{ℕ, ℤ, ◌≡◌, ◌<◌, Bool, true, false, ◌&&◌, List, length, Option, Some, None, bytes_eq, refl}
+use Rattle.std.specs.Prelude.{ℕ, ℤ, ◌≡◌, ◌<◌, Bool, true, false, ◌&&◌, List, length, Option, Some, None, refl}
 use Rattle.std.specs.List.{slice_get}
 use Rattle.std.proofs.Common.{ap, subst, sym, ◌∙◌}
 use Rattle.std.proofs.lemmas.Slice.Eq.{bytes_eq-Decides}

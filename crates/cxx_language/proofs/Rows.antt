@@ -1,18 +1,18 @@
 -- Worked units with expressions: the words of their plain forms, and the faults of others.
-use Rattle.std.specs.Prelude.{ℕ, ◌≡◌, refl, List, [], ◌∷◌, ◌++◌, map, flat_map, Option, Some, None, Result, Ok, Err, codes, decimal}
+use Rattle.std.specs.Prelude.{ℕ, ◌≡◌, refl, List, [], ◌∷◌, map, flat_map, Option, Some, None, Result, Ok, Err, codes}
 use Rattle.cxx_model.specs.declared.fault.FaultText.{FaultText}
 use Rattle.cxx_model.specs.declared.fault.FaultText.TheVariants as says
 use Rattle.cxx_model.specs.declared.fault.LeftOut.TheVariants as form
 use Rattle.cxx_model.specs.declared.place.Place.{Place}
 use Rattle.cxx_model.specs.declared.token.Token.{Token}
 use Rattle.cxx_model.specs.Printing.Names.{printed_name}
-use Rattle.cxx_model.specs.Stops.{Answer, Stopped, Faulty, Limited}
+use Rattle.cxx_model.specs.Stops.{Answer, Faulty, Limited}
 use Rattle.cxx_model.specs.Text.Lexemes.{lexemes}
 use Rattle.cxx_model.specs.Text.Tokens.{Unread, tokens_of}
 use Rattle.cxx_reading.specs.Plain.{names_of_text}
 use Rattle.cxx_reading.specs.TextOrder.{lines}
 use Rattle.cxx_reading.specs.Units.{CxxReading}
-use Rattle.cxx_reading.specs.Words.{Word, literal_word}
+use Rattle.cxx_reading.specs.Words.{literal_word}
 use Rattle.cxx_language.specs.Text.{line_words}
 use Rattle.cxx_language.specs.Units.{unit_reading}
 use Rattle.cxx_model.specs.Choice.Better.{is_better}

@@ -1,5 +1,5 @@
 -- The plain form of a reading with expressions.
-use Rattle.std.specs.Prelude.{ℕ, zero, nat_eq, if◌then◌else◌, List, [], ◌∷◌, ◌++◌, flat_map, map, codes}
+use Rattle.std.specs.Prelude.{ℕ, nat_eq, if◌then◌else◌, List, [], ◌∷◌, ◌++◌, flat_map, map, codes}
 use Rattle.cxx_model.specs.Facts.Declarations.{CxxFact}
 use Rattle.cxx_reading.specs.Declarators.{no_cv}
 use Rattle.cxx_reading.specs.Plain.{NamesOfText, NamedFunction, names_of_text, named_function, type_or_void, is_empty, enumeration_words, function_words}
