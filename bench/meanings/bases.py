@@ -7,6 +7,8 @@ end of some bases, and let an empty base take nothing.
 Usage: bases.py > crates/cxx_meaning_tests/proofs/Bases.antt"""
 import os, random, subprocess, sys, tempfile
 
+from extents import WORDS, extent
+
 BASES = [("bool", "Bool", 1), ("char", "Char", 1), ("short", "Short", 2), ("int", "Int", 4), ("unsigned", "Unsigned", 4), ("long", "Long", 8), ("wchar_t", "WideChar", 4), ("float", "Float", 4), ("double", "Double", 8), ("long double", "LongDouble", 16)]
 
 class Class:
@@ -100,21 +102,7 @@ use Rattle.cxx_model.specs.Facts.Declarations.{CxxFact, CxxSpecialisation, Decla
 use Rattle.cxx_model.specs.Types.Trees.{fundamental, class_type, function_of, no_types}
 use Rattle.cxx_meaning.specs.Conversions.Sizes.{added, class_extent, enumerations_in, extent_of, layouts_of, member_extent, object_extent}
 
-abbrev no_words : Cv
-no_words = record { is_const = false; is_volatile = false }
-
-abbrev virtual_flags : FunctionFlags
-virtual_flags = record { is_virtual = true; is_pure = false; is_explicit = false; is_implicit = false }
-
-abbrev here : ℕ → Declares → CxxFact
-here scope what = record { place = record { line = 1; column = 1 }; scope = scope; name = unnamed; access = Public; what = what }
-
-abbrev four : List (Option CxxSpecialisation)
-four = None ∷ None ∷ None ∷ None ∷ []
-
-abbrev HasExtent : ℕ → List CxxFact → ℕ → ℕ → Type 0
-HasExtent class all size alignment = object_extent (record { facts = all; classes = four; patterns = [] }) (class_type class) ≡ Ok (record { size = size; alignment = alignment })
-"""
+""" + WORDS + extent("four", 4)
 
 def main():
     units, seen, seed = [], set(), 0

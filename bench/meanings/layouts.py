@@ -6,6 +6,8 @@ member stands in the padding at the end of a base) are not among them.
 Usage: layouts.py > crates/cxx_meaning/proofs/Conversions/Layouts.antt"""
 import random, subprocess, sys, tempfile, os
 
+from extents import WORDS, extent
+
 BASES = [("bool", "Bool"), ("char", "Char"), ("short", "Short"), ("int", "Int"), ("unsigned", "Unsigned"), ("long", "Long"), ("wchar_t", "WideChar"), ("float", "Float"), ("double", "Double"), ("long double", "LongDouble")]
 
 def member(r, earlier):
@@ -112,21 +114,7 @@ use Rattle.cxx_model.specs.Facts.Declarations.{CxxFact, CxxGraph, CxxSpecialisat
 use Rattle.cxx_model.specs.Types.Trees.{CxxType, fundamental, class_type, pointer_to, reference_to, array_of, function_of, no_types, number_bound}
 use Rattle.cxx_meaning.specs.Conversions.Sizes.{added, class_extent, enumerations_in, extent_of, layouts_of, member_extent, object_extent}
 
-abbrev no_words : Cv
-no_words = record { is_const = false; is_volatile = false }
-
-abbrev virtual_flags : FunctionFlags
-virtual_flags = record { is_virtual = true; is_pure = false; is_explicit = false; is_implicit = false }
-
-abbrev here : ℕ → Declares → CxxFact
-here scope what = record { place = record { line = 1; column = 1 }; scope = scope; name = unnamed; access = Public; what = what }
-
-abbrev three : List (Option CxxSpecialisation)
-three = None ∷ None ∷ None ∷ []
-
-abbrev HasExtent : ℕ → List CxxFact → ℕ → ℕ → Type 0
-HasExtent class all size alignment = object_extent (record { facts = all; classes = three; patterns = [] }) (class_type class) ≡ Ok (record { size = size; alignment = alignment })
-"""]
+""" + WORDS + extent("three", 3)]
     answers = sizes(units)
     n = 0
     for u, a in zip(units, answers):
