@@ -1,9 +1,10 @@
 #!/usr/bin/env python3
 """Asks clang++ and g++ which of some functions a call means, and prints a row for each call on which both agree.
 
-A row has each function's parameters, `;` behind them and `.` where an ellipsis follows, then the arguments, which are
-lvalues, and behind `=` the number of the function, `a` where the call is ambiguous, or `n` where none is viable. A type is
-a letter and then what stands round it from inside: `k` const, `p` a pointer, `r` a reference.
+A row has each function's parameters, behind them `.` where an ellipsis follows, how many at the end have default arguments
+where any has one, and `;`, then the arguments, which are lvalues, and behind `=` the number of the function, `a` where the
+call is ambiguous, or `n` where none is viable. A type is a letter and then what stands round it from inside: `k` const, `p` a
+pointer, `r` a reference.
 """
 import random
 import subprocess
@@ -34,8 +35,11 @@ def named(of, name):
 
 def ask(compiler, functions, arguments):
     lines = ["enum E { e0 };"]
-    for number, (parameters, ellipsis) in enumerate(functions):
-        written = [named(of, "") for of in parameters] + (["..."] if ellipsis else [])
+    for number, of in enumerate(PARAMETERS):
+        lines.append(f"extern {named(of.rstrip('r'), 'd' + str(number))};")
+    for number, (parameters, ellipsis, defaults) in enumerate(functions):
+        written = [named(of, "") + (f" = d{PARAMETERS.index(of)}" if len(parameters) - defaults <= place else "")
+                   for place, of in enumerate(parameters)] + (["..."] if ellipsis else [])
         lines.append(f"char (&f({', '.join(written)}))[{number + 1}];")
     for number, of in enumerate(arguments):
         lines.append(f"extern {named(of, 'a' + str(number))};")
@@ -63,9 +67,10 @@ def main():
         count = draw.choice([1, 1, 2, 2, 3])
         functions = []
         for _ in range(draw.choice([2, 3, 3, 4])):
-            length = count if draw.random() < 0.85 else draw.choice([0, 1, 2, 3])
-            one = (tuple(draw.choice(PARAMETERS) for _ in range(length)), draw.random() < 0.1)
-            if one not in functions:
+            length = count if draw.random() < 0.7 else draw.choice([0, 1, 2, 3, 4])
+            defaults = draw.choice([0] * 5 + list(range(length + 1)))
+            one = (tuple(draw.choice(PARAMETERS) for _ in range(length)), draw.random() < 0.2, defaults)
+            if one[:2] not in [other[:2] for other in functions]:
                 functions.append(one)
         arguments = [draw.choice(ARGUMENTS) for _ in range(count)]
         one, two = ask("clang++", functions, arguments), ask("g++", functions, arguments)
@@ -74,7 +79,8 @@ def main():
             continue
         if one == "n" and draw.random() < 0.8:
             continue
-        text = "".join("".join(of + "," for of in parameters) + ("." if ellipsis else "") + ";" for parameters, ellipsis in functions)
+        text = "".join("".join(of + "," for of in parameters) + ("." if ellipsis else "") + (str(defaults) if defaults else "") + ";"
+                       for parameters, ellipsis, defaults in functions)
         print(text + "".join(of + "," for of in arguments) + "=" + one)
         rows += 1
 

@@ -1,14 +1,16 @@
 -- The question of a call, asked of the decision.
-use Rattle.std.specs.Prelude.{ℕ, ◌≡◌, List, [], ◌∷◌, Option, Some, None, Result, Ok, Err, refl}
+use Rattle.std.specs.Prelude.{ℕ, suc, ◌≡◌, nat_lt, Bool, true, false, List, [], ◌∷◌, length, Option, Some, None, Result, Ok, Err, refl}
 use Rattle.std.proofs.Common.{ap, sym, subst, ◌∙◌}
 use Rattle.std.specs.List.{slice_get}
+use Rattle.cxx_model.specs.declared.limits.TheConstants as limits
 use Rattle.cxx_model.specs.declared.place.Place.{Place}
 use Rattle.cxx_model.specs.declared.sequence.Operand.{Operand}
+use Rattle.cxx_model.specs.declared.stop.LimitKind.TheVariants.{Arguments}
 use Rattle.cxx_model.specs.declared.stop.Stop.{Stop}
 use Rattle.cxx_model.specs.declared.stop.Stop.TheVariants as stop
 use Rattle.cxx_model.specs.declared.types.FactId.{FactId}
 use Rattle.cxx_model.specs.Facts.Declarations.{CxxFact, CxxGraph, graph_at}
-use Rattle.cxx_model.specs.Stops.{Answer, Gives, Stops}
+use Rattle.cxx_model.specs.Stops.{Answer, Gives, Limited, Stops}
 use Rattle.cxx_model.specs.Types.Trees.{CxxType}
 use Rattle.cxx_meaning.specs.Conversions.Standard.{CxxOperand}
 use Rattle.cxx_reading.specs.Seen.{Numbered}
@@ -19,8 +21,8 @@ use Rattle.cxx_overload.specs.Views as overload
 use Rattle.cxx_tree.specs.Answered.{IsAnswered}
 use Rattle.cxx_tree.specs.Held.{Held, meaning}
 use Rattle.cxx_expr.specs.declared.questions.Chosen.{Chosen}
-use Rattle.cxx_expr.specs.Questions.{CxxChosen, CxxQuestion}
-use Rattle.cxx_expr.specs.Views.{AreOperandsBelow, IsChosen, chosen_of, numbered, numbered_in, operands_in, with_fact}
+use Rattle.cxx_expr.specs.Questions.{CxxChosen}
+use Rattle.cxx_expr.specs.Views.{AreOperandsBelow, IsChosen, chosen_of, numbered, numbered_in, operands_in, question_of, with_fact}
 use Rattle.cxx_answers.specs.Answers.{call_here, called_as}
 use Rattle.cxx_answers.specs.declared.calls.Ruling.{Ruling}
 use Rattle.cxx_answers.specs.Ruled.{CxxRuling, made_by, ruled_by, ruling_at}
@@ -70,16 +72,31 @@ made_stops (stop.Fault f) state answer stops = ap (then_made state) stops
 made_stops (stop.Limit kind) state answer stops = ap (then_made state) stops
 
 -- a call that means no function
-pub call_stops : (held : Held) (why : Stop) (question : CxxQuestion) → Stops why (ruled_by (decided question.place question.operands (meaning held).graph question.functions)) → Stops why (call_here question (meaning held))
-unfolding call_here
-call_stops held why question stops =
-    subst (λ (reply : Answer (CxxChosen × CxxState)). Stops why reply) (called_is (meaning held) (decided question.place question.operands (meaning held).graph question.functions))
-    (made_stops why (meaning held) (ruled_by (decided question.place question.operands (meaning held).graph question.functions)) stops)
+pub call_stops : (state : CxxState) (why : Stop) (answer : Answer CxxDecision) → Stops why (ruled_by answer) → Stops why (called_as state answer)
+call_stops state why answer stops =
+    subst (λ (reply : Answer (CxxChosen × CxxState)). Stops why reply) (called_is state answer) (made_stops why state (ruled_by answer) stops)
 
 -- a call that means one, which is kept
-pub call_made : (old new : Held) (result : Result Chosen Stop) (question : CxxQuestion) (one : CxxRuling) → ruled_by (decided question.place question.operands (meaning old).graph question.functions) ≡ Ok one → IsAnswered chosen_of IsChosen old new result (made_by one (meaning old)) → IsAnswered chosen_of IsChosen old new result (call_here question (meaning old))
-unfolding call_here then_made
-call_made old new result question one means made =
-    subst (λ (reply : Answer (CxxChosen × CxxState)). IsAnswered chosen_of IsChosen old new result reply)
-    (ap (then_made (meaning old)) (sym means) ∙ called_is (meaning old) (decided question.place question.operands (meaning old).graph question.functions))
-    made
+pub call_made : (old new : Held) (result : Result Chosen Stop) (answer : Answer CxxDecision) (one : CxxRuling) → ruled_by answer ≡ Ok one → IsAnswered chosen_of IsChosen old new result (made_by one (meaning old)) → IsAnswered chosen_of IsChosen old new result (called_as (meaning old) answer)
+unfolding then_made
+call_made old new result answer one means made =
+    subst (λ (reply : Answer (CxxChosen × CxxState)). IsAnswered chosen_of IsChosen old new result reply) (ap (then_made (meaning old)) (sym means) ∙ called_is (meaning old) answer) made
+
+-- ---- how many arguments there are
+
+counted : (types : List CxxType) (operands : List Operand) → length (operands_in types operands) ≡ length operands
+counted types [] = refl
+counted types (one ∷ operands) = ap suc (counted types operands)
+
+count_is : (types : List CxxType) (operands seen : List Operand) (test b : Bool) → seen ≡ operands → test ≡ nat_lt limits.MOST_ARGUMENTS (length seen) → test ≡ b → nat_lt limits.MOST_ARGUMENTS (length (operands_in types operands)) ≡ b
+count_is types operands seen test b same counts is =
+    ap (λ n. nat_lt limits.MOST_ARGUMENTS n) (counted types operands)
+    ∙ (ap (λ (os : List Operand). nat_lt limits.MOST_ARGUMENTS (length os)) (sym same) ∙ (sym counts ∙ is))
+
+pub too_many : (held : Held) (place : Place) (brackets word : List ℕ) (functions : List FactId) (operands seen : List Operand) (test : Bool) → seen ≡ operands → test ≡ nat_lt limits.MOST_ARGUMENTS (length seen) → test ≡ true → call_here (question_of held place brackets word functions operands) (meaning held) ≡ Err (Limited Arguments)
+unfolding call_here
+too_many held place brackets word functions operands seen test same counts is = rw (count_is held.types operands seen test true same counts is) refl
+
+pub few_enough : (old new : Held) (result : Result Chosen Stop) (place : Place) (brackets word : List ℕ) (functions : List FactId) (operands seen : List Operand) (test : Bool) → seen ≡ operands → test ≡ nat_lt limits.MOST_ARGUMENTS (length seen) → test ≡ false → IsAnswered chosen_of IsChosen old new result (called_as (meaning old) (decided place (operands_in old.types operands) (meaning old).graph (numbered old functions))) → IsAnswered chosen_of IsChosen old new result (call_here (question_of old place brackets word functions operands) (meaning old))
+unfolding call_here
+few_enough old new result place brackets word functions operands seen test same counts is called = rw (count_is old.types operands seen test false same counts is) called

@@ -1,8 +1,11 @@
 -- What is asked to find what an expression means, answered by the declarations so far (3.4, 5.3.3, 5.19, 13.3).
-use Rattle.std.specs.Prelude.{ℕ, zero, ℤ, pos, Bool, true, false, List, [], ◌∷◌, ◌++◌, length, Result, Ok, Err}
+use Rattle.std.specs.Prelude.{ℕ, zero, ◌^◌, nat_lt, ℤ, pos, negsuc, Bool, true, false, if◌then◌else◌, List, length, Result, Ok, Err}
 use Rattle.cxx_model.specs.declared.fault.FaultText.TheVariants as says
+use Rattle.cxx_model.specs.declared.limits.TheConstants as limits
 use Rattle.cxx_model.specs.declared.place.Place.{Place}
-use Rattle.cxx_model.specs.Stops.{Answer, Stopped, fault}
+use Rattle.cxx_model.specs.declared.stop.LimitKind.TheVariants.{Arguments}
+use Rattle.cxx_model.specs.Stops.{Answer, Stopped, Limited, fault, not_built_at}
+use Rattle.cxx_model.specs.Text.Lexemes.{nowhere}
 use Rattle.cxx_model.specs.Types.Trees.{CxxType}
 use Rattle.cxx_meaning.specs.declared.size.SizeReason.{SizeReason}
 use Rattle.cxx_meaning.specs.declared.size.SizeReason.TheVariants as reason
@@ -16,15 +19,13 @@ use Rattle.cxx_reading.specs.Seen.{Numbered, found}
 use Rattle.cxx_reading.specs.State.{CxxState}
 use Rattle.cxx_reading.specs.Trees.{CxxTree, CxxPath}
 use Rattle.cxx_overload.specs.Calls.{CxxDecision, decided}
+use Rattle.cxx_tree.specs.Uses.{with_use}
 use Rattle.cxx_expr.specs.Questions.{Questions, CxxQuestion, CxxChosen}
 
 -- ---- names (3.4.1)
 
 unfoldable pub name_here : CxxPath → Asks CxxState (List Numbered)
 name_here path state = Ok (found state.graph state.here.scope (name_in path), state)
-
-abbrev pub with_use : Place → ℕ → CxxState → CxxState
-with_use place target state = record state { uses = state.uses ++ record { scope = state.here.scope; place = place; target = target } ∷ [] }
 
 unfoldable pub bound_here : Place → ℕ → Asks CxxState (Unit {0})
 bound_here place target state = Ok (tt, with_use place target state)
@@ -38,8 +39,11 @@ abbrev pub called_as : CxxState → Answer CxxDecision → Answer (CxxChosen × 
 called_as state (Ok one) = Ok (chosen_as (length state.calls) one, with_call one.call state)
 called_as state (Err why) = Err why
 
+-- there is a limit on how many arguments a call has
 unfoldable pub call_here : CxxQuestion → Asks CxxState CxxChosen
-call_here question state = called_as state (decided question.place question.operands state.graph question.functions)
+call_here question state =
+    if nat_lt limits.MOST_ARGUMENTS (length question.operands) then Err (Limited Arguments) else
+    called_as state (decided question.place question.operands state.graph question.functions)
 
 -- ---- sizes (5.3.3)
 
@@ -66,14 +70,23 @@ constant_fault (not_constant tree) = fault tree.label.start says.NotAConstant
 constant_fault (overflow tree) = fault tree.label.place says.ConstantOverflow
 constant_fault (divide_by_zero tree) = fault tree.label.place says.DivisionByZero
 
-abbrev pub constant_by : CxxState → CxxValue → Answer (ℤ × CxxState)
-constant_by state (Ok value) = Ok (value, state)
-constant_by state (Err why) = Err (constant_fault why)
+-- 3.9.1: no type holds a value from 2 ^ 64 on
+abbrev pub is_held : ℤ → Bool
+is_held (pos n) = nat_lt n (2 ^ 64)
+is_held (negsuc n) = true
+
+abbrev pub constant_by : CxxState → CxxTree → CxxValue → Answer (ℤ × CxxState)
+constant_by state tree (Ok value) = if is_held value then Ok (value, state) else Err (fault tree.label.place says.ConstantOverflow)
+constant_by state tree (Err why) = Err (constant_fault why)
 
 unfoldable pub constant_here : CxxTree → Asks CxxState ℤ
-constant_here tree state = constant_by state (constant state.graph tree)
+constant_here tree state = constant_by state tree (constant state.graph tree)
 
 -- ---- all questions
+
+-- no default arguments are read yet, so none is asked for (8.3.6)
+abbrev pub no_fallback : ℕ → ℕ → Asks CxxState CxxTree
+no_fallback function index state = Err (not_built_at nowhere)
 
 -- what is asked to find what an expression means; `fallback` answers with default arguments (8.3.6)
 unfoldable pub questions : (ℕ → ℕ → Asks CxxState CxxTree) → Questions

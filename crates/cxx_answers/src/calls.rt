@@ -1,7 +1,8 @@
 //! Which function a call means (13.3).
 
-ghost use Rattle.std.specs.Prelude.{◌≡◌, ◌≤◌, length, IfOk};
+ghost use Rattle.std.specs.Prelude.{◌≡◌, ◌≤◌, nat_lt, length, IfOk};
 ghost use Rattle.cxx_answers.specs.Answers as definition;
+ghost use Rattle.cxx_answers.specs.Answers.{called_as};
 ghost use Rattle.cxx_answers.specs.Ruled.{IsCallBelow, IsRulingBelow, KeepsCall, made_by, ruled as ruled_of, ruled_by, ruling_at};
 ghost use Rattle.cxx_expr.specs.Views.{AreFactsKnown, AreOperandsBelow, IsChosen, chosen_of, numbered, operands_in, question_of};
 ghost use Rattle.cxx_model.specs.declared.limits.TheConstants as limits;
@@ -17,7 +18,8 @@ ghost use Rattle.cxx_tree.specs.Held.{call_at, meaning};
 use crate::record::decided;
 use cxx_expr::Chosen;
 use cxx_graph::Graph;
-use cxx_model::{FactId, OperandList, Place, Stop, TypeId, TypeIdList};
+use cxx_model::limits::MOST_ARGUMENTS;
+use cxx_model::{FactId, LimitKind, Operand, OperandList, Place, Stop, TypeId, TypeIdList};
 use cxx_overload::{Decision, decide};
 use cxx_tree::{Decided, State};
 use cxx_types::TypeTable;
@@ -134,10 +136,35 @@ fn made(state: &mut State, ruling: Ruling) -> Result<Chosen, Stop>
     })
 }
 
-/// Which function a call at a place means, given the name that is called, with the brackets round it, the functions that
-/// the name means, and what the arguments give (13.3). The call is kept. It stops where no function is viable, where none
-/// is best, at too many candidates, and at what needs a class.
+// The same of arguments that are not too many.
 #[tactic(auto, using(crate::proofs::Asked::call_stops, crate::proofs::Asked::call_made, cxx_expr::proofs::Kept::later_refl))]
+fn called(
+    alloc: Global,
+    state: &mut State,
+    place: Place,
+    functions: &[FactId],
+    operands: OperandList,
+) -> Result<Chosen, Stop>
+    requires few { length operands ≤ limits.MOST_ARGUMENTS }
+    requires functions { AreFactsKnown state.old functions.now }
+    requires operands { AreOperandsBelow (length (state.old).types) operands }
+    ensures { IsAnswered chosen_of IsChosen state.old state.new result (called_as (meaning state.old) (decided_of place (operands_in (state.old).types operands) (meaning state.old).graph (numbered state.old functions.now))) }
+{
+    let ruling = rule_here(alloc, state, place, functions, operands)?;
+    made(state, ruling)
+}
+
+// Whether there are more arguments than a call may have.
+fn are_too_many(operands: &[Operand]) -> bool
+    ensures { result ≡ nat_lt limits.MOST_ARGUMENTS (length operands.now) }
+{
+    operands.len() > MOST_ARGUMENTS as usize
+}
+
+/// Which function a call at a place means, given the name that is called, with the brackets round it, the functions that
+/// the name means, and what the arguments give (13.3). The call is kept. It stops at more arguments than a call may have,
+/// where no function is viable, where none is best, at too many candidates, and at what needs a class.
+#[tactic(auto, using(cxx_expr::proofs::Kept::later_refl), unfolding(crate::specs::Answers::call_here))]
 pub fn call_here(
     alloc: Global,
     state: &mut State,
@@ -147,13 +174,14 @@ pub fn call_here(
     functions: &[FactId],
     operands: OperandList,
 ) -> Result<Chosen, Stop>
-    requires few { length operands ≤ limits.MOST_ARGUMENTS }
     requires functions { AreFactsKnown state.old functions.now }
     requires operands { AreOperandsBelow (length (state.old).types) operands }
     ensures { IsAnswered chosen_of IsChosen state.old state.new result (definition.call_here (question_of state.old place brackets.now word.now functions.now operands) (meaning state.old)) }
 {
     let _ = brackets;
     let _ = word;
-    let ruling = rule_here(alloc, state, place, functions, operands)?;
-    made(state, ruling)
+    if are_too_many(operands.as_slice()) {
+        return Err(Stop::Limit(LimitKind::Arguments));
+    }
+    called(alloc, state, place, functions, operands)
 }

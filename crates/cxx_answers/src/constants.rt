@@ -7,12 +7,12 @@ ghost use Rattle.cxx_constant.specs.Known.{IsFaultBelow, IsValueBelow, fault_at 
 ghost use Rattle.cxx_model.specs.Stops.{Faulty};
 ghost use Rattle.cxx_reading.specs.Trees.{CxxTree};
 ghost use Rattle.cxx_sizes.specs.Noted.{Notes};
-ghost use Rattle.cxx_tree.specs.Answered.{AnyKnown, IsAnswered, itself};
+ghost use Rattle.cxx_syntax.specs.Asking.{IsAsked, IsConstantKnown, itself};
 ghost use Rattle.cxx_tree.specs.Held.{meaning, tree, trees};
 
 use cxx_constant::{ConstantFault, constant};
 use cxx_expr::faults::fault;
-use cxx_model::{Fault, FaultText, Stop, TreeId};
+use cxx_model::{Fault, FaultText, OutOfMemory, Stop, TreeId};
 use cxx_sizes::Layouts;
 use cxx_tree::State;
 use std::alloc::{AllocError, Global};
@@ -27,6 +27,18 @@ fn value(layouts: &Layouts, state: &State, number: TreeId) -> Result<i128, Const
     constant(layouts, state.graph(), state.types(), state.trees(), number)
 }
 
+/// The value of an integral constant expression, or why it has none (5.19).
+pub fn value_here(state: &State, number: TreeId) -> Result<Result<i128, ConstantFault>, OutOfMemory>
+    requires { number.0 < length (trees state.now) }
+    ensures is { IfOk result (λ value. value_at (trees state.now) value ≡ constants.constant (meaning state.now).graph (tree state.now number)) }
+    ensures below { IfOk result (IsValueBelow (length (trees state.now))) }
+{
+    match state.layouts() {
+        Some(layouts) => Ok(value(layouts, state, number)),
+        None => Err(OutOfMemory),
+    }
+}
+
 fn is_zero(value: Result<i128, ConstantFault>) -> bool
     ensures { (all : List CxxTree) → result ≡ definition.is_zero_value (value_at all value) }
 {
@@ -36,14 +48,16 @@ fn is_zero(value: Result<i128, ConstantFault>) -> bool
     }
 }
 
-/// Whether an expression is an integral constant with the value zero (4.10, 5.19). The facts so far were noted.
+/// Whether an expression is an integral constant with the value zero (4.10, 5.19).
 #[tactic(auto, unfolding(crate::specs::Answers::is_null_here))]
-pub fn is_null_here(layouts: &Layouts, state: &State, number: TreeId) -> bool
-    requires known { number.0 < length (trees state.now) }
-    requires noted { Notes layouts.now (meaning state.now).graph.facts }
-    ensures { result ≡ definition.is_null_here (tree state.now number) (meaning state.now) }
+pub fn is_null_here(state: &State, number: TreeId) -> Result<bool, OutOfMemory>
+    requires { number.0 < length (trees state.now) }
+    ensures { IfOk result (λ known. known ≡ definition.is_null_here (tree state.now number) (meaning state.now)) }
 {
-    is_zero(value(layouts, state, number))
+    match value_here(state, number) {
+        Ok(value) => Ok(is_zero(value)),
+        Err(fault) => Err(fault),
+    }
 }
 
 // What is no constant is so at its first token; an operator gives no value at its own place.
@@ -68,20 +82,47 @@ fn constant_fault(
     }
 }
 
-/// The value of an integral constant expression (5.19). It stops where the expression is none. The facts so far were noted.
-#[tactic(auto, using(cxx_expr::proofs::Kept::later_refl), unfolding(crate::specs::Answers::constant_here))]
-pub fn constant_here(
-    alloc: Global,
-    layouts: &Layouts,
-    state: &mut State,
-    number: TreeId,
-) -> Result<i128, Stop>
-    requires known { number.0 < length (trees state.old) }
-    requires noted { Notes layouts.now (meaning state.old).graph.facts }
-    ensures { IsAnswered itself AnyKnown state.old state.new result (definition.constant_here (tree state.old number) (meaning state.old)) }
+// No type holds a value from 2^64 on (3.9.1).
+fn is_held(value: i128) -> bool
+    ensures { result ≡ definition.is_held value }
 {
-    match value(layouts, state, number) {
-        Ok(value) => Ok(value),
+    value < 0x1_0000_0000_0000_0000
+}
+
+// What is answered, given the value.
+#[tactic(auto, using(cxx_syntax::proofs::Kept::later_refl))]
+fn constant_by(
+    alloc: Global,
+    state: &State,
+    number: TreeId,
+    value: Result<i128, ConstantFault>,
+) -> Result<i128, Stop>
+    requires known { number.0 < length (trees state.now) }
+    requires below { IsValueBelow (length (trees state.now)) value }
+    ensures { IsAsked itself IsConstantKnown state.now state.now result (definition.constant_by (meaning state.now) (tree state.now number) (value_at (trees state.now) value)) }
+{
+    match value {
+        Ok(value) => {
+            if is_held(value) {
+                Ok(value)
+            } else {
+                let overflow = ConstantFault::Overflow(number);
+                Err(Stop::Fault(constant_fault(alloc, state, overflow)?))
+            }
+        }
         Err(why) => Err(Stop::Fault(constant_fault(alloc, state, why)?)),
+    }
+}
+
+/// The value of an integral constant expression (5.19). It stops where the expression is none, and where no type holds the
+/// value.
+#[tactic(auto, using(cxx_syntax::proofs::Kept::later_refl), unfolding(crate::specs::Answers::constant_here))]
+pub fn constant_here(alloc: Global, state: &mut State, number: TreeId) -> Result<i128, Stop>
+    requires { number.0 < length (trees state.old) }
+    ensures { IsAsked itself IsConstantKnown state.old state.new result (definition.constant_here (tree state.old number) (meaning state.old)) }
+{
+    match value_here(state, number) {
+        Ok(value) => constant_by(alloc, state, number, value),
+        Err(_) => Err(Stop::OutOfMemory),
     }
 }

@@ -1,13 +1,18 @@
 //! The questions of expressions, answered by the declarations so far (3.4, 5.3.3, 5.19, 13.3).
 #![tactic(auto)]
 
+mod answering;
 mod calls;
 mod constants;
+mod making;
+mod measured;
 mod names;
 mod record;
 mod sizes;
+pub mod typed;
 
+pub use answering::Answering;
 pub use calls::call_here;
-pub use constants::{constant_here, is_null_here};
-pub use names::name_here;
+pub use constants::{constant_here, is_null_here, value_here};
+pub use names::{bound_here, name_here};
 pub use sizes::size_here;

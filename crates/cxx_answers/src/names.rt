@@ -6,11 +6,11 @@ ghost use Rattle.cxx_expr.specs.Views.{AreFactsKnown, numbered};
 ghost use Rattle.cxx_model.specs.Facts.Declarations.{spelled};
 ghost use Rattle.cxx_reading.specs.Declaring.{last_part, name_in};
 ghost use Rattle.cxx_reading.specs.Seen.{found as found_by};
-ghost use Rattle.cxx_tree.specs.Answered.{IsAnswered};
+ghost use Rattle.cxx_tree.specs.Answered.{AnyKnown, IsAnswered, itself};
 ghost use Rattle.cxx_tree.specs.Arena.{path_at, path_parts_at};
 ghost use Rattle.cxx_tree.specs.Held.{meaning};
 
-use cxx_model::{FactId, FactList, Path, PathPart, Stop};
+use cxx_model::{FactId, FactList, Path, PathPart, Place, Stop};
 use cxx_tree::State;
 use std::alloc::{AllocError, Global};
 
@@ -48,4 +48,15 @@ pub fn name_here(alloc: Global, state: &mut State, path: &Path) -> Result<FactLi
     ensures { IsAnswered numbered AreFactsKnown state.old state.new result (definition.name_here (path_at path.now) (meaning state.old)) }
 {
     Ok(found(alloc, state, path)?)
+}
+
+/// A name, by its place, means the entity with this first declaration, which is kept (3.4).
+#[tactic(auto, unfolding(crate::specs::Answers::bound_here))]
+pub fn bound_here(state: &mut State, place: Place, target: FactId) -> Result<(), Stop>
+    ensures { IsAnswered itself AnyKnown state.old state.new result (definition.bound_here place target.0 (meaning state.old)) }
+{
+    match state.add_use(place, target) {
+        Ok(()) => Ok(()),
+        Err(_) => Err(Stop::OutOfMemory),
+    }
 }

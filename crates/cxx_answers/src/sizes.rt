@@ -35,16 +35,14 @@ fn size_or_none(layouts: &Layouts, state: &State, of: TypeId) -> Result<u64, Siz
     }
 }
 
-/// How many bytes objects of a type take (5.3.3). The facts so far were noted.
+/// How many bytes objects of a type take (5.3.3).
 #[tactic(auto, using(cxx_expr::proofs::Kept::later_refl), unfolding(crate::specs::Answers::size_here))]
-pub fn size_here(
-    layouts: &Layouts,
-    state: &mut State,
-    of: TypeId,
-) -> Result<Result<u64, SizeReason>, Stop>
-    requires of { of.0 < length (state.old).types }
-    requires noted { Notes layouts.now (meaning state.old).graph.facts }
+pub fn size_here(state: &mut State, of: TypeId) -> Result<Result<u64, SizeReason>, Stop>
+    requires { of.0 < length (state.old).types }
     ensures { IsAnswered itself AnyKnown state.old state.new result (definition.size_here (type_of state.old of) (meaning state.old)) }
 {
-    Ok(size_or_none(layouts, state, of))
+    match state.layouts() {
+        Some(layouts) => Ok(size_or_none(layouts, state, of)),
+        None => Err(Stop::OutOfMemory),
+    }
 }

@@ -4,7 +4,7 @@ use Rattle.std.proofs.lemmas.Bool.{eq-eqb, eqb-true}
 use Rattle.std.specs.Prelude.{Option, Some, None, nat_eq}
 use Rattle.cxx_form.specs.Called.{functions_text, is_past_output}
 use Rattle.cxx_model.specs.declared.options.Options.{Options}
-use Rattle.cxx_reading.specs.Plain.{plain_text}
+use Rattle.cxx_form.specs.Text.{plain_text}
 use Rattle.cxx_reading.specs.Units.{CxxReading}
 use Rattle.cxx_command.specs.Again.{Difference, IsTooLarge, ReadsBack, between, by_calls, by_lines, difference_from, difference_of, next_line, prints_past, read_again, reads_past, shown_by}
 use Rattle.cxx_command.specs.Outcome.{UnitOutcome, Whole, Broken, PastLimit, outcome_of}

@@ -20,10 +20,11 @@ use Rattle.cxx_model.specs.Text.Lexemes.{Lexeme, lexemes}
 use Rattle.cxx_model.specs.Text.Tokens.{Unread, BadAt, PastTokens, tokens_of}
 use Rattle.cxx_listing.specs.Lines.{calls_text}
 use Rattle.cxx_listing.specs.Listing.{AreListed}
-use Rattle.cxx_reading.specs.Bound.{EachCallIsBest}
-use Rattle.cxx_reading.specs.Plain.{plain_text}
-use Rattle.cxx_reading.specs.Units.{CxxReading, unit_reading}
-use Rattle.cxx_told.specs.Told.{IsChoiceText, IsToldFault, IsUndeclaredFault}
+use Rattle.cxx_language_laws.specs.Best.{EachCallIsBest}
+use Rattle.cxx_form.specs.Text.{plain_text}
+use Rattle.cxx_reading.specs.Units.{CxxReading}
+use Rattle.cxx_language.specs.Units.{unit_reading}
+use Rattle.cxx_language_laws.specs.Told.{IsChoiceText, IsToldFault, IsUndeclaredFault}
 use Rattle.cxx_words.specs.declared.job.Job.{Job}
 use Rattle.cxx_words.specs.declared.job.Mode.{Mode}
 use Rattle.cxx_words.specs.declared.job.Mode.TheVariants.{Bind, Calls}

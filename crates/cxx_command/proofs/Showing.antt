@@ -15,7 +15,7 @@ use Rattle.cxx_tokens.specs.declared.fault.TokenFault.{TokenFault}
 use Rattle.cxx_tokens.specs.declared.fault.TokenFault.TheVariants.{Bad}
 use Rattle.cxx_command.specs.declared.unit.Outcome.{Outcome}
 use Rattle.cxx_command.specs.Outcomes.{IsOutcome}
-use Rattle.cxx_reading.specs.Plain.{plain_text}
+use Rattle.cxx_form.specs.Text.{plain_text}
 use Rattle.cxx_reading.specs.Units.{CxxReading}
 use Rattle.cxx_command.specs.declared.again.Shown.{Shown}
 use Rattle.cxx_command.specs.Again.{read_again, shown_by}

@@ -5,7 +5,7 @@ use Rattle.cxx_model.specs.declared.options.Options.{Options}
 use Rattle.cxx_model.specs.declared.stop.Fault.{Fault}
 use Rattle.cxx_model.specs.declared.stop.LimitKind.{LimitKind}
 use Rattle.cxx_model.specs.Printing.Reports.{report}
-use Rattle.cxx_reading.specs.Plain.{plain_text}
+use Rattle.cxx_form.specs.Text.{plain_text}
 use Rattle.cxx_reading.specs.Units.{CxxReading}
 use Rattle.cxx_command.specs.Outcome.{UnitOutcome, Whole, Broken, PastLimit, outcome_of}
 

@@ -10,7 +10,8 @@ use Rattle.cxx_model.specs.declared.token.Token.{Token}
 use Rattle.cxx_model.specs.Stops.{Answer, Stopped, Faulty, Limited, fault}
 use Rattle.cxx_model.specs.Text.Lexemes.{lexemes}
 use Rattle.cxx_model.specs.Text.Tokens.{Unread, BadAt, PastTokens, tokens_of}
-use Rattle.cxx_reading.specs.Units.{CxxReading, unit_reading}
+use Rattle.cxx_reading.specs.Units.{CxxReading}
+use Rattle.cxx_language.specs.Units.{unit_reading}
 
 pub data UnitOutcome : Type 0 where
   Whole : CxxReading → UnitOutcome

@@ -12,10 +12,10 @@ use Rattle.cxx_model.specs.Text.Tokens.{tokens_of}
 use Rattle.cxx_form.specs.Called.{is_past_output}
 use Rattle.cxx_listing.specs.Lines.{calls_text}
 use Rattle.cxx_listing.specs.Listing.{AreListed}
-use Rattle.cxx_reading.specs.Bound.{EachCallIsBest}
-use Rattle.cxx_reading.specs.Plain.{plain_text}
+use Rattle.cxx_language_laws.specs.Best.{EachCallIsBest}
+use Rattle.cxx_form.specs.Text.{plain_text}
 use Rattle.cxx_reading.specs.Units.{CxxReading}
-use Rattle.cxx_told.specs.Told.{IsChoiceText, IsToldFault, IsUndeclaredFault}
+use Rattle.cxx_language_laws.specs.Told.{IsChoiceText, IsToldFault, IsUndeclaredFault}
 use Rattle.cxx_words.specs.declared.job.Job.{Job}
 use Rattle.cxx_words.specs.declared.job.Mode.{Mode}
 use Rattle.cxx_words.specs.declared.job.Mode.TheVariants.{Bind, Calls}

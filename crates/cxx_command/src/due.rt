@@ -4,7 +4,7 @@ ghost use Rattle.cxx_form.specs.Called.{is_past_output};
 ghost use Rattle.cxx_form.specs.Printed.{IsPrinted};
 ghost use Rattle.cxx_listing.specs.Lines.{calls_text as listing_of};
 ghost use Rattle.cxx_model.specs.declared.options.Options.{Options as OptionsOfRun};
-ghost use Rattle.cxx_reading.specs.Plain.{plain_text};
+ghost use Rattle.cxx_form.specs.Text.{plain_text};
 ghost use Rattle.cxx_reading.specs.Units.{CxxReading};
 ghost use Rattle.cxx_units.specs.Read.{reading_of};
 ghost use Rattle.cxx_words.specs.Words.{options_of as options_said};

@@ -12,9 +12,8 @@ mod due;
 mod unit;
 
 use cxx_edge::{Sink, Source};
+use cxx_language_laws::{choice_faults_are_told, each_call_is_best, undeclared_names_are_told};
 use cxx_listing::calls_are_listed;
-use cxx_reading::each_call_is_best;
-use cxx_told::{choice_faults_are_told, undeclared_names_are_told};
 use std::alloc::Global;
 
 /// Does all that the program does, and gives its status: 0 where what the words want of the unit, its plain form or its

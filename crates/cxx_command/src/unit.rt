@@ -8,18 +8,18 @@ ghost use Rattle.cxx_model.specs.declared.options.Options.{Options as OptionsOfR
 ghost use Rattle.cxx_model.specs.Stops.{Faulty, Stopped, fault};
 ghost use Rattle.cxx_model.specs.Text.Lexemes.{lexemes};
 ghost use Rattle.cxx_model.specs.declared.fault.FaultText.TheVariants as says;
-ghost use Rattle.cxx_reading.specs.Units.{unit_reading};
+ghost use Rattle.cxx_language.specs.Units.{unit_reading};
 ghost use Rattle.cxx_command.specs.Outcome.{outcome_of, read_outcome, stopped_outcome, tokens_outcome};
 ghost use Rattle.cxx_command.specs.Outcomes.{IsOutcome};
 
 use cxx_declaring::Declaring;
+use cxx_language::read_unit;
 use cxx_model::limits::MOST_BYTES;
 use cxx_model::{
     EvidenceList, Fault, FaultText, LimitKind, Options, Place, Stop, Token, TokenReason,
 };
 use cxx_tokens::{TokenFault, tokens};
 use cxx_tree::State;
-use cxx_units::read_unit;
 use std::alloc::{AllocError, Global};
 
 /// What the bytes of a unit are.

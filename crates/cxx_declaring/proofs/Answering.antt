@@ -1,22 +1,16 @@
 -- What follows a definition over the state is what a reader asks for.
-use Rattle.std.specs.Prelude.{ℕ, ℤ, ◌≡◌, List, Option, Result, Ok, Err, IfOk, IfErr}
-use Rattle.std.proofs.Common.{ap, subst, sym, ◌∙◌}
+use Rattle.std.specs.Prelude.{ℕ, ◌≡◌, List, Result, Ok, Err}
+use Rattle.std.proofs.Common.{subst}
 use Rattle.cxx_model.specs.declared.stop.Stop.{Stop}
-use Rattle.cxx_model.specs.declared.stop.Stop.TheVariants as stop
 use Rattle.cxx_model.specs.declared.token.TokenKind.{TokenKind}
 use Rattle.cxx_model.specs.declared.types.TypeId.{TypeId}
 use Rattle.cxx_model.specs.Stops.{Answer, Stops}
 use Rattle.cxx_model.specs.Text.Lexemes.{Lexeme}
-use Rattle.cxx_model.specs.Text.Spelling.{literal_value}
 use Rattle.cxx_declare.specs.Made.{IsTypeThere, token}
-use Rattle.cxx_reading.specs.Constants.{or_zero}
-use Rattle.cxx_reading.specs.Declaring.{constant_here, declaring, elaborated_here}
+use Rattle.cxx_reading.specs.Declaring.{elaborated_here}
 use Rattle.cxx_reading.specs.Specifiers.{path_of}
 use Rattle.cxx_reading.specs.State.{CxxState}
-use Rattle.cxx_reading.specs.Trees.{CxxTree}
-use Rattle.cxx_syntax.specs.Asking.{AnyKnown, IsAsked, IsConstantKnown, IsTypeKnown, itself}
-use Rattle.cxx_syntax.specs.Views.{IsConstant}
-use Rattle.cxx_syntax.proofs.Kept.{later_refl}
+use Rattle.cxx_syntax.specs.Asking.{AnyKnown, IsAsked, IsTypeKnown}
 use Rattle.cxx_tree.specs.Answered.{IsAnswered}
 use Rattle.cxx_tree.specs.Held.{Held, meaning, type_of}
 
@@ -25,23 +19,10 @@ asked view known old new (Ok x) reply answered = record { is = answered.is; late
 asked view known old new (Err stop) reply answered = record { is = answered.is; later = answered.later }
 
 -- a name behind `enum`, whose spelling is handed over
-pub elaborated_asked : (old new : Held) (room : ℕ) (result : Result TypeId Stop) (name : Lexeme) (word : List ℕ) → word ≡ name.spelling → ((kind : TokenKind) → IsAnswered type_of IsTypeThere old new result (elaborated_here (path_of (token kind name.place word)) (meaning old))) → IsAsked type_of IsTypeKnown old new result ((declaring room).elaborated (path_of name) (meaning old))
-unfolding declaring
-elaborated_asked old new room result name word same answered =
+pub elaborated_asked : (old new : Held) (result : Result TypeId Stop) (name : Lexeme) (word : List ℕ) → word ≡ name.spelling → ((kind : TokenKind) → IsAnswered type_of IsTypeThere old new result (elaborated_here (path_of (token kind name.place word)) (meaning old))) → IsAsked type_of IsTypeKnown old new result (elaborated_here (path_of name) (meaning old))
+elaborated_asked old new result name word same answered =
     subst (λ (spelling : List ℕ). IsAsked type_of IsTypeKnown old new result (elaborated_here (path_of (token name.kind name.place spelling)) (meaning old))) same
     (asked type_of IsTypeKnown old new result (elaborated_here (path_of (token name.kind name.place word)) (meaning old)) (answered name.kind))
-
-abbrev reply_of : ℤ → CxxState → Answer (ℤ × CxxState)
-reply_of value state = Ok (value, state)
-
--- the value of a literal, which leaves the state as it is
-pub constant_asked : (held : Held) (room : ℕ) (given : CxxTree) (value : Option ℤ) (result : Result ℤ Stop) → value ≡ literal_value given.label.spelling → IfOk result (λ known. known ≡ or_zero value) → IfOk result IsConstant → IfErr result (λ why. why ≡ stop.OutOfMemory) → IsAsked itself IsConstantKnown held held result ((declaring room).constant given (meaning held))
-unfolding declaring constant_here
-constant_asked held room given value (Ok known) same is small memory =
-    let value_is : known ≡ or_zero (literal_value given.label.spelling) = is ∙ ap or_zero same in
-    record { is = (ap (λ (x : ℤ). reply_of x (meaning held)) (sym value_is), small); later = later_refl held }
-constant_asked held room given value (Err why) same is small memory =
-    record { is = subst (λ (other : Stop). Stops other (reply_of (or_zero (literal_value given.label.spelling)) (meaning held))) (sym memory) tt; later = later_refl held }
 
 -- a name that is handed over by its place and its spelling
 pub named_asked : {X A : Type 0} (view : Held → X → A) (known : Held → X → Type 0) (old new : Held) (result : Result X Stop) (question : Lexeme → Answer (A × CxxState)) (name : Lexeme) (word : List ℕ) → word ≡ name.spelling → ((kind : TokenKind) → IsAnswered view known old new result (question (token kind name.place word))) → IsAsked view AnyKnown old new result (question name)

@@ -3,13 +3,17 @@ ghost use Rattle.std.specs.List.{slice_get};
 ghost use Rattle.cxx_defined.specs.Defined.{IsOwn};
 
 use crate::declaring::Declaring;
+use cxx_answers::Answering;
 use cxx_declare as declare;
 use cxx_graph::Graph;
-use cxx_initial::initializer_at;
-use cxx_model::{Entity, FactId, Stop, TreeId, TypeId};
-use cxx_syntax::{Cursor, NameToken};
+use cxx_initialize::initialize;
+use cxx_knot::{read_declarator, read_initializer, read_specifiers};
+use cxx_language::{Declares, constant_value};
+use cxx_model::{Entity, FactId, Node, OutOfMemory, Stop, TreeId, TypeId};
+use cxx_phrases::Initializer;
+use cxx_reading::{Naming, SpecifierPlace};
+use cxx_syntax::{Cursor, Declarator, NameToken, Specifiers};
 use cxx_tree::State;
-use cxx_units::Declares;
 
 // Whether a number is that of a declaration of an object, a function or a template.
 fn is_own(graph: &Graph, number: FactId) -> bool
@@ -25,7 +29,42 @@ fn is_own(graph: &Graph, number: FactId) -> bool
 }
 
 impl Declares for Declaring {
-    fn follows(&self) {}
+    fn specifiers(
+        &self,
+        state: &mut State,
+        cursor: &mut Cursor<'_>,
+        room: u32,
+    ) -> Result<Specifiers, Stop> {
+        read_specifiers(self, state, cursor, SpecifierPlace::Declaration, room)
+    }
+
+    fn declarator(
+        &self,
+        state: &mut State,
+        cursor: &mut Cursor<'_>,
+        room: u32,
+    ) -> Result<Declarator, Stop> {
+        read_declarator(self, state, cursor, Naming::Required, room)
+    }
+
+    fn initializer(
+        &self,
+        state: &mut State,
+        cursor: &mut Cursor<'_>,
+        room: u32,
+    ) -> Result<Initializer, Stop> {
+        read_initializer(self, state, cursor, room)
+    }
+
+    #[tactic(auto, using(crate::proofs::Answering::asked))]
+    fn initialize(&self, state: &mut State, of: TypeId, node: Node) -> Result<TreeId, Stop> {
+        let alloc = state.alloc();
+        initialize(alloc, &Answering, state, of, node)
+    }
+
+    fn value(&self, state: &State, number: TreeId) -> Result<Option<i128>, OutOfMemory> {
+        constant_value(state, number)
+    }
 
     fn declare_synonym(
         &self,
@@ -75,16 +114,5 @@ impl Declares for Declaring {
             return Err(Stop::OutOfMemory);
         }
         declare::define_declared(state, name.place, name.spelling.as_slice(), number)
-    }
-
-    fn initializer(
-        &self,
-        state: &mut State,
-        cursor: &mut Cursor<'_>,
-        room: u32,
-        of: TypeId,
-        from: &Cursor<'_>,
-    ) -> Result<TreeId, Stop> {
-        initializer_at(self, state, cursor, room, of, from)
     }
 }

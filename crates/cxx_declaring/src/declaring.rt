@@ -1,19 +1,19 @@
-ghost use Rattle.std.specs.Prelude.{◌≡◌, ◌<◌, IfErr, IfOk, Ok};
-ghost use Rattle.cxx_model.specs.declared.stop.Stop.TheVariants as stop;
+ghost use Rattle.std.specs.Prelude.{◌≡◌, ◌<◌, IfOk, Ok};
 ghost use Rattle.cxx_model.specs.Facts.Graph.{enumerations};
 ghost use Rattle.cxx_declare.specs.Made.{IsNameOf};
 ghost use Rattle.cxx_names.specs.Clashes.{IsPlainName};
-ghost use Rattle.cxx_reading.specs.Constants.{or_zero};
 ghost use Rattle.cxx_reading.specs.Declaring.{kind_here};
 ghost use Rattle.cxx_reading.specs.Specifiers.{path_of};
 ghost use Rattle.cxx_syntax.specs.Asking.{IsAsked, IsEnumeration, enumeration_number};
-ghost use Rattle.cxx_syntax.specs.Views.{IsConstant, lexeme_at, name_of_option};
+ghost use Rattle.cxx_syntax.specs.Views.{lexeme_at, name_of_option};
 ghost use Rattle.cxx_tree.specs.Held.{meaning};
 
+use cxx_answers::{Answering, constant_here};
 use cxx_declare as declare;
-use cxx_model::{EnumId, Kind, Name, Place, ScopeId, Stop, TreeId, TypeId, Word};
+use cxx_elaborate::whole;
+use cxx_knot::Asking;
+use cxx_model::{EnumId, Kind, Name, Node, Place, ScopeId, Stop, TreeId, TypeId, Word};
 use cxx_syntax::{Kinds, NameToken, Spelled};
-use cxx_tokens::literal_value;
 use cxx_tree::State;
 use std::alloc::{AllocError, Global};
 
@@ -50,48 +50,29 @@ fn begun(state: &mut State, number: EnumId) -> Result<(EnumId, TypeId), Stop>
     }
 }
 
-// The value of a literal, where it is one.
-fn value_of(value: Option<i128>) -> Result<i128, Stop>
-    ensures is { IfOk result (λ known. known ≡ or_zero value) }
-    ensures small { IfOk result IsConstant }
-    ensures memory { IfErr result (λ why. why ≡ stop.OutOfMemory) }
-{
-    match value {
-        None => Ok(0),
-        Some(value) => {
-            // No literal has a greater value.
-            if value >= 0x1_0000_0000_0000_0000 {
-                Err(Stop::OutOfMemory)
-            } else {
-                Ok(value)
-            }
-        }
-    }
-}
-
 impl Kinds for Declaring {
-    ghost use Rattle.cxx_reading.specs.Declaring.{declaring};
+    ghost use Rattle.cxx_language.specs.Units.{asked};
 
-    ghost asks = { λ self. declaring };
+    ghost asks = { λ self room. (asked room).kinds };
 
     ghost is_ready = { λ self. Unit {0} };
 
-    #[tactic(auto, using(cxx_syntax::proofs::Kept::later_refl), unfolding(cxx_reading::specs::Declaring::declaring))]
+    #[tactic(auto, using(cxx_syntax::proofs::Kept::later_refl), unfolding(cxx_language::specs::Answers::asking))]
     fn kind(&self, state: &mut State, name: Spelled<'_>, _room: u32) -> Result<Kind, Stop> {
         Ok(kind_of(state, name))
     }
 
-    #[tactic(auto, using(crate::proofs::Answering::asked), unfolding(cxx_reading::specs::Declaring::declaring))]
+    #[tactic(auto, using(crate::proofs::Answering::asked), unfolding(cxx_language::specs::Answers::asking))]
     fn type_named(&self, state: &mut State, name: Spelled<'_>, _room: u32) -> Result<TypeId, Stop> {
         declare::type_named(state, name.spelling)
     }
 
-    #[tactic(auto, using(crate::proofs::Answering::asked), unfolding(cxx_reading::specs::Declaring::declaring))]
+    #[tactic(auto, using(crate::proofs::Answering::asked), unfolding(cxx_language::specs::Answers::asking))]
     fn elaborated(&self, state: &mut State, name: &NameToken, _room: u32) -> Result<TypeId, Stop> {
         declare::elaborated(state, name.place, name.spelling.as_slice())
     }
 
-    #[tactic(auto, using(crate::proofs::Answering::asked, cxx_syntax::proofs::Kept::later_refl, cxx_syntax::proofs::Kept::later_trans), unfolding(cxx_reading::specs::Declaring::declaring))]
+    #[tactic(auto, using(crate::proofs::Answering::asked, cxx_syntax::proofs::Kept::later_refl, cxx_syntax::proofs::Kept::later_trans), unfolding(cxx_language::specs::Answers::asking))]
     fn enumeration(
         &self,
         state: &mut State,
@@ -104,7 +85,7 @@ impl Kinds for Declaring {
         begun(state, number)
     }
 
-    #[tactic(auto, using(crate::proofs::Answering::asked, cxx_syntax::proofs::Kept::later_refl), unfolding(cxx_reading::specs::Declaring::declaring))]
+    #[tactic(auto, using(crate::proofs::Answering::asked, cxx_syntax::proofs::Kept::later_refl), unfolding(cxx_language::specs::Answers::asking))]
     fn enumerator(
         &self,
         state: &mut State,
@@ -120,22 +101,22 @@ impl Kinds for Declaring {
         declare::declare_enumerator(state, number, name.place, name.spelling, value)
     }
 
-    #[tactic(auto, using(crate::proofs::Answering::asked), unfolding(cxx_reading::specs::Declaring::declaring))]
+    #[tactic(auto, using(crate::proofs::Answering::asked), unfolding(cxx_language::specs::Answers::asking))]
     fn enumerated(&self, state: &mut State, number: EnumId, _room: u32) -> Result<(), Stop> {
         declare::end_enumeration(state, number)
     }
 
-    #[tactic(auto, using(cxx_syntax::proofs::Kept::later_refl), unfolding(cxx_reading::specs::Declaring::declaring, cxx_reading::specs::Declaring::constant_here))]
+    #[tactic(auto, using(cxx_syntax::proofs::Kept::later_refl), unfolding(cxx_language::specs::Answers::asking))]
     fn constant(&self, state: &mut State, number: TreeId, _room: u32) -> Result<i128, Stop> {
-        value_of(literal_value(state.node(number).spelling.as_slice()))
+        constant_here(state.alloc(), state, number)
     }
 
-    #[tactic(auto, using(crate::proofs::Answering::asked), unfolding(cxx_reading::specs::Declaring::declaring))]
+    #[tactic(auto, using(crate::proofs::Answering::asked), unfolding(cxx_language::specs::Answers::asking))]
     fn enter_parameters(&self, state: &mut State, _room: u32) -> Result<ScopeId, Stop> {
         state.enter_parameters()
     }
 
-    #[tactic(auto, using(crate::proofs::Answering::asked, cxx_syntax::proofs::Kept::later_refl), unfolding(cxx_reading::specs::Declaring::declaring))]
+    #[tactic(auto, using(crate::proofs::Answering::asked, cxx_syntax::proofs::Kept::later_refl), unfolding(cxx_language::specs::Answers::asking))]
     fn parameter(
         &self,
         state: &mut State,
@@ -148,9 +129,20 @@ impl Kinds for Declaring {
         declare::declare_parameter(state, name, place, of)
     }
 
-    #[tactic(auto, unfolding(cxx_reading::specs::Declaring::declaring))]
+    #[tactic(auto, unfolding(cxx_language::specs::Answers::asking))]
     fn leave_parameters(&self, state: &mut State, _room: u32) -> Result<(), Stop> {
         state.leave_parameters();
         Ok(())
+    }
+}
+
+impl Asking for Declaring {
+    ghost use Rattle.cxx_language.specs.Units.{asked};
+
+    ghost wholes = { λ self room. (asked room).whole };
+
+    #[tactic(auto, unfolding(cxx_language::specs::Answers::asking))]
+    fn whole(&self, state: &mut State, node: Node, _room: u32) -> Result<TreeId, Stop> {
+        whole(&Answering, state, node)
     }
 }

@@ -3,6 +3,5 @@
 
 mod declares;
 mod declaring;
-mod targets;
 
 pub use declaring::Declaring;

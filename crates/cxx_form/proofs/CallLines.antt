@@ -4,11 +4,11 @@ use Rattle.std.specs.Prelude.{◌||◌, Bool}
 use Rattle.std.proofs.lemmas.Bool.{le-ltb, lt-ltb}
 use Rattle.std.proofs.lemmas.List.{at_drop_more, at_drop_all}
 use Rattle.cxx_model.specs.declared.limits.TheConstants as limits
-use Rattle.cxx_model.specs.declared.types.FactId.{FactId}
 use Rattle.cxx_page.specs.declared.fault.PlainFault.{PlainFault}
 use Rattle.cxx_page.specs.declared.fault.PlainFault.TheVariants as fault
 use Rattle.cxx_page.specs.Sheets.{and_then, blank, put_line, put_lines, Sheet, Writes}
-use Rattle.cxx_reading.specs.Plain.{function_words, names_of_text, plain_text}
+use Rattle.cxx_phrase_text.specs.declared.calls.ListedCall.{ListedCall}
+use Rattle.cxx_reading.specs.Plain.{function_words, names_of_text}
 use Rattle.cxx_reading.specs.State.{CxxState}
 use Rattle.cxx_reading.specs.Units.{CxxReading}
 use Rattle.cxx_reading.specs.Words.{line_text, Word}
@@ -16,9 +16,10 @@ use Rattle.cxx_tree.specs.Held.{meaning, Held}
 use Rattle.cxx_form.specs.declared.book.Book.{Book}
 use Rattle.cxx_form.specs.Books.{facts_of, names_of}
 use Rattle.cxx_form.specs.declared.form.Printed.{Printed}
-use Rattle.cxx_form.specs.Called.{any_long, function_text, functions_from, functions_text, is_long, is_past_output, number_of, targets}
+use Rattle.cxx_form.specs.Called.{any_long, function_text, functions_from, functions_text, is_long, is_past_output, target_of, targets}
 use Rattle.cxx_form.specs.Names.{names_in}
 use Rattle.cxx_form.specs.Printed.{IsPrinted}
+use Rattle.cxx_form.specs.Text.{plain_text}
 use Rattle.cxx_form.specs.Views.{facts_in}
 use Rattle.cxx_form.proofs.Whole.{too_long, written_text}
 
@@ -58,26 +59,26 @@ line_over book number fault.OutOfMemory page new is written limit = absurd (othe
 
 -- ---- one behind another
 
-pub text_more : (state : CxxState) (numbers : List FactId) (i : ℕ) (d : FactId) (old new whole : List ℕ) → i < length numbers → new ≡ old ++ function_text state (get_or numbers i d).0 → old ++ functions_from state (map number_of (drop i numbers)) ≡ whole → new ++ functions_from state (map number_of (drop (i + 1) numbers)) ≡ whole
-text_more state numbers i d old new whole within more so =
-    let left : List ℕ = functions_from state (map number_of (drop (i + 1) numbers)) in
-    ap (λ xs. xs ++ left) more ∙ append_assoc old (function_text state (get_or numbers i d).0) left
-    ∙ ap (λ xs. old ++ xs) (sym (at_drop_more (λ (ns : List FactId). functions_from state (map number_of ns)) numbers i d within)) ∙ so
+pub text_more : (state : CxxState) (calls : List ListedCall) (i : ℕ) (d : ListedCall) (old new whole : List ℕ) → i < length calls → new ≡ old ++ function_text state (get_or calls i d).target.0 → old ++ functions_from state (map target_of (drop i calls)) ≡ whole → new ++ functions_from state (map target_of (drop (i + 1) calls)) ≡ whole
+text_more state calls i d old new whole within more so =
+    let left : List ℕ = functions_from state (map target_of (drop (i + 1) calls)) in
+    ap (λ xs. xs ++ left) more ∙ append_assoc old (function_text state (get_or calls i d).target.0) left
+    ∙ ap (λ xs. old ++ xs) (sym (at_drop_more (λ (cs : List ListedCall). functions_from state (map target_of cs)) calls i d within)) ∙ so
 
-pub text_all : (state : CxxState) (numbers : List FactId) (i : ℕ) (now whole : List ℕ) → length numbers ≤ i → now ++ functions_from state (map number_of (drop i numbers)) ≡ whole → now ≡ whole
-text_all state numbers i now whole past so = sym (append-nil now) ∙ ap (λ xs. now ++ xs) (sym (at_drop_all (λ (ns : List FactId). functions_from state (map number_of ns)) numbers i past)) ∙ so
+pub text_all : (state : CxxState) (calls : List ListedCall) (i : ℕ) (now whole : List ℕ) → length calls ≤ i → now ++ functions_from state (map target_of (drop i calls)) ≡ whole → now ≡ whole
+text_all state calls i now whole past so = sym (append-nil now) ∙ ap (λ xs. now ++ xs) (sym (at_drop_all (λ (cs : List ListedCall). functions_from state (map target_of cs)) calls i past)) ∙ so
 
-next_long : (state : CxxState) (numbers : List FactId) (i : ℕ) (d : FactId) → i < length numbers → any_long state (map number_of (drop i numbers)) ≡ (is_long (function_text state (get_or numbers i d).0) || any_long state (map number_of (drop (i + 1) numbers)))
-next_long state numbers i d within = at_drop_more (λ (ns : List FactId). any_long state (map number_of ns)) numbers i d within
+next_long : (state : CxxState) (calls : List ListedCall) (i : ℕ) (d : ListedCall) → i < length calls → any_long state (map target_of (drop i calls)) ≡ (is_long (function_text state (get_or calls i d).target.0) || any_long state (map target_of (drop (i + 1) calls)))
+next_long state calls i d within = at_drop_more (λ (cs : List ListedCall). any_long state (map target_of cs)) calls i d within
 
-pub long_more : (state : CxxState) (numbers : List FactId) (i : ℕ) (d : FactId) (whole : Bool) → i < length numbers → is_long (function_text state (get_or numbers i d).0) ≡ false → any_long state (map number_of (drop i numbers)) ≡ whole → any_long state (map number_of (drop (i + 1) numbers)) ≡ whole
-long_more state numbers i d whole within short so = sym (next_long state numbers i d within ∙ ap (λ b. b || any_long state (map number_of (drop (i + 1) numbers))) short) ∙ so
+pub long_more : (state : CxxState) (calls : List ListedCall) (i : ℕ) (d : ListedCall) (whole : Bool) → i < length calls → is_long (function_text state (get_or calls i d).target.0) ≡ false → any_long state (map target_of (drop i calls)) ≡ whole → any_long state (map target_of (drop (i + 1) calls)) ≡ whole
+long_more state calls i d whole within short so = sym (next_long state calls i d within ∙ ap (λ b. b || any_long state (map target_of (drop (i + 1) calls))) short) ∙ so
 
-pub long_here : (state : CxxState) (numbers : List FactId) (i : ℕ) (d : FactId) (whole : Bool) → i < length numbers → is_long (function_text state (get_or numbers i d).0) ≡ true → any_long state (map number_of (drop i numbers)) ≡ whole → whole ≡ true
-long_here state numbers i d whole within long so = sym so ∙ next_long state numbers i d within ∙ ap (λ b. b || any_long state (map number_of (drop (i + 1) numbers))) long
+pub long_here : (state : CxxState) (calls : List ListedCall) (i : ℕ) (d : ListedCall) (whole : Bool) → i < length calls → is_long (function_text state (get_or calls i d).target.0) ≡ true → any_long state (map target_of (drop i calls)) ≡ whole → whole ≡ true
+long_here state calls i d whole within long so = sym so ∙ next_long state calls i d within ∙ ap (λ b. b || any_long state (map target_of (drop (i + 1) calls))) long
 
-pub long_none : (state : CxxState) (numbers : List FactId) (i : ℕ) (whole : Bool) → length numbers ≤ i → any_long state (map number_of (drop i numbers)) ≡ whole → whole ≡ false
-long_none state numbers i whole past so = sym so ∙ at_drop_all (λ (ns : List FactId). any_long state (map number_of ns)) numbers i past
+pub long_none : (state : CxxState) (calls : List ListedCall) (i : ℕ) (whole : Bool) → length calls ≤ i → any_long state (map target_of (drop i calls)) ≡ whole → whole ≡ false
+long_none state calls i whole past so = sym so ∙ at_drop_all (λ (cs : List ListedCall). any_long state (map target_of cs)) calls i past
 
 -- ---- the whole
 
@@ -100,15 +101,15 @@ within_both reading within short = ap (λ b. b || any_long reading.state (target
 pub text_past : (reading : CxxReading) (e : PlainFault) → (e ≡ fault.Limit → limits.MOST_OUTPUT < length (plain_text reading)) → e ≡ fault.Limit → is_past_output reading ≡ true
 text_past reading e full limit = past_text reading (full limit)
 
-pub functions_past : (reading : CxxReading) (numbers : List FactId) (e : PlainFault) → map number_of numbers ≡ targets reading.state → (e ≡ fault.Limit → any_long reading.state (map number_of numbers) ≡ true) → e ≡ fault.Limit → is_past_output reading ≡ true
-functions_past reading numbers e are full limit = past_functions reading (subst (λ (ns : List ℕ). any_long reading.state ns ≡ true) are (full limit))
+pub functions_past : (reading : CxxReading) (calls : List ListedCall) (e : PlainFault) → map target_of calls ≡ targets reading.state → (e ≡ fault.Limit → any_long reading.state (map target_of calls) ≡ true) → e ≡ fault.Limit → is_past_output reading ≡ true
+functions_past reading calls e are full limit = past_functions reading (subst (λ (ns : List ℕ). any_long reading.state ns ≡ true) are (full limit))
 
 functions_are : (reading : CxxReading) → functions_from reading.state (targets reading.state) ≡ functions_text reading
 unfolding functions_text
 functions_are reading = refl
 
-pub is_printed : (reading : CxxReading) (printed : Printed) (numbers : List FactId) → map number_of numbers ≡ targets reading.state → printed.text.items ≡ plain_text reading → length printed.text.items ≤ limits.MOST_OUTPUT → printed.functions.items ≡ functions_from reading.state (map number_of numbers) → any_long reading.state (map number_of numbers) ≡ false → IsPrinted reading printed
-is_printed reading printed numbers are text within functions short = record {
+pub is_printed : (reading : CxxReading) (printed : Printed) (calls : List ListedCall) → map target_of calls ≡ targets reading.state → printed.text.items ≡ plain_text reading → length printed.text.items ≤ limits.MOST_OUTPUT → printed.functions.items ≡ functions_from reading.state (map target_of calls) → any_long reading.state (map target_of calls) ≡ false → IsPrinted reading printed
+is_printed reading printed calls are text within functions short = record {
   text = text;
   functions = functions ∙ ap (functions_from reading.state) are ∙ functions_are reading;
   within = within_both reading (subst (λ (xs : List ℕ). length xs ≤ limits.MOST_OUTPUT) text within) (subst (λ (ns : List ℕ). any_long reading.state ns ≡ false) are short);

@@ -2,7 +2,6 @@ pub mod Calling
 pub mod CallLines
 pub mod InTrees
 pub mod Enumerated
-pub mod Expressing
 pub mod Gathering
 pub mod Initial
 pub mod Lined

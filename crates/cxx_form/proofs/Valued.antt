@@ -15,12 +15,12 @@ use Rattle.cxx_tree.specs.Held.{Held}
 use Rattle.cxx_form.specs.declared.book.Book.{Book}
 use Rattle.cxx_form.specs.Books.{facts_of, names_of, IsBook}
 use Rattle.cxx_form.specs.Giving.{enumerator_given, holder_by, if_held}
-use Rattle.cxx_form.specs.Listed.{listed_words}
+use Rattle.cxx_phrase_text.specs.Listed.{listed_words}
 use Rattle.cxx_form.specs.Parts.{enumeration_end, enumeration_front, enumeration_parts, enumerator_at, value_by, value_found}
 use Rattle.cxx_form.specs.Rows.{row_at}
 use Rattle.cxx_form.specs.Views.{facts_in}
 use Rattle.cxx_form.proofs.Gathering.{fact_is}
-use Rattle.cxx_form.proofs.Listing.{all_listed}
+use Rattle.cxx_phrase_text.proofs.Listing.{all_listed}
 
 pub value_is : (held : Held) (number : ℕ) (fact : Fact) → Some fact ≡ slice_get held.graph.facts number → value_by (declares_at held.types fact.what) ≡ value_found (slice_get (facts_in held) number)
 value_is held number fact is = sym (ap value_found (fact_is held.types held.graph.facts number ∙ ap (option_map (fact_at held.types)) (sym is)))

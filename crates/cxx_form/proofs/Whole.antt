@@ -10,7 +10,7 @@ use Rattle.cxx_page.specs.Sheets.{blank, held, put_lines, text_of_lines, Sheet, 
 use Rattle.cxx_page.proofs.Held.{held_fits, held_not}
 use Rattle.cxx_page.proofs.Texts.{has_lines}
 use Rattle.cxx_reading.specs.declared.role.Role.TheVariants as role
-use Rattle.cxx_reading.specs.Plain.{line_words, names_of_text, plain_text}
+use Rattle.cxx_reading.specs.Plain.{names_of_text}
 use Rattle.cxx_reading.specs.TextOrder.{lines}
 use Rattle.cxx_reading.specs.Words.{line_text, Word}
 use Rattle.cxx_tree.specs.Held.{meaning, Held}
@@ -20,6 +20,7 @@ use Rattle.cxx_form.specs.Books.{facts_of, names_of, trees_of}
 use Rattle.cxx_form.specs.Lines.{line_at, lines_at}
 use Rattle.cxx_form.specs.Names.{names_in}
 use Rattle.cxx_form.specs.Parts.{line_written}
+use Rattle.cxx_form.specs.Text.{line_words, plain_text}
 use Rattle.cxx_form.specs.Views.{facts_in}
 
 -- ---- what is on a page on which lines were written

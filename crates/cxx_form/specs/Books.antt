@@ -4,6 +4,7 @@ use Rattle.cxx_model.specs.declared.types.TypeId.{TypeId}
 use Rattle.cxx_model.specs.Facts.Declarations.{type_of_option, CxxFact}
 use Rattle.cxx_model.specs.Facts.Fitted.{Fitted}
 use Rattle.cxx_model.specs.Types.Trees.{CxxType}
+use Rattle.cxx_phrase_text.specs.Named.{NamedState}
 use Rattle.cxx_reading.specs.Plain.{type_or_void, NamesOfText}
 use Rattle.cxx_reading.specs.TextOrder.{text_order}
 use Rattle.cxx_reading.specs.Trees.{CxxTree}
@@ -19,6 +20,10 @@ held_by book = book.state.now
 
 abbrev pub names_of : Book → NamesOfText
 names_of book = names_in book.state.now
+
+-- its state, with what its text names things
+abbrev pub named_by : Book → NamedState
+named_by book = record { held = book.state.now; tags = (names_of book).tags; name = (names_of book).name_of }
 
 abbrev pub facts_of : Book → List CxxFact
 facts_of book = facts_in book.state.now

@@ -1,37 +1,19 @@
 -- The functions that the calls of a reading name, each as the plain form declares it, in the order of the text.
-use Rattle.std.specs.Prelude.{ℕ, Bool, false, ◌||◌, nat_eq, nat_lt, if◌then◌else◌, List, [], ◌∷◌, ◌++◌, flat_map, length}
+use Rattle.std.specs.Prelude.{ℕ, Bool, false, ◌||◌, nat_lt, List, [], ◌∷◌, flat_map, length, map}
 use Rattle.cxx_model.specs.declared.limits.TheConstants as limits
-use Rattle.cxx_model.specs.declared.types.FactId.{FactId}
-use Rattle.cxx_reading.specs.Plain.{function_words, names_of_text, plain_text, target_or}
-use Rattle.cxx_reading.specs.Productions as production
+use Rattle.cxx_phrase_text.specs.declared.calls.ListedCall.{ListedCall}
+use Rattle.cxx_reading.specs.Plain.{function_words, names_of_text}
 use Rattle.cxx_reading.specs.State.{CxxState}
-use Rattle.cxx_reading.specs.TextOrder.{Line, lines, object_line}
-use Rattle.cxx_reading.specs.Trees.{CxxTree, CxxTrees, Label, no_trees, tree_then}
 use Rattle.cxx_reading.specs.Units.{CxxReading}
 use Rattle.cxx_reading.specs.Words.{line_text}
-
-abbrev pub target_of_label : Label → List ℕ
-target_of_label label = if nat_eq label.production production.call then target_or label.target ∷ [] else []
-
--- the functions of the calls in trees; the arguments of a call stand before it
-abbrev pub targets_in : CxxTrees → List ℕ
-targets_in no_trees = []
-targets_in (tree_then label children next) = targets_in children ++ (target_of_label label ++ targets_in next)
-
--- those in a tree, and that of the call which it is itself
-abbrev pub targets_of : CxxTree → List ℕ
-targets_of tree = targets_in tree.children ++ target_of_label tree.label
-
-abbrev pub number_of : FactId → ℕ
-number_of number = number.0
-
-abbrev pub targets_on : Line → List ℕ
-targets_on (object_line tree number) = targets_in tree.children
-targets_on _ = []
+use Rattle.cxx_form.specs.Text.{plain_text, printed_calls}
 
 -- the functions that the calls name, by their declarations, in the order of the text
 unfoldable pub targets : CxxState → List ℕ
-targets state = flat_map targets_on (lines state)
+targets state = map (λ call. call.target) (printed_calls state)
+
+abbrev pub target_of : ListedCall → ℕ
+target_of call = call.target.0
 
 -- the line by which the plain form declares a function
 unfoldable pub function_text : CxxState → ℕ → List ℕ

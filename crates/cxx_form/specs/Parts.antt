@@ -7,15 +7,16 @@ use Rattle.cxx_model.specs.declared.types.TreeId.{TreeId}
 use Rattle.cxx_model.specs.Facts.Declarations as facts
 use Rattle.cxx_model.specs.Facts.Declarations.{CxxFact, Declares}
 use Rattle.cxx_reading.specs.Declarators.{no_cv}
-use Rattle.cxx_reading.specs.Plain.{enumerator_words, expressions, first_words, initializer_words, initializers_in, is_empty, line_words, NamesOfText}
-use Rattle.cxx_reading.specs.Trees.{in_turn, CxxTrees}
+use Rattle.cxx_reading.specs.Plain.{enumerator_words, is_empty, NamesOfText}
+use Rattle.cxx_reading.specs.Trees.{in_turn, CxxTree}
 use Rattle.cxx_reading.specs.Words.{declared, keyword_word, name_word, semicolon_word, Word}
+use Rattle.cxx_phrase_text.specs.Listed.{listed_words}
 use Rattle.cxx_tree.specs.Arena.{trees_in}
 use Rattle.cxx_form.specs.declared.book.Book.{Book}
 use Rattle.cxx_form.specs.Books.{facts_of, names_of, trees_of, type_for}
 use Rattle.cxx_form.specs.declared.lines.Line.{Line}
 use Rattle.cxx_form.specs.Lines.{line_at}
-use Rattle.cxx_form.specs.Listed.{listed_words}
+use Rattle.cxx_form.specs.Text.{initializer_words, initializers_in, line_words}
 
 -- ---- enumerations (7.2)
 
@@ -43,13 +44,9 @@ enumeration_parts book row number = enumeration_front (names_of book) number ++ 
 
 -- ---- objects (8.5)
 
-abbrev pub first_parts : List CxxTrees → Option CxxTrees
-first_parts [] = None
-first_parts (parts ∷ others) = Some parts
-
--- an initializer with the parts behind its `=`
-abbrev pub initial_words : NamesOfText → CxxTrees → List Word
-initial_words names parts = keyword_word (codes "=") ∷ first_words (expressions names parts)
+abbrev pub first_tree : List CxxTree → Option CxxTree
+first_tree [] = None
+first_tree (tree ∷ others) = Some tree
 
 abbrev pub extern_words : List ℕ → List Word
 extern_words spelling = if is_empty spelling then [] else keyword_word (codes "extern") ∷ []

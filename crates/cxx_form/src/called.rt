@@ -6,12 +6,13 @@ ghost use Rattle.cxx_reading.specs.Plain.{function_words};
 ghost use Rattle.cxx_tree.specs.Held.{meaning};
 ghost use Rattle.cxx_form.specs.Books.{facts_of, names_of, IsBook};
 ghost use Rattle.cxx_form.specs.Called as called;
-ghost use Rattle.cxx_form.specs.Called.{any_long, functions_from, is_long, number_of};
+ghost use Rattle.cxx_form.specs.Called.{any_long, functions_from, is_long, target_of};
 
 use crate::book::Book;
 use crate::text::write_function;
 use cxx_model::FactId;
 use cxx_page::{Page, PlainFault};
+use cxx_phrase_text::ListedCall;
 use std::alloc::Global;
 
 #[tactic(auto, unfolding(cxx_page::specs::Sheets::put_line))]
@@ -52,20 +53,20 @@ fn add_function(
     Ok(())
 }
 
-/// The lines that declare some functions, one behind another.
+/// The lines that declare the functions of some calls, one behind another.
 pub(crate) fn functions_text(
     alloc: Global,
     book: &Book<'_>,
-    numbers: &[FactId],
+    calls: &[ListedCall],
 ) -> Result<Vec<u8>, PlainFault>
     requires { IsBook book.now }
-    ensures text { IfOk result (λ text. text.items ≡ functions_from (meaning book.now.state.now) (map number_of numbers.now)) }
-    ensures within { OnOk result (any_long (meaning book.now.state.now) (map number_of numbers.now) ≡ false) }
-    ensures full { result ≡ Err PlainFault.Limit → any_long (meaning book.now.state.now) (map number_of numbers.now) ≡ true }
+    ensures text { IfOk result (λ text. text.items ≡ functions_from (meaning book.now.state.now) (map target_of calls.now)) }
+    ensures within { OnOk result (any_long (meaning book.now.state.now) (map target_of calls.now) ≡ false) }
+    ensures full { result ≡ Err PlainFault.Limit → any_long (meaning book.now.state.now) (map target_of calls.now) ≡ true }
 {
     let mut text = Vec::new(alloc);
-    for number in numbers {
-        add_function(alloc, book, *number, &mut text)?;
+    for call in calls {
+        add_function(alloc, book, call.target, &mut text)?;
     }
     Ok(text)
 }

@@ -3,13 +3,13 @@ ghost use Rattle.std.specs.Prelude.{◌≡◌, ◌<◌, ◌≤◌, length, true,
 ghost use Rattle.cxx_model.specs.declared.limits.TheConstants.{MOST_OUTPUT};
 ghost use Rattle.cxx_model.specs.Facts.Fitted.{Fitted};
 ghost use Rattle.cxx_model.specs.declared.options.Options.{Options};
-ghost use Rattle.cxx_reading.specs.Plain.{plain_text};
 ghost use Rattle.cxx_reading.specs.TextOrder.{lines as lines_of};
 ghost use Rattle.cxx_tree.specs.Held.{meaning};
 ghost use Rattle.cxx_form.specs.Books.{trees_of, IsBook};
 ghost use Rattle.cxx_form.specs.Called.{is_past_output};
 ghost use Rattle.cxx_form.specs.Printed.{IsPrinted};
 ghost use Rattle.cxx_form.specs.Lines.{lines_at, AreLinesBelow};
+ghost use Rattle.cxx_form.specs.Text.{plain_text};
 
 use crate::book::Book;
 use crate::called::functions_text;
@@ -64,8 +64,8 @@ fn printed_by(alloc: Global, book: &Book<'_>, lines: &[Line]) -> Result<Printed,
     ensures full { (options : Options) → result ≡ Err PlainFault.Limit → is_past_output (record { options = options; state = meaning book.now.state.now }) ≡ true }
 {
     let text = text_of(alloc, book, lines)?;
-    let targets = on_lines(book.state, lines, alloc)?;
-    let functions = functions_text(alloc, book, targets.as_slice())?;
+    let calls = on_lines(book.state, lines, alloc)?;
+    let functions = functions_text(alloc, book, calls.as_slice())?;
     Ok(Printed { text, functions })
 }
 

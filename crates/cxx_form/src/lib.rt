@@ -11,9 +11,9 @@ mod calls;
 mod declarators;
 mod enumerations;
 mod enumerators;
-mod expressions;
 mod facts;
 mod form;
+mod initializers;
 mod lines;
 mod names;
 mod numbering;
@@ -25,6 +25,7 @@ mod slots;
 mod text;
 mod words;
 
+pub use calls::printed_calls;
 pub use cxx_page::PlainFault;
 pub use form::{Printed, print_reading};
 pub use lines::{Line, plain_lines};

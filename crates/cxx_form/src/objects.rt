@@ -1,63 +1,20 @@
 //! The lines of objects.
-ghost use Rattle.std.specs.Prelude.{◌≡◌, ◌<◌, [], ◌∷◌, ◌++◌, length, option_map, IfSome};
+ghost use Rattle.std.specs.Prelude.{◌<◌, [], ◌∷◌, ◌++◌, length};
 ghost use Rattle.cxx_model.specs.Facts.Fitted.{IsTypeNumberBelow};
 ghost use Rattle.cxx_page.specs.Sheets.{Writes, put};
 ghost use Rattle.cxx_reading.specs.Declarators.{no_cv};
-ghost use Rattle.cxx_reading.specs.Plain.{initializers_in, object_words};
-ghost use Rattle.cxx_reading.specs.Trees.{in_turn};
 ghost use Rattle.cxx_reading.specs.Words.{declared, name_word, semicolon_word};
-ghost use Rattle.cxx_tree.specs.Arena.{tree_in, trees_in, AreTreesBelow, IsNodeBelow};
-ghost use Rattle.cxx_tree.specs.Held.{trees};
+ghost use Rattle.cxx_tree.specs.Arena.{tree_in, AreTreesBelow};
 ghost use Rattle.cxx_form.specs.Books.{names_of, trees_of, type_for, IsBook};
-ghost use Rattle.cxx_form.specs.Parts.{extern_words, first_parts, initial_words, initializer_among, object_parts};
-ghost use Rattle.cxx_form.specs.Trees.{parts_at};
+ghost use Rattle.cxx_form.specs.Parts.{extern_words, initializer_among, object_parts};
+ghost use Rattle.cxx_form.specs.Text.{object_words};
 
 use crate::book::Book;
-use crate::expressions::write_first;
-use crate::production::INITIALIZER;
+use crate::initializers::write_among;
 use crate::words::write_declared;
 use cxx_model::{FactId, Node, TreeId, TypeId};
 use cxx_page::{Page, PlainFault};
 use cxx_reading::Role;
-use cxx_tree::State;
-
-// The first initializer among the parts of a declarator.
-fn initializer(state: &State, parts: &[TreeId]) -> Option<TreeId>
-    requires { AreTreesBelow (length (trees state.now)) parts.now }
-    ensures is { option_map (parts_at (trees state.now)) result ≡ first_parts (initializers_in (in_turn (trees_in (trees state.now) parts.now))) }
-    ensures below { IfSome result (λ number. number.0 < length (trees state.now)) }
-{
-    for part in parts {
-        if state.node(*part).production == INITIALIZER {
-            return Some(*part);
-        }
-    }
-    None
-}
-
-// Writes `=` and what stands behind it.
-#[tactic(auto, using(cxx_page::proofs::Put::put_more))]
-fn write_initial(book: &Book<'_>, page: &mut Page, number: TreeId) -> Result<(), PlainFault>
-    requires book { IsBook book.now }
-    requires known { number.0 < length (trees_of book.now) }
-    ensures { Writes result page.new (put (initial_words (names_of book.now) (tree_in (trees_of book.now) number.0).children) page.old) }
-{
-    let node = book.state.node(number);
-    page.word(Role::Alone, b"=")?;
-    write_first(book, page, node.children.as_slice(), number)
-}
-
-// Writes the initializer among the parts of a declarator, where there is one (8.5).
-fn write_initializer(book: &Book<'_>, page: &mut Page, parts: &[TreeId]) -> Result<(), PlainFault>
-    requires book { IsBook book.now }
-    requires below { AreTreesBelow (length (trees_of book.now)) parts.now }
-    ensures { Writes result page.new (put (initializer_among book.now parts.now) page.old) }
-{
-    let Some(number) = initializer(book.state, parts) else {
-        return Ok(());
-    };
-    write_initial(book, page, number)
-}
 
 // Writes `extern` where a declarator is spelled by it (7.1.1, 7.5).
 #[tactic(auto, using(cxx_page::proofs::Put::put_none))]
@@ -76,7 +33,7 @@ fn write_end(book: &Book<'_>, page: &mut Page, parts: &[TreeId]) -> Result<(), P
     requires below { AreTreesBelow (length (trees_of book.now)) parts.now }
     ensures { Writes result page.new (put (initializer_among book.now parts.now ++ semicolon_word ∷ []) page.old) }
 {
-    write_initializer(book, page, parts)?;
+    write_among(book, page, parts)?;
     page.word(Role::Follows, b";")
 }
 

@@ -2,7 +2,7 @@
 ghost use Rattle.std.specs.Prelude.{◌≡◌, [], ◌∷◌, ◌++◌};
 ghost use Rattle.cxx_model.specs.Facts.Fitted.{IsTypeNumberBelow};
 ghost use Rattle.cxx_page.specs.Sheets.{Writes, put};
-ghost use Rattle.cxx_page.specs.Sides.{back, front};
+ghost use Rattle.cxx_page.specs.Sides.{back, comma_unless, front};
 ghost use Rattle.cxx_page.specs.Views.{tags_of};
 ghost use Rattle.cxx_reading.specs.Declarators.{no_cv as no_cv_of};
 ghost use Rattle.cxx_reading.specs.Words.{declared, name_word};
@@ -15,7 +15,20 @@ use cxx_model::{Cv, FactId, TypeId};
 use cxx_page::{
     Page, PlainFault, write_declaration_back, write_declaration_front, write_name as write_printed,
 };
+use cxx_phrase_text::Names;
 use cxx_reading::Role;
+use cxx_tree::State;
+
+/// Writes a comma, unless nothing stands before it.
+#[tactic(auto, using(cxx_page::proofs::Put::put_none))]
+pub(crate) fn write_comma_unless(page: &mut Page, is_first: bool) -> Result<(), PlainFault>
+    ensures { Writes result page.new (put (comma_unless is_first) page.old) }
+{
+    if is_first {
+        return Ok(());
+    }
+    page.word(Role::Follows, b",")
+}
 
 fn no_cv() -> Cv
     ensures { result ≡ no_cv_of }
@@ -94,17 +107,33 @@ pub(crate) fn write_declared(
     write_named(book, page, of, number)
 }
 
-/// Writes a type that stands alone; without one it is `void` (8.1).
+// Writes a type that stands alone; without one it is `void` (8.1).
 #[tactic(auto, using(cxx_page::proofs::Put::put_append, crate::proofs::Typed::declared_alone))]
-pub(crate) fn write_alone(
-    book: &Book<'_>,
-    page: &mut Page,
-    of: Option<TypeId>,
-) -> Result<(), PlainFault>
+fn write_alone(book: &Book<'_>, page: &mut Page, of: Option<TypeId>) -> Result<(), PlainFault>
     requires book { IsBook book.now }
     requires below { IsTypeNumberBelow (length (book.now.state.now).types) of }
     ensures { Writes result page.new (put (declared (names_of book.now).tags no_cv_of (type_for book.now of) []) page.old) }
 {
     write_front(book, page, of)?;
     write_back(book, page, of)
+}
+
+impl Names for Book<'_> {
+    ghost use Rattle.cxx_form.specs.Books.{named_by, IsBook};
+
+    ghost named = { named_by };
+
+    ghost is_ready = { IsBook };
+
+    fn state(&self) -> &State {
+        self.state
+    }
+
+    fn write_name(&self, page: &mut Page, number: FactId) -> Result<(), PlainFault> {
+        write_name(self, page, number)
+    }
+
+    fn write_type(&self, page: &mut Page, of: Option<TypeId>) -> Result<(), PlainFault> {
+        write_alone(self, page, of)
+    }
 }

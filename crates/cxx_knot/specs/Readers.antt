@@ -7,7 +7,7 @@ use Rattle.cxx_reading.specs.Kinds.{Kinds, Readers}
 use Rattle.cxx_reading.specs.Kinds as declarations
 use Rattle.cxx_reading.specs.Reads.{Reads, Asks, Turn, ◌>>=◌, got, give, ask, tokens, kind_ahead, count_ahead, behind, repeat}
 use Rattle.cxx_reading.specs.Shapes.{parameters_shape}
-use Rattle.cxx_reading.specs.Syntax.{pointed_at, referred_at, grouped_at, parameters_at, no_value, enumerator_ended}
+use Rattle.cxx_reading.specs.Syntax.{pointed_at, referred_at, grouped_at, parameters_at, no_fallback, no_value, enumerator_ended}
 use Rattle.cxx_reading.specs.Tokens.{is_punct, is_name, token_taken, punct_taken, refused}
 use Rattle.cxx_reading.specs.Trees.{CxxTree}
 use Rattle.cxx_phrases.specs.Knot.{type_id_at, inner_by}
@@ -88,7 +88,7 @@ types_by asks room inner = record {
   referred = referred_at asks.kinds inner.types;
   grouped = grouped_at asks.kinds inner.types;
   bound = bound_at asks (here asks inner room) inner.phrases;
-  parameters = parameters_at asks.kinds inner.types;
+  parameters = parameters_at asks.kinds no_fallback inner.types;
   enumerators = enumerators_at asks (here asks inner room) inner.phrases;
   holds_parameters = parameters_shape asks.kinds inner.types;
 }

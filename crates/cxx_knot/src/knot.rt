@@ -13,6 +13,7 @@ ghost use Rattle.cxx_tree.specs.Held.{meaning};
 
 use crate::asking::Asking;
 use crate::behind::{Behind, Entrance, Found};
+use crate::unread::Unread;
 use crate::values::Values;
 use cxx_model::{LimitKind, Stop};
 use cxx_phrases::{
@@ -82,7 +83,7 @@ pub(crate) fn opened<
             let (value, parts) = values.bound_at(state, cursor, is_first)?;
             Ok(Found::Value(value, parts))
         }
-        Entrance::Parameters => Ok(Found::Parameters(types.parameters_at(state, cursor)?)),
+        Entrance::Parameters => Ok(Found::Parameters(types.parameters_at(state, cursor, &Unread)?)),
         Entrance::Enumerators(number) => {
             Ok(Found::Trees(values.enumerators_at(state, cursor, number)?))
         }

@@ -1,21 +1,20 @@
 -- What an initializer makes known: the value of a constant (5.19) and the bound of an array (8.3.4).
-use Rattle.std.specs.Prelude.{ℕ, ℤ, Bool, true, false, not, ◌&&◌, ◌||◌, if◌then◌else◌, List, [], ◌∷◌, length, Option, Some, None, Ok, Err}
-use Rattle.std.specs.List.{slice_get}
+use Rattle.std.specs.Prelude.{ℕ, ℤ, Bool, true, false, not, ◌&&◌, ◌||◌, if◌then◌else◌, List, [], ◌∷◌, Option, Some, None, Ok, Err}
 use Rattle.cxx_model.specs.declared.facts.MemberKind.TheVariants as member
 use Rattle.cxx_model.specs.Facts.Declarations as facts
 use Rattle.cxx_model.specs.Facts.Declarations.{CxxGraph, Declares, spelled}
-use Rattle.cxx_model.specs.Facts.Entities.{first_or, object_type}
 use Rattle.cxx_model.specs.Stops.{◌>>=◌}
 use Rattle.cxx_model.specs.Text.Lexemes.{Lexeme}
 use Rattle.cxx_model.specs.Types.Trees.{CxxType}
 use Rattle.cxx_meaning.specs.Conversions.Kinds.{CxxKind, arithmetic, enumerated, kind_of, cv_of}
 use Rattle.cxx_meaning.specs.Conversions.Standard.{is_floating}
 use Rattle.cxx_constant.specs.Constants.{CxxValue, constant}
-use Rattle.cxx_reading.specs.Declaring.{added, fact_here, number_id, declares_by}
+use Rattle.cxx_reading.specs.Declaring.{added, fact_here, number_id}
 use Rattle.cxx_reading.specs.Reads.{Asks}
 use Rattle.cxx_reading.specs.State.{CxxState}
 use Rattle.cxx_reading.specs.Trees.{CxxTree, children_of}
 use Rattle.cxx_reading.specs.Units.{is_unbounded}
+use Rattle.cxx_answers.specs.Typed.{entity_number, type_or}
 
 -- 5.19, 7.1.5.1: whether objects of a type are constants: const, not volatile, and of an integral type or an enumeration
 abbrev pub is_integral_kind : CxxKind → Bool
@@ -38,10 +37,6 @@ value_of_parts graph _ = None
 abbrev pub known_value : CxxGraph → CxxType → CxxTree → Option ℤ
 known_value graph of tree = if is_constant_type of then value_of_parts graph (children_of tree) else None
 
-abbrev pub type_or : CxxType → Option CxxType → CxxType
-type_or of None = of
-type_or of (Some other) = other
-
 -- the type of the object with the bound that its initializer gives
 abbrev pub type_known : CxxType → CxxTree → CxxType
 type_known of tree = type_or of tree.label.of
@@ -57,13 +52,6 @@ known_object entity of value = facts.object of member.Free false value (Some (nu
 abbrev pub known_answer : ℕ × CxxState → Unit {0} × CxxState
 known_answer one = (tt, one.1)
 
-abbrev pub entity_number : CxxState → ℕ → ℕ
-entity_number state number = first_by number (declares_by (slice_get state.graph.facts number))
-  where
-    first_by : ℕ → Declares → ℕ
-    first_by number (facts.object of kind is_mutable value first) = first_or number first
-    first_by number _ = number
-
 -- What the initializer of the object with a declaration makes known is noted behind it.
 unfoldable pub noted : Lexeme → ℕ → CxxType → CxxTree → Asks CxxState (Unit {0})
 noted name number of tree state = do
@@ -73,7 +61,3 @@ noted name number of tree state = do
 -- only where it makes something known
 unfoldable pub note_known : Lexeme → ℕ → CxxType → CxxTree → Asks CxxState (Unit {0})
 note_known name number of tree state = if is_unbounded of || is_some_value (known_value state.graph of tree) then noted name number of tree state else Ok (tt, state)
-
--- 3.5, 8.3.4: the type of an object, with the bound that any of its declarations gives
-abbrev pub type_so_far : CxxState → ℕ → CxxType → CxxType
-type_so_far state number of = type_or of (object_type state.graph.facts (entity_number state number) (length state.graph.facts))

@@ -1,10 +1,8 @@
--- The reading of a unit with expressions, and its plain form.
+-- The reading of a unit with expressions.
 pub mod Answers
 pub mod Known
 pub mod Earlier
 pub mod Noting
 pub mod Parts
-pub mod Typed
 pub mod Objects
 pub mod Units
-pub mod Text

@@ -10,7 +10,8 @@ use Rattle.cxx_reading.specs.Reads.{Asks}
 use Rattle.cxx_reading.specs.State.{CxxState}
 use Rattle.cxx_reading.specs.Trees.{CxxTree}
 use Rattle.cxx_reading.specs.Units.{is_unbounded}
-use Rattle.cxx_language.specs.Known.{entity_number, is_some_value, known_answer, known_object, value_of}
+use Rattle.cxx_answers.specs.Typed.{entity_number}
+use Rattle.cxx_language.specs.Known.{is_some_value, known_answer, known_object, value_of}
 
 -- 5.19: the value of what initializes the object, where that is one part
 abbrev pub value_of_one : CxxGraph → Option CxxTree → Option ℤ

@@ -18,7 +18,8 @@ use Rattle.cxx_phrases.specs.Initializers.{Initializer, initializer_at}
 use Rattle.cxx_phrases.specs.Phrases.{Phrases, Inner}
 use Rattle.cxx_expr.specs.Initializing.{initialize}
 use Rattle.cxx_expr.specs.Questions.{Questions}
-use Rattle.cxx_language.specs.Known.{note_known, type_known, type_so_far}
+use Rattle.cxx_answers.specs.Typed.{type_so_far}
+use Rattle.cxx_language.specs.Known.{note_known, type_known}
 
 -- ---- the tree of an initializer
 

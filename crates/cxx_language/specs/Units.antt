@@ -1,11 +1,11 @@
 -- The reading of a unit with expressions: its declarations in order (3.5, clause 7).
-use Rattle.std.specs.Prelude.{ℕ, zero, suc, Bool, true, false, if◌then◌else◌, List, [], ◌++◌, Err}
+use Rattle.std.specs.Prelude.{ℕ, zero, suc, Bool, true, false, if◌then◌else◌, List, [], ◌++◌}
 use Rattle.cxx_model.specs.declared.limits.TheConstants as limits
 use Rattle.cxx_model.specs.declared.options.Options.{Options}
 use Rattle.cxx_model.specs.declared.punct.TheConstants as punct
 use Rattle.cxx_model.specs.declared.stop.LimitKind.TheVariants.{Nesting}
-use Rattle.cxx_model.specs.Stops.{Answer, not_built_at}
-use Rattle.cxx_model.specs.Text.Lexemes.{Lexeme, first_place, nowhere}
+use Rattle.cxx_model.specs.Stops.{Answer}
+use Rattle.cxx_model.specs.Text.Lexemes.{Lexeme, first_place}
 use Rattle.cxx_reading.specs.declared.specifier.Naming.TheVariants as naming
 use Rattle.cxx_reading.specs.declared.specifier.SpecifierPlace.TheVariants as where_
 use Rattle.cxx_reading.specs.Declarators.{Specifiers, Declarator, declared_type, is_function_type}
@@ -19,16 +19,12 @@ use Rattle.cxx_reading.specs.Trees.{CxxTree}
 use Rattle.cxx_reading.specs.Units.{CxxReading, Said, Listed, read_as, part_added, specifiers_tree, declarator_tree, name_in, declared_fits, declared_function, declared_synonym, one_tree, declarator_ended, give_trees, no_declarators, nothing_declared, said_by, simple_tree, empty_tree, another_ahead, linkages_passed, linkage_list, linked_tree, inside_step}
 use Rattle.cxx_expr.specs.Questions.{Questions}
 use Rattle.cxx_phrases.specs.Phrases.{Phrases}
-use Rattle.cxx_answers.specs.Answers.{questions}
+use Rattle.cxx_answers.specs.Answers.{no_fallback, questions}
 use Rattle.cxx_language.specs.Answers.{asking}
 use Rattle.cxx_language.specs.Objects.{defined_part, extern_part}
 use Rattle.cxx_knot.specs.Readers.{Asking, Both, both, here}
 
 -- ---- what is asked
-
--- no default arguments are read yet, so none is asked for (8.3.6)
-abbrev pub no_fallback : ℕ → ℕ → Asks CxxState CxxTree
-no_fallback function index state = Err (not_built_at nowhere)
 
 abbrev pub answers : Questions
 answers = questions no_fallback

@@ -3,6 +3,7 @@
 ghost use Rattle.std.specs.Prelude.{◌≡◌, ◌<◌, ◌&&◌, not, length, true, IfOk, OnOk, List};
 ghost use Rattle.std.specs.List.{slice_get};
 ghost use Rattle.cxx_constant.specs.Constants.{constant as constant_of};
+ghost use Rattle.cxx_constant.specs.Known.{value_at};
 ghost use Rattle.cxx_declare.specs.Made.{IsReady, made, told_added};
 ghost use Rattle.cxx_model.specs.declared.facts.Name.TheVariants.{Spelled};
 ghost use Rattle.cxx_model.specs.Facts.Graph.{scopes};
@@ -14,20 +15,20 @@ ghost use Rattle.cxx_language.specs.Noting as noting;
 ghost use Rattle.cxx_model.specs.Facts.Declarations.{fact_at, spelled};
 ghost use Rattle.cxx_model.specs.Types.Trees.{CxxType};
 ghost use Rattle.cxx_reading.specs.Declaring.{fact_here};
-ghost use Rattle.cxx_sizes.specs.Noted.{Notes};
+ghost use Rattle.cxx_reading.specs.Trees.{CxxTree};
 ghost use Rattle.cxx_standard.specs.Views.{kind_at};
 ghost use Rattle.cxx_syntax.specs.Asking.{AnyKnown, IsAsked, itself};
 ghost use Rattle.cxx_syntax.specs.Views.{AreTreesHeld, name_at, trees_held};
 ghost use Rattle.cxx_tree.specs.Held.{meaning, tree as tree_at, trees, type_of};
 
 use crate::declares::Declares;
-use crate::typed::{entity_number, fact_of};
-use cxx_constant::constant;
+use cxx_answers::typed::{entity_number, fact_of};
+use cxx_answers::value_here;
+use cxx_constant::ConstantFault;
 use cxx_graph::Graph;
 use cxx_model::{
     Access, Entity, Fact, FactId, MemberKind, Name, OutOfMemory, Place, Stop, TreeId, TypeId, Word,
 };
-use cxx_sizes::Layouts;
 use cxx_standard::{TypeKind, cv_of, is_floating, kind_of};
 use cxx_syntax::NameToken;
 use cxx_tree::State;
@@ -54,16 +55,23 @@ fn is_constant_type(state: &State, of: TypeId) -> bool
     (cv.is_const && !cv.is_volatile) && is_integral_kind(kind_of(state.graph(), types, of))
 }
 
-/// The value of an integral constant expression, where it is one and has a value (5.19). The facts so far were noted.
-#[tactic(auto, unfolding(cxx_tree::specs::Held::meaning))]
-pub fn constant_value(layouts: &Layouts, state: &State, number: TreeId) -> Option<i128>
-    requires known { number.0 < length (trees state.now) }
-    requires noted { Notes layouts.now (meaning state.now).graph.facts }
-    ensures { result ≡ definition.value_of (constant_of (meaning state.now).graph (tree_at state.now number)) }
+fn value_of(value: Result<i128, ConstantFault>) -> Option<i128>
+    ensures { (all : List CxxTree) → result ≡ definition.value_of (value_at all value) }
 {
-    match constant(layouts, state.graph(), state.types(), state.trees(), number) {
+    match value {
         Ok(value) => Some(value),
         Err(_) => None,
+    }
+}
+
+/// The value of an integral constant expression, where it is one and has a value (5.19).
+pub fn constant_value(state: &State, number: TreeId) -> Result<Option<i128>, OutOfMemory>
+    requires { number.0 < length (trees state.now) }
+    ensures { IfOk result (λ value. value ≡ definition.value_of (constant_of (meaning state.now).graph (tree_at state.now number))) }
+{
+    match value_here(state, number) {
+        Ok(value) => Ok(value_of(value)),
+        Err(fault) => Err(fault),
     }
 }
 

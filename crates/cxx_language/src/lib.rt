@@ -13,7 +13,6 @@ mod functions;
 mod initializers;
 mod known;
 mod objects;
-mod typed;
 mod unit;
 
 pub use declares::Declares;

@@ -14,7 +14,7 @@ ghost use Rattle.cxx_units.specs.Said.{IsDeclared, said_of};
 use crate::declares::{Declares, Reader};
 use crate::initializers::{begins_initializer, initializer_node, some_elements};
 use crate::known::{note_known, type_known};
-use crate::typed::type_so_far;
+use cxx_answers::typed::type_so_far;
 use cxx_model::{FactId, Listed, Stop, TreeId, TreeIdList, TypeId};
 use cxx_syntax::{Cursor, Declarator, NameToken, joined};
 use cxx_tree::State;

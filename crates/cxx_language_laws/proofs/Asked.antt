@@ -16,17 +16,18 @@ use Rattle.cxx_reading.specs.Specifiers.{path_of}
 use Rattle.cxx_reading.specs.State.{CxxState}
 use Rattle.cxx_reading.specs.Tokens.{is_name, token_in}
 use Rattle.cxx_reading.specs.Trees.{CxxTree, children_of, each_tree, in_turn, Label}
+use Rattle.cxx_tree.specs.Uses.{with_use}
 use Rattle.cxx_expr.specs.Names.{path_in, word_in}
 use Rattle.cxx_expr.specs.Elaborating.{elaborate}
 use Rattle.cxx_language.specs.Answers.{asking}
-use Rattle.cxx_answers.specs.Answers.{bound_here, call_here, constant_by, constant_here, name_here, questions, size_here, with_use}
+use Rattle.cxx_answers.specs.Answers.{bound_here, call_here, constant_by, constant_here, is_held, name_here, questions, size_here}
 use Rattle.cxx_language.specs.Units.{answers, asked, inner_at, phrases_at}
 use Rattle.cxx_language_laws.specs.Told.{IsUnitCall, unknown_name, unknown_call, unknown_type, declared}
 use Rattle.cxx_language_laws.proofs.CallsTell.{call_asked_tells}
 use Rattle.cxx_language_laws.proofs.Later.{IsLater, later_same, later_is_kept, calmly, parameter_answer_tells, enumeration_answer_tells, enumerator_answer_tells, enumerated_tells, kind_tells, type_tells}
 use Rattle.cxx_language_laws.proofs.Lists.{listed_tells}
 use Rattle.cxx_language_laws.proofs.PhrasesTell.{PhrasesTell}
-use Rattle.cxx_language_laws.proofs.QuestionsTell.{QuestionsTell, quiet_by, same_by}
+use Rattle.cxx_language_laws.proofs.QuestionsTell.{QuestionsTell, if_by, quiet_by, same_by}
 use Rattle.cxx_language_laws.proofs.Reached.{Told, IsUndeclared, reached_here, later_is_told, later_is_told_of}
 use Rattle.cxx_language_laws.proofs.Tells.{IsTold, KindsTell, ReadersTell, ToldBy, tells_answer, tells_refusal, Answers}
 use Rattle.cxx_language_laws.proofs.TellsExpressions.{plain_tells, name_tells, call_tells}
@@ -67,15 +68,15 @@ elaborated_tells state ahead named = by ahead.last ahead.tokens named
 
 -- ---- declarations
 
-constant_by_tells : (state : CxxState) (ahead : Ahead) (value : CxxValue) → ToldBy IsLater Told state ahead (constant_by state value)
-constant_by_tells state ahead (Ok value) = same_by later_is_told value state ahead
-constant_by_tells state ahead (Err (not_constant tree)) = quiet_by later_is_told refl
-constant_by_tells state ahead (Err (overflow tree)) = quiet_by later_is_told refl
-constant_by_tells state ahead (Err (divide_by_zero tree)) = quiet_by later_is_told refl
+constant_by_tells : (state : CxxState) (ahead : Ahead) (tree : CxxTree) (value : CxxValue) → ToldBy IsLater Told state ahead (constant_by state tree value)
+constant_by_tells state ahead tree (Ok value) = if_by (is_held value) (same_by later_is_told value state ahead) (quiet_by later_is_told refl)
+constant_by_tells state ahead tree (Err (not_constant part)) = quiet_by later_is_told refl
+constant_by_tells state ahead tree (Err (overflow part)) = quiet_by later_is_told refl
+constant_by_tells state ahead tree (Err (divide_by_zero part)) = quiet_by later_is_told refl
 
 constant_tells : (tree : CxxTree) → Answers IsLater Told (constant_here tree)
 unfolding constant_here
-constant_tells tree state ahead = constant_by_tells state ahead (constant state.graph tree)
+constant_tells tree state ahead = constant_by_tells state ahead tree (constant state.graph tree)
 
 pub kinds_tell : (room : ℕ) → KindsTell IsLater Told (asked room).kinds
 unfolding asking

@@ -11,7 +11,7 @@ use Rattle.cxx_language_laws.proofs.Reached.{Told, later_is_told}
 use Rattle.cxx_language_laws.proofs.Tells.{ReadersTell, quiet_in, same_in}
 use Rattle.cxx_language_laws.proofs.TellsKnot.{inner_tells}
 use Rattle.cxx_language_laws.proofs.TellsShapes.{parameters_shape_tells}
-use Rattle.cxx_language_laws.proofs.TellsSyntax.{pointed_tells, referred_tells, grouped_tells, parameters_tell}
+use Rattle.cxx_language_laws.proofs.TellsSyntax.{pointed_tells, referred_tells, grouped_tells, no_fallback_tells, parameters_tell}
 use Rattle.cxx_language_laws.proofs.TellsValues.{bound_tells, enumerators_tell}
 
 pub record BothTell (room : ℕ) : Type 0 where
@@ -47,7 +47,7 @@ both_tell (suc room) =
         referred = referred_tells later_is_told kinds inside.types;
         grouped = grouped_tells later_is_told kinds inside.types;
         bound = bound_tells later_is_told (asked room) kinds at inside.phrases;
-        parameters = parameters_tell later_is_told kinds inside.types;
+        parameters = parameters_tell later_is_told kinds (no_fallback_tells later_is_told) inside.types;
         enumerators = enumerators_tell later_is_told (asked room) kinds at inside.phrases;
         holds_parameters = parameters_shape_tells later_is_told kinds inside.types;
       };

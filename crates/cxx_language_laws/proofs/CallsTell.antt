@@ -1,12 +1,15 @@
 -- What is kept where it is asked which function a call means, and that what stops such a question is true.
 use Rattle.std.proofs.Common.{◌≡◌, ℕ, List, [], ◌∷◌, ◌++◌, Option, Some, None, Ok, Err, refl, sym, ap, subst, ◌∙◌, inl, inr}
+use Rattle.std.specs.Prelude.{nat_lt, if◌then◌else◌, length}
 use Rattle.std.specs.List.{AllByRecursion}
 use Rattle.std.proofs.lemmas.List.{append-nil}
 use Rattle.cxx_model.specs.declared.evidence.Reason.{Reason}
+use Rattle.cxx_model.specs.declared.limits.TheConstants as limits
 use Rattle.cxx_model.specs.declared.place.Place.{Place}
+use Rattle.cxx_model.specs.declared.stop.LimitKind.TheVariants.{Arguments}
 use Rattle.cxx_model.specs.declared.fault.FaultText.TheVariants as says
 use Rattle.cxx_model.specs.Facts.Declarations.{CxxGraph, CxxName, spelled}
-use Rattle.cxx_model.specs.Stops.{Answer, Stopped}
+use Rattle.cxx_model.specs.Stops.{Answer, Stopped, Limited}
 use Rattle.cxx_meaning.specs.Conversions.Asking.{Asked, ◌>>=◌}
 use Rattle.cxx_meaning.specs.Conversions.Standard.{CxxOperand}
 use Rattle.cxx_reading.specs.Initializers.{with_call}
@@ -22,6 +25,7 @@ use Rattle.cxx_answers.specs.Answers.{called_as}
 use Rattle.cxx_language_laws.specs.Best.{IsBestCall, IsRatedSo, values_of}
 use Rattle.cxx_language_laws.specs.Told.{IsUnitCall, meant, operands, no_viable_function, ambiguous_call}
 use Rattle.cxx_language_laws.proofs.Later.{IsLater, grown_same, each_widened}
+use Rattle.cxx_language_laws.proofs.QuestionsTell.{if_by}
 use Rattle.cxx_language_laws.proofs.Reached.{Told, reached_here, IsChosen}
 use Rattle.cxx_language_laws.proofs.Scopes.{scopes_same}
 use Rattle.cxx_overload.proofs.Deciding.{decision_best, undecided_why}
@@ -117,5 +121,5 @@ called_tells state ahead rest room call (Err why) is = tells_refusal why (fault_
 
 -- in the state in which the arguments of the call are read
 pub call_asked_tells : (state : CxxState) (ahead rest : Ahead) (room : ℕ) (call : IsUnitCall room state ahead)
-    → ToldBy IsLater (λ t ahead' why. Told state ahead why) call.at rest (called_as call.at (decided call.name.place (operands call) call.at.graph (meant call)))
-call_asked_tells state ahead rest room call = called_tells state ahead rest room call (decided call.name.place (operands call) call.at.graph (meant call)) refl
+    → ToldBy IsLater (λ t ahead' why. Told state ahead why) call.at rest (if nat_lt limits.MOST_ARGUMENTS (length (operands call)) then Err (Limited Arguments) else called_as call.at (decided call.name.place (operands call) call.at.graph (meant call)))
+call_asked_tells state ahead rest room call = if_by (nat_lt limits.MOST_ARGUMENTS (length (operands call))) (tells_refusal (Limited Arguments) tt) (called_tells state ahead rest room call (decided call.name.place (operands call) call.at.graph (meant call)) refl)

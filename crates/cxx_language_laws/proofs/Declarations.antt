@@ -14,7 +14,7 @@ use Rattle.cxx_reading.specs.State.{CxxState}
 use Rattle.cxx_reading.specs.Tokens.{is_punct}
 use Rattle.cxx_reading.specs.Trees.{CxxTree}
 use Rattle.cxx_reading.specs.Units.{specifiers_tree, declarator_tree, name_in as name_of_declarator, declared_fits, ends_declarator, give_trees, no_declarators, said_by, simple_tree, empty_tree, another_ahead, linkages_passed, linkage_list, inside_step, Said, Listed}
-use Rattle.cxx_language.specs.Known.{type_so_far}
+use Rattle.cxx_answers.specs.Typed.{type_so_far}
 use Rattle.cxx_language.specs.Objects.{begins_initializer, defined_later, defined_part, extern_part, without_initializer}
 use Rattle.cxx_language.specs.Units.{answers, declaration_at, declaration_by, declarator_step, declarators_at, declarators_of, declared_by, defined_object, extern_object, init_declarator_at, inner_at, linkage_by, linkage_opened, linked_by, linked_one, phrases_at, plain_declaration_at, simple_declaration_at}
 use Rattle.cxx_language_laws.specs.Stopping.{Gives, Initializes, Leads, Part, a_declaration, a_declarator, a_simple_declaration, an_initializer, by_definition, by_extern, declarator_of, in_declaration, in_declarator, in_specifiers, initializer_of, linked_declarations, next_declaration, next_declarator, some_declarators, some_specifiers, specifiers_of, to_braces, to_declarators, to_initializer, to_linked, to_unlinked}

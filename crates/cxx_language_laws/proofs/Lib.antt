@@ -27,3 +27,4 @@ pub mod Objects
 pub mod Stopping
 pub mod Declarations
 pub mod Whole
+mod Rows

@@ -7,7 +7,8 @@ use Rattle.cxx_model.specs.Types.Trees.{CxxType}
 use Rattle.cxx_reading.specs.Declaring.{fact_here}
 use Rattle.cxx_reading.specs.Trees.{CxxTree}
 use Rattle.cxx_reading.specs.Units.{is_unbounded}
-use Rattle.cxx_language.specs.Known.{entity_number, is_some_value, known_answer, known_object, known_value, note_known, noted, type_known}
+use Rattle.cxx_answers.specs.Typed.{entity_number}
+use Rattle.cxx_language.specs.Known.{is_some_value, known_answer, known_object, known_value, note_known, noted, type_known}
 use Rattle.cxx_language.specs.Objects.{initialized_part, initializer_tree, is_empty_array, some_elements}
 use Rattle.cxx_language.specs.Units.{answers, inner_at, phrases_at}
 use Rattle.cxx_language_laws.proofs.Asked.{phrases_tell}

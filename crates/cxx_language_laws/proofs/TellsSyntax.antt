@@ -1,7 +1,7 @@
 -- What the readers of declarators, parameters and enumerators keep of the state, and what stops them.
 use Rattle.std.proofs.Common.{◌≡◌, refl}
 use Rattle.cxx_model.specs.Stops.{Stopped}
-use Rattle.std.specs.Prelude.{ℕ, zero, suc, Bool, true, false, not, if◌then◌else◌, ◌||◌, ◌==◌, List, [], ◌∷◌, ◌++◌, Option, Some, None}
+use Rattle.std.specs.Prelude.{ℕ, zero, suc, Bool, true, false, not, if◌then◌else◌, ◌||◌, ◌==◌, List, [], ◌∷◌, ◌++◌, length, Option, Some, None}
 use Rattle.cxx_model.specs.declared.fault.FaultText.{FaultText}
 use Rattle.cxx_model.specs.declared.keyword.TheConstants as keyword
 use Rattle.cxx_model.specs.declared.limits.TheConstants as limits
@@ -20,8 +20,9 @@ use Rattle.cxx_model.specs.declared.base.Base.{Base}
 use Rattle.cxx_model.specs.declared.token.TokenKind.{TokenKind}
 use Rattle.cxx_model.specs.declared.token.TokenKind.TheVariants.{Name, Keyword, Punct, Text, Integer, Character, End}
 use Rattle.cxx_model.specs.Text.Spelling.{literal_type}
-use Rattle.cxx_reading.specs.Syntax.{is_required, is_never, cv_step, cv_at, suffixed, array_part, function_part, array_suffix, exceptions_at, function_suffix, function_by, bracket_suffix, suffix_at, give_declarator, suffixes_at, name_read, name_part, grouped_part, grouped_by, bracket_part, star_part, ampersand_part, declarator_at, pointed_at, referred_at, grouped_at, valued, bound_value, bound_at, specified_type, place_of_declarator, is_refused_parameter, parameter_fits, parameter_tree, with_parameter, with_ellipsis, parameter_at, list_ended, comma_passed, parameter_ended, parameter_step, past_most, parameters_over, no_parameters, some_parameters, turn_result, is_void_list, list_at, parameters_at, no_value, value_at, enumerator_at, enumerator_ended, enumerator_step, enumerators_at, readers, Suffixed}
-use Rattle.cxx_reading.specs.Kinds.{Kinds, Readers}
+use Rattle.cxx_reading.specs.Syntax.{default_at, no_fallback, is_required, is_never, cv_step, cv_at, suffixed, array_part, function_part, array_suffix, exceptions_at, function_suffix, function_by, bracket_suffix, suffix_at, give_declarator, suffixes_at, name_read, name_part, grouped_part, grouped_by, bracket_part, star_part, ampersand_part, declarator_at, pointed_at, referred_at, grouped_at, valued, bound_value, bound_at, specified_type, place_of_declarator, is_refused_parameter, parameter_fits, parameter_tree, with_parameter, with_ellipsis, parameter_at, list_ended, comma_passed, parameter_ended, parameter_step, past_most, parameters_over, no_parameters, some_parameters, turn_result, is_void_list, list_at, parameters_at, no_value, value_at, enumerator_at, enumerator_ended, enumerator_step, enumerators_at, readers, Suffixed}
+use Rattle.cxx_model.specs.Types.Trees.{CxxType}
+use Rattle.cxx_reading.specs.Kinds.{Fallback, Kinds, Readers}
 use Rattle.cxx_reading.specs.Reads.{Ahead, Turn, More, Done, give, kind_ahead, word_ahead, behind}
 use Rattle.cxx_language_laws.proofs.Tells.{IsTold, Tells, saying, nothing, quiet_in, KindsTell, ReadersTell, if_in, past_in, then_in, ask_in, same_in, next_in, repeat_tells, taken_in, looked_in, token_told, punct_in, give_in, tokens_in, unit_is_told, returned_in}
 use Rattle.cxx_language_laws.proofs.TellsShapes.{begins_tells, abstract_tells, parameters_shape_tells}
@@ -168,9 +169,20 @@ pub parameter_fits_tells : {S : Type 0} {kept : S → S → Type 0} {told : S �
 unfolding parameter_fits
 parameter_fits_tells is specifiers declarator state ahead = if_in (is_refused_parameter declarator.layers (specified_type specifiers)) (quiet_in is refl) (same_in is tt state ahead)
 
-pub parameter_tells : {S : Type 0} {kept : S → S → Type 0} {told : S → Ahead → Stopped → Type 0} → IsTold kept told → {asks : Kinds S} → KindsTell kept told asks → {inner : Readers S} → ReadersTell kept told inner → (so_far : ParameterTypes) → Tells kept told (parameter_at asks inner so_far)
+-- the reader of default arguments keeps and tells too
+abbrev pub FallbackTells : {S : Type 0} → (S → S → Type 0) → (S → Ahead → Stopped → Type 0) → Fallback S → Type 0
+FallbackTells kept told fallback = (index : ℕ) (of : CxxType) → Tells kept told (fallback index of)
+
+pub no_fallback_tells : {S : Type 0} {kept : S → S → Type 0} {told : S → Ahead → Stopped → Type 0} → IsTold kept told → FallbackTells kept told (no_fallback {S = S})
+no_fallback_tells is index of state ahead = quiet_in is refl
+
+pub default_tells : {S : Type 0} {kept : S → S → Type 0} {told : S → Ahead → Stopped → Type 0} → IsTold kept told → {fallback : Fallback S} → FallbackTells kept told fallback → (index : ℕ) (of : CxxType) → Tells kept told (default_at fallback index of)
+unfolding default_at
+default_tells is fallback index of state ahead = if_in (is_punct punct.EQUALS (kind_ahead ahead)) (fallback index of state ahead) (same_in is [] state ahead)
+
+pub parameter_tells : {S : Type 0} {kept : S → S → Type 0} {told : S → Ahead → Stopped → Type 0} → IsTold kept told → {asks : Kinds S} → KindsTell kept told asks → {fallback : Fallback S} → FallbackTells kept told fallback → {inner : Readers S} → ReadersTell kept told inner → (so_far : ParameterTypes) → Tells kept told (parameter_at asks fallback inner so_far)
 unfolding parameter_at
-parameter_tells is asks inner so_far state ahead = then_in is (looked_in is state ahead) (λ from state ahead. then_in is (specifiers_tell is asks inner where_.Parameter state ahead) (λ specifiers state ahead. then_in is (declarator_tells is asks inner naming.Either state ahead) (λ declarator state ahead. then_in is (parameter_fits_tells is specifiers declarator state ahead) (λ fits state ahead. then_in is (looked_in is state ahead) (λ to state ahead. then_in is (ask_in ahead (asks.parameter declarator.name (place_of_declarator declarator to) (parameter_type declarator.layers (specified_type specifiers)) state ahead)) (λ declared. give_in is (with_parameter (parameter_type declarator.layers (specified_type specifiers)) (parameter_tree specifiers declarator (parameter_type declarator.layers (specified_type specifiers)) from to) so_far)))))))
+parameter_tells is asks fallback inner so_far state ahead = then_in is (looked_in is state ahead) (λ from state ahead. then_in is (specifiers_tell is asks inner where_.Parameter state ahead) (λ specifiers state ahead. then_in is (declarator_tells is asks inner naming.Either state ahead) (λ declarator state ahead. then_in is (parameter_fits_tells is specifiers declarator state ahead) (λ fits state ahead. then_in is (looked_in is state ahead) (λ to state ahead. then_in is (ask_in ahead (asks.parameter declarator.name (place_of_declarator declarator to) (parameter_type declarator.layers (specified_type specifiers)) state ahead)) (λ declared state ahead. then_in is (default_tells is fallback (length so_far.types) (parameter_type declarator.layers (specified_type specifiers)) state ahead) (λ default state ahead. then_in is (looked_in is state ahead) (λ end. give_in is (with_parameter (parameter_type declarator.layers (specified_type specifiers)) (parameter_tree specifiers declarator (parameter_type declarator.layers (specified_type specifiers)) default from to end) so_far)))))))))
 
 pub list_ended_tells : {S : Type 0} {kept : S → S → Type 0} {told : S → Ahead → Stopped → Type 0} → IsTold kept told → (so_far : ParameterTypes) → Tells kept told (list_ended {S = S} so_far)
 unfolding list_ended
@@ -182,11 +194,11 @@ comma_tells is so_far state ahead = if_in (is_punct punct.ELLIPSIS (kind_ahead a
 
 pub parameter_ended_tells : {S : Type 0} {kept : S → S → Type 0} {told : S → Ahead → Stopped → Type 0} → IsTold kept told → (so_far : ParameterTypes) → Tells kept told (parameter_ended {S = S} so_far)
 unfolding parameter_ended
-parameter_ended_tells is so_far state ahead = if_in (is_punct punct.COMMA (kind_ahead ahead)) (past_in is (comma_tells is so_far state (behind ahead))) (if_in (is_punct punct.RIGHT_PARENTHESIS (kind_ahead ahead)) (next_in is (Done so_far) state ahead) (if_in (is_punct punct.ELLIPSIS (kind_ahead ahead)) (list_ended_tells is so_far state ahead) (if_in (is_punct punct.EQUALS (kind_ahead ahead)) (quiet_in is refl) (quiet_in is refl))))
+parameter_ended_tells is so_far state ahead = if_in (is_punct punct.COMMA (kind_ahead ahead)) (past_in is (comma_tells is so_far state (behind ahead))) (if_in (is_punct punct.RIGHT_PARENTHESIS (kind_ahead ahead)) (next_in is (Done so_far) state ahead) (if_in (is_punct punct.ELLIPSIS (kind_ahead ahead)) (list_ended_tells is so_far state ahead) (quiet_in is refl)))
 
-pub parameter_step_tells : {S : Type 0} {kept : S → S → Type 0} {told : S → Ahead → Stopped → Type 0} → IsTold kept told → {asks : Kinds S} → KindsTell kept told asks → {inner : Readers S} → ReadersTell kept told inner → (so_far : ParameterTypes) → Tells kept told (parameter_step asks inner so_far)
+pub parameter_step_tells : {S : Type 0} {kept : S → S → Type 0} {told : S → Ahead → Stopped → Type 0} → IsTold kept told → {asks : Kinds S} → KindsTell kept told asks → {fallback : Fallback S} → FallbackTells kept told fallback → {inner : Readers S} → ReadersTell kept told inner → (so_far : ParameterTypes) → Tells kept told (parameter_step asks fallback inner so_far)
 unfolding parameter_step
-parameter_step_tells is asks inner so_far state ahead = then_in is (parameter_tells is asks inner so_far state ahead) (parameter_ended_tells is)
+parameter_step_tells is asks fallback inner so_far state ahead = then_in is (parameter_tells is asks fallback inner so_far state ahead) (parameter_ended_tells is)
 
 past_most_tells : {S : Type 0} {kept : S → S → Type 0} {told : S → Ahead → Stopped → Type 0} → IsTold kept told → {A : Type 0} (begins : Bool) → Tells kept told (past_most {S = S} {A = A} begins)
 past_most_tells is true state ahead = quiet_in is refl
@@ -196,21 +208,21 @@ pub parameters_over_tells : {S : Type 0} {kept : S → S → Type 0} {told : S �
 unfolding parameters_over
 parameters_over_tells is asks so_far state ahead = if_in (is_keyword keyword.AUTO (kind_ahead ahead) || is_keyword keyword.REGISTER (kind_ahead ahead)) (past_most_tells is true state ahead) (then_in is (begins_tells is asks state ahead) (past_most_tells is))
 
-pub some_parameters_tell : {S : Type 0} {kept : S → S → Type 0} {told : S → Ahead → Stopped → Type 0} → IsTold kept told → {asks : Kinds S} → KindsTell kept told asks → {inner : Readers S} → ReadersTell kept told inner → (scope : ℕ) → Tells kept told (some_parameters asks inner scope)
+pub some_parameters_tell : {S : Type 0} {kept : S → S → Type 0} {told : S → Ahead → Stopped → Type 0} → IsTold kept told → {asks : Kinds S} → KindsTell kept told asks → {fallback : Fallback S} → FallbackTells kept told fallback → {inner : Readers S} → ReadersTell kept told inner → (scope : ℕ) → Tells kept told (some_parameters asks fallback inner scope)
 unfolding some_parameters
-some_parameters_tell is {asks = a} asks {inner = i} inner scope = repeat_tells is (parameter_step a i) (parameters_over a) (parameter_step_tells is asks inner) (parameters_over_tells is asks) limits.MOST_ARGUMENTS (no_parameters scope)
+some_parameters_tell is {asks = a} asks {fallback = f} fallback {inner = i} inner scope = repeat_tells is (parameter_step a f i) (parameters_over a) (parameter_step_tells is asks fallback inner) (parameters_over_tells is asks) limits.MOST_ARGUMENTS (no_parameters scope)
 
 turn_result_tells : {S : Type 0} {kept : S → S → Type 0} {told : S → Ahead → Stopped → Type 0} → IsTold kept told → (turn : Turn ParameterTypes ParameterTypes) → Tells kept told (turn_result {S = S} turn)
 turn_result_tells is (More so_far) = give_in is so_far
 turn_result_tells is (Done so_far) = give_in is so_far
 
-pub parameter_list_tells : {S : Type 0} {kept : S → S → Type 0} {told : S → Ahead → Stopped → Type 0} → IsTold kept told → {asks : Kinds S} → KindsTell kept told asks → {inner : Readers S} → ReadersTell kept told inner → (scope : ℕ) → Tells kept told (list_at asks inner scope)
+pub parameter_list_tells : {S : Type 0} {kept : S → S → Type 0} {told : S → Ahead → Stopped → Type 0} → IsTold kept told → {asks : Kinds S} → KindsTell kept told asks → {fallback : Fallback S} → FallbackTells kept told fallback → {inner : Readers S} → ReadersTell kept told inner → (scope : ℕ) → Tells kept told (list_at asks fallback inner scope)
 unfolding list_at
-parameter_list_tells is asks inner scope state ahead = if_in (is_punct punct.RIGHT_PARENTHESIS (kind_ahead ahead)) (next_in is (no_parameters scope) state ahead) (if_in (is_void_list ahead) (past_in is (next_in is (no_parameters scope) state (behind ahead))) (if_in (is_punct punct.ELLIPSIS (kind_ahead ahead)) (then_in is (list_ended_tells is (no_parameters scope) state ahead) (turn_result_tells is)) (some_parameters_tell is asks inner scope state ahead)))
+parameter_list_tells is asks fallback inner scope state ahead = if_in (is_punct punct.RIGHT_PARENTHESIS (kind_ahead ahead)) (next_in is (no_parameters scope) state ahead) (if_in (is_void_list ahead) (past_in is (next_in is (no_parameters scope) state (behind ahead))) (if_in (is_punct punct.ELLIPSIS (kind_ahead ahead)) (then_in is (list_ended_tells is (no_parameters scope) state ahead) (turn_result_tells is)) (some_parameters_tell is asks fallback inner scope state ahead)))
 
-pub parameters_tell : {S : Type 0} {kept : S → S → Type 0} {told : S → Ahead → Stopped → Type 0} → IsTold kept told → {asks : Kinds S} → KindsTell kept told asks → {inner : Readers S} → ReadersTell kept told inner → Tells kept told (parameters_at asks inner)
+pub parameters_tell : {S : Type 0} {kept : S → S → Type 0} {told : S → Ahead → Stopped → Type 0} → IsTold kept told → {asks : Kinds S} → KindsTell kept told asks → {fallback : Fallback S} → FallbackTells kept told fallback → {inner : Readers S} → ReadersTell kept told inner → Tells kept told (parameters_at asks fallback inner)
 unfolding parameters_at
-parameters_tell is {asks = a} asks {inner = i} inner state ahead = asks.listed (list_at a i) (parameter_list_tells is asks inner) state ahead
+parameters_tell is {asks = a} asks {fallback = f} fallback {inner = i} inner state ahead = asks.listed (list_at a f i) (parameter_list_tells is asks fallback inner) state ahead
 
 pub value_tells : {S : Type 0} {kept : S → S → Type 0} {told : S → Ahead → Stopped → Type 0} → IsTold kept told → {asks : Kinds S} → KindsTell kept told asks → Tells kept told (value_at asks)
 unfolding value_at no_value
@@ -249,7 +261,7 @@ readers_tell is asks keep (suc room) = record {
   referred = referred_tells is (keep room) (readers_tell is asks keep room);
   grouped = grouped_tells is (keep room) (readers_tell is asks keep room);
   bound = bound_tells is (keep room);
-  parameters = parameters_tell is (keep room) (readers_tell is asks keep room);
+  parameters = parameters_tell is (keep room) (no_fallback_tells is) (readers_tell is asks keep room);
   enumerators = enumerators_tell is (keep room);
   holds_parameters = parameters_shape_tells is (keep room) (readers_tell is asks keep room);
 }

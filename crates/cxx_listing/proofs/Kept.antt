@@ -2,22 +2,27 @@
 use Rattle.std.proofs.Common.{◌≡◌, ◌≤◌, ◌<◌, inl, inr, ℕ, zero, suc, ◌+◌, Bool, true, false, cond, List, [], ◌∷◌, length, Option, Some, None, Ok, Err, refl, ap, sym, subst, ◌∙◌, arith}
 use Rattle.std.specs.List.{AllByRecursion, Contains, filter, slice_get}
 use Rattle.std.proofs.lemmas.List.{length-map}
+use Rattle.cxx_form.specs.Text.{printed_calls}
+use Rattle.cxx_language_laws.specs.Best.{EachCallIsBest, IsBestCall, values_of}
 use Rattle.cxx_meaning.specs.Conversions.Asking.{Asked, ◌>>=◌}
-use Rattle.cxx_meaning.specs.Conversions.Standard.{CxxOperand, CxxStandard}
+use Rattle.cxx_meaning.specs.Conversions.Standard.{CxxOperand}
 use Rattle.cxx_meaning.specs.Lookups.Gathered.{before}
 use Rattle.cxx_model.proofs.Champion.{first_of, later_of, first_or_later}
 use Rattle.cxx_model.specs.declared.place.Place.{Place}
 use Rattle.cxx_model.specs.Facts.Declarations as facts
-use Rattle.cxx_model.specs.Facts.Declarations.{CxxGraph, Declares, spelled}
+use Rattle.cxx_model.specs.Facts.Declarations.{CxxGraph, Declares}
 use Rattle.cxx_model.specs.Types.Trees.{CxxType, function_of}
 use Rattle.cxx_phrase_text.specs.Calls.{CallOfText}
-use Rattle.cxx_reading.specs.Bound.{EachCallIsBest, IsBestCall}
-use Rattle.cxx_reading.specs.Choosing.{CxxCandidate, candidate_by, candidate_by_what, candidate_of, put, candidates_from, candidates, sequences_of, Rated, rated_by, rated, is_viable, position_of}
-use Rattle.cxx_reading.specs.Seen.{Numbered, found}
+use Rattle.cxx_overload.specs.Calls.{number_of, outcome_of}
+use Rattle.cxx_overload.specs.Candidates.{CxxCandidate, candidate_by, candidate_by_what, candidate_of, candidates, candidates_from, defaults_behind, put}
+use Rattle.cxx_overload.specs.Choices.{position_of}
+use Rattle.cxx_overload.specs.Viability.{Rated, is_viable, rated, rated_one}
+use Rattle.cxx_overload.proofs.InTurn.{same_candidate}
+use Rattle.cxx_reading.specs.Seen.{Numbered}
 use Rattle.cxx_reading.specs.State.{CxxCall, CxxState}
 use Rattle.cxx_reading.specs.Units.{CxxReading}
 use Rattle.cxx_listing.specs.Listing.{AreListed, IsListed, IsWellKept}
-use Rattle.cxx_listing.specs.Calls.{listed, printed_calls, records_of}
+use Rattle.cxx_listing.specs.Calls.{listed, records_of}
 use Rattle.cxx_listing.proofs.Lined.{listed_so}
 
 -- ---- the positions of candidates
@@ -30,17 +35,17 @@ put_counted : (one : Option CxxCandidate) (later : ℕ → List CxxCandidate) (p
 put_counted None later position at counted = counted position
 put_counted (Some candidate) later position at counted = (at candidate refl, counted (suc position))
 
-placed_by : (position number : ℕ) (place : Place) (of : CxxType) (candidate : CxxCandidate) → candidate_by position number place of ≡ Some candidate → candidate.position ≡ position
-placed_by position number place (function_of result parameters ellipsis cv) candidate e = cc
-placed_by position number place _ candidate e = absurd cc
+placed_by : (position number : ℕ) (place : Place) (defaults : ℕ) (of : CxxType) (candidate : CxxCandidate) → candidate_by position number place defaults of ≡ Some candidate → candidate.position ≡ position
+placed_by position number place defaults (function_of result parameters ellipsis cv) candidate e = cc
+placed_by position number place defaults _ candidate e = absurd cc
 
-placed : (position number : ℕ) (place : Place) (what : Declares) (candidate : CxxCandidate) → candidate_by_what position number place what ≡ Some candidate → candidate.position ≡ position
-placed position number place (facts.function of kind flags defaults None) candidate e = placed_by position number place of candidate e
-placed position number place _ candidate e = absurd cc
+placed : (position number : ℕ) (place : Place) (what : Declares) (others : List Numbered) (candidate : CxxCandidate) → candidate_by_what position number place what others ≡ Some candidate → candidate.position ≡ position
+placed position number place (facts.function of kind flags defaults None) others candidate e = placed_by position number place (defaults_behind number defaults others) of candidate e
+placed position number place _ others candidate e = absurd cc
 
 candidates_counted : (all : List Numbered) (from : ℕ) → AreCounted from (candidates_from all from)
 candidates_counted [] from = tt
-candidates_counted (one ∷ others) from = put_counted (candidate_of from one) (candidates_from others) from (placed from one.number one.fact.place one.fact.what) (candidates_counted others)
+candidates_counted (one ∷ others) from = put_counted (candidate_of from one others) (candidates_from others) from (placed from one.number one.fact.place one.fact.what others) (candidates_counted others)
 
 -- ---- those of rated ones
 
@@ -54,21 +59,20 @@ AskedAre one two = one ≡ two
 ok_is : {A : Type 0} (x y : A) → AskedAre (Ok x) (Ok y) → x ≡ y
 ok_is x y e = cc
 
-others_in_order : (operands : List CxxOperand) (candidate : CxxCandidate) (from : ℕ) (all : List Rated) (sequences : List (Option CxxStandard)) (later : Asked (List Rated)) → candidate.position ≡ from
-    → ((rest : List Rated) → later ≡ Ok rest → AreInOrder (suc from) rest) → AskedAre (later >>= λ others. Ok (rated_by operands candidate sequences ∷ others)) (Ok all) → AreInOrder from all
-others_in_order operands candidate from all sequences (Err class) at ordered e = absurd cc
-others_in_order operands candidate from all sequences (Ok rest) at ordered e = subst (λ (rs : List Rated). AreInOrder from rs) (ok_is (rated_by operands candidate sequences ∷ rest) all e) (at, ordered rest refl)
+others_in_order : (one : Rated) (from : ℕ) (all : List Rated) (later : Asked (List Rated)) → position_of one ≡ from → ((rest : List Rated) → later ≡ Ok rest → AreInOrder (suc from) rest) → AskedAre (later >>= λ others. Ok (one ∷ others)) (Ok all) → AreInOrder from all
+others_in_order one from all (Err class) at ordered e = absurd cc
+others_in_order one from all (Ok rest) at ordered e = subst (λ (rs : List Rated). AreInOrder from rs) (ok_is (one ∷ rest) all e) (at, ordered rest refl)
 
-first_in_order : (operands : List CxxOperand) (candidate : CxxCandidate) (from : ℕ) (all : List Rated) (first : Asked (List (Option CxxStandard))) (later : Asked (List Rated)) → candidate.position ≡ from
-    → ((rest : List Rated) → later ≡ Ok rest → AreInOrder (suc from) rest) → AskedAre (first >>= λ sequences. later >>= λ others. Ok (rated_by operands candidate sequences ∷ others)) (Ok all) → AreInOrder from all
-first_in_order operands candidate from all (Err class) later at ordered e = absurd cc
-first_in_order operands candidate from all (Ok sequences) later at ordered e = others_in_order operands candidate from all sequences later at ordered e
+first_in_order : (from : ℕ) (all : List Rated) (first : Asked Rated) (later : Asked (List Rated)) → ((one : Rated) → first ≡ Ok one → position_of one ≡ from) → ((rest : List Rated) → later ≡ Ok rest → AreInOrder (suc from) rest) → AskedAre (first >>= λ one. later >>= λ others. Ok (one ∷ others)) (Ok all) → AreInOrder from all
+first_in_order from all (Err class) later at ordered e = absurd cc
+first_in_order from all (Ok one) later at ordered e = others_in_order one from all later (at one refl) ordered e
 
 rated_in_order : (graph : CxxGraph) (operands : List CxxOperand) (some : List CxxCandidate) (from : ℕ) (all : List Rated) → AreCounted from some → rated graph operands some ≡ Ok all → AreInOrder from all
 unfolding rated
 rated_in_order graph operands [] from all counted e = subst (λ (rs : List Rated). AreInOrder from rs) (ok_is [] all e) tt
 rated_in_order graph operands (candidate ∷ others) from all counted e =
-    first_in_order operands candidate from all (sequences_of graph operands candidate.parameters) (rated graph operands others) counted.0
+    first_in_order from all (rated_one graph operands candidate) (rated graph operands others)
+    (λ one is. ap (λ (c : CxxCandidate). c.position) (same_candidate graph operands candidate one is) ∙ counted.0)
     (λ rest is. rated_in_order graph operands others (suc from) rest counted.1 is) e
 
 all_in_order : (graph : CxxGraph) (operands : List CxxOperand) (declared : List Numbered) (all : List Rated) → rated graph operands (candidates declared) ≡ Ok all → AreInOrder 1 all
@@ -101,14 +105,15 @@ of_filter test (first ∷ others) one m = kept_of (test first) first (filter tes
 
 well_kept : (state : CxxState) (call : CxxCall) → IsBestCall state call → IsWellKept call
 well_kept state call is =
-    let ordered : AreInOrder 1 is.all = all_in_order is.before call.operands (found is.before is.scope (spelled is.word)) is.all is.rated_so in
+    let ordered : AreInOrder 1 is.all = all_in_order is.before call.operands (values_of is.before is.scope is.name) is.all is.rated_so in
     let at = within 1 is.all ordered is.meant (of_filter (λ one. is_viable one.outcome) is.all is.meant is.best.member) in
-    let count : length call.candidates ≡ length is.all = ap length is.candidates_are ∙ length-map is.all (λ one. one.candidate.number) in
-    let told : length call.outcomes ≡ length is.all = ap length is.outcomes_are ∙ length-map is.all (λ one. one.outcome) in
+    let count : length call.candidates ≡ length is.all = ap (λ (c : CxxCall). length c.candidates) is.keeps ∙ length-map is.all number_of in
+    let told : length call.outcomes ≡ length is.all = ap (λ (c : CxxCall). length c.outcomes) is.keeps ∙ length-map is.all outcome_of in
+    let chosen : call.chosen ≡ position_of is.meant = ap (λ (c : CxxCall). c.chosen) is.keeps in
     record {
       outcomes = told ∙ sym count;
-      chosen = omega (arith, is.chosen, at.0);
-      within = omega (arith, is.chosen, at.1, count);
+      chosen = omega (arith, chosen, at.0);
+      within = omega (arith, chosen, at.1, count);
     }
 
 each_at : {X : Type 0} (P : X → Type 0) (xs : List X) (n : ℕ) (x : X) → AllByRecursion P xs → slice_get xs n ≡ Some x → P x

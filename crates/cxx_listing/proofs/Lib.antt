@@ -1,4 +1,3 @@
 pub mod Kept
 pub mod Lined
-pub mod Walked
 pub mod Written

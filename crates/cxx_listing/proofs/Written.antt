@@ -4,6 +4,7 @@ use Rattle.std.specs.Prelude.{flat_map}
 use Rattle.std.specs.List.{slice_get}
 use Rattle.std.proofs.lemmas.List.{at_drop_more, at_drop_all}
 use Rattle.std.proofs.lemmas.Grind.{flat_map-append}
+use Rattle.cxx_form.specs.Text.{printed_calls}
 use Rattle.cxx_form.specs.Views.{facts_in}
 use Rattle.cxx_form.proofs.Gathering.{fact_is}
 use Rattle.cxx_form.proofs.InTrees.{not_it}
@@ -24,7 +25,7 @@ use Rattle.cxx_tree.specs.declared.kept.Decided.{Decided}
 use Rattle.cxx_tree.specs.Arena.{number_of_option}
 use Rattle.cxx_tree.specs.Held.{call_at, calls_at, meaning, numbers_at, Held}
 use Rattle.cxx_model.specs.declared.options.Options.{Options}
-use Rattle.cxx_listing.specs.Calls.{listed, printed_calls, records_of}
+use Rattle.cxx_listing.specs.Calls.{listed, records_of}
 use Rattle.cxx_listing.specs.Lines.{call_text, calls_text, line_text, others_from, chosen_line, chosen_of, other_line, place_of, place_of_fact, CallLine}
 use Rattle.cxx_listing.specs.Views.{listed_at, other_lines, text_from}
 

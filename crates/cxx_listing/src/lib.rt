@@ -3,8 +3,6 @@
 
 mod laws;
 mod lines;
-mod listed;
-mod production;
 mod text;
 
 pub use laws::calls_are_listed;

@@ -10,7 +10,7 @@ ghost use Rattle.cxx_model.specs.declared.options.Options.{Options};
 ghost use Rattle.cxx_tree.specs.Held.{meaning};
 
 use crate::lines::write_call;
-use crate::listed::printed_calls;
+use cxx_form::printed_calls;
 use cxx_phrase_text::ListedCall;
 use cxx_tree::{Decided, State};
 use std::alloc::{AllocError, Global};

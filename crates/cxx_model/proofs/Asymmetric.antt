@@ -5,11 +5,10 @@ use Rattle.std.proofs.lemmas.Bool.{ltb-true, le-ltb}
 use Rattle.cxx_model.specs.declared.base.Base.{Base}
 use Rattle.cxx_model.specs.declared.sequence.Order.{Order}
 use Rattle.cxx_model.specs.declared.sequence.Order.TheVariants.{Better, Worse, Same}
-use Rattle.cxx_model.specs.declared.first.ArithmeticSequence.{ArithmeticSequence}
+use Rattle.cxx_model.specs.declared.sequence.ArithmeticSequence.{ArithmeticSequence}
 use Rattle.cxx_model.specs.Choice.Better.{is_better_order, is_worse_order, compared, is_better}
 use Rattle.cxx_model.specs.Choice.Standard.{steps, rank}
 use Rattle.cxx_model.specs.Choice.StandardOrder.{number_of_rank, is_subsequence, order_by, else_by, is_proper_subsequence, has_better_rank, compare}
-use Rattle.cxx_model.specs.First.Candidates.{Candidate, sequences, beats}
 use Rattle.cxx_model.proofs.Champion.{and_true}
 
 -- how the second stands to the first
@@ -70,6 +69,3 @@ unfolding is_better
 better_asymmetric order turns ones twos h =
     let both = and_true (not (list_any is_worse_order (compared order ones twos))) (list_any is_better_order (compared order ones twos)) h in
     ap (λ x. not x && list_any is_better_order (compared order twos ones)) (sym (any_turned order turns ones twos) ∙ both.1)
-
-pub beats_asymmetric : (arguments : List Base) (f g : Candidate) → beats arguments f g ≡ true → beats arguments g f ≡ false
-beats_asymmetric arguments f g h = better_asymmetric compare compare_turned (sequences arguments f.parameters) (sequences arguments g.parameters) h

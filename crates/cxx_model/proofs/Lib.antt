@@ -3,10 +3,8 @@ pub mod Asymmetric
 pub mod Champion
 pub mod Copied
 pub mod Equal
-pub mod FirstForm
 pub mod Fronts
 pub mod Readings
-mod Rows
 pub mod Shapes
 pub mod SpelledKinds
 pub mod Spellings

@@ -3,6 +3,4 @@ pub mod Types
 pub mod Facts
 pub mod Choice
 pub mod Stops
-pub mod First
-pub mod Outcome
 pub mod Printing

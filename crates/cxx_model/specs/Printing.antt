@@ -1,4 +1,3 @@
 pub mod Names
-pub mod ReadsBack
 pub mod Reports
 pub mod Written

@@ -1,5 +1,6 @@
 //! Implicit conversion sequences (13.3.3.1), and how two of them stand to each other.
 
+use crate::base::Base;
 use crate::listed::Listed;
 use crate::types::{FactId, TypeId};
 
@@ -90,4 +91,12 @@ pub enum Order {
     Better,
     Worse,
     Same,
+}
+
+/// A standard conversion sequence between arithmetic types (13.3.3.1.1): identity where it has no step.
+#[derive(Clone, Copy, PartialEq, Eq)]
+pub struct ArithmeticSequence {
+    pub from: Base,
+    pub to: Base,
+    pub second: Option<Second>,
 }

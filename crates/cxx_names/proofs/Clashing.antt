@@ -308,7 +308,7 @@ nothing graph number (old ∷ others) new none = ap (λ t. cond t (Some number) 
 
 -- ---- the test of two scopes
 
-parameters_are : (types : List CxxType) (facts : List Fact) (n : ℕ) → are_parameters_in (slice_get (scopes_of facts) n) ≡ are_parameters (slice_get (scope_kinds (facts_at types facts)) n)
+pub parameters_are : (types : List CxxType) (facts : List Fact) (n : ℕ) → are_parameters_in (slice_get (scopes_of facts) n) ≡ are_parameters (slice_get (scope_kinds (facts_at types facts)) n)
 parameters_are types [] n = refl
 parameters_are types (fact ∷ facts) n = by fact.what n (parameters_are types facts)
   where

@@ -1,7 +1,10 @@
 //! What names mean among the declarations so far (3.4.1, 3.4.4).
 
 ghost use Rattle.std.specs.Prelude.{◌≡◌, ◌<◌, List, length, option_map};
+ghost use Rattle.std.specs.List.{slice_get};
+ghost use Rattle.cxx_model.specs.Facts.Conflicts.{are_parameters};
 ghost use Rattle.cxx_model.specs.Facts.Declarations.{facts_at, graph_at, spelled};
+ghost use Rattle.cxx_model.specs.Facts.Entities.{scope_kinds};
 ghost use Rattle.cxx_model.specs.Facts.Fitted.{IsGraphBelow};
 ghost use Rattle.cxx_model.specs.Types.Numbers.{type_at};
 ghost use Rattle.cxx_model.specs.Types.Trees.{CxxType};
@@ -41,6 +44,16 @@ impl Names {
             Some(noted) => noted.parent,
             None => scope,
         }
+    }
+
+    /// Whether a scope is that of the parameters of a function (3.3.2).
+    #[tactic(auto, using(crate::proofs::Clashing::parameters_are))]
+    pub fn is_parameters(&self, graph: &Graph, scope: ScopeId) -> bool
+        requires { Notes self.now graph.now.facts }
+        ensures { (types : List CxxType) → result ≡ are_parameters (slice_get (scope_kinds (facts_at types graph.now.facts)) scope.0) }
+    {
+        let _ = graph;
+        self.kept.is_parameters(scope)
     }
 
     /// The values of the enumerators of an enumeration, in order (7.2).

@@ -1,10 +1,11 @@
 -- What the readers of declarators, parameters and enumerators keep of the state.
-use Rattle.std.specs.Prelude.{ℕ, zero, suc, Bool, true, false, not, ◌||◌, ◌==◌, List, [], ◌∷◌, ◌++◌, Option, Some, None}
+use Rattle.std.specs.Prelude.{ℕ, zero, suc, Bool, true, false, not, ◌||◌, ◌==◌, List, [], ◌∷◌, ◌++◌, length, Option, Some, None}
 use Rattle.cxx_model.specs.declared.keyword.TheConstants as keyword
 use Rattle.cxx_model.specs.declared.limits.TheConstants as limits
 use Rattle.cxx_model.specs.declared.punct.TheConstants as punct
 use Rattle.cxx_model.specs.declared.types.Cv.{Cv}
 use Rattle.cxx_model.specs.Text.Lexemes.{Lexeme}
+use Rattle.cxx_model.specs.Types.Trees.{CxxType}
 use Rattle.cxx_reading.specs.declared.specifier.Naming.{Naming}
 use Rattle.cxx_reading.specs.declared.specifier.Naming.TheVariants as naming
 use Rattle.cxx_reading.specs.declared.specifier.SpecifierPlace.TheVariants as where_
@@ -17,8 +18,8 @@ use Rattle.cxx_model.specs.declared.base.Base.{Base}
 use Rattle.cxx_model.specs.declared.token.TokenKind.{TokenKind}
 use Rattle.cxx_model.specs.declared.token.TokenKind.TheVariants.{Name, Keyword, Punct, Text, Integer, Character, End}
 use Rattle.cxx_model.specs.Text.Spelling.{literal_type}
-use Rattle.cxx_reading.specs.Syntax.{is_required, is_never, cv_step, cv_at, suffixed, array_part, function_part, array_suffix, exceptions_at, function_suffix, function_by, bracket_suffix, suffix_at, give_declarator, suffixes_at, name_read, name_part, grouped_part, grouped_by, bracket_part, star_part, ampersand_part, declarator_at, pointed_at, referred_at, grouped_at, valued, bound_value, bound_at, specified_type, place_of_declarator, is_refused_parameter, parameter_fits, parameter_tree, with_parameter, with_ellipsis, parameter_at, list_ended, comma_passed, parameter_ended, parameter_step, past_most, parameters_over, no_parameters, some_parameters, turn_result, is_void_list, list_at, parameters_at, no_value, value_at, enumerator_at, enumerator_ended, enumerator_step, enumerators_at, readers, Suffixed}
-use Rattle.cxx_reading.specs.Kinds.{Kinds, Readers}
+use Rattle.cxx_reading.specs.Syntax.{is_required, is_never, cv_step, cv_at, suffixed, array_part, function_part, array_suffix, exceptions_at, function_suffix, function_by, bracket_suffix, suffix_at, give_declarator, suffixes_at, name_read, name_part, grouped_part, grouped_by, bracket_part, star_part, ampersand_part, declarator_at, pointed_at, referred_at, grouped_at, valued, bound_value, bound_at, specified_type, place_of_declarator, is_refused_parameter, parameter_fits, parameter_tree, with_parameter, with_ellipsis, default_at, parameter_at, list_ended, comma_passed, parameter_ended, parameter_step, past_most, parameters_over, no_parameters, some_parameters, turn_result, is_void_list, list_at, parameters_at, no_value, value_at, enumerator_at, enumerator_ended, enumerator_step, enumerators_at, no_fallback, readers, Suffixed}
+use Rattle.cxx_reading.specs.Kinds.{Kinds, Fallback, Readers}
 use Rattle.cxx_reading.specs.Reads.{Turn, More, Done, give, kind_ahead, word_ahead, behind}
 use Rattle.cxx_reading.proofs.Keeps.{IsKept, Keeps, keeps_stop, KindsKeep, ReadersKeep, if_in, then_in, ask_in, same_in, repeat_keeps, taken_in, looked_in, token_in, punct_in, give_in, tokens_in}
 use Rattle.cxx_reading.proofs.KeepsShapes.{returned_in, begins_keeps, abstract_keeps, parameters_shape_keeps}
@@ -149,9 +150,20 @@ pub parameter_fits_keeps : {S : Type 0} {kept : S → S → Type 0} → IsKept k
 unfolding parameter_fits
 parameter_fits_keeps is specifiers declarator state ahead = if_in (is_refused_parameter declarator.layers (specified_type specifiers)) (keeps_stop _) (same_in is tt state ahead)
 
-pub parameter_keeps : {S : Type 0} {kept : S → S → Type 0} → IsKept kept → {asks : Kinds S} → KindsKeep kept asks → {inner : Readers S} → ReadersKeep kept inner → (so_far : ParameterTypes) → Keeps kept (parameter_at asks inner so_far)
+-- 8.3.6
+abbrev pub FallbackKeeps : {S : Type 0} → (S → S → Type 0) → Fallback S → Type 0
+FallbackKeeps kept fallback = (index : ℕ) (of : CxxType) → Keeps kept (fallback index of)
+
+pub no_fallback_keeps : {S : Type 0} {kept : S → S → Type 0} → FallbackKeeps {S = S} kept no_fallback
+no_fallback_keeps index of state ahead = keeps_stop _
+
+pub default_keeps : {S : Type 0} {kept : S → S → Type 0} → IsKept kept → {fallback : Fallback S} → FallbackKeeps kept fallback → (index : ℕ) (of : CxxType) → Keeps kept (default_at fallback index of)
+unfolding default_at
+default_keeps is fallback index of state ahead = if_in (is_punct punct.EQUALS (kind_ahead ahead)) (fallback index of state ahead) (same_in is [] state ahead)
+
+pub parameter_keeps : {S : Type 0} {kept : S → S → Type 0} → IsKept kept → {asks : Kinds S} → KindsKeep kept asks → {fallback : Fallback S} → FallbackKeeps kept fallback → {inner : Readers S} → ReadersKeep kept inner → (so_far : ParameterTypes) → Keeps kept (parameter_at asks fallback inner so_far)
 unfolding parameter_at
-parameter_keeps is asks inner so_far state ahead = then_in is (looked_in is state ahead) (λ from state ahead. then_in is (specifiers_keep is asks inner where_.Parameter state ahead) (λ specifiers state ahead. then_in is (declarator_keeps is asks inner naming.Either state ahead) (λ declarator state ahead. then_in is (parameter_fits_keeps is specifiers declarator state ahead) (λ fits state ahead. then_in is (looked_in is state ahead) (λ to state ahead. then_in is (ask_in ahead (asks.parameter declarator.name (place_of_declarator declarator to) (parameter_type declarator.layers (specified_type specifiers)) state)) (λ declared. give_in is (with_parameter (parameter_type declarator.layers (specified_type specifiers)) (parameter_tree specifiers declarator (parameter_type declarator.layers (specified_type specifiers)) from to) so_far)))))))
+parameter_keeps is asks fallback inner so_far state ahead = then_in is (looked_in is state ahead) (λ from state ahead. then_in is (specifiers_keep is asks inner where_.Parameter state ahead) (λ specifiers state ahead. then_in is (declarator_keeps is asks inner naming.Either state ahead) (λ declarator state ahead. then_in is (parameter_fits_keeps is specifiers declarator state ahead) (λ fits state ahead. then_in is (looked_in is state ahead) (λ to state ahead. then_in is (ask_in ahead (asks.parameter declarator.name (place_of_declarator declarator to) (parameter_type declarator.layers (specified_type specifiers)) state)) (λ declared state ahead. then_in is (default_keeps is fallback (length so_far.types) (parameter_type declarator.layers (specified_type specifiers)) state ahead) (λ default state ahead. then_in is (looked_in is state ahead) (λ end. give_in is (with_parameter (parameter_type declarator.layers (specified_type specifiers)) (parameter_tree specifiers declarator (parameter_type declarator.layers (specified_type specifiers)) default from to end) so_far)))))))))
 
 pub list_ended_keeps : {S : Type 0} {kept : S → S → Type 0} → IsKept kept → (so_far : ParameterTypes) → Keeps kept (list_ended {S = S} so_far)
 unfolding list_ended
@@ -163,11 +175,11 @@ comma_keeps is so_far state ahead = if_in (is_punct punct.ELLIPSIS (kind_ahead a
 
 pub parameter_ended_keeps : {S : Type 0} {kept : S → S → Type 0} → IsKept kept → (so_far : ParameterTypes) → Keeps kept (parameter_ended {S = S} so_far)
 unfolding parameter_ended
-parameter_ended_keeps is so_far state ahead = if_in (is_punct punct.COMMA (kind_ahead ahead)) (comma_keeps is so_far state (behind ahead)) (if_in (is_punct punct.RIGHT_PARENTHESIS (kind_ahead ahead)) (same_in is (Done so_far) state (behind ahead)) (if_in (is_punct punct.ELLIPSIS (kind_ahead ahead)) (list_ended_keeps is so_far state ahead) (if_in (is_punct punct.EQUALS (kind_ahead ahead)) (keeps_stop _) (keeps_stop _))))
+parameter_ended_keeps is so_far state ahead = if_in (is_punct punct.COMMA (kind_ahead ahead)) (comma_keeps is so_far state (behind ahead)) (if_in (is_punct punct.RIGHT_PARENTHESIS (kind_ahead ahead)) (same_in is (Done so_far) state (behind ahead)) (if_in (is_punct punct.ELLIPSIS (kind_ahead ahead)) (list_ended_keeps is so_far state ahead) (keeps_stop _)))
 
-pub parameter_step_keeps : {S : Type 0} {kept : S → S → Type 0} → IsKept kept → {asks : Kinds S} → KindsKeep kept asks → {inner : Readers S} → ReadersKeep kept inner → (so_far : ParameterTypes) → Keeps kept (parameter_step asks inner so_far)
+pub parameter_step_keeps : {S : Type 0} {kept : S → S → Type 0} → IsKept kept → {asks : Kinds S} → KindsKeep kept asks → {fallback : Fallback S} → FallbackKeeps kept fallback → {inner : Readers S} → ReadersKeep kept inner → (so_far : ParameterTypes) → Keeps kept (parameter_step asks fallback inner so_far)
 unfolding parameter_step
-parameter_step_keeps is asks inner so_far state ahead = then_in is (parameter_keeps is asks inner so_far state ahead) (parameter_ended_keeps is)
+parameter_step_keeps is asks fallback inner so_far state ahead = then_in is (parameter_keeps is asks fallback inner so_far state ahead) (parameter_ended_keeps is)
 
 past_most_keeps : {S : Type 0} {kept : S → S → Type 0} → IsKept kept → {A : Type 0} (begins : Bool) → Keeps kept (past_most {S = S} {A = A} begins)
 past_most_keeps is true state ahead = keeps_stop _
@@ -177,21 +189,21 @@ pub parameters_over_keeps : {S : Type 0} {kept : S → S → Type 0} → IsKept 
 unfolding parameters_over
 parameters_over_keeps is asks so_far state ahead = if_in (is_keyword keyword.AUTO (kind_ahead ahead) || is_keyword keyword.REGISTER (kind_ahead ahead)) (past_most_keeps is true state ahead) (then_in is (begins_keeps is asks state ahead) (past_most_keeps is))
 
-pub some_parameters_keep : {S : Type 0} {kept : S → S → Type 0} → IsKept kept → {asks : Kinds S} → KindsKeep kept asks → {inner : Readers S} → ReadersKeep kept inner → (scope : ℕ) → Keeps kept (some_parameters asks inner scope)
+pub some_parameters_keep : {S : Type 0} {kept : S → S → Type 0} → IsKept kept → {asks : Kinds S} → KindsKeep kept asks → {fallback : Fallback S} → FallbackKeeps kept fallback → {inner : Readers S} → ReadersKeep kept inner → (scope : ℕ) → Keeps kept (some_parameters asks fallback inner scope)
 unfolding some_parameters
-some_parameters_keep is {asks = a} asks {inner = i} inner scope = repeat_keeps is (parameter_step a i) (parameters_over a) (parameter_step_keeps is asks inner) (parameters_over_keeps is asks) limits.MOST_ARGUMENTS (no_parameters scope)
+some_parameters_keep is {asks = a} asks {fallback = f} fallback {inner = i} inner scope = repeat_keeps is (parameter_step a f i) (parameters_over a) (parameter_step_keeps is asks fallback inner) (parameters_over_keeps is asks) limits.MOST_ARGUMENTS (no_parameters scope)
 
 turn_result_keeps : {S : Type 0} {kept : S → S → Type 0} → IsKept kept → (turn : Turn ParameterTypes ParameterTypes) → Keeps kept (turn_result {S = S} turn)
 turn_result_keeps is (More so_far) = give_in is so_far
 turn_result_keeps is (Done so_far) = give_in is so_far
 
-pub parameter_list_keeps : {S : Type 0} {kept : S → S → Type 0} → IsKept kept → {asks : Kinds S} → KindsKeep kept asks → {inner : Readers S} → ReadersKeep kept inner → (scope : ℕ) → Keeps kept (list_at asks inner scope)
+pub parameter_list_keeps : {S : Type 0} {kept : S → S → Type 0} → IsKept kept → {asks : Kinds S} → KindsKeep kept asks → {fallback : Fallback S} → FallbackKeeps kept fallback → {inner : Readers S} → ReadersKeep kept inner → (scope : ℕ) → Keeps kept (list_at asks fallback inner scope)
 unfolding list_at
-parameter_list_keeps is asks inner scope state ahead = if_in (is_punct punct.RIGHT_PARENTHESIS (kind_ahead ahead)) (same_in is (no_parameters scope) state (behind ahead)) (if_in (is_void_list ahead) (same_in is (no_parameters scope) state (behind (behind ahead))) (if_in (is_punct punct.ELLIPSIS (kind_ahead ahead)) (then_in is (list_ended_keeps is (no_parameters scope) state ahead) (turn_result_keeps is)) (some_parameters_keep is asks inner scope state ahead)))
+parameter_list_keeps is asks fallback inner scope state ahead = if_in (is_punct punct.RIGHT_PARENTHESIS (kind_ahead ahead)) (same_in is (no_parameters scope) state (behind ahead)) (if_in (is_void_list ahead) (same_in is (no_parameters scope) state (behind (behind ahead))) (if_in (is_punct punct.ELLIPSIS (kind_ahead ahead)) (then_in is (list_ended_keeps is (no_parameters scope) state ahead) (turn_result_keeps is)) (some_parameters_keep is asks fallback inner scope state ahead)))
 
-pub parameters_keep : {S : Type 0} {kept : S → S → Type 0} → IsKept kept → {asks : Kinds S} → KindsKeep kept asks → {inner : Readers S} → ReadersKeep kept inner → Keeps kept (parameters_at asks inner)
+pub parameters_keep : {S : Type 0} {kept : S → S → Type 0} → IsKept kept → {asks : Kinds S} → KindsKeep kept asks → {fallback : Fallback S} → FallbackKeeps kept fallback → {inner : Readers S} → ReadersKeep kept inner → Keeps kept (parameters_at asks fallback inner)
 unfolding parameters_at
-parameters_keep is asks inner state ahead = then_in is (ask_in ahead (asks.enter_parameters state)) (λ scope state ahead. then_in is (parameter_list_keeps is asks inner scope state ahead) (λ list state ahead. then_in is (ask_in ahead (asks.leave_parameters state)) (λ left. give_in is list)))
+parameters_keep is asks fallback inner state ahead = then_in is (ask_in ahead (asks.enter_parameters state)) (λ scope state ahead. then_in is (parameter_list_keeps is asks fallback inner scope state ahead) (λ list state ahead. then_in is (ask_in ahead (asks.leave_parameters state)) (λ left. give_in is list)))
 
 pub value_keeps : {S : Type 0} {kept : S → S → Type 0} → IsKept kept → {asks : Kinds S} → KindsKeep kept asks → Keeps kept (value_at asks)
 unfolding value_at no_value
@@ -230,7 +242,7 @@ readers_keep is asks keep (suc room) = record {
   referred = referred_keeps is (keep room) (readers_keep is asks keep room);
   grouped = grouped_keeps is (keep room) (readers_keep is asks keep room);
   bound = bound_keeps is (keep room);
-  parameters = parameters_keep is (keep room) (readers_keep is asks keep room);
+  parameters = parameters_keep is (keep room) no_fallback_keeps (readers_keep is asks keep room);
   enumerators = enumerators_keep is (keep room);
   holds_parameters = parameters_shape_keeps is (keep room) (readers_keep is asks keep room);
 }

@@ -22,7 +22,7 @@ use Rattle.cxx_reading.specs.Declarators.{declared_type, refused_in}
 use Rattle.cxx_reading.specs.Specifiers.{storage_step, inline_step, const_step, volatile_step, word_step, named_step, elaborated_step, defined_step, enumeration_body, list_step, key_named_step, key_step, enumeration_step, class_step, other_step, keyword_step, specifier_step, typed, specifiers_at}
 use Rattle.cxx_reading.specs.Shapes.{bracket_step, brackets_passed, key_shape, name_shape, keyword_shape, run_step, run_passed, begins_type, is_abstract_list, prefix_step, prefix_passed, list_shape, suffix_step, declarator_passed, default_step, default_passed, piece_step, parameters_shape}
 use Rattle.cxx_reading.specs.Constants.{literal_at, no_expression, literal_ended, constant_at}
-use Rattle.cxx_reading.specs.Syntax.{cv_step, cv_at, array_suffix, exceptions_at, function_suffix, bracket_suffix, suffix_at, suffixes_at, name_part, grouped_part, bracket_part, star_part, ampersand_part, declarator_at, pointed_at, referred_at, grouped_at, valued, bound_value, bound_at, parameter_fits, parameter_at, list_ended, comma_passed, parameter_ended, parameter_step, parameters_over, some_parameters, list_at, parameters_at, no_value, value_at, enumerator_at, enumerator_ended, enumerator_step, enumerators_at, readers}
+use Rattle.cxx_reading.specs.Syntax.{cv_step, cv_at, array_suffix, exceptions_at, function_suffix, bracket_suffix, suffix_at, suffixes_at, name_part, grouped_part, bracket_part, star_part, ampersand_part, declarator_at, pointed_at, referred_at, grouped_at, valued, bound_value, bound_at, parameter_fits, default_at, parameter_at, list_ended, comma_passed, parameter_ended, parameter_step, parameters_over, some_parameters, list_at, parameters_at, no_value, value_at, enumerator_at, enumerator_ended, enumerator_step, enumerators_at, readers}
 use Rattle.cxx_reading.specs.Seen.{declared_in, found_from, found, found_types}
 use Rattle.cxx_reading.specs.Declaring.{added, free, declare, declare_synonym, declare_function, undefined, declare_object, define_object, define_declared, enter_parameters, leave_parameters, declare_parameter, declare_enumeration, declare_value, declare_enumerator, end_enumeration, kind_here, type_here, elaborated_here, constant_here, declaring}
 use Rattle.cxx_reading.specs.Choosing.{candidates, rated, chosen, refusals, ties, choice}
@@ -34,12 +34,12 @@ joined_lines [] = []
 joined_lines (one ∷ others) = one ++ joined_lines others
 
 words_by : Answer CxxReading → List Word
-unfolding spelling_of keywords alternatives operators digraphs word_kind number_kind operator literal hash slash percent literal_type literal_value tokens_of tokens_from front longest_within is_better is_proper_part is_no_pointer_to_bool way_of_pointers way_of_classes way_of is_shorter is_nearer has_nearer_class is_less_qualified refers_to_less is_bound_to_less order_of steps_of_arithmetic value_step steps_of_pointer steps_of_kinds steps_to_scalar steps_by_kinds steps_of_value steps_between standard_sequence is_text repeat is_punct is_keyword is_name is_end is_number punct_taken no_declaration no_declarator declared_type refused_in storage_step inline_step const_step volatile_step word_step named_step elaborated_step defined_step enumeration_body list_step key_named_step key_step enumeration_step class_step other_step keyword_step specifier_step typed specifiers_at bracket_step brackets_passed key_shape name_shape keyword_shape run_step run_passed begins_type is_abstract_list prefix_step prefix_passed list_shape suffix_step declarator_passed default_step default_passed piece_step parameters_shape literal_at no_expression literal_ended constant_at cv_step cv_at array_suffix exceptions_at function_suffix bracket_suffix suffix_at suffixes_at name_part grouped_part bracket_part star_part ampersand_part declarator_at pointed_at referred_at grouped_at valued bound_value bound_at parameter_fits parameter_at list_ended comma_passed parameter_ended parameter_step parameters_over some_parameters list_at parameters_at no_value value_at enumerator_at enumerator_ended enumerator_step enumerators_at readers declared_in found_from found found_types added free declare declare_synonym declare_function undefined declare_object define_object define_declared enter_parameters leave_parameters declare_parameter declare_enumeration declare_value declare_enumerator end_enumeration kind_here type_here elaborated_here constant_here declaring candidates rated chosen refusals ties choice asked_among call_asked operand_ended name_refused no_initial no_argument type_fits target_at cast_at argument_by argument_opened arguments_over argument_ended argument_step arguments_by arguments_opened call_at named_call initial_by initial_opened initial_at initializer_at declared_fits uninitialized equals_part defined_part defined_later extern_part extern_object defined_object function_ended declared_function synonym_ended declared_synonym init_declarator_at declarator_ended declarator_step declarators_at nothing_declared declarators_of simple_declaration_at plain_declaration_at linkage_step linkages_passed linkage_list linked_one declaration_by inside_step linkage_opened declaration_at unit_step unit_reading lines text_order text_name names_of_text
+unfolding spelling_of keywords alternatives operators digraphs word_kind number_kind operator literal hash slash percent literal_type literal_value tokens_of tokens_from front longest_within is_better is_proper_part is_no_pointer_to_bool way_of_pointers way_of_classes way_of is_shorter is_nearer has_nearer_class is_less_qualified refers_to_less is_bound_to_less order_of steps_of_arithmetic value_step steps_of_pointer steps_of_kinds steps_to_scalar steps_by_kinds steps_of_value steps_between standard_sequence is_text repeat is_punct is_keyword is_name is_end is_number punct_taken no_declaration no_declarator declared_type refused_in storage_step inline_step const_step volatile_step word_step named_step elaborated_step defined_step enumeration_body list_step key_named_step key_step enumeration_step class_step other_step keyword_step specifier_step typed specifiers_at bracket_step brackets_passed key_shape name_shape keyword_shape run_step run_passed begins_type is_abstract_list prefix_step prefix_passed list_shape suffix_step declarator_passed default_step default_passed piece_step parameters_shape literal_at no_expression literal_ended constant_at cv_step cv_at array_suffix exceptions_at function_suffix bracket_suffix suffix_at suffixes_at name_part grouped_part bracket_part star_part ampersand_part declarator_at pointed_at referred_at grouped_at valued bound_value bound_at parameter_fits default_at parameter_at list_ended comma_passed parameter_ended parameter_step parameters_over some_parameters list_at parameters_at no_value value_at enumerator_at enumerator_ended enumerator_step enumerators_at readers declared_in found_from found found_types added free declare declare_synonym declare_function undefined declare_object define_object define_declared enter_parameters leave_parameters declare_parameter declare_enumeration declare_value declare_enumerator end_enumeration kind_here type_here elaborated_here constant_here declaring candidates rated chosen refusals ties choice asked_among call_asked operand_ended name_refused no_initial no_argument type_fits target_at cast_at argument_by argument_opened arguments_over argument_ended argument_step arguments_by arguments_opened call_at named_call initial_by initial_opened initial_at initializer_at declared_fits uninitialized equals_part defined_part defined_later extern_part extern_object defined_object function_ended declared_function synonym_ended declared_synonym init_declarator_at declarator_ended declarator_step declarators_at nothing_declared declarators_of simple_declaration_at plain_declaration_at linkage_step linkages_passed linkage_list linked_one declaration_by inside_step linkage_opened declaration_at unit_step unit_reading lines text_order text_name names_of_text
 words_by (Ok reading) = joined_lines (map (line_words (names_of_text reading.state) reading.state.graph.facts) (lines reading.state))
 words_by (Err why) = []
 
 words_of_tokens : List ℕ → Result (List Token) Unread → List Word
-unfolding spelling_of keywords alternatives operators digraphs word_kind number_kind operator literal hash slash percent literal_type literal_value tokens_of tokens_from front longest_within is_better is_proper_part is_no_pointer_to_bool way_of_pointers way_of_classes way_of is_shorter is_nearer has_nearer_class is_less_qualified refers_to_less is_bound_to_less order_of steps_of_arithmetic value_step steps_of_pointer steps_of_kinds steps_to_scalar steps_by_kinds steps_of_value steps_between standard_sequence is_text repeat is_punct is_keyword is_name is_end is_number punct_taken no_declaration no_declarator declared_type refused_in storage_step inline_step const_step volatile_step word_step named_step elaborated_step defined_step enumeration_body list_step key_named_step key_step enumeration_step class_step other_step keyword_step specifier_step typed specifiers_at bracket_step brackets_passed key_shape name_shape keyword_shape run_step run_passed begins_type is_abstract_list prefix_step prefix_passed list_shape suffix_step declarator_passed default_step default_passed piece_step parameters_shape literal_at no_expression literal_ended constant_at cv_step cv_at array_suffix exceptions_at function_suffix bracket_suffix suffix_at suffixes_at name_part grouped_part bracket_part star_part ampersand_part declarator_at pointed_at referred_at grouped_at valued bound_value bound_at parameter_fits parameter_at list_ended comma_passed parameter_ended parameter_step parameters_over some_parameters list_at parameters_at no_value value_at enumerator_at enumerator_ended enumerator_step enumerators_at readers declared_in found_from found found_types added free declare declare_synonym declare_function undefined declare_object define_object define_declared enter_parameters leave_parameters declare_parameter declare_enumeration declare_value declare_enumerator end_enumeration kind_here type_here elaborated_here constant_here declaring candidates rated chosen refusals ties choice asked_among call_asked operand_ended name_refused no_initial no_argument type_fits target_at cast_at argument_by argument_opened arguments_over argument_ended argument_step arguments_by arguments_opened call_at named_call initial_by initial_opened initial_at initializer_at declared_fits uninitialized equals_part defined_part defined_later extern_part extern_object defined_object function_ended declared_function synonym_ended declared_synonym init_declarator_at declarator_ended declarator_step declarators_at nothing_declared declarators_of simple_declaration_at plain_declaration_at linkage_step linkages_passed linkage_list linked_one declaration_by inside_step linkage_opened declaration_at unit_step unit_reading lines text_order text_name names_of_text
+unfolding spelling_of keywords alternatives operators digraphs word_kind number_kind operator literal hash slash percent literal_type literal_value tokens_of tokens_from front longest_within is_better is_proper_part is_no_pointer_to_bool way_of_pointers way_of_classes way_of is_shorter is_nearer has_nearer_class is_less_qualified refers_to_less is_bound_to_less order_of steps_of_arithmetic value_step steps_of_pointer steps_of_kinds steps_to_scalar steps_by_kinds steps_of_value steps_between standard_sequence is_text repeat is_punct is_keyword is_name is_end is_number punct_taken no_declaration no_declarator declared_type refused_in storage_step inline_step const_step volatile_step word_step named_step elaborated_step defined_step enumeration_body list_step key_named_step key_step enumeration_step class_step other_step keyword_step specifier_step typed specifiers_at bracket_step brackets_passed key_shape name_shape keyword_shape run_step run_passed begins_type is_abstract_list prefix_step prefix_passed list_shape suffix_step declarator_passed default_step default_passed piece_step parameters_shape literal_at no_expression literal_ended constant_at cv_step cv_at array_suffix exceptions_at function_suffix bracket_suffix suffix_at suffixes_at name_part grouped_part bracket_part star_part ampersand_part declarator_at pointed_at referred_at grouped_at valued bound_value bound_at parameter_fits default_at parameter_at list_ended comma_passed parameter_ended parameter_step parameters_over some_parameters list_at parameters_at no_value value_at enumerator_at enumerator_ended enumerator_step enumerators_at readers declared_in found_from found found_types added free declare declare_synonym declare_function undefined declare_object define_object define_declared enter_parameters leave_parameters declare_parameter declare_enumeration declare_value declare_enumerator end_enumeration kind_here type_here elaborated_here constant_here declaring candidates rated chosen refusals ties choice asked_among call_asked operand_ended name_refused no_initial no_argument type_fits target_at cast_at argument_by argument_opened arguments_over argument_ended argument_step arguments_by arguments_opened call_at named_call initial_by initial_opened initial_at initializer_at declared_fits uninitialized equals_part defined_part defined_later extern_part extern_object defined_object function_ended declared_function synonym_ended declared_synonym init_declarator_at declarator_ended declarator_step declarators_at nothing_declared declarators_of simple_declaration_at plain_declaration_at linkage_step linkages_passed linkage_list linked_one declaration_by inside_step linkage_opened declaration_at unit_step unit_reading lines text_order text_name names_of_text
 words_of_tokens bytes (Ok tokens) = words_by (unit_reading (record { depth = 64 }) (lexemes bytes tokens))
 words_of_tokens bytes (Err why) = []
 

@@ -32,6 +32,10 @@ pub record Kinds (S : Type 0) : Type 0 where
   pub parameter : Option Lexeme → Place → CxxType → Asks S (Unit {0})
   pub leave_parameters : Asks S (Unit {0})
 
+-- 8.3.6: reads from the `=` behind the declared parameter with an index and a type
+abbrev pub Fallback : Type 0 → Type 0
+Fallback S = ℕ → CxxType → Reads S (List CxxTree)
+
 -- The readers behind a bracket or an operator that was taken, which counts for the nesting.
 pub record Readers (S : Type 0) : Type 0 where
   -- 8.3.1: behind `*`

@@ -1,10 +1,9 @@
 -- The state of a reading: what is declared so far, where the reader stands, and what the reading keeps.
-use Rattle.std.specs.Prelude.{ℕ, zero, false, List, [], ◌∷◌, None}
+use Rattle.std.specs.Prelude.{ℕ, zero, Bool, false, List, [], ◌∷◌, None}
 use Rattle.cxx_model.specs.declared.facts.Access.TheVariants.{Public}
 use Rattle.cxx_model.specs.declared.facts.ScopeKind.TheVariants as kind
 use Rattle.cxx_model.specs.declared.overload.Outcome.{Outcome}
 use Rattle.cxx_model.specs.declared.place.Place.{Place}
-use Rattle.cxx_model.specs.Facts.Conflicts.{Given}
 use Rattle.cxx_model.specs.Facts.Declarations.{CxxGraph, CxxFact, unnamed, scope}
 use Rattle.cxx_model.specs.Facts.Here.{CxxHere}
 use Rattle.cxx_model.specs.Types.Trees.{CxxType}
@@ -41,13 +40,29 @@ pub record CxxPart : Type 0 where
   pub scope : ℕ
   pub uses : List CxxUse
 
+-- 8.3.6: a default argument that was read, as it is converted to the type of its parameter: of the parameter with an index
+-- in the list with a scope
+pub record CxxOffered : Type 0 where
+  pub scope : ℕ
+  pub index : ℕ
+  pub tree : CxxTree
+
+-- 8.3.6: a default argument of a function, by the declaration that has it and the index of its parameter
+pub record CxxGiven : Type 0 where
+  pub declaration : ℕ
+  pub index : ℕ
+  pub tree : CxxTree
+
 pub record CxxState : Type 0 where
   pub graph : CxxGraph
   pub here : CxxHere
   -- 3.2: the declarations that are definitions, by their numbers
   pub defined : List ℕ
   -- 8.3.6: the default arguments that are given
-  pub given : List Given
+  pub given : List CxxGiven
+  -- those that were read in the part that is being read, and whether one is being read
+  pub offered : List CxxOffered
+  pub in_default : Bool
   pub calls : List CxxCall
   pub parts : List CxxPart
   -- the names that were bound in the part that is being read
@@ -69,6 +84,8 @@ first_state = record {
   here = at_unit;
   defined = [];
   given = [];
+  offered = [];
+  in_default = false;
   calls = [];
   parts = [];
   uses = [];

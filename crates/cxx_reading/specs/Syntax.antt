@@ -1,5 +1,5 @@
 -- How declarators, parameters and lists of enumerators are read (8.2, 8.3, 7.2), and how readers nest.
-use Rattle.std.specs.Prelude.{ℕ, zero, suc, ℤ, pos, negsuc, Bool, true, false, not, ◌&&◌, ◌||◌, if◌then◌else◌, List, [], ◌∷◌, ◌++◌, Option, Some, None}
+use Rattle.std.specs.Prelude.{ℕ, zero, suc, ℤ, pos, negsuc, Bool, true, false, not, ◌&&◌, ◌||◌, if◌then◌else◌, List, [], ◌∷◌, ◌++◌, length, Option, Some, None}
 use Rattle.cxx_model.specs.declared.fault.FaultText.TheVariants as says
 use Rattle.cxx_model.specs.declared.fault.LeftOut.TheVariants as form
 use Rattle.cxx_model.specs.declared.keyword.TheConstants as keyword
@@ -15,7 +15,7 @@ use Rattle.cxx_reading.specs.declared.specifier.Naming.TheVariants as naming
 use Rattle.cxx_reading.specs.declared.specifier.SpecifierPlace.TheVariants as where_
 use Rattle.cxx_reading.specs.Constants.{constant_at}
 use Rattle.cxx_reading.specs.Declarators.{Specifiers, type_of_specifiers, Layer, pointer_layer, reference_layer, array_layer, function_layer, Declarator, no_declarator_yet, outward, is_named, ParameterTypes, adjusted_types, parameter_type, declared_type, refused_in, is_refused, is_void, no_cv}
-use Rattle.cxx_reading.specs.Kinds.{Kinds, Readers, too_deep}
+use Rattle.cxx_reading.specs.Kinds.{Kinds, Fallback, Readers, too_deep}
 use Rattle.cxx_reading.specs.Labels.{label_from}
 use Rattle.cxx_reading.specs.Productions as production
 use Rattle.cxx_reading.specs.Reads.{Reads, Ahead, Turn, More, Done, ◌>>=◌, got, give, ask, limited, fault_at, looked, taken, tokens, kind_ahead, place_ahead, count_ahead, behind, repeat}
@@ -221,8 +221,9 @@ unfoldable pub parameter_fits : {S : Type 0} → Specifiers → Declarator → R
 parameter_fits specifiers declarator state ahead =
     if is_refused_parameter declarator.layers (specified_type specifiers) then fault_at (place_of_declarator declarator ahead) says.OperandsDoNotFit state ahead else got tt state ahead
 
-abbrev pub parameter_tree : Specifiers → Declarator → CxxType → Ahead → Ahead → CxxTree
-parameter_tree specifiers declarator of from to = tree_of (record (label_from production.parameter [] from to) { place = place_of_declarator declarator to; path = path_of_option declarator.name; of = Some of }) (specifiers.parts ++ declarator.parts)
+-- the tree of a parameter, whose declarator ends before the tokens of `to`
+abbrev pub parameter_tree : Specifiers → Declarator → CxxType → List CxxTree → Ahead → Ahead → Ahead → CxxTree
+parameter_tree specifiers declarator of default from to end = tree_of (record (label_from production.parameter [] from end) { place = place_of_declarator declarator to; path = path_of_option declarator.name; of = Some of }) ((specifiers.parts ++ declarator.parts) ++ default)
 
 abbrev pub with_parameter : CxxType → CxxTree → ParameterTypes → ParameterTypes
 with_parameter of tree so_far = record so_far { types = so_far.types ++ of ∷ []; parts = so_far.parts ++ tree ∷ [] }
@@ -230,16 +231,23 @@ with_parameter of tree so_far = record so_far { types = so_far.types ++ of ∷ [
 abbrev pub with_ellipsis : ParameterTypes → ParameterTypes
 with_ellipsis so_far = record so_far { ellipsis = true }
 
--- a parameter, which is declared before what follows is looked at
-unfoldable pub parameter_at : {S : Type 0} → Kinds S → Readers S → ParameterTypes → Reads S ParameterTypes
-parameter_at asks inner so_far = do
+-- 8.3.6: the default argument, where one stands behind a parameter
+unfoldable pub default_at : {S : Type 0} → Fallback S → ℕ → CxxType → Reads S (List CxxTree)
+default_at fallback index of state ahead =
+    if is_punct punct.EQUALS (kind_ahead ahead) then fallback index of state ahead else got [] state ahead
+
+-- a parameter, which is declared before what follows is looked at (3.3.1)
+unfoldable pub parameter_at : {S : Type 0} → Kinds S → Fallback S → Readers S → ParameterTypes → Reads S ParameterTypes
+parameter_at asks fallback inner so_far = do
   from ← looked
   specifiers ← specifiers_at asks inner where_.Parameter
   declarator ← declarator_at asks inner naming.Either
   fits ← parameter_fits specifiers declarator
   to ← looked
   declared ← ask (asks.parameter declarator.name (place_of_declarator declarator to) (parameter_type declarator.layers (specified_type specifiers)))
-  give (with_parameter (parameter_type declarator.layers (specified_type specifiers)) (parameter_tree specifiers declarator (parameter_type declarator.layers (specified_type specifiers)) from to) so_far)
+  default ← default_at fallback (length so_far.types) (parameter_type declarator.layers (specified_type specifiers))
+  end ← looked
+  give (with_parameter (parameter_type declarator.layers (specified_type specifiers)) (parameter_tree specifiers declarator (parameter_type declarator.layers (specified_type specifiers)) default from to end) so_far)
 
 -- behind `...`
 unfoldable pub list_ended : {S : Type 0} → ParameterTypes → Reads S (Turn ParameterTypes ParameterTypes)
@@ -253,17 +261,16 @@ unfoldable pub comma_passed : {S : Type 0} → ParameterTypes → Reads S (Turn 
 comma_passed so_far state ahead =
     if is_punct punct.ELLIPSIS (kind_ahead ahead) then list_ended so_far state ahead else got (More so_far) state ahead
 
--- behind a parameter; a default argument is not read yet
+-- behind a parameter
 unfoldable pub parameter_ended : {S : Type 0} → ParameterTypes → Reads S (Turn ParameterTypes ParameterTypes)
 parameter_ended so_far state ahead =
     if is_punct punct.COMMA (kind_ahead ahead) then comma_passed so_far state (behind ahead) else (
     if is_punct punct.RIGHT_PARENTHESIS (kind_ahead ahead) then got (Done so_far) state (behind ahead) else (
-    if is_punct punct.ELLIPSIS (kind_ahead ahead) then list_ended so_far state ahead else (
-    if is_punct punct.EQUALS (kind_ahead ahead) then not_built state ahead else
-    refused state ahead)))
+    if is_punct punct.ELLIPSIS (kind_ahead ahead) then list_ended so_far state ahead else
+    refused state ahead))
 
-unfoldable pub parameter_step : {S : Type 0} → Kinds S → Readers S → ParameterTypes → Reads S (Turn ParameterTypes ParameterTypes)
-parameter_step asks inner so_far = parameter_at asks inner so_far >>= parameter_ended
+unfoldable pub parameter_step : {S : Type 0} → Kinds S → Fallback S → Readers S → ParameterTypes → Reads S (Turn ParameterTypes ParameterTypes)
+parameter_step asks fallback inner so_far = parameter_at asks fallback inner so_far >>= parameter_ended
 
 abbrev pub past_most : {S A : Type 0} → Bool → Reads S A
 past_most true = limited Arguments
@@ -278,8 +285,8 @@ parameters_over asks so_far state ahead =
 abbrev pub no_parameters : ℕ → ParameterTypes
 no_parameters scope = record { types = []; ellipsis = false; scope = scope; parts = [] }
 
-unfoldable pub some_parameters : {S : Type 0} → Kinds S → Readers S → ℕ → Reads S ParameterTypes
-some_parameters asks inner scope = repeat (parameter_step asks inner) (parameters_over asks) limits.MOST_ARGUMENTS (no_parameters scope)
+unfoldable pub some_parameters : {S : Type 0} → Kinds S → Fallback S → Readers S → ℕ → Reads S ParameterTypes
+some_parameters asks fallback inner scope = repeat (parameter_step asks fallback inner) (parameters_over asks) limits.MOST_ARGUMENTS (no_parameters scope)
 
 abbrev pub turn_result : {S : Type 0} → Turn ParameterTypes ParameterTypes → Reads S ParameterTypes
 turn_result (More so_far) = give so_far
@@ -289,18 +296,18 @@ turn_result (Done so_far) = give so_far
 abbrev pub is_void_list : Ahead → Bool
 is_void_list ahead = is_keyword keyword.VOID (kind_ahead ahead) && is_punct punct.RIGHT_PARENTHESIS (kind_ahead (behind ahead))
 
-unfoldable pub list_at : {S : Type 0} → Kinds S → Readers S → ℕ → Reads S ParameterTypes
-list_at asks inner scope state ahead =
+unfoldable pub list_at : {S : Type 0} → Kinds S → Fallback S → Readers S → ℕ → Reads S ParameterTypes
+list_at asks fallback inner scope state ahead =
     if is_punct punct.RIGHT_PARENTHESIS (kind_ahead ahead) then got (no_parameters scope) state (behind ahead) else (
     if is_void_list ahead then got (no_parameters scope) state (behind (behind ahead)) else (
     if is_punct punct.ELLIPSIS (kind_ahead ahead) then (list_ended (no_parameters scope) >>= turn_result) state ahead else
-    some_parameters asks inner scope state ahead))
+    some_parameters asks fallback inner scope state ahead))
 
 -- behind the `(` of a list
-unfoldable pub parameters_at : {S : Type 0} → Kinds S → Readers S → Reads S ParameterTypes
-parameters_at asks inner = do
+unfoldable pub parameters_at : {S : Type 0} → Kinds S → Fallback S → Readers S → Reads S ParameterTypes
+parameters_at asks fallback inner = do
   scope ← ask asks.enter_parameters
-  list ← list_at asks inner scope
+  list ← list_at asks fallback inner scope
   left ← ask asks.leave_parameters
   give list
 
@@ -337,13 +344,17 @@ enumerators_at asks number state ahead =
 
 -- ---- readers inside readers
 
+-- these readers read no default argument
+abbrev pub no_fallback : {S : Type 0} → Fallback S
+no_fallback index of = not_built
+
 abbrev pub readers_by : {S : Type 0} → Kinds S → Readers S → Readers S
 readers_by asks inner = record {
   pointed = pointed_at asks inner;
   referred = referred_at asks inner;
   grouped = grouped_at asks inner;
   bound = bound_at asks;
-  parameters = parameters_at asks inner;
+  parameters = parameters_at asks no_fallback inner;
   enumerators = enumerators_at asks;
   holds_parameters = parameters_shape asks inner;
 }

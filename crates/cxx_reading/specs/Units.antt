@@ -338,7 +338,7 @@ declaration_at room = declaration_by room (linkage_opened room)
 -- ---- the unit
 
 abbrev pub with_part : CxxTree → CxxState → CxxState
-with_part tree state = record state { parts = state.parts ++ record { tree = tree; scope = zero; uses = state.uses } ∷ []; uses = [] }
+with_part tree state = record state { parts = state.parts ++ record { tree = tree; scope = zero; uses = state.uses } ∷ []; uses = []; offered = [] }
 
 abbrev pub part_added : CxxTree → Asks CxxState (Unit {0})
 part_added tree state = Ok (tt, with_part tree state)

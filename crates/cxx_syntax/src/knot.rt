@@ -12,6 +12,7 @@ ghost use Rattle.cxx_tree.specs.Held.{meaning};
 use crate::behind::{Behind, Entry, What};
 use crate::cursor::Cursor;
 use crate::declarator::Declarator;
+use crate::defaults::NoDefaults;
 use crate::kinds::Kinds;
 use crate::reader::Reader;
 use crate::specifiers::Specifiers;
@@ -70,7 +71,7 @@ pub(crate) fn read<K: Kinds>(
             let (value, parts) = inner.bound_at(state, cursor, is_first)?;
             Ok(Entry::Value(value, parts))
         }
-        What::Parameters => Ok(Entry::Parameters(inner.parameters_at(state, cursor)?)),
+        What::Parameters => Ok(Entry::Parameters(inner.parameters_at(state, cursor, &NoDefaults)?)),
         What::Enumerators(number) => {
             Ok(Entry::Trees(inner.enumerators_at(state, cursor, number)?))
         }

@@ -7,6 +7,7 @@ mod cursor;
 mod cv;
 mod declarator;
 mod declarators;
+mod defaults;
 mod kinds;
 mod knot;
 mod layers;
@@ -28,6 +29,7 @@ pub use constants::{
 pub use cursor::{Cursor, Spelled, is_end, is_keyword, is_name, is_punct};
 pub use declarator::{Declarator, Layer, LayerList, ParameterTypes};
 pub use declarators::joined;
+pub use defaults::Defaults;
 pub use kinds::Kinds;
 pub use knot::{read_declarator, read_specifiers};
 pub use layers::{declared, declared_parameter, is_declared_void, refused};

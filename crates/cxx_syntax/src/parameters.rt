@@ -5,15 +5,16 @@ ghost use Rattle.cxx_model.specs.declared.stop.Stop.TheVariants as stop;
 ghost use Rattle.cxx_reading.specs.Syntax as definition;
 ghost use Rattle.cxx_syntax.specs.Asking.{AnyKnown, IsTypeKnown, itself};
 ghost use Rattle.cxx_syntax.specs.Making.{GrowsTree};
-ghost use Rattle.cxx_syntax.specs.Parameters.{IsParametersTurn, ellipsis_alone as ellipsis_alone_at, parameter_added as parameter_added_by, parameter_declared as parameter_declared_by, parameter_typed as parameter_typed_by, parameters_turn};
+ghost use Rattle.cxx_syntax.specs.Parameters.{IsParametersTurn, ellipsis_alone as ellipsis_alone_at, parameter_added as parameter_added_by, parameter_behind as parameter_behind_by, parameter_declared as parameter_declared_by, parameter_typed as parameter_typed_by, parameters_turn};
 ghost use Rattle.cxx_syntax.specs.Reading.{IsRead};
-ghost use Rattle.cxx_syntax.specs.Views.{AreParameters, AreSpecifiers, IsDeclarator, declarator_of, parameters_of, specifiers_of};
+ghost use Rattle.cxx_syntax.specs.Views.{AreParameters, AreSpecifiers, AreTreesHeld, IsDeclarator, declarator_of, parameters_of, specifiers_of, trees_held};
 ghost use Rattle.cxx_tree.specs.Held.{meaning, type_of};
 ghost use Rattle.cxx_tree.specs.Later.{MakesType};
 
 use crate::cursor::{Cursor, fault_at, is_keyword, is_punct};
 use crate::declarator::{Declarator, ParameterTypes};
 use crate::declarators::joined;
+use crate::defaults::Defaults;
 use crate::kinds::Kinds;
 use crate::layers::{declared_parameter, is_declared_void, refused};
 use crate::nested::Nested;
@@ -24,7 +25,8 @@ use crate::turn::Turn;
 use crate::words::base_of_words;
 use cxx_model::limits::MOST_ARGUMENTS;
 use cxx_model::{
-    Base, FaultText, LimitKind, Listed, OutOfMemory, ScopeId, Stop, TreeId, TypeId, keyword, punct,
+    Base, FaultText, LimitKind, Listed, OutOfMemory, ScopeId, Stop, TreeId, TreeIdList, TypeId,
+    keyword, punct,
 };
 use cxx_reading::{Naming, SpecifierPlace};
 use cxx_tree::State;
@@ -85,29 +87,32 @@ fn parameter_typed(
     }
 }
 
-// The tree of a parameter.
+// The tree of a parameter, with its default argument. `to` stands behind its declarator, and `end` behind all of it.
 #[tactic(auto, using(crate::proofs::Kept::trees_append, crate::proofs::Kept::trees_below_append))]
 fn parameter_tree(
     state: &mut State,
     specifiers: Specifiers,
     declarator: Declarator,
     of: TypeId,
+    default: TreeIdList,
     from: &Cursor<'_>,
     to: &Cursor<'_>,
+    end: &Cursor<'_>,
 ) -> Result<TreeId, Stop>
     requires known { of.0 < length (state.old).types }
     requires specifiers { AreSpecifiers state.old specifiers }
     requires declarator { IsDeclarator state.old declarator }
-    ensures { GrowsTree state.old state.new result (definition.parameter_tree (specifiers_of state.old specifiers) (declarator_of state.old declarator) (type_of state.old of) from.now to.now) }
+    requires default { AreTreesHeld state.old default }
+    ensures { GrowsTree state.old state.new result (definition.parameter_tree (specifiers_of state.old specifiers) (declarator_of state.old declarator) (type_of state.old of) (trees_held state.old default) from.now to.now end.now) }
 {
     let path = path_to_option(from.alloc(), &declarator.name)?;
     let place = place_of(to.last(), &declarator.name);
-    let parts = joined(specifiers.parts, declarator.parts)?;
+    let parts = joined(joined(specifiers.parts, declarator.parts)?, default)?;
     let mut node = node_from(
         production::PARAMETER,
         Listed::new(from.alloc()),
         from,
-        to,
+        end,
         parts,
     );
     node.place = place;
@@ -131,20 +136,23 @@ fn with_parameter(of: TypeId, tree: TreeId, so_far: ParameterTypes) -> Result<Pa
 #[tactic(auto, using(crate::proofs::Kept::trees_kept, crate::proofs::Kept::trees_later, crate::proofs::Kept::trees_append, crate::proofs::Kept::trees_below_append, crate::proofs::Kept::types_kept, crate::proofs::Kept::types_later, crate::proofs::Kept::types_append, crate::proofs::Kept::types_below_append, crate::proofs::Kept::type_kept, crate::proofs::Kept::type_later, crate::proofs::Kept::later_trans, crate::proofs::Kept::later_refl))]
 fn parameter_added(
     state: &mut State,
+    end: &Cursor<'_>,
     to: &Cursor<'_>,
     from: &Cursor<'_>,
     specifiers: Specifiers,
     declarator: Declarator,
     of: TypeId,
+    default: TreeIdList,
     so_far: ParameterTypes,
 ) -> Result<ParameterTypes, Stop>
     requires known { of.0 < length (state.old).types }
     requires specifiers { AreSpecifiers state.old specifiers }
     requires declarator { IsDeclarator state.old declarator }
+    requires default { AreTreesHeld state.old default }
     requires list { AreParameters state.old so_far }
-    ensures { IsRead parameters_of AreParameters state.old state.new to.now result (parameter_added_by from.now to.now (specifiers_of state.old specifiers) (declarator_of state.old declarator) (type_of state.old of) (parameters_of state.old so_far) (meaning state.old) to.now) }
+    ensures { IsRead parameters_of AreParameters state.old state.new end.now result (parameter_added_by from.now to.now (specifiers_of state.old specifiers) (declarator_of state.old declarator) (type_of state.old of) (trees_held state.old default) (parameters_of state.old so_far) (meaning state.old) end.now) }
 {
-    let tree = parameter_tree(state, specifiers, declarator, of, from, to)?;
+    let tree = parameter_tree(state, specifiers, declarator, of, default, from, to, end)?;
     with_parameter(of, tree, so_far)
 }
 
@@ -193,7 +201,7 @@ fn comma_passed(
     Ok(Turn::More(so_far))
 }
 
-// Behind a parameter; a default argument is not read yet.
+// Behind a parameter.
 #[tactic(auto, using(crate::proofs::Kept::later_refl), unfolding(cxx_reading::specs::Syntax::parameter_ended))]
 fn parameter_ended(
     state: &State,
@@ -213,9 +221,6 @@ fn parameter_ended(
     }
     if is_punct(punct::ELLIPSIS, cursor.kind()) {
         return list_ended(state, cursor, so_far);
-    }
-    if is_punct(punct::EQUALS, cursor.kind()) {
-        return Err(Stop::Fault(cursor.not_built()?));
     }
     Err(Stop::Fault(cursor.refused()?))
 }
@@ -244,13 +249,69 @@ fn ellipsis_alone(
     }
 }
 
+// The default argument, where one stands behind a parameter (8.3.6).
+#[tactic(auto, using(crate::proofs::Kept::later_trans, crate::proofs::Kept::later_refl), unfolding(cxx_reading::specs::Syntax::default_at))]
+fn default_at<D: Defaults>(
+    defaults: &D,
+    state: &mut State,
+    cursor: &mut Cursor<'_>,
+    index: usize,
+    of: TypeId,
+) -> Result<TreeIdList, Stop>
+    requires open { D.is_open defaults.now }
+    requires known { of.0 < length (state.old).types }
+    ensures { IsRead trees_held AreTreesHeld state.old state.new cursor.new result (definition.default_at (D.fallback_by defaults.now) index (type_of state.old of) (meaning state.old) cursor.old) }
+{
+    if is_punct(punct::EQUALS, cursor.kind()) {
+        return defaults.fallback(state, cursor, index, of);
+    }
+    Ok(Listed::new(cursor.alloc()))
+}
+
+// The index of the parameter that joins a list.
+#[tactic(auto, using(crate::proofs::Longer::types_counted))]
+fn next_index(state: &State, so_far: &ParameterTypes) -> usize
+    ensures { result ≡ length (parameters_of state.now so_far.now).types }
+{
+    let _ = state;
+    so_far.types.len()
+}
+
+// A parameter that is declared, with what is read behind it.
+#[tactic(auto, using(crate::proofs::Kept::trees_kept, crate::proofs::Kept::trees_later, crate::proofs::Kept::types_kept, crate::proofs::Kept::types_later, crate::proofs::Kept::type_kept, crate::proofs::Kept::type_later, crate::proofs::Kept::named_kept, crate::proofs::Kept::named_later, crate::proofs::Kept::layers_kept, crate::proofs::Kept::layers_later, crate::proofs::Kept::later_trans, crate::proofs::Kept::later_refl), unfolding(crate::specs::Parameters::parameter_behind))]
+fn parameter_behind<D: Defaults>(
+    defaults: &D,
+    state: &mut State,
+    cursor: &mut Cursor<'_>,
+    from: &Cursor<'_>,
+    specifiers: Specifiers,
+    declarator: Declarator,
+    of: TypeId,
+    so_far: ParameterTypes,
+) -> Result<ParameterTypes, Stop>
+    requires open { D.is_open defaults.now }
+    requires specifiers { AreSpecifiers state.old specifiers }
+    requires declarator { IsDeclarator state.old declarator }
+    requires known { of.0 < length (state.old).types }
+    requires list { AreParameters state.old so_far }
+    ensures { IsRead parameters_of AreParameters state.old state.new cursor.new result (parameter_behind_by (D.fallback_by defaults.now) from.now cursor.old (specifiers_of state.old specifiers) (declarator_of state.old declarator) (type_of state.old of) (parameters_of state.old so_far) (meaning state.old) cursor.old) }
+{
+    let to = cursor.mark();
+    let index = next_index(state, &so_far);
+    let default = default_at(defaults, state, cursor, index, of)?;
+    parameter_added(
+        state, cursor, &to, from, specifiers, declarator, of, default, so_far,
+    )
+}
+
 impl<K: Kinds, N: Nested> Reader<'_, K, N> {
-    // A parameter whose specifiers and declarator were read is declared before what follows is looked at.
-    #[tactic(auto, using(crate::proofs::Kept::trees_kept, crate::proofs::Kept::trees_later, crate::proofs::Kept::trees_append, crate::proofs::Kept::trees_below_append, crate::proofs::Kept::types_kept, crate::proofs::Kept::types_later, crate::proofs::Kept::types_append, crate::proofs::Kept::types_below_append, crate::proofs::Kept::type_kept, crate::proofs::Kept::type_later, crate::proofs::Kept::named_kept, crate::proofs::Kept::named_later, crate::proofs::Kept::layers_kept, crate::proofs::Kept::layers_later, crate::proofs::Kept::later_trans, crate::proofs::Kept::later_refl), unfolding(crate::specs::Parameters::parameter_declared))]
-    fn parameter_declared(
+    // A parameter whose specifiers and declarator were read is declared before what follows is looked at (3.3.1).
+    #[tactic(auto, using(crate::proofs::Kept::trees_kept, crate::proofs::Kept::trees_later, crate::proofs::Kept::types_kept, crate::proofs::Kept::types_later, crate::proofs::Kept::type_kept, crate::proofs::Kept::type_later, crate::proofs::Kept::named_kept, crate::proofs::Kept::named_later, crate::proofs::Kept::layers_kept, crate::proofs::Kept::layers_later, crate::proofs::Kept::later_trans, crate::proofs::Kept::later_refl), unfolding(crate::specs::Parameters::parameter_declared))]
+    fn parameter_declared<D: Defaults>(
         &self,
         state: &mut State,
-        cursor: &Cursor<'_>,
+        cursor: &mut Cursor<'_>,
+        defaults: &D,
         from: &Cursor<'_>,
         specifiers: Specifiers,
         declarator: Declarator,
@@ -260,48 +321,57 @@ impl<K: Kinds, N: Nested> Reader<'_, K, N> {
         requires declarator { IsDeclarator state.old declarator }
         requires known { AreParameters state.old so_far }
         requires ready { K.is_ready self.now.kinds.now }
-        ensures { IsRead parameters_of AreParameters state.old state.new cursor.now result (parameter_declared_by (K.asks self.now.kinds.now self.now.room) from.now (specifiers_of state.old specifiers) (declarator_of state.old declarator) (parameters_of state.old so_far) (meaning state.old) cursor.now) }
+        requires default { D.is_open defaults.now }
+        ensures { IsRead parameters_of AreParameters state.old state.new cursor.new result (parameter_declared_by (K.asks self.now.kinds.now self.now.room) (D.fallback_by defaults.now) from.now (specifiers_of state.old specifiers) (declarator_of state.old declarator) (parameters_of state.old so_far) (meaning state.old) cursor.old) }
     {
         let of = parameter_typed(state, cursor, &specifiers, &declarator)?;
         let place = place_of(cursor.last(), &declarator.name);
         self.kinds
             .parameter(state, &declarator.name, place, of, self.room)?;
-        parameter_added(state, cursor, from, specifiers, declarator, of, so_far)
+        parameter_behind(
+            defaults, state, cursor, from, specifiers, declarator, of, so_far,
+        )
     }
 
     // A parameter (8.3.5).
-    #[tactic(auto, using(crate::proofs::Kept::trees_kept, crate::proofs::Kept::trees_later, crate::proofs::Kept::types_kept, crate::proofs::Kept::types_later, crate::proofs::Kept::named_kept, crate::proofs::Kept::named_later, crate::proofs::Kept::later_trans, crate::proofs::Kept::later_refl), unfolding(cxx_reading::specs::Syntax::parameter_at, crate::specs::Parameters::parameter_declared, crate::specs::Parameters::parameter_typed))]
-    fn parameter_at(
+    #[tactic(auto, using(crate::proofs::Kept::trees_kept, crate::proofs::Kept::trees_later, crate::proofs::Kept::types_kept, crate::proofs::Kept::types_later, crate::proofs::Kept::named_kept, crate::proofs::Kept::named_later, crate::proofs::Kept::later_trans, crate::proofs::Kept::later_refl), unfolding(cxx_reading::specs::Syntax::parameter_at, crate::specs::Parameters::parameter_declared, crate::specs::Parameters::parameter_behind, crate::specs::Parameters::parameter_typed))]
+    fn parameter_at<D: Defaults>(
         &self,
         state: &mut State,
         cursor: &mut Cursor<'_>,
+        defaults: &D,
         so_far: ParameterTypes,
     ) -> Result<ParameterTypes, Stop>
         requires known { AreParameters state.old so_far }
         requires ready { K.is_ready self.now.kinds.now }
+        requires default { D.is_open defaults.now }
         requires open { N.is_open self.now.nested.now }
-        ensures { IsRead parameters_of AreParameters state.old state.new cursor.new result (definition.parameter_at (K.asks self.now.kinds.now self.now.room) (N.inner self.now.nested.now) (parameters_of state.old so_far) (meaning state.old) cursor.old) }
+        ensures { IsRead parameters_of AreParameters state.old state.new cursor.new result (definition.parameter_at (K.asks self.now.kinds.now self.now.room) (D.fallback_by defaults.now) (N.inner self.now.nested.now) (parameters_of state.old so_far) (meaning state.old) cursor.old) }
     {
         let from = cursor.mark();
         let specifiers = self.specifiers_at(state, cursor, SpecifierPlace::Parameter)?;
         let declarator = self.declarator_at(state, cursor, Naming::Either)?;
-        self.parameter_declared(state, cursor, &from, specifiers, declarator, so_far)
+        self.parameter_declared(
+            state, cursor, defaults, &from, specifiers, declarator, so_far,
+        )
     }
 
     // A parameter, and what separates it from the next.
     #[tactic(auto, using(crate::proofs::Kept::later_trans, crate::proofs::Kept::later_refl), unfolding(cxx_reading::specs::Syntax::parameter_step))]
-    fn parameter_step(
+    fn parameter_step<D: Defaults>(
         &self,
         state: &mut State,
         cursor: &mut Cursor<'_>,
+        defaults: &D,
         so_far: ParameterTypes,
     ) -> Result<Turn<ParameterTypes, ParameterTypes>, Stop>
         requires known { AreParameters state.old so_far }
         requires ready { K.is_ready self.now.kinds.now }
+        requires default { D.is_open defaults.now }
         requires open { N.is_open self.now.nested.now }
-        ensures { IsRead parameters_turn IsParametersTurn state.old state.new cursor.new result (definition.parameter_step (K.asks self.now.kinds.now self.now.room) (N.inner self.now.nested.now) (parameters_of state.old so_far) (meaning state.old) cursor.old) }
+        ensures { IsRead parameters_turn IsParametersTurn state.old state.new cursor.new result (definition.parameter_step (K.asks self.now.kinds.now self.now.room) (D.fallback_by defaults.now) (N.inner self.now.nested.now) (parameters_of state.old so_far) (meaning state.old) cursor.old) }
     {
-        let list = self.parameter_at(state, cursor, so_far)?;
+        let list = self.parameter_at(state, cursor, defaults, so_far)?;
         parameter_ended(state, cursor, list)
     }
 
@@ -328,19 +398,21 @@ impl<K: Kinds, N: Nested> Reader<'_, K, N> {
 
     // One parameter after another.
     #[tactic(auto, using(crate::proofs::Loops::turn, crate::proofs::Loops::no_turn, crate::proofs::Kept::later_trans, crate::proofs::Kept::later_refl), unfolding(cxx_reading::specs::Syntax::some_parameters))]
-    fn some_parameters(
+    fn some_parameters<D: Defaults>(
         &self,
         state: &mut State,
         cursor: &mut Cursor<'_>,
+        defaults: &D,
         scope: ScopeId,
     ) -> Result<ParameterTypes, Stop>
         requires ready { K.is_ready self.now.kinds.now }
+        requires default { D.is_open defaults.now }
         requires open { N.is_open self.now.nested.now }
-        ensures { IsRead parameters_of AreParameters state.old state.new cursor.new result (definition.some_parameters (K.asks self.now.kinds.now self.now.room) (N.inner self.now.nested.now) scope.0 (meaning state.old) cursor.old) }
+        ensures { IsRead parameters_of AreParameters state.old state.new cursor.new result (definition.some_parameters (K.asks self.now.kinds.now self.now.room) (D.fallback_by defaults.now) (N.inner self.now.nested.now) scope.0 (meaning state.old) cursor.old) }
     {
         let mut so_far = no_parameters_yet(cursor.alloc(), scope);
         for _turn in 0..MOST_ARGUMENTS {
-            match self.parameter_step(state, cursor, so_far)? {
+            match self.parameter_step(state, cursor, defaults, so_far)? {
                 Turn::More(next) => so_far = next,
                 Turn::Done(all) => return Ok(all),
             }
@@ -350,15 +422,17 @@ impl<K: Kinds, N: Nested> Reader<'_, K, N> {
 
     // The parameters of a list, with its end.
     #[tactic(auto, using(crate::proofs::Kept::later_trans, crate::proofs::Kept::later_refl), unfolding(cxx_reading::specs::Syntax::list_at))]
-    fn list_at(
+    fn list_at<D: Defaults>(
         &self,
         state: &mut State,
         cursor: &mut Cursor<'_>,
+        defaults: &D,
         scope: ScopeId,
     ) -> Result<ParameterTypes, Stop>
         requires ready { K.is_ready self.now.kinds.now }
+        requires default { D.is_open defaults.now }
         requires open { N.is_open self.now.nested.now }
-        ensures { IsRead parameters_of AreParameters state.old state.new cursor.new result (definition.list_at (K.asks self.now.kinds.now self.now.room) (N.inner self.now.nested.now) scope.0 (meaning state.old) cursor.old) }
+        ensures { IsRead parameters_of AreParameters state.old state.new cursor.new result (definition.list_at (K.asks self.now.kinds.now self.now.room) (D.fallback_by defaults.now) (N.inner self.now.nested.now) scope.0 (meaning state.old) cursor.old) }
     {
         if is_punct(punct::RIGHT_PARENTHESIS, cursor.kind()) {
             cursor.advance();
@@ -373,22 +447,24 @@ impl<K: Kinds, N: Nested> Reader<'_, K, N> {
             let list = no_parameters_yet(cursor.alloc(), scope);
             return ellipsis_alone(state, cursor, list);
         }
-        self.some_parameters(state, cursor, scope)
+        self.some_parameters(state, cursor, defaults, scope)
     }
 
     /// A list of parameters behind its `(`, with the end (8.3.5). A limit is that of parameters.
     #[tactic(auto, using(crate::proofs::Kept::trees_kept, crate::proofs::Kept::trees_later, crate::proofs::Kept::types_kept, crate::proofs::Kept::types_later, crate::proofs::Kept::later_trans, crate::proofs::Kept::later_refl), unfolding(cxx_reading::specs::Syntax::parameters_at))]
-    pub fn parameters_at(
+    pub fn parameters_at<D: Defaults>(
         &self,
         state: &mut State,
         cursor: &mut Cursor<'_>,
+        defaults: &D,
     ) -> Result<ParameterTypes, Stop>
         requires ready { K.is_ready self.now.kinds.now }
+        requires default { D.is_open defaults.now }
         requires open { N.is_open self.now.nested.now }
-        ensures { IsRead parameters_of AreParameters state.old state.new cursor.new result (definition.parameters_at (K.asks self.now.kinds.now self.now.room) (N.inner self.now.nested.now) (meaning state.old) cursor.old) }
+        ensures { IsRead parameters_of AreParameters state.old state.new cursor.new result (definition.parameters_at (K.asks self.now.kinds.now self.now.room) (D.fallback_by defaults.now) (N.inner self.now.nested.now) (meaning state.old) cursor.old) }
     {
         let scope = self.kinds.enter_parameters(state, self.room)?;
-        let list = self.list_at(state, cursor, scope)?;
+        let list = self.list_at(state, cursor, defaults, scope)?;
         self.kinds.leave_parameters(state, self.room)?;
         Ok(list)
     }

@@ -13,11 +13,13 @@ use Rattle.cxx_model.specs.Facts.Fitted.{IsTypeNumberBelow}
 use Rattle.cxx_model.specs.Types.Trees.{CxxType}
 use Rattle.cxx_model.specs.Types.Numbers.{type_at, Keeps}
 use Rattle.cxx_meaning.specs.Conversions.Standard.{CxxOperand}
-use Rattle.cxx_reading.specs.State.{CxxPart}
+use Rattle.cxx_reading.specs.State.{CxxGiven, CxxOffered, CxxPart}
 use Rattle.cxx_reading.specs.Trees.{CxxTree, Label, tree_of}
 use Rattle.cxx_tree.specs.Arena.{AreNodesBelow, AreTreesBelow, HaveEarlierChildren, IsNodeBelow, IsOperandBelow, KeepsTrees, label_at, no_tree, number_of_option, operand_of_option, path_of_option, tree_in, trees_in, tree_over, trees_after, trees_of}
+use Rattle.cxx_tree.specs.declared.kept.Fallback.{Fallback}
+use Rattle.cxx_tree.specs.declared.kept.Offer.{Offer}
 use Rattle.cxx_tree.specs.declared.kept.Piece.{Piece}
-use Rattle.cxx_tree.specs.Held.{ArePiecesBelow, piece_at, pieces_at, uses_at}
+use Rattle.cxx_tree.specs.Held.{AreFallbacksBelow, AreOffersBelow, ArePiecesBelow, fallback_at, fallbacks_at, offer_at, offers_at, piece_at, pieces_at, uses_at}
 
 pub KeepsTrees_refl : (trees : List CxxTree) → KeepsTrees trees trees
 KeepsTrees_refl trees = record { grows = omega arith; same = λ i within. refl }
@@ -101,6 +103,26 @@ pieces_kept old new [] kept ok = refl
 pieces_kept old new (x ∷ xs) kept ok =
     let one : piece_at new x ≡ piece_at old x = (let make : CxxTree → CxxPart = λ t. record { tree = t; scope = x.scope.0; uses = uses_at x.uses } in ap make (kept.same x.tree.0 ok.0)) in
     let rest : pieces_at new xs ≡ pieces_at old xs = pieces_kept old new xs kept ok.1 in cc
+
+pub fallbacks_later : (old new : ℕ) (fallbacks : List Fallback) → old ≤ new → AreFallbacksBelow old fallbacks → AreFallbacksBelow new fallbacks
+fallbacks_later old new [] more ok = tt
+fallbacks_later old new (x ∷ xs) more ok = (omega arith, fallbacks_later old new xs more ok.1)
+
+pub fallbacks_kept : (old new : List CxxTree) (fallbacks : List Fallback) → KeepsTrees old new → AreFallbacksBelow (length old) fallbacks → fallbacks_at new fallbacks ≡ fallbacks_at old fallbacks
+fallbacks_kept old new [] kept ok = refl
+fallbacks_kept old new (x ∷ xs) kept ok =
+    let one : fallback_at new x ≡ fallback_at old x = (let make : CxxTree → CxxGiven = λ t. record { declaration = x.declaration.0; index = x.index; tree = t } in ap make (kept.same x.tree.0 ok.0)) in
+    let rest : fallbacks_at new xs ≡ fallbacks_at old xs = fallbacks_kept old new xs kept ok.1 in cc
+
+pub offers_later : (old new : ℕ) (offers : List Offer) → old ≤ new → AreOffersBelow old offers → AreOffersBelow new offers
+offers_later old new [] more ok = tt
+offers_later old new (x ∷ xs) more ok = (omega arith, offers_later old new xs more ok.1)
+
+pub offers_kept : (old new : List CxxTree) (offers : List Offer) → KeepsTrees old new → AreOffersBelow (length old) offers → offers_at new offers ≡ offers_at old offers
+offers_kept old new [] kept ok = refl
+offers_kept old new (x ∷ xs) kept ok =
+    let one : offer_at new x ≡ offer_at old x = (let make : CxxTree → CxxOffered = λ t. record { scope = x.scope.0; index = x.index; tree = t } in ap make (kept.same x.tree.0 ok.0)) in
+    let rest : offers_at new xs ≡ offers_at old xs = offers_kept old new xs kept ok.1 in cc
 
 -- ---- lists of trees
 

@@ -6,6 +6,7 @@ use Rattle.cxx_model.specs.declared.tree.Node.{Node}
 use Rattle.cxx_model.specs.declared.types.TreeId.{TreeId}
 use Rattle.cxx_model.specs.declared.types.TypeId.{TypeId}
 use Rattle.cxx_model.specs.Facts.Declarations.{CxxGraph, graph_at}
+use Rattle.cxx_model.specs.Facts.Fitted.{Fitted}
 use Rattle.cxx_model.specs.Facts.Graph.{Graph, IsTypeInRange, AreTypesInRange, IsBoundInRange}
 use Rattle.cxx_model.specs.Types.Trees.{CxxType, CxxBound, fundamental, class_type, enumeration, pointer_to, reference_to, array_of, function_of, qualified, type_parameter, specialisation, nested_in, any_cv, merged, layered, with_cv, decayed, adjusted, unqualified}
 use Rattle.cxx_model.specs.Types.Numbers.{type_at, types_at, AreTypesBelow, Keeps}
@@ -14,13 +15,13 @@ use Rattle.cxx_model.specs.declared.types.Cv.{Cv}
 use Rattle.cxx_model.proofs.TypeTrees.{Keeps-refl, Keeps-trans}
 use Rattle.cxx_graph.proofs.Fitting.{graph-kept, fitted-table}
 use Rattle.cxx_types.specs.Makes as table
-use Rattle.cxx_reading.specs.State.{CxxCall, CxxPart, CxxState}
+use Rattle.cxx_reading.specs.State.{CxxCall, CxxGiven, CxxOffered, CxxPart, CxxState}
 use Rattle.cxx_reading.specs.Trees.{CxxTree}
 use Rattle.cxx_tree.specs.Arena.{AreTreesBelow, bound_of, IsNodeBelow, KeepsTrees, tree_in, tree_over}
-use Rattle.cxx_tree.specs.Held.{ArePiecesBelow, Held, IsSound, calls_at, fallbacks_at, here_in, meaning, numbers_at, pieces_at, state_over, trees, uses_at}
+use Rattle.cxx_tree.specs.Held.{AreFallbacksBelow, AreOffersBelow, ArePiecesBelow, Held, IsSound, calls_at, fallbacks_at, meaning, offers_at, pieces_at, state_over, trees}
 use Rattle.cxx_tree.specs.Later.{IsType, Later, MakesTree, MakesType}
 use Rattle.cxx_tree.proofs.Calls.{calls_kept, calls_later}
-use Rattle.cxx_tree.proofs.Arenas.{KeepsTrees_refl, KeepsTrees_trans, after_kept, after_more, children_more, keeps_more, last_tree, length_trees, nodes_later, nodes_more, pieces_kept, pieces_later}
+use Rattle.cxx_tree.proofs.Arenas.{KeepsTrees_refl, KeepsTrees_trans, after_kept, after_more, children_more, fallbacks_kept, fallbacks_later, keeps_more, last_tree, length_trees, nodes_later, nodes_more, offers_kept, offers_later, pieces_kept, pieces_later}
 
 pub Later_refl : (held : Held) → Later held held
 Later_refl held = record { types = Keeps-refl held.types; trees = KeepsTrees_refl (trees held) }
@@ -38,6 +39,8 @@ sound_node held node sound ok children = record {
   fitted = sound.fitted;
   nodes = nodes_more (length held.types) held.nodes node sound.nodes ok;
   children = children_more 0 held.nodes node sound.children (subst (λ n. AreTreesBelow n node.children) (let e : length (trees held) ≡ length held.nodes = length_trees held.types held.nodes in omega arith) children);
+  fallbacks = fallbacks_later (length held.nodes) (length (held.nodes ++ node ∷ [])) held.fallbacks (omega (arith, length-append held.nodes (node ∷ []))) sound.fallbacks;
+  offers = offers_later (length held.nodes) (length (held.nodes ++ node ∷ [])) held.offers (omega (arith, length-append held.nodes (node ∷ []))) sound.offers;
   pieces = pieces_later (length held.nodes) (length (held.nodes ++ node ∷ [])) held.pieces (omega (arith, length-append held.nodes (node ∷ []))) sound.pieces;
   calls = sound.calls;
   scope = sound.scope;
@@ -46,16 +49,20 @@ sound_node held node sound ok children = record {
 node_keeps : (held : Held) (node : Node) → KeepsTrees (trees held) (trees (with_node held node))
 node_keeps held node = subst (λ ts. KeepsTrees (trees held) ts) (sym (after_more held.types [] held.nodes node)) (keeps_more (trees held) (tree_over held.types (trees held) node))
 
-same_state : (types : List CxxType) (old new : List CxxTree) (held : Held) → pieces_at new held.pieces ≡ pieces_at old held.pieces → state_over types new held ≡ state_over types old held
-same_state types old new held same =
-    let make : List CxxPart → CxxState = λ parts. record { graph = graph_at types held.graph; here = here_in held.scope held.enumeration; defined = numbers_at held.defined; given = fallbacks_at held.fallbacks; calls = calls_at types held.calls; parts = parts; uses = uses_at held.uses } in
-    ap make same
+same_state : (held : Held) (new : List CxxTree) → IsSound held → KeepsTrees (trees held) new → state_over held.types new held ≡ state_over held.types (trees held) held
+same_state held new sound kept =
+    ap (λ given. make given (offers_at new held.offers) (pieces_at new held.pieces)) (fallbacks_kept (trees held) new held.fallbacks kept (subst (λ n. AreFallbacksBelow n held.fallbacks) (sym (length_trees held.types held.nodes)) sound.fallbacks))
+    ∙ ap (λ offered. make (fallbacks_at (trees held) held.fallbacks) offered (pieces_at new held.pieces)) (offers_kept (trees held) new held.offers kept (subst (λ n. AreOffersBelow n held.offers) (sym (length_trees held.types held.nodes)) sound.offers))
+    ∙ ap (λ parts. make (fallbacks_at (trees held) held.fallbacks) (offers_at (trees held) held.offers) parts) (pieces_kept (trees held) new held.pieces kept (subst (λ n. ArePiecesBelow n held.pieces) (sym (length_trees held.types held.nodes)) sound.pieces))
+  where
+    make : List CxxGiven → List CxxOffered → List CxxPart → CxxState
+    make given offered parts = record (state_over held.types (trees held) held) { given = given; offered = offered; parts = parts }
 
 pub makes_node : (held : Held) (node : Node) (number : TreeId) → IsSound held → number.0 ≡ length held.nodes → MakesTree held (record held { nodes = held.nodes ++ node ∷ [] }) (Ok number) (tree_over held.types (trees held) node)
 unfolding meaning
 makes_node held node number sound e = record {
   later = record { types = Keeps-refl held.types; trees = node_keeps held node };
-  same = same_state held.types (trees held) (trees (with_node held node)) held (pieces_kept (trees held) (trees (with_node held node)) held.pieces (node_keeps held node) (subst (λ n. ArePiecesBelow n held.pieces) (sym (length_trees held.types held.nodes)) sound.pieces));
+  same = same_state held (trees (with_node held node)) sound (node_keeps held node);
   made = (
     (let a : length (trees (with_node held node)) ≡ length (held.nodes ++ node ∷ []) = length_trees held.types (held.nodes ++ node ∷ []) in omega (arith, length-append held.nodes (node ∷ []))),
     (let there : number.0 ≡ length (trees held) = e ∙ sym (length_trees held.types held.nodes) in
@@ -72,29 +79,42 @@ makes_no_node held memory wanted = record { later = Later_refl held; same = refl
 trees_same : (held : Held) (new : List CxxType) → IsSound held → Keeps held.types new → trees (record held { types = new }) ≡ trees held
 trees_same held new sound kept = after_kept held.types new [] held.nodes kept sound.nodes
 
-pub sound_type : (held : Held) (new : List CxxType) (result : Result TypeId OutOfMemory) (t : CxxType) → IsSound held → table.Makes held.types new result t → IsTypeInRange held.graph t → IsSound (record held { types = new })
-sound_type held new result t sound makes range = record {
-  fitted = fitted-table held.graph held.types new sound.fitted makes.keeps (λ i from within. makes.fits held.graph sound.fitted.names range i within);
-  nodes = nodes_later (length held.types) (length new) held.nodes makes.keeps.grows sound.nodes;
+pub sound_types : (held : Held) (new : List CxxType) → IsSound held → Keeps held.types new → Fitted held.graph new → IsSound (record held { types = new })
+sound_types held new sound keeps fitted = record {
+  fitted = fitted;
+  nodes = nodes_later (length held.types) (length new) held.nodes keeps.grows sound.nodes;
   children = sound.children;
   scope = sound.scope;
+  fallbacks = sound.fallbacks;
+  offers = sound.offers;
   pieces = sound.pieces;
-  calls = calls_later (length held.types) (length new) held.calls makes.keeps.grows sound.calls;
+  calls = calls_later (length held.types) (length new) held.calls keeps.grows sound.calls;
 }
+
+pub fitted_by : (held : Held) (new : List CxxType) (result : Result TypeId OutOfMemory) (t : CxxType) → IsSound held → table.Makes held.types new result t → IsTypeInRange held.graph t → Fitted held.graph new
+fitted_by held new result t sound makes range = fitted-table held.graph held.types new sound.fitted makes.keeps (λ i from within. makes.fits held.graph sound.fitted.names range i within)
 
 made_type : (held : Held) (new : List CxxType) (result : Result TypeId OutOfMemory) (t : CxxType) → table.IsMade new result t → IsType (record held { types = new }) result t
 made_type held new (Ok number) t made = made
 made_type held new (Err memory) t made = tt
 
-pub makes_type : (held : Held) (new : List CxxType) (result : Result TypeId OutOfMemory) (t : CxxType) → IsSound held → table.Makes held.types new result t → MakesType held (record held { types = new }) result t
+types_later : (held : Held) (new : List CxxType) → IsSound held → Keeps held.types new → Later held (record held { types = new })
+types_later held new sound keeps = record { types = keeps; trees = subst (λ ts. KeepsTrees (trees held) ts) (sym (trees_same held new sound keeps)) (KeepsTrees_refl (trees held)) }
+
+types_same : (held : Held) (new : List CxxType) → IsSound held → Keeps held.types new → meaning (record held { types = new }) ≡ meaning held
 unfolding meaning
+types_same held new sound keeps =
+    ap (λ graph. make graph (calls_at new held.calls) (trees (record held { types = new }))) (graph-kept held.types new held.graph keeps sound.fitted.numbers)
+    ∙ ap (λ calls. make (graph_at held.types held.graph) calls (trees (record held { types = new }))) (calls_kept held.types new held.calls keeps sound.calls)
+    ∙ ap (make (graph_at held.types held.graph) (calls_at held.types held.calls)) (trees_same held new sound keeps)
+  where
+    make : CxxGraph → List CxxCall → List CxxTree → CxxState
+    make graph calls all = record (state_over held.types all held) { graph = graph; calls = calls }
+
+pub makes_type : (held : Held) (new : List CxxType) (result : Result TypeId OutOfMemory) (t : CxxType) → IsSound held → table.Makes held.types new result t → MakesType held (record held { types = new }) result t
 makes_type held new result t sound makes = record {
-  later = record { types = makes.keeps; trees = subst (λ ts. KeepsTrees (trees held) ts) (sym (trees_same held new sound makes.keeps)) (KeepsTrees_refl (trees held)) };
-  same =
-      (let make : CxxGraph → List CxxCall → List CxxPart → CxxState = λ graph calls parts. record { graph = graph; here = here_in held.scope held.enumeration; defined = numbers_at held.defined; given = fallbacks_at held.fallbacks; calls = calls; parts = parts; uses = uses_at held.uses } in
-      ap (λ graph. make graph (calls_at new held.calls) (pieces_at (trees (record held { types = new })) held.pieces)) (graph-kept held.types new held.graph makes.keeps sound.fitted.numbers)
-      ∙ ap (λ calls. make (graph_at held.types held.graph) calls (pieces_at (trees (record held { types = new })) held.pieces)) (calls_kept held.types new held.calls makes.keeps sound.calls)
-      ∙ ap (λ ts. make (graph_at held.types held.graph) (calls_at held.types held.calls) (pieces_at ts held.pieces)) (trees_same held new sound makes.keeps));
+  later = types_later held new sound makes.keeps;
+  same = types_same held new sound makes.keeps;
   made = made_type held new result t makes.made;
 }
 
@@ -184,6 +204,12 @@ type_range held n sound within = sound.fitted.names n within
 
 pub type_made : (seen held : Held) (new : List CxxType) (result : Result TypeId OutOfMemory) (t : List CxxType → CxxType) → held ≡ seen → IsSound held → table.Makes held.types new result (t held.types) → MakesType seen (record held { types = new }) result (t seen.types)
 type_made seen held new result t same sound makes = subst (λ (h : Held). MakesType h (record held { types = new }) result (t h.types)) same (makes_type held new result (t held.types) sound makes)
+
+pub later_made : (seen held : Held) (new : List CxxType) → held ≡ seen → IsSound held → Keeps held.types new → Later seen (record held { types = new })
+later_made seen held new same sound keeps = subst (λ (h : Held). Later h (record held { types = new })) same (types_later held new sound keeps)
+
+pub same_made : (seen held : Held) (new : List CxxType) → held ≡ seen → IsSound held → Keeps held.types new → meaning (record held { types = new }) ≡ meaning seen
+same_made seen held new same sound keeps = subst (λ (h : Held). meaning (record held { types = new }) ≡ meaning h) same (types_same held new sound keeps)
 
 -- a number that the state knows
 pub within : (seen held : Held) (n : ℕ) → held ≡ seen → n < length seen.types → n < length held.types

@@ -1,6 +1,9 @@
 -- What is kept beside a state, after a step of it.
-use Rattle.std.specs.Prelude.{ℕ, ◌≡◌, ◌<◌, ◌+◌, ◌↔◌, Bool, true, false, if◌then◌else◌, List, [], ◌∷◌, ◌++◌, length, Option, Some, None, Result, Ok, Err, refl, nat_eq, IfOk, OnOk, OnErr}
+use Rattle.std.specs.Prelude.{ℕ, ◌≡◌, ◌<◌, ◌+◌, ◌↔◌, Bool, true, false, if◌then◌else◌, List, [], ◌∷◌, ◌++◌, length, take, Option, Some, None, Result, Ok, Err, refl, nat_eq, IfOk, IfSome, OnOk, OnErr}
 use Rattle.std.specs.List.{slice_get}
+use Rattle.std.specs.Borrow.{Bor}
+use Rattle.std.specs.Option.{option_copied}
+use Rattle.std.proofs.Math.Seq.{take-append_seam}
 use Rattle.std.proofs.Common.{ap, sym, subst, ◌∙◌, arith, length-append, append-nil}
 use Rattle.std.proofs.lemmas.Bool.{eq-eqb, eqb-true}
 use Rattle.cxx_defined.proofs.Owning.{defines_later}
@@ -8,7 +11,7 @@ use Rattle.cxx_defined.specs.Defined.{Defines}
 use Rattle.cxx_defined.specs.declared.defined.Definitions.{Definitions}
 use Rattle.cxx_graph.specs.declared.graph.AddFault.{AddFault}
 use Rattle.cxx_graph.specs.declared.graph.AddFault.TheVariants as fault
-use Rattle.cxx_graph.proofs.Fitting.{fitted-fact}
+use Rattle.cxx_graph.proofs.Fitting.{fitted-fact, graph-kept}
 use Rattle.cxx_graph.proofs.GraphRange.{appended-in-range}
 use Rattle.cxx_model.proofs.TypeTrees.{Keeps-refl}
 use Rattle.cxx_model.specs.declared.facts.Entity.{Entity}
@@ -28,9 +31,10 @@ use Rattle.cxx_model.specs.declared.types.ScopeId.{ScopeId}
 use Rattle.cxx_model.specs.declared.types.TypeId.{TypeId}
 use Rattle.cxx_model.specs.Facts.Conflicts.{is_using}
 use Rattle.cxx_model.specs.Stops.{Answer, Limited, Stops, ◌>>=◌}
+use Rattle.cxx_model.specs.Types.Numbers.{Keeps}
 use Rattle.cxx_model.specs.Types.Trees.{CxxType, enumeration}
-use Rattle.cxx_model.specs.Facts.Declarations.{CxxFact, classes_at, declares_at, fact_at, facts_at, graph_at, patterns_at, spelled}
-use Rattle.cxx_model.specs.Facts.Fitted.{IsFactBelow}
+use Rattle.cxx_model.specs.Facts.Declarations.{CxxFact, CxxGraph, classes_at, declares_at, fact_at, facts_at, graph_at, spelled}
+use Rattle.cxx_model.specs.Facts.Fitted.{Fitted, IsFactBelow}
 use Rattle.cxx_model.specs.Facts.Graph.{Graph, InRange, IsEntityInRange, IsTypeInRange, MayFollow, appended, enumerations, scopes}
 use Rattle.cxx_names.proofs.Clashing.{none_brought_more, plain_not_brought}
 use Rattle.cxx_names.specs.Clashes.{IsPlain, IsPlainEntity, NoneBrought}
@@ -39,38 +43,65 @@ use Rattle.cxx_names.specs.Index.{Notes}
 use Rattle.cxx_reading.specs.Declaring.{added, at_scope, enter_parameters, entered_as, in_enumeration, leave_parameters, parameters_scope, place_of_scope, scope_count, with_definition, with_fact}
 use Rattle.cxx_reading.specs.Seen.{found, parent_of, type_in}
 use Rattle.cxx_reading.specs.State.{CxxState, first_state}
+use Rattle.cxx_sizes.specs.declared.layouts.Layouts.{Layouts}
+use Rattle.cxx_sizes.specs.Noted.{Notes as Measures}
 use Rattle.cxx_model.specs.declared.tree.Node.{Node}
 use Rattle.cxx_model.specs.Text.Lexemes.{first_place}
 use Rattle.cxx_tree.specs.Answered.{AnyKnown, IsAnswered, IsFactKnown, fact_number, scope_number}
-use Rattle.cxx_tree.specs.Held.{Held, IsSound, calls_at, enumeration_of_option, fallbacks_at, here_in, meaning, numbers_at, pieces_at, trees, uses_at}
+use Rattle.cxx_tree.specs.Held.{Held, IsSound, enumeration_of_option, meaning, numbers_at, trees}
 use Rattle.cxx_tree.specs.Later.{Later, MakesType}
 use Rattle.cxx_tree.specs.declared.kept.Binding.{Binding}
 use Rattle.cxx_tree.specs.declared.kept.Decided.{Decided}
 use Rattle.cxx_tree.specs.declared.kept.Fallback.{Fallback}
+use Rattle.cxx_tree.specs.declared.kept.Offer.{Offer}
 use Rattle.cxx_tree.specs.declared.kept.Piece.{Piece}
 use Rattle.cxx_tree.specs.Whole.{IsWhole, parameters_fact, place_by, scope_places, stopped_as, unit_fact, unit_graph}
 use Rattle.cxx_tree.proofs.Arenas.{KeepsTrees_refl}
 use Rattle.cxx_tree.proofs.Graphs.{facts_more, length_classes, length_facts, opened_at, opened_nowhere, parent_there, places_more, scope_next, scopes_later}
-use Rattle.cxx_tree.proofs.Steps.{Later_refl, Later_trans, makes_type}
+use Rattle.cxx_tree.proofs.Steps.{Later_refl, Later_trans, fitted_by, makes_type, sound_types}
 use Rattle.cxx_types.specs.Makes as table
 
+-- The layouts that are kept, if any, are those by some facts.
+abbrev pub AreMeasured : Option Layouts → List CxxFact → Type 0
+AreMeasured layouts all = IfSome layouts (λ kept. Measures kept all)
+
 -- the graph and what is defined stay
-pub still : (names : Names) (definitions : Definitions) (openings : List Place) (held new : Held) → IsWhole names definitions openings held → new.graph ≡ held.graph → new.defined ≡ held.defined → IsSound new → IsWhole names definitions openings new
-still names definitions openings held new whole same defined sound = record {
+pub still : (names : Names) (definitions : Definitions) (openings : List Place) (layouts : Option Layouts) (held new : Held) → IsWhole names definitions openings layouts held → new.graph ≡ held.graph → new.types ≡ held.types → new.defined ≡ held.defined → IsSound new → IsWhole names definitions openings layouts new
+still names definitions openings layouts held new whole same types defined sound = record {
   sound = sound;
   noted = subst (λ (g : Graph). Notes names g.facts) (sym same) whole.noted;
   own = subst (λ (g : Graph). NoneBrought g.facts) (sym same) whole.own;
   defines = subst (λ ds. Defines definitions new.graph.facts (numbers_at ds)) (sym defined) (subst (λ (g : Graph). Defines definitions g.facts (numbers_at held.defined)) (sym same) whole.defines);
   opened = subst (λ (g : Graph). openings ≡ scope_places g.facts) (sym same) whole.opened;
+  measured = subst (λ (g : Graph). AreMeasured layouts (graph_at new.types g).facts) (sym same) (subst (λ (ts : List CxxType). AreMeasured layouts (graph_at ts held.graph).facts) (sym types) whole.measured);
 }
 
+-- types are made
+pub whole_types : (names : Names) (definitions : Definitions) (openings : List Place) (layouts : Option Layouts) (held : Held) (new : List CxxType) → IsWhole names definitions openings layouts held → Keeps held.types new → Fitted held.graph new → IsWhole names definitions openings layouts (record held { types = new })
+whole_types names definitions openings layouts held new whole keeps fitted = record {
+  sound = sound_types held new whole.sound keeps fitted;
+  noted = whole.noted;
+  own = whole.own;
+  defines = whole.defines;
+  opened = whole.opened;
+  measured = subst (λ (g : CxxGraph). AreMeasured layouts g.facts) (sym (graph-kept held.types new held.graph keeps whole.sound.fitted.numbers)) whole.measured;
+}
+
+pub whole_type : (names : Names) (definitions : Definitions) (openings : List Place) (layouts : Option Layouts) (held : Held) (new : List CxxType) (result : Result TypeId OutOfMemory) (t : CxxType) → IsWhole names definitions openings layouts held → table.Makes held.types new result t → IsTypeInRange held.graph t → IsWhole names definitions openings layouts (record held { types = new })
+whole_type names definitions openings layouts held new result t whole makes range = whole_types names definitions openings layouts held new whole makes.keeps (fitted_by held new result t whole.sound makes range)
+
 -- ---- one more fact
+
+pub below_here : (seen held : Held) (fact : Fact) → held ≡ seen → IsFactBelow (length seen.types) fact → IsFactBelow (length held.types) fact
+below_here seen held fact same below = subst (λ (h : Held). IsFactBelow (length h.types) fact) (sym same) below
 
 pub sound_fact : (held : Held) (fact : Fact) → IsSound held → IsFactBelow (length held.types) fact → IsSound (record held { graph = appended held.graph fact })
 sound_fact held fact sound below = record {
   fitted = fitted-fact held.graph held.types fact sound.fitted below;
   nodes = sound.nodes;
   children = sound.children;
+  fallbacks = sound.fallbacks;
+  offers = sound.offers;
   pieces = sound.pieces;
   calls = sound.calls;
   scope = scopes_later held.graph.facts (fact ∷ []) held.scope.0 sound.scope;
@@ -81,15 +112,7 @@ unfolding meaning
 meaning_fact held fact = ap make (facts_more held.types held.graph.facts fact)
   where
     make : List CxxFact → CxxState
-    make facts = record {
-      graph = record { facts = facts; classes = classes_at held.types held.graph.classes; patterns = patterns_at held.types held.graph.patterns };
-      here = here_in held.scope held.enumeration;
-      defined = numbers_at held.defined;
-      given = fallbacks_at held.fallbacks;
-      calls = calls_at held.types held.calls;
-      parts = pieces_at (trees held) held.pieces;
-      uses = uses_at held.uses;
-    }
+    make facts = record (meaning held) { graph = record (graph_at held.types held.graph) { facts = facts } }
 
 pub later_fact : (held : Held) (graph : Graph) → Later held (record held { graph = graph })
 later_fact held graph = record { types = Keeps-refl held.types; trees = KeepsTrees_refl (trees held) }
@@ -161,17 +184,18 @@ fact_answered seen held new fact what r result same is stopped number appends st
 
 -- ---- what is kept beside one more fact
 
-module _ (names : Names) (definitions : Definitions) (openings : List Place) (held : Held) (fact : Fact) (whole : IsWhole names definitions openings held) (below : IsFactBelow (length held.types) fact) (plain : is_using (declares_at [] fact.what) ≡ false) where
+module _ (names : Names) (definitions : Definitions) (openings : List Place) (layouts : Option Layouts) (held : Held) (fact : Fact) (whole : IsWhole names definitions openings layouts held) (below : IsFactBelow (length held.types) fact) (plain : is_using (declares_at [] fact.what) ≡ false) where
   abbrev grown : Held
   grown = record held { graph = appended held.graph fact }
 
-  pub whole_more : (names' : Names) → Notes names' (held.graph.facts ++ fact ∷ []) → IsWhole names' definitions (openings ++ place_by fact.place fact.what) grown
-  whole_more names' noted = record {
+  pub whole_more : (names' : Names) (layouts' : Option Layouts) → Notes names' (held.graph.facts ++ fact ∷ []) → AreMeasured layouts' (graph_at held.types (appended held.graph fact)).facts → IsWhole names' definitions (openings ++ place_by fact.place fact.what) layouts' grown
+  whole_more names' layouts' noted measured = record {
     sound = sound_fact held fact whole.sound below;
     noted = noted;
     own = none_brought_more held.graph.facts fact whole.own plain;
     defines = defines_later definitions held.graph.facts (fact ∷ []) (numbers_at held.defined) whole.defines;
     opened = ap (λ ps. ps ++ place_by fact.place fact.what) whole.opened ∙ sym (places_more held.graph.facts fact);
+    measured = measured;
   }
 
 no_place : (place : Place) (what : Entity) → IsPlainEntity what → place_by place what ≡ []
@@ -193,22 +217,50 @@ no_place place (entity.Directive nominated) ok = absurd ok
 no_place place (entity.Using target) ok = absurd ok
 no_place place (entity.Friend number target) ok = absurd ok
 
-whole_plain : (names names' : Names) (definitions : Definitions) (openings : List Place) (held : Held) (fact : Fact) → IsWhole names definitions openings held → IsFactBelow (length held.types) fact → IsPlain fact → Notes names' (held.graph.facts ++ fact ∷ []) → IsWhole names' definitions openings (record held { graph = appended held.graph fact })
-whole_plain names names' definitions openings held fact whole below plain noted =
-    subst (λ ps. IsWhole names' definitions ps (record held { graph = appended held.graph fact })) (ap (λ ps. openings ++ ps) (no_place fact.place fact.what plain.what) ∙ append-nil openings)
-    (whole_more names definitions openings held fact whole below (plain_not_brought [] fact.what plain.what) names' noted)
+whole_plain : (names names' : Names) (definitions : Definitions) (openings : List Place) (layouts layouts' : Option Layouts) (held : Held) (fact : Fact) → IsWhole names definitions openings layouts held → IsFactBelow (length held.types) fact → IsPlain fact → Notes names' (held.graph.facts ++ fact ∷ [])
+    → AreMeasured layouts' (graph_at held.types (appended held.graph fact)).facts → IsWhole names' definitions openings layouts' (record held { graph = appended held.graph fact })
+whole_plain names names' definitions openings layouts layouts' held fact whole below plain noted measured =
+    subst (λ ps. IsWhole names' definitions ps layouts' (record held { graph = appended held.graph fact })) (ap (λ ps. openings ++ ps) (no_place fact.place fact.what plain.what) ∙ append-nil openings)
+    (whole_more names definitions openings layouts held fact whole below (plain_not_brought [] fact.what plain.what) names' layouts' noted measured)
 
-whole_same : (names names' : Names) (definitions : Definitions) (openings : List Place) (held : Held) → IsWhole names definitions openings held → Notes names' held.graph.facts → IsWhole names' definitions openings held
-whole_same names names' definitions openings held whole noted = record { sound = whole.sound; noted = noted; own = whole.own; defines = whole.defines; opened = whole.opened }
+whole_same : (names names' : Names) (definitions : Definitions) (openings : List Place) (layouts : Option Layouts) (held : Held) → IsWhole names definitions openings layouts held → Notes names' held.graph.facts → IsWhole names' definitions openings layouts held
+whole_same names names' definitions openings layouts held whole noted = record { sound = whole.sound; noted = noted; own = whole.own; defines = whole.defines; opened = whole.opened; measured = whole.measured }
 
-pub whole_fact : (names names' : Names) (definitions : Definitions) (openings : List Place) (seen held : Held) (new : Graph) (fact : Fact) (r : Result FactId AddFault) → held ≡ seen → IsWhole names definitions openings held → IsFactBelow (length seen.types) fact → IsPlain fact
-    → OnOk r (new ≡ appended held.graph fact) → OnErr r (new ≡ held.graph) → Notes names' new.facts → IsWhole names' definitions openings (record held { graph = new })
-whole_fact names names' definitions openings seen held new fact (Ok number) same whole below plain appends stays noted =
-    subst (λ (g : Graph). IsWhole names' definitions openings (record held { graph = g })) (sym appends)
-    (whole_plain names names' definitions openings held fact whole (subst (λ (h : Held). IsFactBelow (length h.types) fact) (sym same) below) plain (subst (λ (g : Graph). Notes names' g.facts) appends noted))
-whole_fact names names' definitions openings seen held new fact (Err why) same whole below plain appends stays noted =
-    subst (λ (g : Graph). IsWhole names' definitions openings (record held { graph = g })) (sym stays)
-    (whole_same names names' definitions openings held whole (subst (λ (g : Graph). Notes names' g.facts) stays noted))
+-- nothing was added
+pub whole_full : (names names' : Names) (definitions : Definitions) (openings : List Place) (layouts : Option Layouts) (held : Held) (new : Graph) → IsWhole names definitions openings layouts held → new ≡ held.graph → Notes names' new.facts → IsWhole names' definitions openings layouts (record held { graph = new })
+whole_full names names' definitions openings layouts held new whole stays noted =
+    subst (λ (g : Graph). IsWhole names' definitions openings layouts (record held { graph = g })) (sym stays)
+    (whole_same names names' definitions openings layouts held whole (subst (λ (g : Graph). Notes names' g.facts) stays noted))
+
+pub whole_fact : (names names' : Names) (definitions : Definitions) (openings : List Place) (layouts layouts' : Option Layouts) (seen held : Held) (new : Graph) (fact : Fact) → held ≡ seen → IsWhole names definitions openings layouts held → IsFactBelow (length seen.types) fact → IsPlain fact
+    → new ≡ appended held.graph fact → Notes names' new.facts → AreMeasured layouts' (graph_at held.types new).facts → IsWhole names' definitions openings layouts' (record held { graph = new })
+whole_fact names names' definitions openings layouts layouts' seen held new fact same whole below plain appends noted measured =
+    subst (λ (g : Graph). IsWhole names' definitions openings layouts' (record held { graph = g })) (sym appends)
+    (whole_plain names names' definitions openings layouts layouts' held fact whole (below_here seen held fact same below) plain (subst (λ (g : Graph). Notes names' g.facts) appends noted) (subst (λ (g : Graph). AreMeasured layouts' (graph_at held.types g).facts) appends measured))
+
+-- ---- what is kept before the last fact is noted
+
+pub fitted_added : (held : Held) (new : Graph) (fact : Fact) → IsSound held → IsFactBelow (length held.types) fact → new ≡ appended held.graph fact → Fitted new held.types
+fitted_added held new fact sound below appends = subst (λ (g : Graph). Fitted g held.types) (sym appends) (fitted-fact held.graph held.types fact sound.fitted below)
+
+facts_before : (types : List CxxType) (graph : Graph) (fact : Fact) (n : ℕ) → n ≡ length graph.facts → take n (graph_at types (appended graph fact)).facts ≡ (graph_at types graph).facts
+facts_before types graph fact n is =
+    let all : List CxxFact = facts_at types graph.facts in
+    ap (λ k. take k (facts_at types (graph.facts ++ fact ∷ []))) (is ∙ sym (length_facts types graph.facts))
+    ∙ ap (λ (fs : List CxxFact). take (length all) fs) (facts_more types graph.facts fact)
+    ∙ take-append_seam all (fact_at types fact ∷ [])
+
+pub measured_before : (names : Names) (definitions : Definitions) (openings : List Place) (layouts taken : Option Layouts) (held : Held) (new : Graph) (fact : Fact) (n : ℕ) → IsWhole names definitions openings layouts held → taken ≡ layouts → n ≡ length held.graph.facts → new ≡ appended held.graph fact → AreMeasured taken (take n (graph_at held.types new).facts)
+measured_before names definitions openings layouts taken held new fact n whole is at appends =
+    subst (λ (kept : Option Layouts). AreMeasured kept (take n (graph_at held.types new).facts)) (sym is)
+    (subst (λ (g : Graph). AreMeasured layouts (take n (graph_at held.types g).facts)) (sym appends)
+    (subst (λ (all : List CxxFact). AreMeasured layouts all) (sym (facts_before held.types held.graph fact n at)) whole.measured))
+
+-- the layouts as they are seen
+pub measured_here : (seen held : Held) (layouts : Option Layouts) (shown : Option (Bor Layouts)) → held ≡ seen → AreMeasured layouts (graph_at held.types held.graph).facts → option_copied shown ≡ layouts → IfSome shown (λ kept. Measures kept.now (meaning seen).graph.facts)
+unfolding meaning
+measured_here seen held layouts None same measured is = tt
+measured_here seen held layouts (Some kept) same measured is = subst (λ (h : Held). Measures kept.now (graph_at h.types h.graph).facts) same (subst (λ (o : Option Layouts). AreMeasured o (graph_at held.types held.graph).facts) (sym is) measured)
 
 pub fact_in_range : (seen held : Held) (fact : Fact) → held ≡ seen → InRange held.graph → MayFollow seen.graph fact → InRange (appended held.graph fact)
 fact_in_range seen held fact same range follows = appended-in-range held.graph fact range (subst (λ (h : Held). MayFollow h.graph fact) (sym same) follows)
@@ -229,12 +281,15 @@ pub parameters_are : (seen held : Held) (place : Place) → held ≡ seen → pl
 unfolding meaning
 parameters_are seen held place same is = ap (λ (p : Place). fact_at held.types (parameters_fact p held.scope)) (subst (λ (h : Held). place ≡ place_of_scope (graph_at h.types h.graph) h.scope.0) (sym same) is)
 
-pub whole_parameters : (names names' : Names) (definitions : Definitions) (openings : List Place) (held : Held) (new : Graph) (opened : List Place) (place : Place) → IsWhole names definitions openings held
-    → new ≡ appended held.graph (parameters_fact place held.scope) → opened ≡ openings ++ place ∷ [] → Notes names' new.facts → IsWhole names' definitions opened (record held { graph = new })
-whole_parameters names names' definitions openings held new opened place whole appends opens noted =
-    subst (λ ps. IsWhole names' definitions ps (record held { graph = new })) (sym opens)
-    (subst (λ (g : Graph). IsWhole names' definitions (openings ++ place ∷ []) (record held { graph = g })) (sym appends)
-    (whole_more names definitions openings held (parameters_fact place held.scope) whole (record { name = tt; what = tt }) refl names' (subst (λ (g : Graph). Notes names' g.facts) appends noted)))
+pub parameters_below : (count : ℕ) (place : Place) (scope : ScopeId) → IsFactBelow count (parameters_fact place scope)
+parameters_below count place scope = record { name = tt; what = tt }
+
+pub whole_parameters : (names names' : Names) (definitions : Definitions) (openings : List Place) (layouts layouts' : Option Layouts) (held : Held) (new : Graph) (opened : List Place) (place : Place) → IsWhole names definitions openings layouts held
+    → new ≡ appended held.graph (parameters_fact place held.scope) → opened ≡ openings ++ place ∷ [] → Notes names' new.facts → AreMeasured layouts' (graph_at held.types new).facts → IsWhole names' definitions opened layouts' (record held { graph = new })
+whole_parameters names names' definitions openings layouts layouts' held new opened place whole appends opens noted measured =
+    subst (λ ps. IsWhole names' definitions ps layouts' (record held { graph = new })) (sym opens)
+    (subst (λ (g : Graph). IsWhole names' definitions (openings ++ place ∷ []) layouts' (record held { graph = g })) (sym appends)
+    (whole_more names definitions openings layouts held (parameters_fact place held.scope) whole (parameters_below (length held.types) place held.scope) refl names' layouts' (subst (λ (g : Graph). Notes names' g.facts) appends noted) (subst (λ (g : Graph). AreMeasured layouts' (graph_at held.types g).facts) appends measured)))
 
 -- ---- a definition
 
@@ -242,14 +297,15 @@ numbers_more : (numbers : List FactId) (number : FactId) → numbers_at (numbers
 numbers_more [] number = refl
 numbers_more (one ∷ others) number = ap (λ ns. one.0 ∷ ns) (numbers_more others number)
 
-pub whole_definition : (names : Names) (definitions definitions' : Definitions) (openings : List Place) (held : Held) (new : List FactId) (number : FactId) → IsWhole names definitions openings held → new ≡ held.defined ++ number ∷ []
-    → Defines definitions' held.graph.facts (numbers_at held.defined ++ number.0 ∷ []) → IsWhole names definitions' openings (record held { defined = new })
-whole_definition names definitions definitions' openings held new number whole is defines = record {
-  sound = record { fitted = whole.sound.fitted; nodes = whole.sound.nodes; children = whole.sound.children; pieces = whole.sound.pieces; calls = whole.sound.calls; scope = whole.sound.scope };
+pub whole_definition : (names : Names) (definitions definitions' : Definitions) (openings : List Place) (layouts : Option Layouts) (held : Held) (new : List FactId) (number : FactId) → IsWhole names definitions openings layouts held → new ≡ held.defined ++ number ∷ []
+    → Defines definitions' held.graph.facts (numbers_at held.defined ++ number.0 ∷ []) → IsWhole names definitions' openings layouts (record held { defined = new })
+whole_definition names definitions definitions' openings layouts held new number whole is defines = record {
+  sound = record { fitted = whole.sound.fitted; nodes = whole.sound.nodes; children = whole.sound.children; fallbacks = whole.sound.fallbacks; offers = whole.sound.offers; pieces = whole.sound.pieces; calls = whole.sound.calls; scope = whole.sound.scope };
   noted = whole.noted;
   own = whole.own;
   defines = subst (λ ns. Defines definitions' held.graph.facts (numbers_at ns)) (sym is) (subst (λ ns. Defines definitions' held.graph.facts ns) (sym (numbers_more held.defined number)) defines);
   opened = whole.opened;
+  measured = whole.measured;
 }
 
 pub definition_added : (seen held : Held) (new : List FactId) (number : FactId) → held ≡ seen → new ≡ held.defined ++ number ∷ [] → meaning (record held { defined = new }) ≡ with_definition number.0 (meaning seen)
@@ -257,7 +313,7 @@ unfolding meaning
 definition_added seen held new number same is = subst (λ (h : Held). meaning (record held { defined = new }) ≡ with_definition number.0 (meaning h)) same (ap make (ap numbers_at is ∙ numbers_more held.defined number))
   where
     make : List ℕ → CxxState
-    make defined = record { graph = graph_at held.types held.graph; here = here_in held.scope held.enumeration; defined = defined; given = fallbacks_at held.fallbacks; calls = calls_at held.types held.calls; parts = pieces_at (trees held) held.pieces; uses = uses_at held.uses }
+    make defined = record (meaning held) { defined = defined }
 
 -- ---- where the reader stands
 
@@ -330,6 +386,14 @@ pub stopped_ok : {X : Type 0} (r : Result X AddFault) (x : X) → Ok x ≡ stopp
 stopped_ok (Ok y) x e = (let same : x ≡ y = cc in ap Ok (sym same))
 stopped_ok (Err why) x e = absurd (cc)
 
+pub if_ok : {X E : Type 0} (r : Result X E) (x : X) (P : X → Type 0) → r ≡ Ok x → IfOk r P → P x
+if_ok (Ok y) x P e p = (let same : y ≡ x = cc in subst P same p)
+if_ok (Err why) x P e p = absurd (cc)
+
+pub on_err : {X : Type 0} (r : Result X AddFault) (why : Stop) (P : Type 0) → Err why ≡ stopped_as r → OnErr r P → P
+on_err (Ok y) why P e p = absurd (cc)
+on_err (Err fault) why P e p = p
+
 pub on_ok : {X E : Type 0} (r : Result X E) (x : X) (P : Type 0) → r ≡ Ok x → OnOk r P → P
 on_ok (Ok y) x P e p = p
 on_ok (Err why) x P e p = absurd (cc)
@@ -346,38 +410,42 @@ opened_nowhere_here seen held openings n same opened at = subst (λ (h : Held). 
 
 -- ---- the beginning
 
-module _ (names : Names) (definitions : Definitions) (graph : Graph) (types : List CxxType) (nodes : List Node) (defined : List FactId) (fallbacks : List Fallback) (calls : List Decided) (pieces : List Piece) (uses : List Binding)
-    (g : graph ≡ unit_graph) (t : types ≡ []) (n : nodes ≡ []) (d : defined ≡ []) (f : fallbacks ≡ []) (c : calls ≡ []) (p : pieces ≡ []) (u : uses ≡ []) where
-  abbrev begun : Graph → List CxxType → List Node → List FactId → List Fallback → List Decided → List Piece → List Binding → Held
-  begun graph types nodes defined fallbacks calls pieces uses = record { graph = graph; types = types; nodes = nodes; scope = record { 0 = 0 }; enumeration = None; defined = defined; fallbacks = fallbacks; calls = calls; pieces = pieces; uses = uses }
+module _ (names : Names) (definitions : Definitions) (graph : Graph) (types : List CxxType) (nodes : List Node) (defined : List FactId) (fallbacks : List Fallback) (offers : List Offer) (calls : List Decided) (pieces : List Piece) (uses : List Binding)
+    (g : graph ≡ unit_graph) (t : types ≡ []) (n : nodes ≡ []) (d : defined ≡ []) (f : fallbacks ≡ []) (o : offers ≡ []) (c : calls ≡ []) (p : pieces ≡ []) (u : uses ≡ []) where
+  abbrev begun : Graph → List CxxType → List Node → List FactId → List Fallback → List Offer → List Decided → List Piece → List Binding → Held
+  begun graph types nodes defined fallbacks offers calls pieces uses = record { graph = graph; types = types; nodes = nodes; scope = record { 0 = 0 }; enumeration = None; defined = defined; fallbacks = fallbacks; offers = offers; in_default = false; calls = calls; pieces = pieces; uses = uses }
 
-  is_begun : begun graph types nodes defined fallbacks calls pieces uses ≡ begun unit_graph [] [] [] [] [] [] []
+  is_begun : begun graph types nodes defined fallbacks offers calls pieces uses ≡ begun unit_graph [] [] [] [] [] [] [] []
   is_begun =
-      ap (λ x. begun x types nodes defined fallbacks calls pieces uses) g ∙ (ap (λ x. begun unit_graph x nodes defined fallbacks calls pieces uses) t
-      ∙ (ap (λ x. begun unit_graph [] x defined fallbacks calls pieces uses) n ∙ (ap (λ x. begun unit_graph [] [] x fallbacks calls pieces uses) d
-      ∙ (ap (λ x. begun unit_graph [] [] [] x calls pieces uses) f ∙ (ap (λ x. begun unit_graph [] [] [] [] x pieces uses) c
-      ∙ (ap (λ x. begun unit_graph [] [] [] [] [] x uses) p ∙ ap (λ x. begun unit_graph [] [] [] [] [] [] x) u))))))
+      ap (λ x. begun x types nodes defined fallbacks offers calls pieces uses) g ∙ (ap (λ x. begun unit_graph x nodes defined fallbacks offers calls pieces uses) t
+      ∙ (ap (λ x. begun unit_graph [] x defined fallbacks offers calls pieces uses) n ∙ (ap (λ x. begun unit_graph [] [] x fallbacks offers calls pieces uses) d
+      ∙ (ap (λ x. begun unit_graph [] [] [] x offers calls pieces uses) f ∙ (ap (λ x. begun unit_graph [] [] [] [] x calls pieces uses) o
+      ∙ (ap (λ x. begun unit_graph [] [] [] [] [] x pieces uses) c
+      ∙ (ap (λ x. begun unit_graph [] [] [] [] [] [] x uses) p ∙ ap (λ x. begun unit_graph [] [] [] [] [] [] [] x) u)))))))
 
-  sound_first : IsSound (begun unit_graph [] [] [] [] [] [] [])
+  sound_first : IsSound (begun unit_graph [] [] [] [] [] [] [] [])
   sound_first = record {
     fitted = record { numbers = record { facts = (record { name = tt; what = tt }, tt); classes = tt; patterns = tt }; names = λ i within. absurd (omega arith) };
     nodes = tt;
     children = tt;
+    fallbacks = tt;
+    offers = tt;
     pieces = tt;
     calls = tt;
     scope = omega arith;
   }
 
-  pub whole_first : (openings : List Place) → openings ≡ first_place ∷ [] → Notes names graph.facts → ((facts : List Fact) → Defines definitions facts []) → IsWhole names definitions openings (begun graph types nodes defined fallbacks calls pieces uses)
-  whole_first openings opens noted defines =
-      subst (λ (h : Held). IsWhole names definitions openings h) (sym is_begun) (record {
+  pub whole_first : (openings : List Place) (layouts : Option Layouts) → openings ≡ first_place ∷ [] → Notes names graph.facts → ((facts : List Fact) → Defines definitions facts []) → AreMeasured layouts (graph_at types graph).facts → IsWhole names definitions openings layouts (begun graph types nodes defined fallbacks offers calls pieces uses)
+  whole_first openings layouts opens noted defines measured =
+      subst (λ (h : Held). IsWhole names definitions openings layouts h) (sym is_begun) (record {
         sound = sound_first;
         noted = subst (λ (x : Graph). Notes names x.facts) g noted;
         own = (refl, tt);
         defines = defines (unit_fact ∷ []);
         opened = opens;
+        measured = subst (λ (h : Held). AreMeasured layouts (graph_at h.types h.graph).facts) is_begun measured;
       })
 
-  pub meaning_first : meaning (begun graph types nodes defined fallbacks calls pieces uses) ≡ first_state
+  pub meaning_first : meaning (begun graph types nodes defined fallbacks offers calls pieces uses) ≡ first_state
   unfolding meaning
   meaning_first = ap meaning is_begun

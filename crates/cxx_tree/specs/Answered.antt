@@ -1,5 +1,5 @@
 -- What a call of the state does, in the terms of the definitions.
-use Rattle.std.specs.Prelude.{ℕ, ◌≡◌, ◌<◌, length, Result, Ok, Err}
+use Rattle.std.specs.Prelude.{ℕ, ◌≡◌, ◌<◌, length, Option, Some, None, Result, Ok, Err}
 use Rattle.cxx_model.specs.declared.stop.Stop.{Stop}
 use Rattle.cxx_model.specs.declared.types.FactId.{FactId}
 use Rattle.cxx_model.specs.declared.types.ScopeId.{ScopeId}
@@ -30,6 +30,11 @@ fact_number held number = number.0
 
 abbrev pub scope_number : Held → ScopeId → ℕ
 scope_number held scope = scope.0
+
+-- the number of a scope, where there is one
+abbrev pub scope_of_option : Option ScopeId → Option ℕ
+scope_of_option None = None
+scope_of_option (Some scope) = Some scope.0
 
 abbrev pub IsFactKnown : Held → FactId → Type 0
 IsFactKnown held number = number.0 < length held.graph.facts

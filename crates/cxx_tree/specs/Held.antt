@@ -1,5 +1,5 @@
 -- What the state of a reading holds, with the numbers by which its tables name types and trees; and what that means.
-use Rattle.std.specs.Prelude.{ℕ, ◌<◌, List, [], ◌∷◌, length, Option, Some, None}
+use Rattle.std.specs.Prelude.{ℕ, ◌<◌, Bool, List, [], ◌∷◌, length, Option, Some, None}
 use Rattle.cxx_model.specs.declared.sequence.Operand.{Operand}
 use Rattle.cxx_model.specs.declared.sequence.StandardSequence.{StandardSequence}
 use Rattle.cxx_model.specs.declared.tree.Node.{Node}
@@ -8,7 +8,6 @@ use Rattle.cxx_model.specs.declared.types.FactId.{FactId}
 use Rattle.cxx_model.specs.declared.types.ScopeId.{ScopeId}
 use Rattle.cxx_model.specs.declared.types.TypeId.{TypeId}
 use Rattle.cxx_model.specs.declared.types.TreeId.{TreeId}
-use Rattle.cxx_model.specs.Facts.Conflicts.{Given}
 use Rattle.cxx_model.specs.Facts.Declarations.{graph_at}
 use Rattle.cxx_model.specs.Facts.Fitted.{Fitted}
 use Rattle.cxx_model.specs.Facts.Graph.{Graph, scopes}
@@ -17,12 +16,13 @@ use Rattle.cxx_model.specs.Types.Trees.{CxxType}
 use Rattle.cxx_model.specs.Types.Numbers.{AreTypesBelow, type_at}
 use Rattle.cxx_meaning.specs.Conversions.Standard.{CxxOperand, CxxStandard}
 use Rattle.cxx_standard.specs.Views.{IsSequenceBelow, operand_at, sequence_at}
-use Rattle.cxx_reading.specs.State.{CxxCall, CxxRow, CxxPart, CxxState, CxxUse, at_unit}
+use Rattle.cxx_reading.specs.State.{CxxCall, CxxGiven, CxxOffered, CxxRow, CxxPart, CxxState, CxxUse, at_unit}
 use Rattle.cxx_reading.specs.Trees.{CxxTree}
 use Rattle.cxx_tree.specs.declared.kept.Binding.{Binding}
 use Rattle.cxx_tree.specs.declared.kept.Contending.{Contending}
 use Rattle.cxx_tree.specs.declared.kept.Decided.{Decided}
 use Rattle.cxx_tree.specs.declared.kept.Fallback.{Fallback}
+use Rattle.cxx_tree.specs.declared.kept.Offer.{Offer}
 use Rattle.cxx_tree.specs.declared.kept.Piece.{Piece}
 use Rattle.cxx_tree.specs.Arena.{AreNodesBelow, HaveEarlierChildren, tree_in, trees_of}
 
@@ -34,6 +34,8 @@ pub record Held : Type 0 where
   pub enumeration : Option EnumId
   pub defined : List FactId
   pub fallbacks : List Fallback
+  pub offers : List Offer
+  pub in_default : Bool
   pub calls : List Decided
   pub pieces : List Piece
   pub uses : List Binding
@@ -44,12 +46,19 @@ abbrev pub numbers_at : List FactId → List ℕ
 numbers_at [] = []
 numbers_at (n ∷ others) = n.0 ∷ numbers_at others
 
-abbrev pub fallback_at : Fallback → Given
-fallback_at fallback = record { declaration = fallback.declaration.0; index = fallback.index }
+abbrev pub fallback_at : List CxxTree → Fallback → CxxGiven
+fallback_at trees fallback = record { declaration = fallback.declaration.0; index = fallback.index; tree = tree_in trees fallback.tree.0 }
 
-abbrev pub fallbacks_at : List Fallback → List Given
-fallbacks_at [] = []
-fallbacks_at (fallback ∷ others) = fallback_at fallback ∷ fallbacks_at others
+abbrev pub fallbacks_at : List CxxTree → List Fallback → List CxxGiven
+fallbacks_at trees [] = []
+fallbacks_at trees (fallback ∷ others) = fallback_at trees fallback ∷ fallbacks_at trees others
+
+abbrev pub offer_at : List CxxTree → Offer → CxxOffered
+offer_at trees offer = record { scope = offer.scope.0; index = offer.index; tree = tree_in trees offer.tree.0 }
+
+abbrev pub offers_at : List CxxTree → List Offer → List CxxOffered
+offers_at trees [] = []
+offers_at trees (offer ∷ others) = offer_at trees offer ∷ offers_at trees others
 
 abbrev pub operands_at : List CxxType → List Operand → List CxxOperand
 operands_at types [] = []
@@ -106,7 +115,9 @@ state_over types all held = record {
   graph = graph_at types held.graph;
   here = here_in held.scope held.enumeration;
   defined = numbers_at held.defined;
-  given = fallbacks_at held.fallbacks;
+  given = fallbacks_at all held.fallbacks;
+  offered = offers_at all held.offers;
+  in_default = held.in_default;
   calls = calls_at types held.calls;
   parts = pieces_at all held.pieces;
   uses = uses_at held.uses;
@@ -128,6 +139,14 @@ tree held number = tree_in (trees held) number.0
 abbrev pub ArePiecesBelow : ℕ → List Piece → Type 0
 ArePiecesBelow count [] = Unit {0}
 ArePiecesBelow count (piece ∷ others) = (piece.tree.0 < count) × ArePiecesBelow count others
+
+abbrev pub AreFallbacksBelow : ℕ → List Fallback → Type 0
+AreFallbacksBelow count [] = Unit {0}
+AreFallbacksBelow count (fallback ∷ others) = (fallback.tree.0 < count) × AreFallbacksBelow count others
+
+abbrev pub AreOffersBelow : ℕ → List Offer → Type 0
+AreOffersBelow count [] = Unit {0}
+AreOffersBelow count (offer ∷ others) = (offer.tree.0 < count) × AreOffersBelow count others
 
 abbrev pub AreOperandsBelow : ℕ → List Operand → Type 0
 AreOperandsBelow count [] = Unit {0}
@@ -151,6 +170,8 @@ pub record IsSound (held : Held) : Type 0 where
   pub fitted : Fitted held.graph held.types
   pub nodes : AreNodesBelow (length held.types) held.nodes
   pub children : HaveEarlierChildren 0 held.nodes
+  pub fallbacks : AreFallbacksBelow (length held.nodes) held.fallbacks
+  pub offers : AreOffersBelow (length held.nodes) held.offers
   pub pieces : ArePiecesBelow (length held.nodes) held.pieces
   pub calls : AreCallsBelow (length held.types) held.calls
   pub scope : held.scope.0 < scopes held.graph.facts

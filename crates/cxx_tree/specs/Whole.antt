@@ -1,5 +1,5 @@
 -- What is kept beside the state of a reading, and how it follows from that.
-use Rattle.std.specs.Prelude.{◌≡◌, List, [], ◌∷◌, ◌++◌, Some, None, Result, Ok, Err}
+use Rattle.std.specs.Prelude.{◌≡◌, List, [], ◌∷◌, ◌++◌, Option, Some, None, IfSome, Result, Ok, Err}
 use Rattle.cxx_graph.specs.declared.graph.AddFault.{AddFault}
 use Rattle.cxx_graph.specs.declared.graph.AddFault.TheVariants as fault
 use Rattle.cxx_model.specs.declared.facts.Access.TheVariants.{Public}
@@ -13,6 +13,7 @@ use Rattle.cxx_model.specs.declared.stop.LimitKind.TheVariants.{Facts}
 use Rattle.cxx_model.specs.declared.stop.Stop.{Stop}
 use Rattle.cxx_model.specs.declared.stop.Stop.TheVariants as stop
 use Rattle.cxx_model.specs.declared.types.ScopeId.{ScopeId}
+use Rattle.cxx_model.specs.Facts.Declarations.{graph_at}
 use Rattle.cxx_model.specs.Facts.Graph.{Graph}
 use Rattle.cxx_model.specs.Text.Lexemes.{first_place}
 use Rattle.cxx_names.specs.Clashes.{NoneBrought}
@@ -20,6 +21,8 @@ use Rattle.cxx_defined.specs.Defined.{Defines}
 use Rattle.cxx_defined.specs.declared.defined.Definitions.{Definitions}
 use Rattle.cxx_names.specs.declared.names.Names.{Names}
 use Rattle.cxx_names.specs.Index.{Notes}
+use Rattle.cxx_sizes.specs.declared.layouts.Layouts.{Layouts}
+use Rattle.cxx_sizes.specs.Noted.{Notes as Measures}
 use Rattle.cxx_tree.specs.Held.{Held, IsSound, numbers_at}
 
 abbrev pub place_by : Place → Entity → List Place
@@ -42,13 +45,14 @@ unit_graph = record { facts = unit_fact ∷ []; classes = []; patterns = [] }
 abbrev pub parameters_fact : Place → ScopeId → Fact
 parameters_fact place scope = record { place = place; scope = scope; name = Unnamed; access = Public; what = entity.Scope (Some scope) Parameters }
 
--- The names, the definitions and the places of scopes that are kept are those of the state.
-pub record IsWhole (names : Names) (definitions : Definitions) (openings : List Place) (held : Held) : Type 0 where
+-- The names, the definitions, the places of scopes and what sizes need are kept of the state.
+pub record IsWhole (names : Names) (definitions : Definitions) (openings : List Place) (layouts : Option Layouts) (held : Held) : Type 0 where
   pub sound : IsSound held
   pub noted : Notes names held.graph.facts
   pub own : NoneBrought held.graph.facts
   pub defines : Defines definitions held.graph.facts (numbers_at held.defined)
   pub opened : openings ≡ scope_places held.graph.facts
+  pub measured : IfSome layouts (λ kept. Measures kept (graph_at held.types held.graph).facts)
 
 abbrev pub stop_by : AddFault → Stop
 stop_by fault.Limit = stop.Limit Facts

@@ -39,14 +39,26 @@ pub struct Binding {
 
 pub type BindingList = Listed<Binding>;
 
-/// A parameter with a default argument (8.3.6): the declaration of its function, and its index there.
+/// A default argument of a function (8.3.6): the declaration that has it, the index of its parameter there, and its tree, as
+/// it is converted to the type of that.
 #[derive(Clone, Copy, PartialEq, Eq)]
 pub struct Fallback {
     pub declaration: FactId,
     pub index: u32,
+    pub tree: TreeId,
 }
 
 pub type FallbackList = Listed<Fallback>;
+
+/// A default argument that was read (8.3.6), of the parameter with an index in the list with a scope.
+#[derive(Clone, Copy, PartialEq, Eq)]
+pub struct Offer {
+    pub scope: ScopeId,
+    pub index: u32,
+    pub tree: TreeId,
+}
+
+pub type OfferList = Listed<Offer>;
 
 /// What was read by itself, with the names that were bound in it.
 #[derive(Drop)]

@@ -5,12 +5,14 @@
 #![tactic(auto)]
 
 mod kept;
+mod maker;
 mod state;
 mod trees;
 
 pub use kept::{
     Binding, BindingList, Contending, ContendingList, Decided, DecidedList, Fallback, FallbackList,
-    Piece, PieceList,
+    Offer, OfferList, Piece, PieceList,
 };
+pub use maker::MakesTypes;
 pub use state::State;
 pub use trees::Trees;

@@ -1,7 +1,7 @@
-ghost use Rattle.std.specs.Prelude.{ℕ, List, ◌≡◌, ◌<◌, ◌++◌, length, Ok, Err, Some, [], ◌∷◌, IfOk, OnOk, OnErr};
+ghost use Rattle.std.specs.Prelude.{ℕ, List, ◌≡◌, ◌<◌, ◌+◌, take, ◌++◌, length, Ok, Err, Some, [], ◌∷◌, IfOk, IfSome, OnOk, OnErr};
 ghost use Rattle.std.specs.List.{slice_get};
 ghost use Rattle.std.specs.Option.{option_copied};
-ghost use Rattle.cxx_model.specs.Facts.Declarations.{fact_at, spelled};
+ghost use Rattle.cxx_model.specs.Facts.Declarations.{fact_at, graph_at, spelled};
 ghost use Rattle.cxx_model.specs.Facts.Fitted.{Fitted, IsFactBelow};
 ghost use Rattle.cxx_model.specs.Facts.Graph.{IsUnitScope, MayFollow, appended, enumerations, scopes};
 ghost use Rattle.cxx_model.specs.Types.Numbers.{AreTypesBelow, IsBoundBelow, bound_at, type_at, types_at};
@@ -20,11 +20,18 @@ ghost use Rattle.cxx_reading.specs.State.{first_state};
 ghost use Rattle.cxx_reading.specs.Units.{with_part};
 ghost use Rattle.cxx_tree.specs.Answered.{AnyKnown, IsAnswered, IsFactKnown, fact_number, scope_number};
 ghost use Rattle.cxx_tree.specs.Arena.{AreNodesBelow, AreTreesBelow, HaveEarlierChildren, IsNodeBelow, bound_of, tree_over};
-ghost use Rattle.cxx_tree.specs.Held.{AreCallsBelow, ArePiecesBelow, call_at, enumeration_of_option, meaning, numbers_at, tree, trees};
+ghost use Rattle.cxx_tree.specs.Defaults.{with_given, with_offer, within_default, without_offers};
+ghost use Rattle.cxx_tree.specs.Held.{AreCallsBelow, AreFallbacksBelow, AreOffersBelow, ArePiecesBelow, call_at, enumeration_of_option, meaning, numbers_at, tree, tree as tree_of, trees};
 ghost use Rattle.cxx_tree.specs.Later.{Later, MakesTree, MakesType};
+ghost use Rattle.cxx_sizes.specs.Noted.{Notes as Measures};
+ghost use Rattle.cxx_tree.specs.Uses.{with_use};
 ghost use Rattle.cxx_tree.specs.Whole.{parameters_fact, stopped_as};
 
-use crate::kept::{BindingList, Decided, DecidedList, FallbackList, Piece, PieceList};
+use crate::kept::{
+    Binding, BindingList, Decided, DecidedList, Fallback, FallbackList, Offer, OfferList, Piece,
+    PieceList,
+};
+use crate::maker::MakesTypes;
 use crate::trees::Trees;
 use cxx_defined::Definitions;
 use cxx_graph::{AddFault, Graph};
@@ -34,6 +41,7 @@ use cxx_model::{
     OutOfMemory, Place, ScopeId, ScopeKind, Stop, TreeId, TypeId,
 };
 use cxx_names::Names;
+use cxx_sizes::Layouts;
 use cxx_types::TypeTable;
 use std::alloc::Global;
 use std::marker::Model;
@@ -51,11 +59,15 @@ pub struct State {
     definitions: Definitions,
     // Where the scopes stand, in order.
     openings: Vec<Place>,
+    // What sizes need, unless there was no memory for it.
+    layouts: Option<Layouts>,
     trees: Trees,
     scope: ScopeId,
     enumeration: Option<EnumId>,
     defined: Vec<FactId>,
     fallbacks: FallbackList,
+    offers: OfferList,
+    in_default: bool,
     calls: DecidedList,
     pieces: PieceList,
     uses: BindingList,
@@ -74,9 +86,9 @@ impl Model for State {
 
     ghost coded = { Prim.hlevel (codes, coded_type, formula.the_row.coded, tree.the_row.coded) };
 
-    ghost view = { λ state. record { graph = state.graph; types = state.types; nodes = state.trees; scope = state.scope; enumeration = state.enumeration; defined = state.defined.items; fallbacks = state.fallbacks; calls = state.calls; pieces = state.pieces; uses = state.uses } };
+    ghost view = { λ state. record { graph = state.graph; types = state.types; nodes = state.trees; scope = state.scope; enumeration = state.enumeration; defined = state.defined.items; fallbacks = state.fallbacks; offers = state.offers; in_default = state.in_default; calls = state.calls; pieces = state.pieces; uses = state.uses } };
 
-    ghost invariant = { λ state. IsWhole state.names state.definitions state.openings.items (record { graph = state.graph; types = state.types; nodes = state.trees; scope = state.scope; enumeration = state.enumeration; defined = state.defined.items; fallbacks = state.fallbacks; calls = state.calls; pieces = state.pieces; uses = state.uses }) };
+    ghost invariant = { λ state. IsWhole state.names state.definitions state.openings.items state.layouts (record { graph = state.graph; types = state.types; nodes = state.trees; scope = state.scope; enumeration = state.enumeration; defined = state.defined.items; fallbacks = state.fallbacks; offers = state.offers; in_default = state.in_default; calls = state.calls; pieces = state.pieces; uses = state.uses }) };
 }
 
 fn place_at(places: &[Place], scope: ScopeId) -> Option<&Place>
@@ -106,6 +118,27 @@ fn begin(graph: &mut Graph, names: &mut Names, unit: Fact) -> Result<(), OutOfMe
     match names.add(graph, unit) {
         Ok(_) => Ok(()),
         Err(_) => Err(OutOfMemory),
+    }
+}
+
+// Notes the last declaration for sizes.
+fn noted(
+    layouts: Option<Layouts>,
+    graph: &Graph,
+    types: &TypeTable,
+    number: FactId,
+) -> Option<Layouts>
+    requires last { number.0 + 1 ≡ length graph.now.facts }
+    requires fitted { Fitted graph.now types.now }
+    requires noted { IfSome layouts (λ kept. Measures kept (take number.0 (graph_at types.now graph.now).facts)) }
+    ensures { IfSome result (λ kept. Measures kept (graph_at types.now graph.now).facts) }
+{
+    let Some(mut layouts) = layouts else {
+        return None;
+    };
+    match layouts.note(graph, types, number) {
+        Ok(()) => Some(layouts),
+        Err(_) => None,
     }
 }
 
@@ -140,17 +173,22 @@ impl State {
             },
         };
         begin(&mut graph, &mut names, unit)?;
+        let types = TypeTable::new(alloc, key);
+        let layouts = noted(Some(Layouts::new(alloc)), &graph, &types, FactId(0));
         Ok(State {
             graph,
-            types: TypeTable::new(alloc, key),
+            types,
             names,
             definitions: Definitions::new(alloc, key),
             openings,
+            layouts,
             trees: Trees::new(alloc),
             scope: ScopeId(0),
             enumeration: None,
             defined: Vec::new(alloc),
             fallbacks: Listed::new(alloc),
+            offers: Listed::new(alloc),
+            in_default: false,
             calls: Listed::new(alloc),
             pieces: Listed::new(alloc),
             uses: Listed::new(alloc),
@@ -184,6 +222,13 @@ impl State {
         ensures { Defines result.now (self.now).graph.facts (numbers_at (self.now).defined) }
     {
         &self.definitions
+    }
+
+    /// What is kept of the declarations so far for sizes (5.3.3); none where there was no memory for it.
+    pub fn layouts(&self) -> Option<&Layouts>
+        ensures { IfSome result (λ kept. Measures kept.now (meaning self.now).graph.facts) }
+    {
+        self.layouts.as_ref()
     }
 
     /// The types that were made so far.
@@ -253,6 +298,29 @@ impl State {
         self.calls.as_slice()
     }
 
+    /// The default arguments that declarations give, in order (8.3.6).
+    pub fn fallbacks(&self) -> &[Fallback]
+        ensures is { result.now ≡ (self.now).fallbacks }
+        ensures below { AreFallbacksBelow (length (trees self.now)) result.now }
+    {
+        self.fallbacks.as_slice()
+    }
+
+    /// The default arguments that were read in the part that is being read, in order (8.3.6).
+    pub fn offers(&self) -> &[Offer]
+        ensures is { result.now ≡ (self.now).offers }
+        ensures below { AreOffersBelow (length (trees self.now)) result.now }
+    {
+        self.offers.as_slice()
+    }
+
+    /// Whether a default argument is being read (8.3.6).
+    pub fn in_default(&self) -> bool
+        ensures { result ≡ (self.now).in_default }
+    {
+        self.in_default
+    }
+
     /// Where a scope stands (3.3).
     pub fn place_of_scope(&self, scope: ScopeId) -> Place
         ensures { result ≡ declaring.place_of_scope (meaning self.now).graph scope.0 }
@@ -273,8 +341,10 @@ impl State {
         ensures unchanged { OnErr result (self.new ≡ self.old) }
     {
         self.graph.in_range();
-        let added = self.names.add(&mut self.graph, fact);
-        stopped(added)
+        let number = stopped(self.names.add(&mut self.graph, fact))?;
+        let layouts = self.layouts.take();
+        self.layouts = noted(layouts, &self.graph, &self.types, number);
+        Ok(number)
     }
 
     // Adds a scope of parameters in the scope where the reader stands.
@@ -297,6 +367,8 @@ impl State {
         self.graph.in_range();
         self.openings.reserve(1)?;
         let number = stopped(self.names.add(&mut self.graph, fact))?;
+        let layouts = self.layouts.take();
+        self.layouts = noted(layouts, &self.graph, &self.types, number);
         self.openings.push(place)?;
         Ok(number)
     }
@@ -360,6 +432,82 @@ impl State {
         Ok(count as u32)
     }
 
+    /// Keeps that a name, by its place, means the entity with this first declaration (3.4).
+    pub fn add_use(&mut self, place: Place, target: FactId) -> Result<(), OutOfMemory>
+        ensures later { Later self.old self.new }
+        ensures added { OnOk result (meaning self.new ≡ with_use place target.0 (meaning self.old)) }
+    {
+        self.uses.push(Binding {
+            scope: self.scope,
+            place,
+            target,
+        })?;
+        Ok(())
+    }
+
+    /// Lets somebody make types who looks at what is declared so far.
+    pub fn make<T, M: MakesTypes<T>>(&mut self, maker: &M) -> T
+        requires { M.wants maker.now (self.old).graph (self.old).types }
+        ensures held { self.new ≡ record self.old { types = (self.new).types } }
+        ensures later { Later self.old self.new }
+        ensures same { meaning self.new ≡ meaning self.old }
+        ensures makes { M.makes maker.now (self.old).graph (self.old).types (self.new).types result }
+    {
+        maker.make(&self.graph, &mut self.types)
+    }
+
+    /// Keeps a default argument that was read, of the parameter with an index in the list in whose scope the reader stands
+    /// (8.3.6).
+    pub fn add_offer(&mut self, index: u32, tree: TreeId) -> Result<(), OutOfMemory>
+        requires { tree.0 < length (trees self.old) }
+        ensures later { Later self.old self.new }
+        ensures added { OnOk result (meaning self.new ≡ with_offer index (tree_of self.old tree) (meaning self.old)) }
+    {
+        self.offers.push(Offer {
+            scope: self.scope,
+            index,
+            tree,
+        })?;
+        Ok(())
+    }
+
+    /// Looks no more at the default arguments that were read (8.3.6).
+    pub fn clear_offers(&mut self)
+        ensures later { Later self.old self.new }
+        ensures is { meaning self.new ≡ without_offers (meaning self.old) }
+        ensures held { self.new ≡ record self.old { offers = [] } }
+    {
+        self.offers = Listed::new(self.alloc);
+    }
+
+    /// Keeps a default argument that a declaration gives the parameter with an index (8.3.6).
+    pub fn add_fallback(
+        &mut self,
+        declaration: FactId,
+        index: u32,
+        tree: TreeId,
+    ) -> Result<(), OutOfMemory>
+        requires { tree.0 < length (trees self.old) }
+        ensures later { Later self.old self.new }
+        ensures added { OnOk result (meaning self.new ≡ with_given declaration.0 index (tree_of self.old tree) (meaning self.old)) }
+    {
+        self.fallbacks.push(Fallback {
+            declaration,
+            index,
+            tree,
+        })?;
+        Ok(())
+    }
+
+    /// A default argument begins to be read, or ends (8.3.6).
+    pub fn set_in_default(&mut self, inside: bool)
+        ensures later { Later self.old self.new }
+        ensures is { meaning self.new ≡ within_default inside (meaning self.old) }
+        ensures held { self.new ≡ record self.old { in_default = inside } }
+    {
+        self.in_default = inside;
+    }
+
     /// Keeps what was read by itself, with the names that were bound in it.
     pub fn add_piece(&mut self, number: TreeId) -> Result<(), OutOfMemory>
         requires { number.0 < length (trees self.old) }
@@ -367,6 +515,7 @@ impl State {
         ensures added { OnOk result (meaning self.new ≡ with_part (tree self.old number) (meaning self.old)) }
     {
         let uses = mem::replace(&mut self.uses, Listed::new(self.alloc));
+        self.offers = Listed::new(self.alloc);
         let piece = Piece {
             tree: number,
             scope: ScopeId(0),

@@ -1,2 +1,1 @@
-mod Best
-mod Opened
+pub mod Ended

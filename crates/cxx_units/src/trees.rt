@@ -164,9 +164,9 @@ fn specifiers_node(
     push(state, node)
 }
 
-/// The specifiers of a declaration (7.1), spelled by their storage word.
+// The specifiers of a declaration (7.1), spelled by their storage word.
 #[tactic(auto, using(cxx_syntax::proofs::Kept::trees_kept, cxx_syntax::proofs::Kept::trees_later, cxx_syntax::proofs::Kept::later_trans, cxx_syntax::proofs::Kept::later_refl))]
-pub fn specifiers_tree(
+fn specifiers_tree(
     state: &mut State,
     specifiers: Specifiers,
     from: &Cursor<'_>,
@@ -179,8 +179,8 @@ pub fn specifiers_tree(
     specifiers_node(state, specifiers, of, from, to)
 }
 
-/// A declaration of declarators (clause 7).
-pub fn simple_tree(
+// A declaration of declarators (clause 7).
+fn simple_tree(
     state: &mut State,
     specifiers: TreeId,
     declarators: TreeIdList,
@@ -201,4 +201,22 @@ pub fn simple_tree(
         all,
     );
     push(state, node)
+}
+
+/// The tree of a declaration, with that of its specifiers.
+#[tactic(auto, using(cxx_syntax::proofs::Kept::trees_kept, cxx_syntax::proofs::Kept::trees_later, cxx_syntax::proofs::Kept::later_refl, cxx_syntax::proofs::Kept::later_trans))]
+pub fn declaration_tree(
+    state: &mut State,
+    specifiers: Specifiers,
+    declarators: TreeIdList,
+    from: &Cursor<'_>,
+    between: &Cursor<'_>,
+    to: &Cursor<'_>,
+) -> Result<TreeId, Stop>
+    requires specifiers { AreSpecifiers state.old specifiers }
+    requires declarators { AreTreesHeld state.old declarators }
+    ensures { GrowsTree state.old state.new result (definition.simple_tree (definition.specifiers_tree (specifiers_of state.old specifiers) from.now between.now) (trees_held state.old declarators) from.now to.now) }
+{
+    let first = specifiers_tree(state, specifiers, from, between)?;
+    simple_tree(state, first, declarators, from, to)
 }

@@ -3,43 +3,11 @@
 ghost use Rattle.std.specs.Prelude.{◌≡◌, ◌<◌, length};
 ghost use Rattle.cxx_model.specs.Facts.Conflicts.{is_unknown as is_unknown_bound};
 ghost use Rattle.cxx_model.specs.Types.Numbers.{bound_at, type_at};
-ghost use Rattle.cxx_reading.specs.Choosing.{is_arithmetic as is_arithmetic_type, is_arithmetic_base as is_arithmetic_of, is_plain_arithmetic as is_plain_arithmetic_type};
 ghost use Rattle.cxx_reading.specs.Declarators as declarator;
 ghost use Rattle.cxx_reading.specs.Units as definition;
 
-use cxx_model::{Base, Bound, TypeId, TypeNode};
+use cxx_model::{Bound, TypeId, TypeNode};
 use cxx_types::TypeTable;
-
-fn is_arithmetic_base(of: Base) -> bool
-    ensures { result ≡ is_arithmetic_of of }
-{
-    match of {
-        Base::Void => false,
-        _ => true,
-    }
-}
-
-fn is_plain_arithmetic(types: &TypeTable, number: TypeId) -> bool
-    requires { number.0 < length types.now }
-    ensures { result ≡ is_plain_arithmetic_type (type_at types.now number.0) }
-{
-    match types.node(number) {
-        TypeNode::Plain(of) => is_arithmetic_base(*of),
-        _ => false,
-    }
-}
-
-/// An arithmetic type, its cv words aside (3.9.1).
-pub(crate) fn is_arithmetic(types: &TypeTable, number: TypeId) -> bool
-    requires { number.0 < length types.now }
-    ensures { result ≡ is_arithmetic_type (type_at types.now number.0) }
-{
-    match types.node(number) {
-        TypeNode::Plain(of) => is_arithmetic_base(*of),
-        TypeNode::Qualified(_, of) => is_plain_arithmetic(types, *of),
-        _ => false,
-    }
-}
 
 /// A reference (8.3.2).
 pub fn is_reference(types: &TypeTable, number: TypeId) -> bool

@@ -2,7 +2,7 @@
 use Rattle.std.specs.Prelude.{ℕ, Bool, true, false, ◌&&◌, if◌then◌else◌, ◌==◌, nat_lt, List, [], ◌∷◌, length}
 use Rattle.cxx_model.specs.declared.sequence.Second.{Second}
 use Rattle.cxx_model.specs.declared.sequence.Second.TheVariants.{IntegralPromotion, FloatingPromotion, Integral, Floating, FloatingIntegral, Pointer, Boolean, DerivedToBase}
-use Rattle.cxx_model.specs.declared.first.ArithmeticSequence.{ArithmeticSequence}
+use Rattle.cxx_model.specs.declared.sequence.ArithmeticSequence.{ArithmeticSequence}
 use Rattle.cxx_model.specs.declared.sequence.Rank.{Rank}
 use Rattle.cxx_model.specs.declared.sequence.Rank.TheVariants.{Exact, Promotion, Conversion}
 use Rattle.cxx_model.specs.declared.sequence.Order.{Order}

@@ -2,9 +2,9 @@ use Rattle.std.proofs.Common.{rules, get_or, map, Option, true, ◌++◌}
 use Rattle.cxx_model.specs.declared.types.FactId.{FactId}
 use Rattle.cxx_page.specs.Sheets.{put, Sheet}
 use Rattle.cxx_page.specs.Sides.{comma_unless}
-use Rattle.cxx_form.specs.Listed.{listed_words}
+use Rattle.cxx_phrase_text.specs.Listed.{listed_words}
 use Rattle.cxx_form.specs.Parts.{enumerator_at}
-use Rattle.cxx_form.proofs.Listing.{ends, fails, goes_on, no_room}
+use Rattle.cxx_phrase_text.proofs.Listing.{ends, fails, goes_on, no_room}
 use Rattle.cxx_form.proofs.enumerators.write_enumerators.Goals as goal
 
 pub loop-number-preserved : goal.loop-number-preserved

@@ -1,7 +1,7 @@
 -- what is left to write on the page is what was to be written on the first one
 use Rattle.std.proofs.Common.{true, ◌≡◌, drop, map}
 use Rattle.cxx_page.specs.Sheets.{put}
-use Rattle.cxx_form.specs.Listed.{listed_words}
+use Rattle.cxx_phrase_text.specs.Listed.{listed_words}
 use Rattle.cxx_form.specs.Parts.{enumerator_at}
 use Rattle.cxx_form.proofs.enumerators.write_enumerators.Given as goal
 

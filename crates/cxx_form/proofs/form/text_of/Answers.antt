@@ -3,9 +3,9 @@ use Rattle.std.proofs.lemmas.Grind.{common_steps}
 use Rattle.cxx_model.specs.declared.limits.TheConstants.{MOST_OUTPUT}
 use Rattle.cxx_page.specs.declared.fault.PlainFault.TheVariants as fault
 use Rattle.cxx_page.specs.Sheets.{put_lines}
-use Rattle.cxx_reading.specs.Plain.{plain_text}
 use Rattle.cxx_tree.specs.Held.{meaning}
 use Rattle.cxx_form.specs.Parts.{line_written}
+use Rattle.cxx_form.specs.Text.{plain_text}
 use Rattle.cxx_form.proofs.Whole.{over, whole, written_text}
 use Rattle.cxx_form.proofs.form.text_of.Goals as goal
 

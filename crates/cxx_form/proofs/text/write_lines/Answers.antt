@@ -5,7 +5,8 @@ use Rattle.cxx_form.specs.declared.lines.Line.TheVariants as line
 use Rattle.cxx_form.specs.Books.{trees_of}
 use Rattle.cxx_form.specs.Parts.{line_written}
 use Rattle.cxx_form.proofs.Lining.{line_below}
-use Rattle.cxx_form.proofs.Listing.{fails, line_on, lines_end, no_line}
+use Rattle.cxx_form.proofs.Listing.{line_on, lines_end, no_line}
+use Rattle.cxx_phrase_text.proofs.Listing.{fails}
 use Rattle.cxx_form.proofs.text.write_lines.Goals as goal
 
 abbrev none : Line

@@ -1,15 +1,14 @@
-use Rattle.std.specs.Prelude.{refl}
-use Rattle.cxx_tree.proofs.Wholes.{still}
+use Rattle.cxx_tree.proofs.Wholes.{whole_type}
 use Rattle.cxx_model.specs.Types.Trees.{reference_to}
 use Rattle.cxx_model.specs.Types.Numbers.{type_at}
-use Rattle.cxx_tree.proofs.Steps.{sound_type, type_made, type_range, within}
+use Rattle.cxx_tree.proofs.Steps.{type_made, type_range, within}
 use Rattle.cxx_tree.proofs.state.State.reference_to.Goals as goal
 
 pub reference_to-requires : goal.reference_to-requires
 reference_to-requires c = within _ _ c.args.of.0 c.self.view_is c.requires
 
 pub invariant_of-self : goal.invariant_of-self
-invariant_of-self c = still _ _ _ _ _ c.self.invariant refl refl (sound_type _ _ c.reference_to.result _ c.self.invariant.sound c.reference_to.ensures (type_range _ c.args.of.0 c.self.invariant.sound (within _ _ c.args.of.0 c.self.view_is c.requires)))
+invariant_of-self c = whole_type _ _ _ _ _ _ c.reference_to.result _ c.self.invariant c.reference_to.ensures (type_range _ c.args.of.0 c.self.invariant.sound (within _ _ c.args.of.0 c.self.view_is c.requires))
 
 pub returns : goal.returns
 returns c = type_made _ _ _ c.reference_to.result (λ types. reference_to (type_at types c.args.of.0)) c.self.view_is c.self.invariant.sound c.reference_to.ensures

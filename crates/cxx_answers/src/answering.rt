@@ -1,0 +1,120 @@
+//! Who answers what is asked of expressions by the declarations so far.
+
+ghost use Rattle.std.specs.Prelude.{◌≡◌, IfOk};
+ghost use Rattle.cxx_model.specs.Stops.{Faulty, not_built_at as not_built};
+ghost use Rattle.cxx_model.specs.Text.Lexemes.{nowhere};
+
+use crate::calls::call_here;
+use crate::constants::is_null_here;
+use crate::making::{built_in_here, cast_here, conditional_here};
+use crate::measured::type_of_operand;
+use crate::names::{bound_here, name_here};
+use crate::sizes::size_here;
+use cxx_builtin::{BuiltIn, ResultFault};
+use cxx_casts::CastSteps;
+use cxx_expr::faults::not_built_at;
+use cxx_expr::{Chosen, Questions};
+use cxx_meaning::SizeReason;
+use cxx_model::{
+    FactId, FactList, Fault, Operand, OperandList, OutOfMemory, Path, Place, Stop, TreeId, TypeId,
+    Wait,
+};
+use cxx_tree::State;
+use std::alloc::{AllocError, Global};
+
+/// What is asked of expressions is answered by the declarations so far.
+pub struct Answering;
+
+// No default arguments are read yet.
+fn no_fallback(alloc: Global) -> Result<Box<Fault>, AllocError>
+    ensures { IfOk result (λ at. Faulty at.value ≡ not_built nowhere) }
+{
+    not_built_at(alloc, Place { line: 0, column: 0 })
+}
+
+impl Questions for Answering {
+    ghost use Rattle.cxx_answers.specs.Answers.{no_fallback, questions};
+
+    ghost asks = { λ self. questions no_fallback };
+
+    ghost is_ready = { λ self. Unit {0} };
+
+    #[tactic(auto, unfolding(crate::specs::Answers::questions))]
+    fn name(&self, state: &mut State, path: &Path) -> Result<FactList, Stop> {
+        name_here(state.alloc(), state, path)
+    }
+
+    #[tactic(auto, unfolding(crate::specs::Answers::questions))]
+    fn bound(&self, state: &mut State, place: Place, target: FactId) -> Result<(), Stop> {
+        bound_here(state, place, target)
+    }
+
+    #[tactic(auto, unfolding(crate::specs::Answers::questions))]
+    fn call(
+        &self,
+        state: &mut State,
+        place: Place,
+        brackets: &[u8],
+        word: &[u8],
+        functions: &[FactId],
+        operands: OperandList,
+    ) -> Result<Chosen, Stop> {
+        call_here(
+            state.alloc(),
+            state,
+            place,
+            brackets,
+            word,
+            functions,
+            operands,
+        )
+    }
+
+    #[tactic(auto, using(cxx_expr::proofs::Kept::later_refl), unfolding(crate::specs::Answers::questions))]
+    fn fallback(&self, state: &mut State, target: FactId, index: usize) -> Result<TreeId, Stop> {
+        let _ = target;
+        let _ = index;
+        Err(Stop::Fault(no_fallback(state.alloc())?))
+    }
+
+    #[tactic(auto, unfolding(crate::specs::Answers::questions))]
+    fn size(&self, state: &mut State, of: TypeId) -> Result<Result<u64, SizeReason>, Stop> {
+        size_here(state, of)
+    }
+
+    #[tactic(auto, unfolding(crate::specs::Answers::questions))]
+    fn is_null(&self, state: &State, number: TreeId) -> Result<bool, OutOfMemory> {
+        is_null_here(state, number)
+    }
+
+    fn built_in(
+        &self,
+        state: &mut State,
+        operator: u8,
+        operands: &OperandList,
+    ) -> Result<BuiltIn, ResultFault> {
+        built_in_here(state.alloc(), state, operator, operands)
+    }
+
+    fn conditional(
+        &self,
+        state: &mut State,
+        one: Operand,
+        two: Operand,
+    ) -> Result<BuiltIn, ResultFault> {
+        conditional_here(state.alloc(), state, one, two)
+    }
+
+    fn cast(
+        &self,
+        state: &mut State,
+        from: Operand,
+        to: TypeId,
+    ) -> Result<Option<CastSteps>, Wait> {
+        cast_here(state.alloc(), state, from, to)
+    }
+
+    fn type_of_operand(&self, state: &mut State, operands: &[TreeId]) -> Result<TypeId, Stop> {
+        type_of_operand(state, operands)
+    }
+}

@@ -1,4 +1,0 @@
-pub mod Records
-pub mod Ruled
-pub mod Growing
-pub mod Asking

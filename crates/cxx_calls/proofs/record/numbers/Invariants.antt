@@ -1,8 +1,0 @@
-use Rattle.std.proofs.Common.{◌≡◌, ◌++◌, drop, map}
-use Rattle.cxx_tree.specs.Held.{numbers_at}
-use Rattle.cxx_viable.specs.Views.{rated_at}
-use Rattle.cxx_calls.specs.Rulings.{number_of}
-use Rattle.cxx_calls.proofs.record.numbers.Given as goal
-
-abbrev pub invariant-loop-one : goal.invariant-loop-one
-invariant-loop-one l = numbers_at l.found ++ map number_of (map (rated_at l.types) (drop l.one-index l.all)) ≡ map number_of (map (rated_at l.types) l.all)

@@ -1,4 +1,0 @@
-pub mod Rulings
-pub mod Views
-pub mod Making
-pub mod Asked

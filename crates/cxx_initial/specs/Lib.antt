@@ -1,3 +1,0 @@
-pub mod Casts
-pub mod Lists
-pub mod Targets

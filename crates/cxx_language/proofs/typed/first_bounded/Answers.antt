@@ -1,6 +1,0 @@
-use Rattle.std.proofs.Common.{length, arith}
-use Rattle.cxx_language.proofs.Typing.{fact_below}
-use Rattle.cxx_language.proofs.typed.first_bounded.Goals as goal
-
-pub type_bounded-requires : goal.type_bounded-requires
-type_bounded-requires c = fact_below (length c.args.types.now) c.facts-facts.result.now c.args.graph.now.facts c.loop-number.number c.index-facts-number.result c.requires.numbers.facts c.facts-facts.ensures (omega (arith, c.loop-number-test.true, c.length-number-end.ensures.count)) c.index-facts-number.is

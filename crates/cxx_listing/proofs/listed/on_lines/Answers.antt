@@ -1,8 +1,0 @@
-use Rattle.std.proofs.Common.{length}
-use Rattle.cxx_tree.specs.Held.{trees}
-use Rattle.cxx_form.specs.declared.lines.Line.TheVariants as line
-use Rattle.cxx_form.proofs.Lining.{line_below}
-use Rattle.cxx_listing.proofs.listed.on_lines.Goals as goal
-
-pub add_on-requires : goal.add_on-requires
-add_on-requires c = line_below (length (trees c.args.state.now)) c.args.lines.now c.loop-line.line-index (line.Enumeration (record { 0 = 0 }) (record { 0 = 0 })) c.requires c.loop-line-test.true

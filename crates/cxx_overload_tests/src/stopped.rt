@@ -1,0 +1,35 @@
+use cxx_graph::AddFault;
+use cxx_model::OutOfMemory;
+use std::alloc::{AllocError, AllocFailed};
+
+/// Why a test could not go on.
+#[derive(Debug, Drop)]
+pub(crate) enum Stopped {
+    OutOfMemory,
+    /// A limit was met, or a row is cut off.
+    Other,
+}
+
+impl From<OutOfMemory> for Stopped {
+    fn from(_error: OutOfMemory) -> Stopped {
+        Stopped::OutOfMemory
+    }
+}
+
+impl From<AddFault> for Stopped {
+    fn from(_error: AddFault) -> Stopped {
+        Stopped::Other
+    }
+}
+
+impl From<AllocError> for Stopped {
+    fn from(_error: AllocError) -> Stopped {
+        Stopped::OutOfMemory
+    }
+}
+
+impl<T: Drop> From<AllocFailed<T>> for Stopped {
+    fn from(_error: AllocFailed<T>) -> Stopped {
+        Stopped::OutOfMemory
+    }
+}

@@ -1,0 +1,4 @@
+mod Closing
+mod Others
+mod Begins
+pub mod Spaced

@@ -1,0 +1,11 @@
+use Rattle.std.specs.Prelude.{Result}
+use Rattle.std.proofs.Common.{subst}
+use Rattle.cxx_model.specs.declared.stop.Stop.{Stop}
+use Rattle.cxx_syntax.specs.Asking.{AnyKnown, itself}
+use Rattle.cxx_syntax.specs.Reading.{Answers}
+use Rattle.cxx_units.proofs.Ended.{stopped}
+use Rattle.cxx_units.proofs.unit.whole.Goals as goal
+
+-- src/unit.rt:43:1
+pub returns-in-Err : goal.returns-in-Err
+returns-in-Err c = λ end reading given. stopped c.args.options c.in-Err.why reading (subst (λ (ended : Result (Unit {0}) Stop). Answers itself AnyKnown c.args.state end ended reading) c.in-Err.is given)

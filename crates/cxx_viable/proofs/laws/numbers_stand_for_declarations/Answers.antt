@@ -1,5 +1,0 @@
-use Rattle.cxx_viable.proofs.Numbers.{declared_mean}
-use Rattle.cxx_viable.proofs.laws.numbers_stand_for_declarations.Goals as goal
-
-pub returns : goal.returns
-returns c = declared_mean
