@@ -1,5 +1,5 @@
 -- What the readers of declarators, parameters and enumerators make.
-use Rattle.std.specs.Prelude.{ℕ, zero, suc, ℤ, ◌≤◌, Bool, true, false, not, ◌||◌, List, [], ◌∷◌, ◌++◌, Option, Some, None, Err}
+use Rattle.std.specs.Prelude.{ℕ, zero, suc, ℤ, ◌≤◌, Bool, true, false, not, ◌||◌, List, [], ◌∷◌, ◌++◌, length, Option, Some, None, Err}
 use Rattle.std.proofs.Math.Nat.{le_refl, le_trans}
 use Rattle.cxx_model.specs.declared.base.Base.{Base}
 use Rattle.cxx_model.specs.declared.keyword.TheConstants as keyword
@@ -16,12 +16,13 @@ use Rattle.cxx_reading.specs.declared.specifier.Naming.TheVariants as naming
 use Rattle.cxx_reading.specs.declared.specifier.SpecifierPlace.TheVariants as where_
 use Rattle.cxx_reading.specs.Constants.{constant_at, literal_tree, literal_by, literal_at, no_expression, is_member_pointer, continues, ends_by, literal_ended}
 use Rattle.cxx_reading.specs.Declarators.{Specifiers, pointer_layer, reference_layer, Declarator, no_declarator_yet, outward, ParameterTypes, parameter_type, no_cv}
+use Rattle.cxx_model.specs.Types.Trees.{CxxType}
 use Rattle.cxx_reading.specs.Kinds.{Kinds, Readers}
 use Rattle.cxx_reading.specs.Reads.{Ahead, Got, Reads, Turn, More, Done, then_read, got, give, repeat, kind_ahead, word_ahead, count_ahead, behind}
 use Rattle.cxx_reading.specs.Shapes.{is_abstract_list}
 use Rattle.cxx_reading.specs.Specifiers.{with_const, with_volatile}
 use Rattle.cxx_reading.specs.State.{CxxState}
-use Rattle.cxx_reading.specs.Syntax.{is_required, is_never, cv_step, cv_at, suffixed, array_part, function_part, array_suffix, exceptions_at, function_suffix, function_by, bracket_suffix, suffix_at, give_declarator, suffixes_at, name_read, name_part, grouped_part, grouped_by, bracket_part, star_part, ampersand_part, declarator_at, pointed_at, referred_at, grouped_at, valued, bound_value, bound_at, specified_type, place_of_declarator, parameter_fits, parameter_tree, with_parameter, with_ellipsis, parameter_at, list_ended, comma_passed, parameter_ended, parameter_step, past_most, parameters_over, no_parameters, some_parameters, turn_result, list_at, parameters_at, no_value, value_at, enumerator_at, enumerator_ended, enumerator_step, enumerators_at, readers, Suffixed}
+use Rattle.cxx_reading.specs.Syntax.{default_at, no_fallback, is_required, is_never, cv_step, cv_at, suffixed, array_part, function_part, array_suffix, exceptions_at, function_suffix, function_by, bracket_suffix, suffix_at, give_declarator, suffixes_at, name_read, name_part, grouped_part, grouped_by, bracket_part, star_part, ampersand_part, declarator_at, pointed_at, referred_at, grouped_at, valued, bound_value, bound_at, specified_type, place_of_declarator, parameter_fits, parameter_tree, with_parameter, with_ellipsis, parameter_at, list_ended, comma_passed, parameter_ended, parameter_step, past_most, parameters_over, no_parameters, some_parameters, turn_result, list_at, parameters_at, no_value, value_at, enumerator_at, enumerator_ended, enumerator_step, enumerators_at, readers, Suffixed}
 use Rattle.cxx_reading.specs.Tokens.{is_punct, is_keyword, is_name, is_qualified, no_declarator, punct_taken}
 use Rattle.cxx_reading.specs.Trees.{CxxTree}
 use Rattle.cxx_reading.proofs.Keeps.{KindsKeep}
@@ -188,13 +189,23 @@ fits_holds : (specifiers : Specifiers) (declarator : Declarator) → Holds Stand
 unfolding parameter_fits
 fits_holds specifiers declarator state ahead = if_in _ (holds_stop _) (same_in standing_is_kept tt state ahead tt)
 
-parameter_makes : {asks : Kinds CxxState} → KindsKeep Standing asks → {inner : Readers CxxState} → ReadersMake inner → (so_far : ParameterTypes) (from : ℕ) (state : CxxState) (ahead : Ahead) → AreMade state from (count_ahead ahead) so_far.parts → HeldIn Standing (InParameters from) state ahead (parameter_at asks inner so_far state ahead)
+-- no default argument is read (8.3.6)
+abbrev InDefault : ℕ → Wanted CxxState (List CxxTree)
+InDefault from state left trees = AreMade state from left trees
+
+default_makes : (index : ℕ) (of : CxxType) → Makes InDefault (default_at no_fallback index of)
+unfolding default_at
+default_makes index of state ahead = if_in _ (holds_stop _) (same_in standing_is_kept [] state ahead (none_made (le_refl _)))
+
+parameter_makes : {asks : Kinds CxxState} → KindsKeep Standing asks → {inner : Readers CxxState} → ReadersMake inner → (so_far : ParameterTypes) (from : ℕ) (state : CxxState) (ahead : Ahead) → AreMade state from (count_ahead ahead) so_far.parts → HeldIn Standing (InParameters from) state ahead (parameter_at asks no_fallback inner so_far state ahead)
 unfolding parameter_at
 parameter_makes asks inner so_far from state ahead made = then_in standing_is_kept _ (specifiers_make asks inner where_.Parameter state ahead) (λ specifiers state1 rest1 keeps1 fewer1 made1. then_in standing_is_kept _ (declarator_makes asks inner naming.Either state1 rest1) (λ declarator state2 rest2 keeps2 fewer2 made2. then_in standing_is_kept _ (fits_holds specifiers declarator state2 rest2) (λ fits state3 rest3 keeps3 fewer3 any.
     let of = parameter_type declarator.layers (specified_type specifiers) in
-    let tree = parameter_tree specifiers declarator of ahead rest3 in
-    then_in standing_is_kept _ (ask_in rest3 (asks.parameter declarator.name (place_of_declarator declarator rest3) of state3)) (λ declared state4 rest4 keeps4 fewer4 any. same_in standing_is_kept (with_parameter of tree so_far) state4 rest4
-    (made_both (made_later keeps4 (made_later keeps3 (made_later keeps2 (made_later keeps1 made)))) (made_lower fewer4 (made_tree tree.label (λ e. absurd cc) (made_both (made_later keeps4 (made_later keeps3 (made_later keeps2 made1))) (made_lower fewer3 (made_later keeps4 (made_later keeps3 made2)))))))))))
+    then_in standing_is_kept _ (ask_in rest3 (asks.parameter declarator.name (place_of_declarator declarator rest3) of state3)) (λ declared state4 rest4 keeps4 fewer4 any. then_in standing_is_kept _ (default_makes (length so_far.types) of state4 rest4) (λ default state5 rest5 keeps5 fewer5 made5.
+    let tree = parameter_tree specifiers declarator of default ahead rest3 rest5 in
+    same_in standing_is_kept (with_parameter of tree so_far) state5 rest5
+    (made_both (made_later keeps5 (made_later keeps4 (made_later keeps3 (made_later keeps2 (made_later keeps1 made)))))
+    (made_tree tree.label (λ e. absurd cc) (made_both (made_both (made_later keeps5 (made_later keeps4 (made_later keeps3 (made_later keeps2 made1)))) (made_lower fewer4 (made_lower fewer3 (made_later keeps5 (made_later keeps4 (made_later keeps3 made2)))))) made5))))))))
 
 abbrev ParametersTurn : ℕ → Wanted CxxState (Turn ParameterTypes ParameterTypes)
 ParametersTurn from = WantedTurn (InParameters from) (InParameters from)
@@ -212,9 +223,9 @@ comma_makes so_far from state ahead made = if_in _ (list_ended_makes so_far from
 
 parameter_ended_makes : (so_far : ParameterTypes) → ParametersMake so_far (parameter_ended so_far)
 unfolding parameter_ended
-parameter_ended_makes so_far from state ahead made = if_in _ (past_in standing_is_kept (comma_makes so_far from state (behind ahead) (made_lower (behind_le ahead) made))) (if_in _ (past_in standing_is_kept (same_in standing_is_kept (Done so_far) state (behind ahead) (wants_done _ (made_lower (behind_le ahead) made)))) (if_in _ (list_ended_makes so_far from state ahead made) (if_in _ (holds_stop _) (holds_stop _))))
+parameter_ended_makes so_far from state ahead made = if_in _ (past_in standing_is_kept (comma_makes so_far from state (behind ahead) (made_lower (behind_le ahead) made))) (if_in _ (past_in standing_is_kept (same_in standing_is_kept (Done so_far) state (behind ahead) (wants_done _ (made_lower (behind_le ahead) made)))) (if_in _ (list_ended_makes so_far from state ahead made) (holds_stop _)))
 
-parameter_step_makes : {asks : Kinds CxxState} → KindsKeep Standing asks → {inner : Readers CxxState} → ReadersMake inner → (so_far : ParameterTypes) → ParametersMake so_far (parameter_step asks inner so_far)
+parameter_step_makes : {asks : Kinds CxxState} → KindsKeep Standing asks → {inner : Readers CxxState} → ReadersMake inner → (so_far : ParameterTypes) → ParametersMake so_far (parameter_step asks no_fallback inner so_far)
 unfolding parameter_step
 parameter_step_makes asks inner so_far from state ahead made = then_in standing_is_kept _ (parameter_makes asks inner so_far from state ahead made) (λ list next rest keeps le made. parameter_ended_makes list from next rest made)
 
@@ -234,19 +245,19 @@ over_stops : (asks : Kinds CxxState) {A : Type 0} {wanted : Wanted CxxState A} (
 unfolding parameters_over
 over_stops asks so_far state ahead = if_in (is_keyword keyword.AUTO (kind_ahead ahead) || is_keyword keyword.REGISTER (kind_ahead ahead)) (holds_stop _) (begins_stops _)
 
-some_parameters_make : {asks : Kinds CxxState} → KindsKeep Standing asks → {inner : Readers CxxState} → ReadersMake inner → (scope : ℕ) → Makes InParameters (some_parameters asks inner scope)
+some_parameters_make : {asks : Kinds CxxState} → KindsKeep Standing asks → {inner : Readers CxxState} → ReadersMake inner → (scope : ℕ) → Makes InParameters (some_parameters asks no_fallback inner scope)
 unfolding some_parameters
-some_parameters_make {asks = a} asks {inner = i} inner scope state ahead = repeat_holds (InParameters (count_ahead ahead)) standing_is_kept (parameter_step a i) (parameters_over a) (λ so_far next rest made. parameter_step_makes asks inner so_far (count_ahead ahead) next rest made) (λ so_far next rest made. over_stops a so_far next rest) limits.MOST_ARGUMENTS (no_parameters scope) state ahead (none_made (le_refl _))
+some_parameters_make {asks = a} asks {inner = i} inner scope state ahead = repeat_holds (InParameters (count_ahead ahead)) standing_is_kept (parameter_step a no_fallback i) (parameters_over a) (λ so_far next rest made. parameter_step_makes asks inner so_far (count_ahead ahead) next rest made) (λ so_far next rest made. over_stops a so_far next rest) limits.MOST_ARGUMENTS (no_parameters scope) state ahead (none_made (le_refl _))
 
 turn_result_makes : (from : ℕ) (turn : Turn ParameterTypes ParameterTypes) (state : CxxState) (ahead : Ahead) → ParametersTurn from state (count_ahead ahead) turn → HeldIn Standing (InParameters from) state ahead (turn_result turn state ahead)
 turn_result_makes from turn state ahead (wants_more so_far made) = same_in standing_is_kept so_far state ahead made
 turn_result_makes from turn state ahead (wants_done so_far made) = same_in standing_is_kept so_far state ahead made
 
-parameter_list_makes : {asks : Kinds CxxState} → KindsKeep Standing asks → {inner : Readers CxxState} → ReadersMake inner → (scope : ℕ) → Makes InParameters (list_at asks inner scope)
+parameter_list_makes : {asks : Kinds CxxState} → KindsKeep Standing asks → {inner : Readers CxxState} → ReadersMake inner → (scope : ℕ) → Makes InParameters (list_at asks no_fallback inner scope)
 unfolding list_at
 parameter_list_makes asks inner scope state ahead = if_in _ (past_in standing_is_kept (same_in standing_is_kept (no_parameters scope) state (behind ahead) (none_made (behind_le ahead)))) (if_in _ (past_in standing_is_kept (past_in standing_is_kept (same_in standing_is_kept (no_parameters scope) state (behind (behind ahead)) (none_made (le_trans (behind_le (behind ahead)) (behind_le ahead)))))) (if_in _ (then_in standing_is_kept _ (list_ended_makes (no_parameters scope) (count_ahead ahead) state ahead (none_made (le_refl _))) (λ turn next rest keeps le made. turn_result_makes (count_ahead ahead) turn next rest made)) (some_parameters_make asks inner scope state ahead)))
 
-parameters_make : {asks : Kinds CxxState} → KindsKeep Standing asks → {inner : Readers CxxState} → ReadersMake inner → Makes InParameters (parameters_at asks inner)
+parameters_make : {asks : Kinds CxxState} → KindsKeep Standing asks → {inner : Readers CxxState} → ReadersMake inner → Makes InParameters (parameters_at asks no_fallback inner)
 unfolding parameters_at
 parameters_make asks inner state ahead = then_in standing_is_kept _ (ask_in ahead (asks.enter_parameters state)) (λ scope state1 rest1 keeps1 fewer1 any. then_in standing_is_kept _ (parameter_list_makes asks inner scope state1 rest1) (λ list state2 rest2 keeps2 fewer2 made. then_in standing_is_kept _ (ask_in rest2 (asks.leave_parameters state2)) (λ left state3 rest3 keeps3 fewer3 any. same_in standing_is_kept list state3 rest3 (made_lower fewer3 (made_wider fewer1 (made_later keeps3 made))))))
 
