@@ -1,9 +1,13 @@
 -- What is asked to find what an expression means, answered by the declarations so far (3.4, 5.3.3, 5.19, 13.3).
-use Rattle.std.specs.Prelude.{ℕ, zero, ◌^◌, nat_lt, ℤ, pos, negsuc, Bool, true, false, if◌then◌else◌, List, length, Result, Ok, Err}
+use Rattle.std.specs.Prelude.{ℕ, zero, ◌^◌, nat_lt, ℤ, pos, negsuc, Bool, true, false, ◌&&◌, ◌||◌, if◌then◌else◌, List, [], ◌∷◌, length, Option, Some, None, Result, Ok, Err}
+use Rattle.std.specs.List.{slice_get}
 use Rattle.cxx_model.specs.declared.fault.FaultText.TheVariants as says
 use Rattle.cxx_model.specs.declared.limits.TheConstants as limits
 use Rattle.cxx_model.specs.declared.place.Place.{Place}
 use Rattle.cxx_model.specs.declared.stop.LimitKind.TheVariants.{Arguments}
+use Rattle.cxx_model.specs.Facts.Conflicts.{are_parameters}
+use Rattle.cxx_model.specs.Facts.Declarations.{CxxGraph}
+use Rattle.cxx_model.specs.Facts.Entities.{scope_kinds}
 use Rattle.cxx_model.specs.Stops.{Answer, Stopped, Limited, fault, not_built_at}
 use Rattle.cxx_model.specs.Text.Lexemes.{nowhere}
 use Rattle.cxx_model.specs.Types.Trees.{CxxType}
@@ -12,20 +16,35 @@ use Rattle.cxx_meaning.specs.declared.size.SizeReason.TheVariants as reason
 use Rattle.cxx_meaning.specs.Conversions.Asking.{Asked}
 use Rattle.cxx_meaning.specs.Conversions.Sizes as sizes
 use Rattle.cxx_constant.specs.Constants.{CxxFault, CxxValue, not_constant, overflow, divide_by_zero, constant}
-use Rattle.cxx_reading.specs.Declaring.{name_in}
+use Rattle.cxx_reading.specs.Declaring.{is_object, last_part, name_in}
 use Rattle.cxx_reading.specs.Initializers.{with_call}
 use Rattle.cxx_reading.specs.Reads.{Asks}
 use Rattle.cxx_reading.specs.Seen.{Numbered, found}
-use Rattle.cxx_reading.specs.State.{CxxState}
+use Rattle.cxx_reading.specs.State.{CxxGiven, CxxState}
 use Rattle.cxx_reading.specs.Trees.{CxxTree, CxxPath}
 use Rattle.cxx_overload.specs.Calls.{CxxDecision, decided}
+use Rattle.cxx_tree.specs.Defaults.{first_given}
 use Rattle.cxx_tree.specs.Uses.{with_use}
 use Rattle.cxx_expr.specs.Questions.{Questions, CxxQuestion, CxxChosen}
 
 -- ---- names (3.4.1)
 
+-- the parameters of functions (8.3.5)
+abbrev pub is_parameter : CxxGraph → Numbered → Bool
+is_parameter graph one = is_object one.fact.what && are_parameters (slice_get (scope_kinds graph.facts) one.fact.scope)
+
+abbrev pub names_parameter : CxxGraph → List Numbered → Bool
+names_parameter graph [] = false
+names_parameter graph (one ∷ others) = is_parameter graph one || names_parameter graph others
+
+abbrev pub meant_here : CxxPath → CxxState → List Numbered
+meant_here path state = found state.graph state.here.scope (name_in path)
+
+-- 8.3.6: a default argument means no parameter
 unfoldable pub name_here : CxxPath → Asks CxxState (List Numbered)
-name_here path state = Ok (found state.graph state.here.scope (name_in path), state)
+name_here path state =
+    if state.in_default && names_parameter state.graph (meant_here path state) then Err (fault (last_part path.parts).place says.OperandsDoNotFit) else
+    Ok (meant_here path state, state)
 
 unfoldable pub bound_here : Place → ℕ → Asks CxxState (Unit {0})
 bound_here place target state = Ok (tt, with_use place target state)
@@ -82,19 +101,25 @@ constant_by state tree (Err why) = Err (constant_fault why)
 unfoldable pub constant_here : CxxTree → Asks CxxState ℤ
 constant_here tree state = constant_by state tree (constant state.graph tree)
 
+-- ---- default arguments (8.3.6)
+
+abbrev pub fallback_by : CxxState → Option CxxGiven → Answer (CxxTree × CxxState)
+fallback_by state None = Err (not_built_at nowhere)
+fallback_by state (Some given) = Ok (given.tree, state)
+
+-- that of the parameter with an index, as a declaration gave it
+unfoldable pub fallback_here : ℕ → ℕ → Asks CxxState CxxTree
+fallback_here function index state = fallback_by state (first_given state.graph.facts function index state.given)
+
 -- ---- all questions
 
--- no default arguments are read yet, so none is asked for (8.3.6)
-abbrev pub no_fallback : ℕ → ℕ → Asks CxxState CxxTree
-no_fallback function index state = Err (not_built_at nowhere)
-
--- what is asked to find what an expression means; `fallback` answers with default arguments (8.3.6)
-unfoldable pub questions : (ℕ → ℕ → Asks CxxState CxxTree) → Questions
-questions fallback = record {
+-- what is asked to find what an expression means
+unfoldable pub questions : Questions
+questions = record {
   name = name_here;
   bound = bound_here;
   call = call_here;
-  fallback = fallback;
+  fallback = fallback_here;
   size = size_here;
   is_null = is_null_here;
 }

@@ -24,11 +24,11 @@ use Rattle.cxx_knot.specs.declared.behind.Entrance.{Entrance}
 use Rattle.cxx_knot.specs.declared.behind.Entrance.TheVariants as at
 use Rattle.cxx_knot.specs.declared.behind.Found.{Found}
 use Rattle.cxx_knot.specs.declared.behind.Found.TheVariants as found
-use Rattle.cxx_knot.specs.Readers.{Asking, Both, both}
+use Rattle.cxx_knot.specs.Readers.{Asking, Both, Offering, both}
 
 -- all that a user answers
-abbrev pub asking_by : {K : Type 0} → (K → ℕ → Kinds CxxState) → (K → ℕ → CxxTree → Asks CxxState CxxTree) → K → ℕ → Asking CxxState
-asking_by asks wholes kinds room = record { kinds = asks kinds room; whole = wholes kinds room }
+abbrev pub asking_by : {K : Type 0} → (K → ℕ → Kinds CxxState) → (K → ℕ → CxxTree → Asks CxxState CxxTree) → (K → Offering CxxState) → K → ℕ → Asking CxxState
+asking_by asks wholes offers kinds room = record { kinds = asks kinds room; whole = wholes kinds room; defaults = offers kinds }
 
 -- ---- what was read, by its kind
 
@@ -124,7 +124,7 @@ abbrev pub Calls : Type 0 → Type 0 → Type 1
 Calls K F = Shared F (Bor K × (MutBor Held × (MutBor Ahead × (Entrance × (ℕ × Unit {0}))))) (Result Found Stop × (MutBor Held × (MutBor Ahead × Unit {0})))
 
 -- The user is ready, and the function value may be called and follows the readers with that much room.
-pub record Nests {K F : Type 0} (asks : K → ℕ → Kinds CxxState) (wholes : K → ℕ → CxxTree → Asks CxxState CxxTree) (is_ready : K → Type 0) (calls : Calls K F) (kinds : K) (room : ℕ) (read : F) : Type 0 where
+pub record Nests {K F : Type 0} (asks : K → ℕ → Kinds CxxState) (wholes : K → ℕ → CxxTree → Asks CxxState CxxTree) (offers : K → Offering CxxState) (is_ready : K → Type 0) (calls : Calls K F) (kinds : K) (room : ℕ) (read : F) : Type 0 where
   pub ready : is_ready kinds
   pub callable : (k : Bor K) (state : MutBor Held) (cursor : MutBor Ahead) (what : Entrance) → k.now ≡ kinds → calls.pre read (k, (state, (cursor, (what, (room, tt)))))
-  pub reads : (k : Bor K) (state : MutBor Held) (cursor : MutBor Ahead) (what : Entrance) (result : Result Found Stop) (state' : MutBor Held) (cursor' : MutBor Ahead) → k.now ≡ kinds → calls.post read (k, (state, (cursor, (what, (room, tt))))) (result, (state', (cursor', tt))) → Follows (both (asking_by asks wholes kinds) room) what state.now cursor.now result state'.now cursor'.now
+  pub reads : (k : Bor K) (state : MutBor Held) (cursor : MutBor Ahead) (what : Entrance) (result : Result Found Stop) (state' : MutBor Held) (cursor' : MutBor Ahead) → k.now ≡ kinds → calls.post read (k, (state, (cursor, (what, (room, tt))))) (result, (state', (cursor', tt))) → Follows (both (asking_by asks wholes offers kinds) room) what state.now cursor.now result state'.now cursor'.now

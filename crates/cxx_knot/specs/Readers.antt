@@ -3,22 +3,30 @@
 use Rattle.std.specs.Prelude.{ℕ, zero, suc, ℤ, Bool, if◌then◌else◌, List, [], ◌∷◌, ◌++◌, Option, Some, None}
 use Rattle.cxx_model.specs.declared.punct.TheConstants as punct
 use Rattle.cxx_model.specs.Text.Lexemes.{Lexeme}
-use Rattle.cxx_reading.specs.Kinds.{Kinds, Readers}
+use Rattle.cxx_model.specs.Types.Trees.{CxxType}
+use Rattle.cxx_reading.specs.Kinds.{Fallback, Kinds, Readers}
 use Rattle.cxx_reading.specs.Kinds as declarations
-use Rattle.cxx_reading.specs.Reads.{Reads, Asks, Turn, ◌>>=◌, got, give, ask, tokens, kind_ahead, count_ahead, behind, repeat}
+use Rattle.cxx_reading.specs.Reads.{Reads, Asks, Turn, ◌>>=◌, got, give, ask, taken, tokens, kind_ahead, count_ahead, behind, repeat}
 use Rattle.cxx_reading.specs.Shapes.{parameters_shape}
-use Rattle.cxx_reading.specs.Syntax.{pointed_at, referred_at, grouped_at, parameters_at, no_fallback, no_value, enumerator_ended}
+use Rattle.cxx_reading.specs.Syntax.{pointed_at, referred_at, grouped_at, parameters_at, no_value, enumerator_ended}
 use Rattle.cxx_reading.specs.Tokens.{is_punct, is_name, token_taken, punct_taken, refused}
 use Rattle.cxx_reading.specs.Trees.{CxxTree}
 use Rattle.cxx_phrases.specs.Knot.{type_id_at, inner_by}
-use Rattle.cxx_phrases.specs.Levels.{conditional_at}
+use Rattle.cxx_phrases.specs.Levels.{assignment_at, conditional_at}
 use Rattle.cxx_phrases.specs.Phrases.{Phrases, Inner}
 use Rattle.cxx_phrases.specs.Phrases as expressions
 
--- What is asked while a unit is read: of names and declarations, and what an expression means.
+-- What is asked of a default argument (8.3.6): where it begins, whether another one is being read round it; and behind it,
+-- with that, the index of its parameter and the type, its tree as it is converted.
+pub record Offering (S : Type 0) : Type 0 where
+  pub begun : Asks S Bool
+  pub ended : Bool → ℕ → CxxType → CxxTree → Asks S CxxTree
+
+-- What is asked while a unit is read: of names and declarations, what an expression means, and of default arguments.
 pub record Asking (S : Type 0) : Type 0 where
   pub kinds : Kinds S
   pub whole : CxxTree → Asks S CxxTree
+  pub defaults : Offering S
 
 -- The readers behind a bracket or an operator that was taken: those of declarators, and those of expressions.
 pub record Both (S : Type 0) : Type 0 where
@@ -80,6 +88,17 @@ enumerators_at asks at inner number state ahead =
     if is_punct punct.RIGHT_BRACE (kind_ahead ahead) then got [] state (behind ahead) else
     repeat (enumerator_step asks at inner number) give (count_ahead ahead) [] state ahead
 
+-- ---- default arguments (8.3.6)
+
+-- from the `=` behind the parameter with an index and a type
+unfoldable pub fallback_at : {S : Type 0} → Asking S → Phrases S → Inner S → Fallback S
+fallback_at asks at inner index of = do
+  equals ← taken
+  was ← ask asks.defaults.begun
+  tree ← assignment_at at inner
+  converted ← ask (asks.defaults.ended was index of tree)
+  give (converted ∷ [])
+
 -- ---- readers inside readers
 
 abbrev pub types_by : {S : Type 0} → Asking S → ℕ → Both S → Readers S
@@ -88,7 +107,7 @@ types_by asks room inner = record {
   referred = referred_at asks.kinds inner.types;
   grouped = grouped_at asks.kinds inner.types;
   bound = bound_at asks (here asks inner room) inner.phrases;
-  parameters = parameters_at asks.kinds no_fallback inner.types;
+  parameters = parameters_at asks.kinds (fallback_at asks (here asks inner room) inner.phrases) inner.types;
   enumerators = enumerators_at asks (here asks inner room) inner.phrases;
   holds_parameters = parameters_shape asks.kinds inner.types;
 }

@@ -1,16 +1,14 @@
 -- What the readers of expressions ask, answered by the declarations so far (3.4, 5.19).
 use Rattle.std.specs.Prelude.{ℕ}
 use Rattle.cxx_reading.specs.Declaring.{kind_here, type_here, elaborated_here, declare_enumeration, declare_enumerator, end_enumeration, enter_parameters, declare_parameter, leave_parameters}
-use Rattle.cxx_reading.specs.Reads.{Asks}
 use Rattle.cxx_reading.specs.State.{CxxState}
-use Rattle.cxx_reading.specs.Trees.{CxxTree}
 use Rattle.cxx_expr.specs.Elaborating.{elaborate}
 use Rattle.cxx_answers.specs.Answers.{constant_here, questions}
+use Rattle.cxx_answers.specs.Defaults.{begin_default, end_default}
 use Rattle.cxx_knot.specs.Readers.{Asking}
 
--- `fallback` answers with default arguments (8.3.6)
-unfoldable pub asking : (ℕ → ℕ → Asks CxxState CxxTree) → ℕ → Asking CxxState
-asking fallback room = record {
+unfoldable pub asking : ℕ → Asking CxxState
+asking room = record {
   kinds = record {
     kind = kind_here;
     type_named = type_here;
@@ -23,5 +21,6 @@ asking fallback room = record {
     parameter = declare_parameter;
     leave_parameters = leave_parameters;
   };
-  whole = elaborate (questions fallback);
+  whole = elaborate questions;
+  defaults = record { begun = begin_default; ended = end_default };
 }

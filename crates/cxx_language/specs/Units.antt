@@ -8,7 +8,7 @@ use Rattle.cxx_model.specs.Stops.{Answer}
 use Rattle.cxx_model.specs.Text.Lexemes.{Lexeme, first_place}
 use Rattle.cxx_reading.specs.declared.specifier.Naming.TheVariants as naming
 use Rattle.cxx_reading.specs.declared.specifier.SpecifierPlace.TheVariants as where_
-use Rattle.cxx_reading.specs.Declarators.{Specifiers, Declarator, declared_type, is_function_type}
+use Rattle.cxx_reading.specs.Declarators.{Specifiers, Declarator, declared_type, is_function_type, own_parameters}
 use Rattle.cxx_reading.specs.Declaring.{declare_object, define_object}
 use Rattle.cxx_reading.specs.Reads.{Reads, Asks, Ahead, Turn, More, Done, ◌>>=◌, got, give, ask, limited, looked, kind_ahead, count_ahead, behind, repeat}
 use Rattle.cxx_reading.specs.Specifiers.{specifiers_at}
@@ -16,10 +16,11 @@ use Rattle.cxx_reading.specs.State.{CxxState, first_state}
 use Rattle.cxx_reading.specs.Syntax.{declarator_at}
 use Rattle.cxx_reading.specs.Tokens.{is_punct, is_end, no_declaration}
 use Rattle.cxx_reading.specs.Trees.{CxxTree}
-use Rattle.cxx_reading.specs.Units.{CxxReading, Said, Listed, read_as, part_added, specifiers_tree, declarator_tree, name_in, declared_fits, declared_function, declared_synonym, one_tree, declarator_ended, give_trees, no_declarators, nothing_declared, said_by, simple_tree, empty_tree, another_ahead, linkages_passed, linkage_list, linked_tree, inside_step}
+use Rattle.cxx_reading.specs.Units.{CxxReading, Said, Listed, read_as, part_added, specifiers_tree, declarator_tree, name_in, declared_fits, declared_synonym, function_ended, one_tree, declarator_ended, give_trees, no_declarators, nothing_declared, said_by, simple_tree, empty_tree, another_ahead, linkages_passed, linkage_list, linked_tree, inside_step}
 use Rattle.cxx_expr.specs.Questions.{Questions}
 use Rattle.cxx_phrases.specs.Phrases.{Phrases}
-use Rattle.cxx_answers.specs.Answers.{no_fallback, questions}
+use Rattle.cxx_answers.specs.Answers.{questions}
+use Rattle.cxx_declare.specs.Functions.{declare_function}
 use Rattle.cxx_language.specs.Answers.{asking}
 use Rattle.cxx_language.specs.Objects.{defined_part, extern_part}
 use Rattle.cxx_knot.specs.Readers.{Asking, Both, both, here}
@@ -27,10 +28,10 @@ use Rattle.cxx_knot.specs.Readers.{Asking, Both, both, here}
 -- ---- what is asked
 
 abbrev pub answers : Questions
-answers = questions no_fallback
+answers = questions
 
 abbrev pub asked : ℕ → Asking CxxState
-asked room = asking no_fallback room
+asked room = asking room
 
 abbrev pub inner_at : ℕ → Both CxxState
 inner_at room = both asked room
@@ -53,6 +54,13 @@ defined_object room said declarator from = do
   parts ← defined_part answers (phrases_at room) (inner_at room).phrases (name_in declarator) (declared_type declarator.layers said.of) number
   to ← looked
   give (declarator_tree false (name_in declarator) (declared_type declarator.layers said.of) number (declarator.parts ++ parts) from to)
+
+unfoldable pub declared_function : Said → Bool → Declarator → Ahead → Reads CxxState CxxTree
+declared_function said is_first declarator from = do
+  number ← ask (declare_function (own_parameters declarator.layers) (name_in declarator) (declared_type declarator.layers said.of))
+  ended ← function_ended is_first declarator
+  to ← looked
+  give (declarator_tree said.is_extern (name_in declarator) (declared_type declarator.layers said.of) number declarator.parts from to)
 
 -- 3.3.1: a name is declared once its declarator is complete, before what follows is looked at
 abbrev pub declared_by : ℕ → Said → Bool → Ahead → Declarator → Reads CxxState CxxTree

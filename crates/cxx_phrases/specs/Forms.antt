@@ -1,19 +1,27 @@
 -- The trees of expressions as they are read, before it is asked what they mean.
 use Rattle.std.specs.Prelude.{ℕ, List, [], ◌∷◌, ◌++◌, Option, Some, codes}
 use Rattle.cxx_model.specs.declared.place.Place.{Place}
+use Rattle.cxx_model.specs.declared.token.TokenKind.{TokenKind}
+use Rattle.cxx_model.specs.declared.token.TokenKind.TheVariants.{Text}
 use Rattle.cxx_model.specs.Text.Lexemes.{Lexeme}
 use Rattle.cxx_model.specs.Types.Trees.{CxxType}
 use Rattle.cxx_phrases.specs.Productions as phrase
 use Rattle.cxx_reading.specs.Labels.{label_from}
 use Rattle.cxx_reading.specs.Productions as production
-use Rattle.cxx_reading.specs.Reads.{Ahead, word_ahead}
+use Rattle.cxx_reading.specs.Reads.{Ahead, kind_ahead, word_ahead}
 use Rattle.cxx_reading.specs.Specifiers.{path_of}
 use Rattle.cxx_reading.specs.Tokens.{path_ahead}
 use Rattle.cxx_reading.specs.Trees.{CxxTree, tree_of}
+use Rattle.cxx_strings.specs.SideBySide.{side_by_side}
+
+-- 2.13.4: strings side by side are one
+abbrev pub literal_text : TokenKind → List ℕ → List ℕ
+literal_text Text word = side_by_side word
+literal_text _ word = word
 
 -- 2.13
 abbrev pub literal_tree : Ahead → Ahead → CxxTree
-literal_tree from to = tree_of (label_from production.literal (word_ahead from) from to) []
+literal_tree from to = tree_of (label_from production.literal (literal_text (kind_ahead from) (word_ahead from)) from to) []
 
 -- 5.1
 abbrev pub name_tree : Ahead → Ahead → CxxTree

@@ -1,6 +1,6 @@
 //! The trees of expressions, handed over when their last token was read.
 
-ghost use Rattle.std.specs.Prelude.{◌≡◌, ◌<◌, length};
+ghost use Rattle.std.specs.Prelude.{◌≡◌, ◌<◌, length, IfOk};
 ghost use Rattle.cxx_phrases.specs.Forms as form;
 ghost use Rattle.cxx_phrases.specs.Views.{IsSized, IsWritten, sized_of, written_of};
 ghost use Rattle.cxx_syntax.specs.Asking.{IsAsked, IsTreeKnown};
@@ -12,9 +12,21 @@ use crate::lists::{one_tree, three_trees, two_trees, with_tree};
 use crate::names::{path_ahead, path_of};
 use crate::phrases::Phrases;
 use crate::production;
-use cxx_model::{Listed, Place, Stop, Text, TreeId, TreeIdList, TypeId};
+use cxx_model::{Listed, Place, Stop, Text, TokenKind, TreeId, TreeIdList, TypeId};
+use cxx_strings::side_by_side;
 use cxx_syntax::{Cursor, Spelled, joined, node_from, push};
 use cxx_tree::State;
+use std::alloc::{AllocError, Global};
+
+// The spelling of a literal; strings side by side are one (2.13.4).
+fn literal_text(alloc: Global, kind: TokenKind, word: &[u8]) -> Result<Text, AllocError>
+    ensures { IfOk result (λ text. text ≡ form.literal_text kind word.now) }
+{
+    match kind {
+        TokenKind::Text => side_by_side(alloc, word),
+        _ => Text::from_slice(alloc, word),
+    }
+}
 
 /// A literal (2.13).
 #[tactic(auto, using(cxx_syntax::proofs::Kept::later_trans, cxx_syntax::proofs::Kept::later_refl, crate::proofs::Kept::tree_kept, crate::proofs::Kept::tree_later))]
@@ -27,7 +39,7 @@ pub(crate) fn literal_asked<P: Phrases>(
     requires ready { P.is_ready phrases.now }
     ensures { IsAsked tree IsTreeKnown state.old state.new result ((P.asks phrases.now).whole (form.literal_tree from.now to.now) (meaning state.old)) }
 {
-    let spelling = Text::from_slice(from.alloc(), from.spelling())?;
+    let spelling = literal_text(from.alloc(), from.kind(), from.spelling())?;
     let children = Listed::new(from.alloc());
     let node = node_from(production::LITERAL, spelling, from, to, children);
     phrases.whole(state, node)

@@ -1,6 +1,7 @@
 pub mod Arenas
 pub mod Calls
 pub mod Graphs
+pub mod Giving
 pub mod Keeping
 pub mod Steps
 pub mod Wholes

@@ -1,5 +1,5 @@
 -- What is kept of default arguments (8.3.6).
-use Rattle.std.specs.Prelude.{ℕ, Bool, ◌&&◌, nat_eq, List, [], ◌∷◌, ◌++◌}
+use Rattle.std.specs.Prelude.{ℕ, Bool, ◌&&◌, nat_eq, if◌then◌else◌, List, [], ◌∷◌, ◌++◌, Option, Some, None}
 use Rattle.std.specs.List.{slice_get}
 use Rattle.cxx_model.specs.Facts.Declarations as facts
 use Rattle.cxx_model.specs.Facts.Declarations.{CxxFact, Declares}
@@ -34,3 +34,8 @@ first_declared number _ = number
 -- whether one is that of the parameter with an index of the function with a first declaration
 abbrev pub is_given : List CxxFact → ℕ → ℕ → CxxGiven → Bool
 is_given all function index given = nat_eq given.index index && nat_eq (first_declared given.declaration (declares_by (slice_get all given.declaration))) function
+
+-- the first that is that of a parameter of a function
+abbrev pub first_given : List CxxFact → ℕ → ℕ → List CxxGiven → Option CxxGiven
+first_given all function index [] = None
+first_given all function index (given ∷ others) = if is_given all function index given then Some given else first_given all function index others

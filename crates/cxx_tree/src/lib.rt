@@ -4,6 +4,7 @@
 //! position.
 #![tactic(auto)]
 
+mod given;
 mod kept;
 mod maker;
 mod state;

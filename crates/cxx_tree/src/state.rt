@@ -1,4 +1,4 @@
-ghost use Rattle.std.specs.Prelude.{ℕ, List, ◌≡◌, ◌<◌, ◌+◌, take, ◌++◌, length, Ok, Err, Some, [], ◌∷◌, IfOk, IfSome, OnOk, OnErr};
+ghost use Rattle.std.specs.Prelude.{ℕ, List, ◌≡◌, ◌<◌, ◌+◌, take, ◌++◌, length, Ok, Err, Some, [], ◌∷◌, IfOk, IfSome, OnOk, OnErr, option_map};
 ghost use Rattle.std.specs.List.{slice_get};
 ghost use Rattle.std.specs.Option.{option_copied};
 ghost use Rattle.cxx_model.specs.Facts.Declarations.{fact_at, graph_at, spelled};
@@ -20,13 +20,14 @@ ghost use Rattle.cxx_reading.specs.State.{first_state};
 ghost use Rattle.cxx_reading.specs.Units.{with_part};
 ghost use Rattle.cxx_tree.specs.Answered.{AnyKnown, IsAnswered, IsFactKnown, fact_number, scope_number};
 ghost use Rattle.cxx_tree.specs.Arena.{AreNodesBelow, AreTreesBelow, HaveEarlierChildren, IsNodeBelow, bound_of, tree_over};
-ghost use Rattle.cxx_tree.specs.Defaults.{with_given, with_offer, within_default, without_offers};
-ghost use Rattle.cxx_tree.specs.Held.{AreCallsBelow, AreFallbacksBelow, AreOffersBelow, ArePiecesBelow, call_at, enumeration_of_option, meaning, numbers_at, tree, tree as tree_of, trees};
+ghost use Rattle.cxx_tree.specs.Defaults.{first_given as first_given_of, with_given, with_offer, within_default, without_offers};
+ghost use Rattle.cxx_tree.specs.Held.{AreCallsBelow, AreFallbacksBelow, AreOffersBelow, ArePiecesBelow, call_at, enumeration_of_option, fallback_at, meaning, numbers_at, tree, tree as tree_of, trees};
 ghost use Rattle.cxx_tree.specs.Later.{Later, MakesTree, MakesType};
 ghost use Rattle.cxx_sizes.specs.Noted.{Notes as Measures};
 ghost use Rattle.cxx_tree.specs.Uses.{with_use};
 ghost use Rattle.cxx_tree.specs.Whole.{parameters_fact, stopped_as};
 
+use crate::given::first_given;
 use crate::kept::{
     Binding, BindingList, Decided, DecidedList, Fallback, FallbackList, Offer, OfferList, Piece,
     PieceList,
@@ -304,6 +305,15 @@ impl State {
         ensures below { AreFallbacksBelow (length (trees self.now)) result.now }
     {
         self.fallbacks.as_slice()
+    }
+
+    /// The first default argument that is given to the parameter with an index of the function with a first declaration
+    /// (8.3.6).
+    pub fn first_given(&self, function: FactId, index: u32) -> Option<Fallback>
+        ensures is { option_map (fallback_at (trees self.now)) result ≡ first_given_of (meaning self.now).graph.facts function.0 index (meaning self.now).given }
+        ensures below { IfSome result (λ one. one.tree.0 < length (trees self.now)) }
+    {
+        first_given(&self.graph, function, index, self.fallbacks.as_slice())
     }
 
     /// The default arguments that were read in the part that is being read, in order (8.3.6).

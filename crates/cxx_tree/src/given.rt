@@ -1,0 +1,62 @@
+//! Which declaration gives a default argument (8.3.6).
+
+ghost use Rattle.std.specs.Prelude.{ℕ, ◌≡◌, ◌<◌, List, IfSome, option_map};
+ghost use Rattle.std.specs.List.{slice_get};
+ghost use Rattle.std.specs.Option.{option_copied};
+ghost use Rattle.cxx_model.specs.Facts.Declarations.{fact_at, facts_at};
+ghost use Rattle.cxx_model.specs.Types.Trees.{CxxType};
+ghost use Rattle.cxx_reading.specs.Declaring.{declares_by};
+ghost use Rattle.cxx_reading.specs.Trees.{CxxTree};
+ghost use Rattle.cxx_tree.specs.Defaults.{first_declared, first_given as first_given_of, is_given as is_given_by};
+ghost use Rattle.cxx_tree.specs.Held.{AreFallbacksBelow, fallback_at, fallbacks_at};
+
+use crate::kept::Fallback;
+use cxx_graph::Graph;
+use cxx_model::{Entity, Fact, FactId};
+
+fn first_or(number: FactId, fact: Option<&Fact>) -> FactId
+    ensures { (types : List CxxType) → result.0 ≡ first_declared number.0 (declares_by (option_map (fact_at types) (option_copied fact))) }
+{
+    match fact {
+        Some(fact) => match fact.what {
+            Entity::Function {
+                first: Some(first), ..
+            } => first,
+            _ => number,
+        },
+        None => number,
+    }
+}
+
+// The first declaration of the function that a declaration declares.
+#[tactic(auto, using(crate::proofs::Giving::stored))]
+fn function_of(graph: &Graph, declaration: FactId) -> FactId
+    ensures { (types : List CxxType) → result.0 ≡ first_declared declaration.0 (declares_by (slice_get (facts_at types graph.now.facts) declaration.0)) }
+{
+    first_or(declaration, graph.facts().get(declaration.0 as usize))
+}
+
+// Whether a default argument is that of a parameter of a function.
+fn is_given(graph: &Graph, function: FactId, index: u32, one: Fallback) -> bool
+    ensures { (types : List CxxType) (trees : List CxxTree) → result ≡ is_given_by (facts_at types graph.now.facts) function.0 index (fallback_at trees one) }
+{
+    one.index == index && function_of(graph, one.declaration).0 == function.0
+}
+
+/// The first of some default arguments that is that of the parameter with an index of the function with a first declaration.
+pub(crate) fn first_given(
+    graph: &Graph,
+    function: FactId,
+    index: u32,
+    all: &[Fallback],
+) -> Option<Fallback>
+    ensures is { (types : List CxxType) (trees : List CxxTree) → option_map (fallback_at trees) result ≡ first_given_of (facts_at types graph.now.facts) function.0 index (fallbacks_at trees all.now) }
+    ensures below { (count : ℕ) → AreFallbacksBelow count all.now → IfSome result (λ one. one.tree.0 < count) }
+{
+    for one in all {
+        if is_given(graph, function, index, *one) {
+            return Some(*one);
+        }
+    }
+    None
+}
