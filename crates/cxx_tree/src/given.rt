@@ -15,12 +15,13 @@ use cxx_graph::Graph;
 use cxx_model::{Entity, Fact, FactId};
 
 fn first_or(number: FactId, fact: Option<&Fact>) -> FactId
-    ensures { (types : List CxxType) → result.0 ≡ first_declared number.0 (declares_by (option_map (fact_at types) (option_copied fact))) }
+    ensures { (types : List CxxType) → result.0 ≡ first_declared number.0 (declares_by (option_map (fact_at types) (option_copied fact.entry))) }
 {
     match fact {
         Some(fact) => match fact.what {
             Entity::Function {
-                first: Some(first), ..
+                first: Some(first),
+                ..
             } => first,
             _ => number,
         },
@@ -28,12 +29,17 @@ fn first_or(number: FactId, fact: Option<&Fact>) -> FactId
     }
 }
 
+fn fact_of(graph: &Graph, number: FactId) -> Option<&Fact>
+    ensures { option_copied result ≡ slice_get graph.now.facts number.0 }
+{
+    graph.facts().get(number.0 as usize)
+}
+
 // The first declaration of the function that a declaration declares.
-#[tactic(auto, using(crate::proofs::Giving::stored))]
 fn function_of(graph: &Graph, declaration: FactId) -> FactId
     ensures { (types : List CxxType) → result.0 ≡ first_declared declaration.0 (declares_by (slice_get (facts_at types graph.now.facts) declaration.0)) }
 {
-    first_or(declaration, graph.facts().get(declaration.0 as usize))
+    first_or(declaration, fact_of(graph, declaration))
 }
 
 // Whether a default argument is that of a parameter of a function.
