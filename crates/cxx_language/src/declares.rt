@@ -2,6 +2,7 @@
 
 ghost use Rattle.std.specs.Prelude.{◌≡◌, ◌<◌, length, IfOk};
 ghost use Rattle.cxx_constant.specs.Constants.{constant};
+ghost use Rattle.cxx_declare.specs.Functions.{declare_function};
 ghost use Rattle.cxx_expr.specs.Initializing.{initialize};
 ghost use Rattle.cxx_expr.specs.Nodes.{IsNodeHeld, node_tree};
 ghost use Rattle.cxx_language.specs.Known.{value_of};
@@ -16,10 +17,10 @@ ghost use Rattle.cxx_reading.specs.declared.specifier.SpecifierPlace.TheVariants
 ghost use Rattle.cxx_syntax.specs.Asking.{AnyKnown, IsAsked, IsTreeKnown, itself};
 ghost use Rattle.cxx_syntax.specs.Reading.{IsRead};
 ghost use Rattle.cxx_syntax.specs.Views.{AreSpecifiers, IsDeclarator, declarator_of, name_at, specifiers_of};
-ghost use Rattle.cxx_tree.specs.Answered.{fact_number};
+ghost use Rattle.cxx_tree.specs.Answered.{fact_number, scope_of_option};
 ghost use Rattle.cxx_tree.specs.Held.{meaning, tree, trees, type_of};
 
-use cxx_model::{FactId, Node, OutOfMemory, Stop, TreeId, TypeId};
+use cxx_model::{FactId, Node, OutOfMemory, ScopeId, Stop, TreeId, TypeId};
 use cxx_phrases::Initializer;
 use cxx_syntax::{Cursor, Declarator, NameToken, Specifiers};
 use cxx_tree::State;
@@ -75,15 +76,16 @@ pub trait Declares {
         requires { of.0 < length (state.old).types }
         ensures { IsAsked fact_number AnyKnown state.old state.new result (definition.declare_synonym (name_at name.now) (type_of state.old of) (meaning state.old)) };
 
-    /// A function (8.3.5).
+    /// A function (8.3.5), with the scope of the list of parameters that its declarator has.
     fn declare_function(
         &self,
         state: &mut State,
+        list: Option<ScopeId>,
         name: &NameToken,
         of: TypeId,
     ) -> Result<FactId, Stop>
         requires { of.0 < length (state.old).types }
-        ensures { IsAsked fact_number AnyKnown state.old state.new result (definition.declare_function (name_at name.now) (type_of state.old of) (meaning state.old)) };
+        ensures { IsAsked fact_number AnyKnown state.old state.new result (declare_function (scope_of_option list) (name_at name.now) (type_of state.old of) (meaning state.old)) };
 
     /// An object that is declared, and not defined (3.1).
     fn declare_object(

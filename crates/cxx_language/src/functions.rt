@@ -13,13 +13,13 @@ use crate::declares::{Declares, Reader};
 use cxx_model::{Stop, TreeId, TypeId};
 use cxx_syntax::{Cursor, Declarator};
 use cxx_tree::State;
-use cxx_units::ends::{function_ended, synonym_ended};
+use cxx_units::ends::{function_ended, own_parameters, synonym_ended};
 use cxx_units::said::Said;
 use cxx_units::trees::{declarator_tree, token_or};
 use cxx_units::types::is_function_type;
 
 impl<D: Declares> Reader<'_, D> {
-    #[tactic(auto, using(cxx_syntax::proofs::Kept::trees_kept, cxx_syntax::proofs::Kept::trees_later, cxx_syntax::proofs::Kept::layers_kept, cxx_syntax::proofs::Kept::type_kept, cxx_syntax::proofs::Kept::type_later, cxx_syntax::proofs::Kept::later_refl, cxx_syntax::proofs::Kept::later_trans), unfolding(cxx_reading::specs::Units::declared_function, cxx_reading::specs::Units::function_ended))]
+    #[tactic(auto, using(cxx_syntax::proofs::Kept::trees_kept, cxx_syntax::proofs::Kept::trees_later, cxx_syntax::proofs::Kept::layers_kept, cxx_syntax::proofs::Kept::type_kept, cxx_syntax::proofs::Kept::type_later, cxx_syntax::proofs::Kept::later_refl, cxx_syntax::proofs::Kept::later_trans), unfolding(crate::specs::Units::declared_function, cxx_reading::specs::Units::function_ended))]
     fn declared_function(
         &self,
         state: &mut State,
@@ -31,10 +31,11 @@ impl<D: Declares> Reader<'_, D> {
         of: TypeId,
     ) -> Result<TreeId, Stop>
         requires { IsDeclared state.old said declarator of }
-        ensures { IsRead tree IsTreeKnown state.old state.new cursor.now result (definition.declared_function (said_of state.old said) is_first (declarator_of state.old declarator) from.now (meaning state.old) cursor.now) }
+        ensures { IsRead tree IsTreeKnown state.old state.new cursor.now result (units.declared_function (said_of state.old said) is_first (declarator_of state.old declarator) from.now (meaning state.old) cursor.now) }
     {
         let name = token_or(cursor.alloc(), declarator.name);
-        let number = self.declares.declare_function(state, &name, of)?;
+        let list = own_parameters(state, &declarator.layers);
+        let number = self.declares.declare_function(state, list, &name, of)?;
         function_ended(state, cursor, is_first, &declarator.layers)?;
         declarator_tree(
             state,

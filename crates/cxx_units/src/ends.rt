@@ -3,7 +3,7 @@
 ghost use Rattle.std.specs.Prelude.{◌≡◌, ◌<◌, length, if◌then◌else◌, IfOk};
 ghost use Rattle.cxx_model.specs.Stops.{Faulty, fault};
 ghost use Rattle.cxx_model.specs.declared.fault.FaultText.TheVariants as says;
-ghost use Rattle.cxx_reading.specs.Declarators.{own_parameters};
+ghost use Rattle.cxx_reading.specs.Declarators.{own_parameters as own_parameters_of};
 ghost use Rattle.cxx_reading.specs.Reads.{kind_ahead, place_ahead};
 ghost use Rattle.cxx_reading.specs.Tokens as token;
 ghost use Rattle.cxx_reading.specs.Units as definition;
@@ -11,12 +11,13 @@ ghost use Rattle.cxx_units.specs.Bodies.{body_ahead as body_ahead_at, function_e
 ghost use Rattle.cxx_syntax.specs.Asking.{AnyKnown, itself};
 ghost use Rattle.cxx_syntax.specs.Reading.{IsRead};
 ghost use Rattle.cxx_syntax.specs.Views.{AreTreesHeld, layers_in, name_at, specifiers_of, trees_held};
+ghost use Rattle.cxx_tree.specs.Answered.{scope_of_option};
 ghost use Rattle.cxx_tree.specs.Held.{meaning, type_of};
 
 use crate::trees::faulty;
 use crate::types::{is_const_type, is_reference, is_unbounded};
 use cxx_model::{
-    Fault, FaultText, LeftOut, Listed, Stop, TokenKind, TreeIdList, TypeId, keyword, punct,
+    Fault, FaultText, LeftOut, Listed, ScopeId, Stop, TokenKind, TreeIdList, TypeId, keyword, punct,
 };
 use cxx_reading::StorageWord;
 use cxx_syntax::{Cursor, Layer, LayerList, NameToken, Specifiers, is_keyword, is_punct};
@@ -42,15 +43,22 @@ pub fn synonym_ended(state: &State, cursor: &Cursor<'_>) -> Result<(), Stop>
     Err(Stop::Fault(cursor.refused()?))
 }
 
-// Whether the declarator itself declares a function (8.3.5).
-fn has_own_parameters(state: &State, layers: &LayerList) -> bool
-    ensures { result ≡ definition.is_some_scope (own_parameters (layers_in (state.now).types layers.now)) }
+/// The scope of the list of parameters that a declarator itself has, where it declares a function (8.3.5).
+pub fn own_parameters(state: &State, layers: &LayerList) -> Option<ScopeId>
+    ensures { scope_of_option result ≡ own_parameters_of (layers_in (state.now).types layers.now) }
 {
     let _ = state;
     match layers.as_slice() {
-        [Layer::Function { .. }, ..] => true,
-        _ => false,
+        [Layer::Function { scope, .. }, ..] => Some(*scope),
+        _ => None,
     }
+}
+
+// Whether the declarator itself declares a function (8.3.5).
+fn has_own_parameters(state: &State, layers: &LayerList) -> bool
+    ensures { result ≡ definition.is_some_scope (own_parameters_of (layers_in (state.now).types layers.now)) }
+{
+    own_parameters(state, layers).is_some()
 }
 
 // Behind the first declarator with its own list of parameters a body may stand, which is not read yet (8.4).
