@@ -18,7 +18,6 @@ use Rattle.cxx_reading.specs.Trees.{CxxTree, children_of, tree_of}
 use Rattle.cxx_expr.specs.declared.production.TheConstants as production
 use Rattle.cxx_expr.specs.Asking.{◌>>=◌, fault_at, give}
 use Rattle.cxx_expr.specs.Converting.{convert}
-use Rattle.cxx_expr.specs.Operands.{is_none, only}
 use Rattle.cxx_expr.specs.Questions.{Questions}
 
 -- ---- what is written
@@ -164,14 +163,9 @@ array_whole q place of bound tree state =
     if is_braces tree then array_braces q place of bound tree (text_in of (children_of tree)) state else
     array_from q place of bound tree (text_in of (children_of tree)) state
 
--- 8.5: several expressions in brackets make no value
-abbrev pub single : Place → CxxTree → Asks CxxState (Unit {0})
-single place tree state = if bytes_eq tree.label.spelling (codes "(") && is_none (only (children_of tree)) then Err (fault place says.NoConversion) else Ok (tt, state)
-
 -- 8.5, 8.5.3: a value or a reference, from one expression
 unfoldable pub value_whole : Questions → Place → CxxType → CxxTree → Asks CxxState CxxTree
 value_whole q place of tree = do
-  is_single ← single place tree
   value ← one_of q place of (children_of tree)
   give (as_copy tree of (value ∷ []))
 

@@ -4,19 +4,18 @@ ghost use Rattle.std.specs.Prelude.{◌≡◌, ◌<◌, [], ◌∷◌, length};
 ghost use Rattle.cxx_model.specs.Facts.Fitted.{Fitted};
 ghost use Rattle.cxx_model.specs.Types.Numbers.{type_at};
 ghost use Rattle.cxx_reading.specs.Trees.{children_of};
-ghost use Rattle.cxx_tree.specs.Answered.{AnyKnown, IsAnswered, itself};
+ghost use Rattle.cxx_tree.specs.Answered.{IsAnswered};
 ghost use Rattle.cxx_tree.specs.Held.{meaning, tree, trees, type_of};
 ghost use Rattle.cxx_expr.specs.Initializing as definition;
 ghost use Rattle.cxx_expr.specs.Making.{AreTreesHeld, GrowsTree, IsTreeKnown, trees_held};
 ghost use Rattle.cxx_expr.specs.Nodes.{IsNodeHeld, IsOneKnown, node_tree, one_tree};
-ghost use Rattle.cxx_expr.specs.Operands.{only};
 ghost use Rattle.cxx_initialize.specs.Bounds.{IsArrayOf, bound_in};
 
 use crate::bounds::{array_with, fits, room_of};
 use crate::elements::elements;
 use crate::strings::{text_by, text_count};
 use crate::values::one_of;
-use crate::written::{as_copy, initialized, is_braces, is_bracket};
+use crate::written::{as_copy, initialized, is_braces};
 use cxx_expr::Questions;
 use cxx_expr::conditional::is_class;
 use cxx_expr::faults::{fault, not_built_at};
@@ -198,19 +197,6 @@ fn array_whole<Q: Questions>(
 
 // ---- values and references (8.5, 8.5.3)
 
-// Several expressions in brackets make no value.
-#[tactic(auto, using(cxx_expr::proofs::Kept::later_refl))]
-fn single(alloc: Global, state: &State, node: &Node, one: Option<TreeId>) -> Result<(), Stop>
-    requires { one_tree state.now one ≡ only (children_of (node_tree state.now node.now)) }
-    ensures { IsAnswered itself AnyKnown state.now state.now result (definition.single (node_tree state.now node.now).label.place (node_tree state.now node.now) (meaning state.now)) }
-{
-    let _ = state;
-    if is_bracket(node.spelling.as_slice()) && one.is_none() {
-        return Err(Stop::Fault(fault(alloc, node.place, FaultText::NoConversion)?));
-    }
-    Ok(())
-}
-
 #[tactic(auto, using(cxx_expr::proofs::Kept::later_trans, cxx_expr::proofs::NodeKept::node_later, cxx_expr::proofs::NodeKept::node_kept, cxx_expr::proofs::Kept::type_later, cxx_expr::proofs::Kept::type_kept, crate::proofs::Parts::one_of_only), unfolding(cxx_expr::specs::Initializing::value_whole))]
 fn value_whole<Q: Questions>(
     alloc: Global,
@@ -225,7 +211,6 @@ fn value_whole<Q: Questions>(
     ensures { IsAnswered tree IsTreeKnown state.old state.new result (definition.value_whole (Q.asks questions.now) (node_tree state.old node).label.place (type_of state.old of) (node_tree state.old node) (meaning state.old)) }
 {
     let one = only_child(state, &node);
-    single(alloc, state, &node, one)?;
     let value = one_of(alloc, questions, state, node.place, of, one)?;
     as_copy(alloc, state, node, of, value)
 }

@@ -1,6 +1,6 @@
 //! What is written in an initializer, and what it becomes.
 
-ghost use Rattle.std.specs.Prelude.{◌≡◌, ◌<◌, [], ◌∷◌, length, bytes_eq, codes, IfOk};
+ghost use Rattle.std.specs.Prelude.{◌≡◌, ◌<◌, [], ◌∷◌, length, codes, IfOk};
 ghost use Rattle.cxx_reading.specs.Trees.{children_of};
 ghost use Rattle.cxx_tree.specs.Held.{tree, trees, type_of};
 ghost use Rattle.cxx_expr.specs.Initializing as definition;
@@ -22,13 +22,6 @@ fn are_braces(production: u8, spelling: &[u8]) -> bool
     ensures { result ≡ behind.are_braces production spelling.now }
 {
     production == INITIALIZER && spelling == b"{".as_slice()
-}
-
-/// Whether an initializer stands in brackets.
-pub fn is_bracket(spelling: &[u8]) -> bool
-    ensures { result ≡ bytes_eq spelling.now (codes "(") }
-{
-    spelling == b"(".as_slice()
 }
 
 /// Whether a node is one of braces.
