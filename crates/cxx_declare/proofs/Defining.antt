@@ -47,7 +47,7 @@ definable_is held fact word n r u named count is_free gives =
     (subst (λ w. Gives (λ unit. unit) r (undefined (meaning held) fact.place w (length (meaning held).graph.facts) (declares_at held.types fact.what))) named
     (subst (λ m. Gives (λ unit. unit) r (undefined (meaning held) fact.place word m (declares_at held.types fact.what))) (count ∙ sym (number_is held)) gives))
 
-assoc : {A B C : Type 0} (a : Answer A) (f : A → Answer B) (g : B → Answer C) → ((a >>= f) >>= g) ≡ (a >>= λ x. f x >>= g)
+pub assoc : {A B C : Type 0} (a : Answer A) (f : A → Answer B) (g : B → Answer C) → ((a >>= f) >>= g) ≡ (a >>= λ x. f x >>= g)
 assoc (Ok x) f g = refl
 assoc (Err why) f g = refl
 

@@ -28,8 +28,9 @@ use Rattle.cxx_model.specs.Types.Trees.{CxxType}
 use Rattle.cxx_model.specs.Types.Numbers.{type_at}
 use Rattle.cxx_names.specs.Clashes.{IsPlainName}
 use Rattle.cxx_reading.specs.State.{CxxState}
-use Rattle.cxx_reading.specs.Declaring.{added, declare, declare_function, declare_object, declare_parameter, declare_synonym, fact_here, free, first_function, first_object, function_here, is_object, number_id, is_same_function, name_of, no_flags, object_here, parameter_object, place_in, place_of_fact, with_fact, word_of}
+use Rattle.cxx_reading.specs.Declaring.{added, declare, declare_object, declare_parameter, declare_synonym, declared_here, fact_here, free, first_function, first_object, is_object, number_id, is_same_function, name_of, no_flags, object_here, parameter_object, place_in, place_of_fact, with_fact, word_of}
 use Rattle.cxx_reading.specs.Seen.{declared_from, declared_in, declares_in}
+use Rattle.cxx_declare.specs.Functions.{function_with}
 use Rattle.cxx_declare.specs.Made.{IsNameOf, IsReady, made, place_held, token, unit_of, word_in}
 use Rattle.cxx_tree.specs.Held.{Held, meaning}
 use Rattle.cxx_tree.specs.Answered.{AnyKnown, IsAnswered, IsFactKnown, fact_number, itself}
@@ -188,44 +189,48 @@ function_at types of all scope word n (one ∷ others) k at e =
     by false p f later = later f
     by true p f later = chosen n (first_function of (declared_from scope (spelled word) (suc n) (facts_at types others))) k (is_same_function of (declares_at types one.what)) f (λ yes same. record { other = one; at = subst (λ m. slice_get all m ≡ Some one) same here; kind = function_kind types of one.what yes; named = declared_name types scope word one p }) later
 
-function_pair : (graph : Graph) (fact : Fact) (one : TypeId) (k : FactId) (other : Fact) → slice_get graph.facts k.0 ≡ Some other → other.name ≡ fact.name → (what : Entity) → other.what ≡ what → is_a_function what ≡ true → IsEntityInRange graph fact (entity.Function one Free no_flags 0 (Some k))
-function_pair graph fact one k other at named (entity.Scope parent kind) same e = absurd (cc)
-function_pair graph fact one k other at named (entity.Object two member is_mutable value first) same e = absurd (cc)
-function_pair graph fact one k other at named (entity.Function two member flags defaults first) same e = (other, at, rw same (refl), named)
-function_pair graph fact one k other at named (entity.Template number member defaults is_explicit first) same e = absurd (cc)
-function_pair graph fact one k other at named (entity.Parameter depth index two) same e = absurd (cc)
-function_pair graph fact one k other at named (entity.Injected number) same e = absurd (cc)
-function_pair graph fact one k other at named (entity.Class number is_union) same e = absurd (cc)
-function_pair graph fact one k other at named (entity.Complete number) same e = absurd (cc)
-function_pair graph fact one k other at named (entity.Passed number) same e = absurd (cc)
-function_pair graph fact one k other at named (entity.Ancestor number parent index access) same e = absurd (cc)
-function_pair graph fact one k other at named (entity.Enumeration number) same e = absurd (cc)
-function_pair graph fact one k other at named (entity.Enumerator number value) same e = absurd (cc)
-function_pair graph fact one k other at named (entity.Synonym two) same e = absurd (cc)
-function_pair graph fact one k other at named (entity.Namespace inner) same e = absurd (cc)
-function_pair graph fact one k other at named (entity.Directive nominated) same e = absurd (cc)
-function_pair graph fact one k other at named (entity.Using target) same e = absurd (cc)
-function_pair graph fact one k other at named (entity.Friend number target) same e = absurd (cc)
+function_pair : (graph : Graph) (fact : Fact) (one : TypeId) (count : ℕ) (k : FactId) (other : Fact) → slice_get graph.facts k.0 ≡ Some other → other.name ≡ fact.name → (what : Entity) → other.what ≡ what → is_a_function what ≡ true → IsEntityInRange graph fact (entity.Function one Free no_flags count (Some k))
+function_pair graph fact one count k other at named (entity.Scope parent kind) same e = absurd (cc)
+function_pair graph fact one count k other at named (entity.Object two member is_mutable value first) same e = absurd (cc)
+function_pair graph fact one count k other at named (entity.Function two member flags defaults first) same e = (other, at, rw same (refl), named)
+function_pair graph fact one count k other at named (entity.Template number member defaults is_explicit first) same e = absurd (cc)
+function_pair graph fact one count k other at named (entity.Parameter depth index two) same e = absurd (cc)
+function_pair graph fact one count k other at named (entity.Injected number) same e = absurd (cc)
+function_pair graph fact one count k other at named (entity.Class number is_union) same e = absurd (cc)
+function_pair graph fact one count k other at named (entity.Complete number) same e = absurd (cc)
+function_pair graph fact one count k other at named (entity.Passed number) same e = absurd (cc)
+function_pair graph fact one count k other at named (entity.Ancestor number parent index access) same e = absurd (cc)
+function_pair graph fact one count k other at named (entity.Enumeration number) same e = absurd (cc)
+function_pair graph fact one count k other at named (entity.Enumerator number value) same e = absurd (cc)
+function_pair graph fact one count k other at named (entity.Synonym two) same e = absurd (cc)
+function_pair graph fact one count k other at named (entity.Namespace inner) same e = absurd (cc)
+function_pair graph fact one count k other at named (entity.Directive nominated) same e = absurd (cc)
+function_pair graph fact one count k other at named (entity.Using target) same e = absurd (cc)
+function_pair graph fact one count k other at named (entity.Friend number target) same e = absurd (cc)
 
-function_range : (graph : Graph) (fact : Fact) (one : TypeId) (word : List ℕ) → fact.name ≡ name.Spelled word → (first : Option FactId) → ((k : FactId) → first ≡ Some k → IsEarlierOne graph.facts is_a_function word k.0) → IsEntityInRange graph fact (entity.Function one Free no_flags 0 first)
-function_range graph fact one word named None earlier = tt
-function_range graph fact one word named (Some k) earlier = (let found : IsEarlierOne graph.facts is_a_function word k.0 = earlier k refl in function_pair graph fact one k found.other found.at (found.named ∙ sym named) found.other.what refl found.kind)
+function_range : (graph : Graph) (fact : Fact) (one : TypeId) (count : ℕ) (word : List ℕ) → fact.name ≡ name.Spelled word → (first : Option FactId) → ((k : FactId) → first ≡ Some k → IsEarlierOne graph.facts is_a_function word k.0) → IsEntityInRange graph fact (entity.Function one Free no_flags count first)
+function_range graph fact one count word named None earlier = tt
+function_range graph fact one count word named (Some k) earlier = (let found : IsEarlierOne graph.facts is_a_function word k.0 = earlier k refl in function_pair graph fact one count k found.other found.at (found.named ∙ sym named) found.other.what refl found.kind)
 
-function_may : (held : Held) (place : Place) (word : List ℕ) (one : TypeId) (scope : ScopeId) (first : Option FactId) → scope.0 < scopes held.graph.facts → first ≡ first_function (type_at held.types one.0) (declared_in (graph_at held.types held.graph) scope.0 (spelled word)) → MayFollow held.graph (made scope place (name.Spelled word) (entity.Function one Free no_flags 0 first))
+function_may : (held : Held) (place : Place) (word : List ℕ) (one : TypeId) (count : ℕ) (scope : ScopeId) (first : Option FactId) → scope.0 < scopes held.graph.facts → first ≡ first_function (type_at held.types one.0) (declared_in (graph_at held.types held.graph) scope.0 (spelled word)) → MayFollow held.graph (made scope place (name.Spelled word) (entity.Function one Free no_flags count first))
 unfolding declared_in
-function_may held place word one scope first there is = may_follow held.graph (made scope place (name.Spelled word) (entity.Function one Free no_flags 0 first)) there (function_range held.graph (made scope place (name.Spelled word) (entity.Function one Free no_flags 0 first)) one word refl first (λ k e. function_at held.types (type_at held.types one.0) held.graph.facts scope.0 word zero held.graph.facts k (λ i. (let p : 0 + i ≡ i = omega arith in ap (slice_get held.graph.facts) p)) (sym is ∙ e)))
+function_may held place word one count scope first there is = may_follow held.graph (made scope place (name.Spelled word) (entity.Function one Free no_flags count first)) there (function_range held.graph (made scope place (name.Spelled word) (entity.Function one Free no_flags count first)) one count word refl first (λ k e. function_at held.types (type_at held.types one.0) held.graph.facts scope.0 word zero held.graph.facts k (λ i. (let p : 0 + i ≡ i = omega arith in ap (slice_get held.graph.facts) p)) (sym is ∙ e)))
 
-pub function_ready : (held : Held) (place : Place) (word : List ℕ) (one : TypeId) (scope : ScopeId) (first : Option FactId) (n : Name) (fact : Fact) → scope.0 < scopes held.graph.facts → first ≡ first_function (type_at held.types one.0) (declared_in (graph_at held.types held.graph) scope.0 (spelled word)) → one.0 < length held.types → n ≡ name.Spelled word → fact ≡ made scope place n (entity.Function one Free no_flags 0 first) → IsReady held fact
-function_ready held place word one scope first n fact there is below named made_is =
-    subst (λ (f : Fact). IsReady held f) (sym (made_is ∙ ap (λ m. made scope place m (entity.Function one Free no_flags 0 first)) named)) (record { follows = function_may held place word one scope first there is; below = record { name = tt; what = below }; plain = record { name = tt; what = refl } })
-
-pub function_is : (held : Held) (place : Place) (word : List ℕ) (one : TypeId) (scope : ScopeId) (first : Option FactId) (n : Name) (fact : Fact) → scope ≡ held.scope → first ≡ first_function (type_at held.types one.0) (declared_in (graph_at held.types held.graph) scope.0 (spelled word)) → n ≡ name.Spelled word → fact ≡ made scope place n (entity.Function one Free no_flags 0 first)
-    → fact_at held.types fact ≡ fact_here (meaning held) (spelled word) place (function_here (meaning held) (spelled word) (type_at held.types one.0))
+pub function_ready : (held : Held) (place : Place) (word : List ℕ) (one : TypeId) (count : ℕ) (scope : ScopeId) (first : Option FactId) (n : Name) (fact : Fact) → scope ≡ held.scope → scope.0 < scopes held.graph.facts → first ≡ first_function (type_at held.types one.0) (declared_here (meaning held) (spelled word)) → one.0 < length held.types → n ≡ name.Spelled word → fact ≡ made scope place n (entity.Function one Free no_flags count first) → IsReady held fact
 unfolding meaning
-function_is held place word one scope first n fact here is named made_is =
-    ap (fact_at held.types) (made_is ∙ ap (λ m. made scope place m (entity.Function one Free no_flags 0 first)) named)
-    ∙ (ap (λ f. fact_at held.types (made scope place (name.Spelled word) (entity.Function one Free no_flags 0 f))) is
-    ∙ ap (λ (s : ScopeId). fact_at held.types (made s place (name.Spelled word) (entity.Function one Free no_flags 0 (first_function (type_at held.types one.0) (declared_in (graph_at held.types held.graph) s.0 (spelled word)))))) here)
+function_ready held place word one count scope first n fact here there is below named made_is =
+    subst (λ (f : Fact). IsReady held f) (sym (made_is ∙ ap (λ m. made scope place m (entity.Function one Free no_flags count first)) named)) (record {
+      follows = function_may held place word one count scope first there (is ∙ ap (λ (s : ScopeId). first_function (type_at held.types one.0) (declared_in (graph_at held.types held.graph) s.0 (spelled word))) (sym here));
+      below = record { name = tt; what = below };
+      plain = record { name = tt; what = refl };
+    })
+
+pub function_is : (held : Held) (place : Place) (word : List ℕ) (one : TypeId) (count : ℕ) (scope : ScopeId) (first : Option FactId) (n : Name) (fact : Fact) → scope ≡ held.scope → n ≡ name.Spelled word → fact ≡ made scope place n (entity.Function one Free no_flags count first)
+    → fact_at held.types fact ≡ fact_here (meaning held) (spelled word) place (function_with (type_at held.types one.0) count first)
+unfolding meaning
+function_is held place word one count scope first n fact here named made_is =
+    ap (fact_at held.types) (made_is ∙ ap (λ m. made scope place m (entity.Function one Free no_flags count first)) named)
+    ∙ ap (λ (s : ScopeId). fact_at held.types (made s place (name.Spelled word) (entity.Function one Free no_flags count first))) here
 
 -- ---- what a stop stops
 
@@ -299,10 +304,6 @@ synonym_ready held place word of fact there below is = subst (λ (f : Fact). IsR
 pub synonym_declared : (old new : Held) (kind : TokenKind) (place : Place) (word : List ℕ) (of : TypeId) (fact : Fact) (r : Result FactId Stop) → fact ≡ made old.scope place (name.Spelled word) (entity.Synonym of) → IsAnswered fact_number IsFactKnown old new r (declare (fact_at old.types fact) (word_in fact.name) (meaning old)) → IsAnswered fact_number IsFactKnown old new r (declare_synonym (token kind place word) (type_at old.types of.0) (meaning old))
 unfolding declare_synonym meaning
 synonym_declared old new kind place word of fact r is answered = declared_as old new fact (fact_at old.types (made old.scope place (name.Spelled word) (entity.Synonym of))) word r (ap (fact_at old.types) is) (ap (λ (f : Fact). f.name) is) answered
-
-pub function_declared : (old new : Held) (kind : TokenKind) (place : Place) (word : List ℕ) (of : CxxType) (fact : Fact) (r : Result FactId Stop) → fact_at old.types fact ≡ fact_here (meaning old) (spelled word) place (function_here (meaning old) (spelled word) of) → fact.name ≡ name.Spelled word → IsAnswered fact_number IsFactKnown old new r (declare (fact_at old.types fact) (word_in fact.name) (meaning old)) → IsAnswered fact_number IsFactKnown old new r (declare_function (token kind place word) of (meaning old))
-unfolding declare_function
-function_declared old new kind place word of fact r is named answered = declared_as old new fact (fact_here (meaning old) (spelled word) place (function_here (meaning old) (spelled word) of)) word r is named answered
 
 pub object_declared : (old new : Held) (kind : TokenKind) (place : Place) (word : List ℕ) (of : CxxType) (fact : Fact) (r : Result FactId Stop) → fact_at old.types fact ≡ fact_here (meaning old) (spelled word) place (object_here (meaning old) (spelled word) of) → fact.name ≡ name.Spelled word → IsAnswered fact_number IsFactKnown old new r (declare (fact_at old.types fact) (word_in fact.name) (meaning old)) → IsAnswered fact_number IsFactKnown old new r (declare_object (token kind place word) of (meaning old))
 unfolding declare_object

@@ -1,3 +1,4 @@
 pub mod Functions
+pub mod Given
 pub mod Made
 pub mod Values

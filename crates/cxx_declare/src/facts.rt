@@ -8,16 +8,14 @@ ghost use Rattle.cxx_model.specs.Facts.Graph.{appended, scopes};
 ghost use Rattle.cxx_defined.specs.Defined.{IsOwnEntity};
 ghost use Rattle.cxx_names.specs.Clashes.{IsPlainName};
 ghost use Rattle.cxx_reading.specs.Declaring as declaring;
-ghost use Rattle.cxx_reading.specs.Declaring.{fact_here, function_here, object_here, parameter_object};
+ghost use Rattle.cxx_reading.specs.Declaring.{fact_here, object_here, parameter_object};
 ghost use Rattle.cxx_declare.specs.Made.{IsReady, made, word_in};
 ghost use Rattle.cxx_tree.specs.Answered.{IsAnswered, IsFactKnown, fact_number};
 ghost use Rattle.cxx_tree.specs.Held.{meaning, type_of};
 
 use crate::conflict::free;
 use crate::parts::spelled;
-use cxx_model::{
-    Access, Entity, Fact, FactId, FunctionFlags, MemberKind, Name, Place, ScopeId, Stop, TypeId,
-};
+use cxx_model::{Access, Entity, Fact, FactId, MemberKind, Name, Place, ScopeId, Stop, TypeId};
 use cxx_tree::State;
 use std::alloc::AllocError;
 
@@ -70,42 +68,6 @@ pub(crate) fn object_fact(
             member: MemberKind::Free,
             is_mutable: false,
             value: None,
-            first,
-        },
-    ))
-}
-
-/// The declaration of a function (8.3.5).
-pub(crate) fn function_fact(
-    state: &State,
-    place: Place,
-    word: &[u8],
-    of: TypeId,
-) -> Result<Fact, AllocError>
-    requires { of.0 < length (state.now).types }
-    ensures is { IfOk result (λ fact. fact_at (state.now).types fact ≡ fact_here (meaning state.now) (spelled_name word.now) place (function_here (meaning state.now) (spelled_name word.now) (type_of state.now of))) }
-    ensures ready { IfOk result (IsReady state.now) }
-    ensures named { IfOk result (λ fact. fact.name ≡ Spelled word.now) }
-{
-    let scope = state.scope();
-    let first = state
-        .names()
-        .first_function(state.graph(), state.types(), of, scope, word);
-    let name = spelled(state.alloc(), word)?;
-    Ok(fact_in(
-        scope,
-        place,
-        name,
-        Entity::Function {
-            of,
-            member: MemberKind::Free,
-            flags: FunctionFlags {
-                is_virtual: false,
-                is_pure: false,
-                is_explicit: false,
-                is_implicit: false,
-            },
-            defaults: 0,
             first,
         },
     ))

@@ -5,13 +5,14 @@ mod asks;
 mod conflict;
 mod enumerations;
 mod facts;
+mod functions;
 mod objects;
 mod parts;
 mod values;
 
 pub use asks::{elaborated, kind, type_named};
 pub use enumerations::{declare_enumeration, declare_enumerator, end_enumeration};
+pub use functions::declare_function;
 pub use objects::{
-    declare_function, declare_object, declare_parameter, declare_synonym, define_declared,
-    define_object,
+    declare_object, declare_parameter, declare_synonym, define_declared, define_object,
 };

@@ -1,4 +1,4 @@
-//! Names of types, functions, objects and parameters (7.1.3, 8.3.5, 3.1, 3.2).
+//! Names of types, objects and parameters (7.1.3, 8.3.5, 3.1, 3.2).
 
 ghost use Rattle.std.specs.Prelude.{◌≡◌, ◌<◌, length, IfErr, IfOk, Ok, OnOk, List, Option};
 ghost use Rattle.std.specs.List.{slice_get};
@@ -16,7 +16,7 @@ ghost use Rattle.cxx_tree.specs.Held.{Held, meaning, type_of};
 ghost use Rattle.cxx_tree.specs.Later.{Later};
 
 use crate::conflict::{definable, undefined};
-use crate::facts::{declare, fact_in, function_fact, object_fact, word_fact};
+use crate::facts::{declare, fact_in, object_fact, word_fact};
 use crate::parts::what_of;
 use cxx_model::{Entity, Fact, FactId, MemberKind, Name, Place, Stop, TypeId};
 use cxx_tree::State;
@@ -32,22 +32,6 @@ pub fn declare_synonym(
     ensures { (kind : TokenKind) → IsAnswered fact_number IsFactKnown state.old state.new result (declaring.declare_synonym (token kind place word.now) (type_of state.old of) (meaning state.old)) }
 {
     match word_fact(state, place, word, Entity::Synonym { of }) {
-        Ok(fact) => declare(state, fact),
-        Err(_) => Err(Stop::OutOfMemory),
-    }
-}
-
-/// A function is declared (8.3.5).
-pub fn declare_function(
-    state: &mut State,
-    place: Place,
-    word: &[u8],
-    of: TypeId,
-) -> Result<FactId, Stop>
-    requires { of.0 < length (state.old).types }
-    ensures { (kind : TokenKind) → IsAnswered fact_number IsFactKnown state.old state.new result (declaring.declare_function (token kind place word.now) (type_of state.old of) (meaning state.old)) }
-{
-    match function_fact(state, place, word, of) {
         Ok(fact) => declare(state, fact),
         Err(_) => Err(Stop::OutOfMemory),
     }
