@@ -50,9 +50,9 @@ impl<K: Asking, F: Fn(&K, &mut State, &mut Cursor<'_>, Entrance, u32) -> Result<
     ghost use Rattle.cxx_knot.specs.Knot.{Nests, asking_by};
     ghost use Rattle.cxx_knot.specs.Readers.{both};
 
-    ghost inner = { λ self. (both (asking_by K.asks K.wholes self.kinds.now) self.room).types };
+    ghost inner = { λ self. (both (asking_by K.asks K.wholes K.offers self.kinds.now) self.room).types };
 
-    ghost is_open = { λ self. Nests K.asks K.wholes K.is_ready F.Fn self.kinds.now self.room self.read };
+    ghost is_open = { λ self. Nests K.asks K.wholes K.offers K.is_ready F.Fn self.kinds.now self.room self.read };
 
     fn pointed(
         &self,
@@ -176,11 +176,11 @@ impl<
     ghost use Rattle.cxx_knot.specs.Knot.{Nests, asking_by};
     ghost use Rattle.cxx_knot.specs.Readers.{both, here};
 
-    ghost asks = { λ self. here (asking_by K.asks K.wholes self.kinds.now self.room) (both (asking_by K.asks K.wholes self.kinds.now) self.room) self.room };
+    ghost asks = { λ self. here (asking_by K.asks K.wholes K.offers self.kinds.now self.room) (both (asking_by K.asks K.wholes K.offers self.kinds.now) self.room) self.room };
 
-    ghost inner = { λ self. (both (asking_by K.asks K.wholes self.kinds.now) self.room).phrases };
+    ghost inner = { λ self. (both (asking_by K.asks K.wholes K.offers self.kinds.now) self.room).phrases };
 
-    ghost is_ready = { λ self. Nests K.asks K.wholes K.is_ready F.Fn self.kinds.now self.room self.read };
+    ghost is_ready = { λ self. Nests K.asks K.wholes K.offers K.is_ready F.Fn self.kinds.now self.room self.read };
 
     fn room(&self) -> u32 {
         self.room

@@ -13,7 +13,6 @@ ghost use Rattle.cxx_tree.specs.Held.{meaning};
 
 use crate::asking::Asking;
 use crate::behind::{Behind, Entrance, Found};
-use crate::unread::Unread;
 use crate::values::Values;
 use cxx_model::{LimitKind, Stop};
 use cxx_phrases::{
@@ -56,8 +55,8 @@ pub(crate) fn opened<
     cursor: &mut Cursor<'_>,
     what: Entrance,
 ) -> Result<Found, Stop>
-    requires { Nests K.asks K.wholes K.is_ready F.Fn behind.now.kinds.now behind.now.room behind.now.read }
-    ensures { Follows (both_by (asking_by K.asks K.wholes behind.now.kinds.now behind.now.room) behind.now.room (both (asking_by K.asks K.wholes behind.now.kinds.now) behind.now.room)) what state.old cursor.old result state.new cursor.new }
+    requires { Nests K.asks K.wholes K.offers K.is_ready F.Fn behind.now.kinds.now behind.now.room behind.now.read }
+    ensures { Follows (both_by (asking_by K.asks K.wholes K.offers behind.now.kinds.now behind.now.room) behind.now.room (both (asking_by K.asks K.wholes K.offers behind.now.kinds.now) behind.now.room)) what state.old cursor.old result state.new cursor.new }
 {
     let types = Reader {
         kinds: behind.kinds,
@@ -83,7 +82,7 @@ pub(crate) fn opened<
             let (value, parts) = values.bound_at(state, cursor, is_first)?;
             Ok(Found::Value(value, parts))
         }
-        Entrance::Parameters => Ok(Found::Parameters(types.parameters_at(state, cursor, &Unread)?)),
+        Entrance::Parameters => Ok(Found::Parameters(types.parameters_at(state, cursor, &values)?)),
         Entrance::Enumerators(number) => {
             Ok(Found::Trees(values.enumerators_at(state, cursor, number)?))
         }
@@ -113,7 +112,7 @@ pub(crate) fn read<K: Asking>(
     room: u32,
 ) -> Result<Found, Stop>
     requires { K.is_ready kinds.now }
-    ensures { Follows (both (asking_by K.asks K.wholes kinds.now) room) what state.old cursor.old result state.new cursor.new }
+    ensures { Follows (both (asking_by K.asks K.wholes K.offers kinds.now) room) what state.old cursor.old result state.new cursor.new }
 {
     if room == 0 {
         return too_deep(state, cursor, what);
@@ -136,7 +135,7 @@ pub fn read_specifiers<K: Asking>(
     room: u32,
 ) -> Result<Specifiers, Stop>
     requires { K.is_ready kinds.now }
-    ensures { IsRead specifiers_of AreSpecifiers state.old state.new cursor.new result (specifiers_at (K.asks kinds.now room) (both (asking_by K.asks K.wholes kinds.now) room).types place (meaning state.old) cursor.old) }
+    ensures { IsRead specifiers_of AreSpecifiers state.old state.new cursor.new result (specifiers_at (K.asks kinds.now room) (both (asking_by K.asks K.wholes K.offers kinds.now) room).types place (meaning state.old) cursor.old) }
 {
     let behind = Behind {
         kinds,
@@ -161,7 +160,7 @@ pub fn read_declarator<K: Asking>(
     room: u32,
 ) -> Result<Declarator, Stop>
     requires { K.is_ready kinds.now }
-    ensures { IsRead declarator_of IsDeclarator state.old state.new cursor.new result (declarator_at (K.asks kinds.now room) (both (asking_by K.asks K.wholes kinds.now) room).types naming (meaning state.old) cursor.old) }
+    ensures { IsRead declarator_of IsDeclarator state.old state.new cursor.new result (declarator_at (K.asks kinds.now room) (both (asking_by K.asks K.wholes K.offers kinds.now) room).types naming (meaning state.old) cursor.old) }
 {
     let behind = Behind {
         kinds,
@@ -185,7 +184,7 @@ pub fn read_initializer<K: Asking>(
     room: u32,
 ) -> Result<Initializer, Stop>
     requires { K.is_ready kinds.now }
-    ensures { IsRead initializer_of IsInitializer state.old state.new cursor.new result (initializer_at (here (asking_by K.asks K.wholes kinds.now room) (both (asking_by K.asks K.wholes kinds.now) room) room) (both (asking_by K.asks K.wholes kinds.now) room).phrases (meaning state.old) cursor.old) }
+    ensures { IsRead initializer_of IsInitializer state.old state.new cursor.new result (initializer_at (here (asking_by K.asks K.wholes K.offers kinds.now room) (both (asking_by K.asks K.wholes K.offers kinds.now) room) room) (both (asking_by K.asks K.wholes K.offers kinds.now) room).phrases (meaning state.old) cursor.old) }
 {
     let behind = Behind {
         kinds,

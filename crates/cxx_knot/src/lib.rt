@@ -1,11 +1,10 @@
-//! The readers of declarations and those of expressions inside one another: bounds and the values of enumerators are
-//! expressions, and casts and sizes have types.
+//! The readers of declarations and those of expressions inside one another: bounds, the values of enumerators and default
+//! arguments are expressions, and casts and sizes have types.
 #![tactic(auto)]
 
 mod asking;
 mod behind;
 mod knot;
-mod unread;
 mod values;
 
 pub use asking::Asking;

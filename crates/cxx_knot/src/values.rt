@@ -1,22 +1,22 @@
-//! Bounds (8.3.4) and the values of enumerators (7.2), which are constant expressions (5.19).
+//! Bounds (8.3.4) and the values of enumerators (7.2), which are constant expressions (5.19), and default arguments (8.3.6).
 
-ghost use Rattle.std.specs.Prelude.{◌≡◌, [], ◌∷◌, IfOk};
+ghost use Rattle.std.specs.Prelude.{◌≡◌, ◌<◌, [], ◌∷◌, length, IfOk};
 ghost use Rattle.cxx_knot.specs.Knot.{asking_by};
 ghost use Rattle.cxx_knot.specs.Readers as definition;
 ghost use Rattle.cxx_reading.specs.Reads.{count_ahead, give, repeat};
 ghost use Rattle.cxx_reading.specs.Syntax as syntax;
 ghost use Rattle.cxx_syntax.specs.Reading.{IsRead};
 ghost use Rattle.cxx_syntax.specs.Views.{AreTreesHeld, IsTreesTurn, IsValue, lexeme_at, trees_held, trees_turn, value_of};
-ghost use Rattle.cxx_tree.specs.Held.{meaning};
+ghost use Rattle.cxx_tree.specs.Held.{meaning, type_of};
 
 use crate::asking::Asking;
-use cxx_model::{EnumId, Listed, Stop, TreeId, TreeIdList, punct};
+use cxx_model::{EnumId, Listed, Stop, TreeId, TreeIdList, TypeId, punct};
 use cxx_phrases::{Level, Phrases, read_expression};
-use cxx_syntax::{Cursor, Spelled, Turn, is_name, is_punct, joined};
+use cxx_syntax::{Cursor, Defaults, Spelled, Turn, is_name, is_punct, joined};
 use cxx_tree::State;
 use std::alloc::{AllocError, Global};
 
-/// The readers of constant expressions, and who is asked for their values, with room for so many more brackets.
+/// The readers of expressions, and who is asked for what they are, with room for so many more brackets.
 #[derive_where(Clone, Copy)]
 pub(crate) struct Values<'n, K, P> {
     pub kinds: &'n K,
@@ -65,7 +65,7 @@ impl<K: Asking, P: Phrases> Values<'_, K, P> {
     ) -> Result<(Option<i128>, TreeIdList), Stop>
         requires ready { K.is_ready self.now.kinds.now }
         requires phrases { P.is_ready self.now.phrases.now }
-        ensures { IsRead value_of IsValue state.old state.new cursor.new result (definition.valued (asking_by K.asks K.wholes self.now.kinds.now self.now.room) (P.asks self.now.phrases.now) (P.inner self.now.phrases.now) (meaning state.old) cursor.old) }
+        ensures { IsRead value_of IsValue state.old state.new cursor.new result (definition.valued (asking_by K.asks K.wholes K.offers self.now.kinds.now self.now.room) (P.asks self.now.phrases.now) (P.inner self.now.phrases.now) (meaning state.old) cursor.old) }
     {
         let number = read_expression(self.phrases, state, cursor, Level::Constant)?;
         let value = self.kinds.constant(state, number, self.room)?;
@@ -81,7 +81,7 @@ impl<K: Asking, P: Phrases> Values<'_, K, P> {
     ) -> Result<(Option<i128>, TreeIdList), Stop>
         requires ready { K.is_ready self.now.kinds.now }
         requires phrases { P.is_ready self.now.phrases.now }
-        ensures { IsRead value_of IsValue state.old state.new cursor.new result (definition.bound_value (asking_by K.asks K.wholes self.now.kinds.now self.now.room) (P.asks self.now.phrases.now) (P.inner self.now.phrases.now) (meaning state.old) cursor.old) }
+        ensures { IsRead value_of IsValue state.old state.new cursor.new result (definition.bound_value (asking_by K.asks K.wholes K.offers self.now.kinds.now self.now.room) (P.asks self.now.phrases.now) (P.inner self.now.phrases.now) (meaning state.old) cursor.old) }
     {
         let value = self.valued(state, cursor)?;
         cursor.punct(punct::RIGHT_BRACKET)?;
@@ -98,7 +98,7 @@ impl<K: Asking, P: Phrases> Values<'_, K, P> {
     ) -> Result<(Option<i128>, TreeIdList), Stop>
         requires ready { K.is_ready self.now.kinds.now }
         requires phrases { P.is_ready self.now.phrases.now }
-        ensures { IsRead value_of IsValue state.old state.new cursor.new result (definition.bound_at (asking_by K.asks K.wholes self.now.kinds.now self.now.room) (P.asks self.now.phrases.now) (P.inner self.now.phrases.now) is_first (meaning state.old) cursor.old) }
+        ensures { IsRead value_of IsValue state.old state.new cursor.new result (definition.bound_at (asking_by K.asks K.wholes K.offers self.now.kinds.now self.now.room) (P.asks self.now.phrases.now) (P.inner self.now.phrases.now) is_first (meaning state.old) cursor.old) }
     {
         if !is_punct(punct::RIGHT_BRACKET, cursor.kind()) {
             return self.bound_value(state, cursor);
@@ -119,7 +119,7 @@ impl<K: Asking, P: Phrases> Values<'_, K, P> {
     ) -> Result<(Option<i128>, TreeIdList), Stop>
         requires ready { K.is_ready self.now.kinds.now }
         requires phrases { P.is_ready self.now.phrases.now }
-        ensures { IsRead value_of IsValue state.old state.new cursor.new result (definition.value_at (asking_by K.asks K.wholes self.now.kinds.now self.now.room) (P.asks self.now.phrases.now) (P.inner self.now.phrases.now) (meaning state.old) cursor.old) }
+        ensures { IsRead value_of IsValue state.old state.new cursor.new result (definition.value_at (asking_by K.asks K.wholes K.offers self.now.kinds.now self.now.room) (P.asks self.now.phrases.now) (P.inner self.now.phrases.now) (meaning state.old) cursor.old) }
     {
         if !is_punct(punct::EQUALS, cursor.kind()) {
             return Ok((None, Listed::new(cursor.alloc())));
@@ -141,7 +141,7 @@ impl<K: Asking, P: Phrases> Values<'_, K, P> {
         requires known { AreTreesHeld state.old so_far }
         requires ready { K.is_ready self.now.kinds.now }
         requires phrases { P.is_ready self.now.phrases.now }
-        ensures { IsRead trees_held AreTreesHeld state.old state.new cursor.new result (definition.enumerator_at (asking_by K.asks K.wholes self.now.kinds.now self.now.room) (P.asks self.now.phrases.now) (P.inner self.now.phrases.now) number.0 (trees_held state.old so_far) (lexeme_at name.entry) (meaning state.old) cursor.old) }
+        ensures { IsRead trees_held AreTreesHeld state.old state.new cursor.new result (definition.enumerator_at (asking_by K.asks K.wholes K.offers self.now.kinds.now self.now.room) (P.asks self.now.phrases.now) (P.inner self.now.phrases.now) number.0 (trees_held state.old so_far) (lexeme_at name.entry) (meaning state.old) cursor.old) }
     {
         let (value, parts) = self.value_at(state, cursor)?;
         self.kinds
@@ -161,7 +161,7 @@ impl<K: Asking, P: Phrases> Values<'_, K, P> {
         requires known { AreTreesHeld state.old so_far }
         requires ready { K.is_ready self.now.kinds.now }
         requires phrases { P.is_ready self.now.phrases.now }
-        ensures { IsRead trees_turn IsTreesTurn state.old state.new cursor.new result (definition.enumerator_step (asking_by K.asks K.wholes self.now.kinds.now self.now.room) (P.asks self.now.phrases.now) (P.inner self.now.phrases.now) number.0 (trees_held state.old so_far) (meaning state.old) cursor.old) }
+        ensures { IsRead trees_turn IsTreesTurn state.old state.new cursor.new result (definition.enumerator_step (asking_by K.asks K.wholes K.offers self.now.kinds.now self.now.room) (P.asks self.now.phrases.now) (P.inner self.now.phrases.now) number.0 (trees_held state.old so_far) (meaning state.old) cursor.old) }
     {
         if !is_name(cursor.kind()) {
             return Err(Stop::Fault(cursor.refused()?));
@@ -181,7 +181,7 @@ impl<K: Asking, P: Phrases> Values<'_, K, P> {
     ) -> Result<TreeIdList, Stop>
         requires ready { K.is_ready self.now.kinds.now }
         requires phrases { P.is_ready self.now.phrases.now }
-        ensures { IsRead trees_held AreTreesHeld state.old state.new cursor.new result (definition.enumerators_at (asking_by K.asks K.wholes self.now.kinds.now self.now.room) (P.asks self.now.phrases.now) (P.inner self.now.phrases.now) number.0 (meaning state.old) cursor.old) }
+        ensures { IsRead trees_held AreTreesHeld state.old state.new cursor.new result (definition.enumerators_at (asking_by K.asks K.wholes K.offers self.now.kinds.now self.now.room) (P.asks self.now.phrases.now) (P.inner self.now.phrases.now) number.0 (meaning state.old) cursor.old) }
     {
         if is_punct(punct::RIGHT_BRACE, cursor.kind()) {
             cursor.advance();
@@ -200,7 +200,7 @@ impl<K: Asking, P: Phrases> Values<'_, K, P> {
     ) -> Result<TreeIdList, Stop>
         requires ready { K.is_ready self.now.kinds.now }
         requires phrases { P.is_ready self.now.phrases.now }
-        ensures { IsRead trees_held AreTreesHeld state.old state.new cursor.new result (repeat (definition.enumerator_step (asking_by K.asks K.wholes self.now.kinds.now self.now.room) (P.asks self.now.phrases.now) (P.inner self.now.phrases.now) number.0) give (count_ahead cursor.old) [] (meaning state.old) cursor.old) }
+        ensures { IsRead trees_held AreTreesHeld state.old state.new cursor.new result (repeat (definition.enumerator_step (asking_by K.asks K.wholes K.offers self.now.kinds.now self.now.room) (P.asks self.now.phrases.now) (P.inner self.now.phrases.now) number.0) give (count_ahead cursor.old) [] (meaning state.old) cursor.old) }
     {
         let mut so_far = Listed::new(cursor.alloc());
         for _turn in 0..cursor.count() {
@@ -210,5 +210,42 @@ impl<K: Asking, P: Phrases> Values<'_, K, P> {
             }
         }
         Ok(so_far)
+    }
+
+    // A default argument, from its `=` on, as it is converted to the type of its parameter (8.3.6).
+    #[tactic(auto, using(cxx_syntax::proofs::Kept::type_kept, cxx_syntax::proofs::Kept::type_later, cxx_syntax::proofs::Kept::later_trans, cxx_syntax::proofs::Kept::later_refl), unfolding(crate::specs::Readers::fallback_at))]
+    fn fallback_at(
+        &self,
+        state: &mut State,
+        cursor: &mut Cursor<'_>,
+        index: usize,
+        of: TypeId,
+    ) -> Result<TreeIdList, Stop>
+        requires ready { K.is_ready self.now.kinds.now }
+        requires phrases { P.is_ready self.now.phrases.now }
+        requires known { of.0 < length (state.old).types }
+        ensures { IsRead trees_held AreTreesHeld state.old state.new cursor.new result (definition.fallback_at (asking_by K.asks K.wholes K.offers self.now.kinds.now self.now.room) (P.asks self.now.phrases.now) (P.inner self.now.phrases.now) index (type_of state.old of) (meaning state.old) cursor.old) }
+    {
+        cursor.advance();
+        let was = self.kinds.begun(state)?;
+        let number = read_expression(self.phrases, state, cursor, Level::Assignment)?;
+        let converted = self.kinds.ended(state, was, index, of, number)?;
+        Ok(one_tree(cursor.alloc(), converted)?)
+    }
+}
+
+impl<K: Asking, P: Phrases> Defaults for Values<'_, K, P> {
+    ghost fallback_by = { λ self. definition.fallback_at (asking_by K.asks K.wholes K.offers self.kinds.now self.room) (P.asks self.phrases.now) (P.inner self.phrases.now) };
+
+    ghost is_open = { λ self. K.is_ready self.kinds.now × P.is_ready self.phrases.now };
+
+    fn fallback(
+        &self,
+        state: &mut State,
+        cursor: &mut Cursor<'_>,
+        index: usize,
+        of: TypeId,
+    ) -> Result<TreeIdList, Stop> {
+        self.fallback_at(state, cursor, index, of)
     }
 }

@@ -1,35 +1,40 @@
 -- What is asked while a unit is read keeps the declarations and the calls so far, and what stops it is true.
 use Rattle.std.proofs.Common.{◌≡◌, refl, sym, ap, subst}
-use Rattle.std.specs.Prelude.{ℕ, List, [], ◌∷◌, Option, Some, None, Ok, Err, true}
+use Rattle.std.specs.Prelude.{ℕ, Bool, true, false, ◌&&◌, if◌then◌else◌, List, [], ◌∷◌, Option, Some, None, Ok, Err}
 use Rattle.cxx_model.specs.declared.fault.FaultText.TheVariants as says
 use Rattle.cxx_model.specs.declared.place.Place.{Place}
 use Rattle.cxx_model.specs.declared.stop.Fault.{Fault}
 use Rattle.cxx_model.specs.Facts.Declarations.{spelled}
-use Rattle.cxx_model.specs.Stops.{Answer, Stopped, undeclared_at}
+use Rattle.cxx_model.specs.Stops.{Answer, Stopped, fault, undeclared_at}
 use Rattle.cxx_model.specs.Text.Lexemes.{Lexeme, kind_of}
+use Rattle.cxx_model.specs.Types.Trees.{CxxType}
 use Rattle.cxx_constant.specs.Constants.{CxxValue, not_constant, overflow, divide_by_zero, constant}
 use Rattle.cxx_phrases.specs.Forms.{name_tree, call_tree}
 use Rattle.cxx_reading.specs.Declaring.{elaborated_here, elaborated_by, enumeration_in, last_part, name_in}
 use Rattle.cxx_reading.specs.Reads.{Ahead, kind_ahead, behind}
 use Rattle.cxx_reading.specs.Seen.{Numbered, found, found_types}
 use Rattle.cxx_reading.specs.Specifiers.{path_of}
-use Rattle.cxx_reading.specs.State.{CxxState}
+use Rattle.cxx_reading.specs.State.{CxxGiven, CxxState}
 use Rattle.cxx_reading.specs.Tokens.{is_name, token_in}
 use Rattle.cxx_reading.specs.Trees.{CxxTree, children_of, each_tree, in_turn, Label}
+use Rattle.cxx_tree.specs.Defaults.{first_given, within_default}
 use Rattle.cxx_tree.specs.Uses.{with_use}
 use Rattle.cxx_expr.specs.Names.{path_in, word_in}
 use Rattle.cxx_expr.specs.Elaborating.{elaborate}
 use Rattle.cxx_language.specs.Answers.{asking}
-use Rattle.cxx_answers.specs.Answers.{bound_here, call_here, constant_by, constant_here, is_held, name_here, questions, size_here}
+use Rattle.cxx_answers.specs.Answers.{bound_here, call_here, constant_by, constant_here, fallback_by, fallback_here, is_held, meant_here, name_here, names_parameter, questions, size_here}
+use Rattle.cxx_answers.specs.Defaults.{begin_default, end_default, offered_as}
 use Rattle.cxx_language.specs.Units.{answers, asked, inner_at, phrases_at}
 use Rattle.cxx_language_laws.specs.Told.{IsUnitCall, unknown_name, unknown_call, unknown_type, declared}
 use Rattle.cxx_language_laws.proofs.CallsTell.{call_asked_tells}
-use Rattle.cxx_language_laws.proofs.Later.{IsLater, later_same, later_is_kept, calmly, parameter_answer_tells, enumeration_answer_tells, enumerator_answer_tells, enumerated_tells, kind_tells, type_tells}
+use Rattle.cxx_language_laws.proofs.Later.{IsLater, by_answer, later_same, later_is_kept, later_is_quiet, calmly, turned, parameter_answer_tells, enumeration_answer_tells, enumerator_answer_tells, enumerated_tells, kind_tells, type_tells}
 use Rattle.cxx_language_laws.proofs.Lists.{listed_tells}
 use Rattle.cxx_language_laws.proofs.PhrasesTell.{PhrasesTell}
 use Rattle.cxx_language_laws.proofs.QuestionsTell.{QuestionsTell, if_by, quiet_by, same_by}
 use Rattle.cxx_language_laws.proofs.Reached.{Told, IsUndeclared, reached_here, later_is_told, later_is_told_of}
-use Rattle.cxx_language_laws.proofs.Tells.{IsTold, KindsTell, ReadersTell, ToldBy, tells_answer, tells_refusal, Answers}
+use Rattle.cxx_language_laws.proofs.Tells.{IsTold, KindsTell, Quietly, ReadersTell, ToldBy, tells_answer, tells_refusal, Answers}
+use Rattle.cxx_language_laws.proofs.TellsConversions.{convert_tells}
+use Rattle.cxx_language_laws.proofs.TellsDefaults.{OffersTell}
 use Rattle.cxx_language_laws.proofs.TellsExpressions.{plain_tells, name_tells, call_tells}
 use Rattle.cxx_language_laws.proofs.TellsKnot.{type_id_tells}
 use Rattle.cxx_language_laws.proofs.TellsNames.{AskedOf, NameTells}
@@ -94,11 +99,15 @@ kinds_tell room = record {
 
 -- ---- expressions
 
+fallback_by_tells : {told : CxxState → Ahead → Stopped → Type 0} → IsTold IsLater told → (state : CxxState) (given : Option CxxGiven) (ahead : Ahead) → ToldBy IsLater told state ahead (fallback_by state given)
+fallback_by_tells is state None ahead = quiet_by is refl
+fallback_by_tells is state (Some given) ahead = same_by is given.tree state ahead
+
 questions_tell : {told : CxxState → Ahead → Stopped → Type 0} → IsTold IsLater told → QuestionsTell IsLater told answers
-unfolding questions bound_here size_here
+unfolding questions bound_here size_here fallback_here
 questions_tell is = record {
   bound = λ place target state ahead. tells_answer (tt, with_use place target state) (later_same state (with_use place target state) refl refl refl);
-  fallback = λ function index state ahead. quiet_by is refl;
+  fallback = λ function index state ahead. fallback_by_tells is state (first_given state.graph.facts function index state.given) ahead;
   size = λ of state ahead. same_by is _ state ahead;
 }
 
@@ -108,19 +117,28 @@ NameAnswers = Answer (List Numbered × CxxState)
 abbrev AreNames : NameAnswers → NameAnswers → Type 0
 AreNames one two = one ≡ two
 
-one_is : (x y : List Numbered × CxxState) → AreNames (Ok x) (Ok y) → x ≡ y
-one_is x y e = cc
+-- what was found, where that is what is answered
+one_is : (refused : Bool) (why : Stopped) (x one : List Numbered × CxxState) → AreNames (if refused then Err why else Ok x) (Ok one) → x ≡ one
+one_is true why x one e = absurd cc
+one_is false why x one e = cc
 
 -- a name that means nothing, in the state in which it is asked
-unknown_by : (told : CxxState → Ahead → Stopped → Type 0) (ahead : Ahead) (why : Stopped) (all : List Numbered) (state : CxxState) (one : List Numbered × CxxState) → AreNames (Ok (all, state)) (Ok one) → (all ≡ [] → told state ahead why) → one.0 ≡ [] → told one.1 ahead why
-unknown_by told ahead why all state one e tells = subst (λ (x : List Numbered × CxxState). x.0 ≡ [] → told x.1 ahead why) (one_is (all, state) one e) tells
+unknown_by : (told : CxxState → Ahead → Stopped → Type 0) (ahead : Ahead) (why : Stopped) (all : List Numbered) (state : CxxState) (one : List Numbered × CxxState) → (all, state) ≡ one → (all ≡ [] → told state ahead why) → one.0 ≡ [] → told one.1 ahead why
+unknown_by told ahead why all state one is tells = subst (λ (x : List Numbered × CxxState). x.0 ≡ [] → told x.1 ahead why) is tells
+
+-- 8.3.6: in a default argument a name of a parameter is refused
+abbrev is_refused_here : Label → CxxState → Bool
+is_refused_here label state = state.in_default && names_parameter state.graph (meant_here (path_in label) state)
+
+abbrev refusal_of : Label → Stopped
+refusal_of label = fault (last_part (path_in label).parts).place says.OperandsDoNotFit
 
 name_answers : {told : CxxState → Ahead → Stopped → Type 0} → IsTold IsLater told → (label : Label) (state : CxxState) (ahead : Ahead) → (found state.graph state.here.scope (name_in (path_in label)) ≡ [] → told state ahead (undeclared_at (word_in label).place (word_in label).word))
     → NameTells IsLater told answers label state ahead
 unfolding questions name_here
 name_answers {told = told} is label state ahead unknown = record {
-  answers = same_by is _ state ahead;
-  unknown = λ one e. unknown_by told ahead (undeclared_at (word_in label).place (word_in label).word) (found state.graph state.here.scope (name_in (path_in label))) state one e unknown;
+  answers = if_by (is_refused_here label state) (quiet_by is refl) (same_by is _ state ahead);
+  unknown = λ one e. let found_one = one_is (is_refused_here label state) (refusal_of label) (meant_here (path_in label) state, state) one e in unknown_by told ahead (undeclared_at (word_in label).place (word_in label).word) (meant_here (path_in label) state) state one found_one unknown;
 }
 
 -- ---- a name that is ahead
@@ -155,12 +173,19 @@ call_unknown state ahead room call unknown =
       bare = refl;
     })
 
-asked_by : (state : CxxState) (ahead rest : Ahead) (room : ℕ) (call : IsUnitCall room state ahead) (spelling : List ℕ) (from : Ahead) (one : List Numbered × CxxState) → AreNames (Ok (declared call, call.at)) (Ok one)
+-- where the question of its name is answered
+abbrev AreDeclared : {room : ℕ} {state : CxxState} {ahead : Ahead} → IsUnitCall room state ahead → Label → List Numbered × CxxState → Type 0
+AreDeclared call label one = AreNames (if is_refused_here label call.at then Err (refusal_of label) else Ok (declared call, call.at)) (Ok one)
+
+asked_by : (state : CxxState) (ahead rest : Ahead) (room : ℕ) (call : IsUnitCall room state ahead) (spelling : List ℕ) (from : Ahead) (one : List Numbered × CxxState) → AreDeclared call (call_tree spelling call.name call.arguments from call.rest).label one
     → AskedOf IsLater (λ t ahead' why. Told state ahead why) answers (call_tree spelling call.name call.arguments from call.rest) call.arguments one.0 one.1 rest
 unfolding questions call_here
-asked_by state ahead rest room call spelling from one e = subst (λ (x : List Numbered × CxxState). AskedOf IsLater (λ t ahead' why. Told state ahead why) answers (call_tree spelling call.name call.arguments from call.rest) call.arguments x.0 x.1 rest) (one_is (declared call, call.at) one e) (call_asked_tells state ahead rest room call)
+asked_by state ahead rest room call spelling from one e =
+    let label = (call_tree spelling call.name call.arguments from call.rest).label in
+    let found_one = one_is (is_refused_here label call.at) (refusal_of label) (declared call, call.at) one e in
+    subst (λ (x : List Numbered × CxxState). AskedOf IsLater (λ t ahead' why. Told state ahead why) answers (call_tree spelling call.name call.arguments from call.rest) call.arguments x.0 x.1 rest) found_one (call_asked_tells state ahead rest room call)
 
-asked_of : (state : CxxState) (ahead rest : Ahead) (room : ℕ) (call : IsUnitCall room state ahead) (spelling : List ℕ) (from : Ahead) (one : List Numbered × CxxState) → AreNames (Ok (declared call, call.at)) (Ok one)
+asked_of : (state : CxxState) (ahead rest : Ahead) (room : ℕ) (call : IsUnitCall room state ahead) (spelling : List ℕ) (from : Ahead) (one : List Numbered × CxxState) → AreDeclared call (call_tree spelling call.name call.arguments from call.rest).label one
     → AskedOf IsLater (λ t ahead' why. Told state ahead why) answers (call_tree spelling call.name call.arguments from call.rest) (children_of (call_tree spelling call.name call.arguments from call.rest)) one.0 one.1 rest
 asked_of state ahead rest room call spelling from one e =
     subst (λ (trees : List CxxTree). AskedOf IsLater (λ t ahead' why. Told state ahead why) answers (call_tree spelling call.name call.arguments from call.rest) trees one.0 one.1 rest) (sym (trees_same call.arguments)) (asked_by state ahead rest room call spelling from one e)
@@ -177,6 +202,23 @@ call_ahead_tells room state ahead call later spelling from =
     asked_later state ahead ahead call.at later (call_tells is (questions_tell is) spelling call.name call.arguments from call.rest call.at ahead
     (name_answers is (call_tree spelling call.name call.arguments from call.rest).label call.at ahead (call_unknown state ahead room call))
     (asked_of state ahead ahead room call spelling from))
+
+-- ---- default arguments (8.3.6)
+
+begin_tells : Answers IsLater Told begin_default
+unfolding begin_default
+begin_tells state ahead = tells_answer (state.in_default, within_default true state) (later_same state (within_default true state) refl refl refl)
+
+end_tells : (was : Bool) (index : ℕ) (of : CxxType) (tree : CxxTree) → Answers IsLater Quietly (end_default was index of tree)
+unfolding end_default
+end_tells was index of tree state ahead = by_answer state ahead _ (convert_tells later_is_quiet answers tree.label.start of tree state ahead) (λ answer later. tells_answer (offered_as was index answer) (turned state answer.1 (offered_as was index answer).1 later refl refl refl))
+
+pub offers_tell : (room : ℕ) → OffersTell IsLater Told (asked room).defaults
+unfolding asking
+offers_tell room = record {
+  begun = begin_tells;
+  ended = λ was index of tree. calmly later_is_told (end_tells was index of tree);
+}
 
 -- ---- what readers of expressions ask
 

@@ -4,14 +4,15 @@ use Rattle.std.specs.Prelude.{ℕ, zero, suc, true}
 use Rattle.cxx_phrases.specs.declared.shape.TypeShape.TheVariants as shape
 use Rattle.cxx_knot.specs.Readers.{both}
 use Rattle.cxx_language.specs.Units.{asked, inner_at, phrases_at}
-use Rattle.cxx_language_laws.proofs.Asked.{kinds_tell, phrases_tell}
+use Rattle.cxx_language_laws.proofs.Asked.{kinds_tell, offers_tell, phrases_tell}
 use Rattle.cxx_language_laws.proofs.Later.{IsLater}
 use Rattle.cxx_language_laws.proofs.PhrasesTell.{InnerTell}
 use Rattle.cxx_language_laws.proofs.Reached.{Told, later_is_told}
 use Rattle.cxx_language_laws.proofs.Tells.{ReadersTell, quiet_in, same_in}
+use Rattle.cxx_language_laws.proofs.TellsDefaults.{fallback_at_tells}
 use Rattle.cxx_language_laws.proofs.TellsKnot.{inner_tells}
 use Rattle.cxx_language_laws.proofs.TellsShapes.{parameters_shape_tells}
-use Rattle.cxx_language_laws.proofs.TellsSyntax.{pointed_tells, referred_tells, grouped_tells, no_fallback_tells, parameters_tell}
+use Rattle.cxx_language_laws.proofs.TellsSyntax.{pointed_tells, referred_tells, grouped_tells, parameters_tell}
 use Rattle.cxx_language_laws.proofs.TellsValues.{bound_tells, enumerators_tell}
 
 pub record BothTell (room : ℕ) : Type 0 where
@@ -47,7 +48,7 @@ both_tell (suc room) =
         referred = referred_tells later_is_told kinds inside.types;
         grouped = grouped_tells later_is_told kinds inside.types;
         bound = bound_tells later_is_told (asked room) kinds at inside.phrases;
-        parameters = parameters_tell later_is_told kinds (no_fallback_tells later_is_told) inside.types;
+        parameters = parameters_tell later_is_told kinds (fallback_at_tells later_is_told (asked room) (offers_tell room) at inside.phrases) inside.types;
         enumerators = enumerators_tell later_is_told (asked room) kinds at inside.phrases;
         holds_parameters = parameters_shape_tells later_is_told kinds inside.types;
       };

@@ -5,6 +5,7 @@ use Rattle.std.specs.List.{AllByRecursion}
 use Rattle.std.proofs.lemmas.List.{append-nil, append_assoc}
 use Rattle.cxx_model.specs.declared.place.Place.{Place}
 use Rattle.cxx_model.specs.declared.stop.LimitKind.TheVariants.{Facts}
+use Rattle.cxx_model.specs.declared.types.FactId.{FactId}
 use Rattle.cxx_model.specs.Facts.Declarations.{CxxFact, CxxGraph, spelled}
 use Rattle.cxx_model.specs.Facts.Declarations as facts
 use Rattle.cxx_model.specs.Stops.{Answer, Stopped, Limited, ◌>>=◌}
@@ -12,11 +13,13 @@ use Rattle.cxx_model.specs.Text.Lexemes.{Lexeme}
 use Rattle.cxx_model.specs.Types.Integral.{one_holds}
 use Rattle.cxx_model.specs.Types.Trees.{CxxType}
 use Rattle.cxx_meaning.specs.Conversions.Enumerations.{values_in}
-use Rattle.cxx_reading.specs.Declaring.{with_fact, added, free, free_by, declare, declare_synonym, declare_function, declare_object, define_object, define_declared, undefined, undefined_by, defined_as, with_definition, declare_parameter, declare_enumeration, begun_as, declare_enumerator, declare_value, held, end_enumeration, kind_here, type_here, most_facts, fact_here, object_here, enumeration_count}
+use Rattle.cxx_reading.specs.Declaring.{with_fact, added, free, free_by, declare, declare_synonym, declared_here, first_function, declare_object, define_object, define_declared, undefined, undefined_by, defined_as, with_definition, declare_parameter, declare_enumeration, begun_as, declare_enumerator, declare_value, held, end_enumeration, kind_here, type_here, most_facts, fact_here, object_here, enumeration_count}
 use Rattle.cxx_reading.specs.Reads.{Ahead, Asks}
-use Rattle.cxx_reading.specs.State.{CxxState, CxxCall}
+use Rattle.cxx_reading.specs.State.{CxxState, CxxCall, CxxGiven, CxxOffered}
 use Rattle.cxx_reading.specs.Trees.{CxxPath}
 use Rattle.cxx_reading.proofs.Keeps.{IsKept}
+use Rattle.cxx_tree.specs.Defaults.{with_given, without_offers}
+use Rattle.cxx_declare.specs.Functions.{declare_function, declare_with, function_by, given_as, given_before, not_given, not_given_by, offered_by, with_all_given}
 use Rattle.cxx_language_laws.specs.Best.{IsBestCall, AreBestCalls}
 use Rattle.cxx_language_laws.specs.Told.{IsGrown}
 use Rattle.cxx_language_laws.proofs.Scopes.{InScopes, scopes_same, scopes_added}
@@ -97,6 +100,10 @@ by_then : {A B : Type 0} (state : CxxState) (ahead : Ahead) {first : Answer A} (
 by_then state ahead go (quiet_answer one) tells = tells one
 by_then state ahead go (quiet_refusal why quiet) tells = quietly state ahead why quiet
 
+quiet_then : {A B : Type 0} {first : Answer A} (go : A → Answer B) → QuietBy first → ((x : A) → QuietBy (go x)) → QuietBy (first >>= go)
+quiet_then go (quiet_answer one) more = more one
+quiet_then go (quiet_refusal why quiet) more = quiet_refusal why quiet
+
 pub by_answer : {A B : Type 0} (state : CxxState) (ahead : Ahead) {first : Answer (A × CxxState)} (go : A × CxxState → Answer (B × CxxState)) → ToldBy IsLater Quietly state ahead first → ((x : A × CxxState) → IsLater state x.1 → ToldBy IsLater Quietly state ahead (go x)) → ToldBy IsLater Quietly state ahead (first >>= go)
 by_answer state ahead go (tells_answer one keeps) tells = tells one keeps
 by_answer state ahead go (tells_refusal why true_of) tells = tells_refusal why true_of
@@ -138,16 +145,12 @@ pub synonym_tells : (name : Lexeme) (of : CxxType) → Answers IsLater Quietly (
 unfolding declare_synonym
 synonym_tells name of state ahead = declare_tells _ _ state ahead refl
 
-pub function_answer_tells : (name : Lexeme) (of : CxxType) → Answers IsLater Quietly (declare_function name of)
-unfolding declare_function
-function_answer_tells name of state ahead = declare_tells _ _ state ahead refl
-
 pub object_tells : (name : Lexeme) (of : CxxType) → Answers IsLater Quietly (declare_object name of)
 unfolding declare_object
 object_tells name of state ahead = declare_tells _ _ state ahead refl
 
 -- what else an answer changes
-turned : (state old new : CxxState) → IsLater state old → new.graph ≡ old.graph → new.here.scope ≡ old.here.scope → new.calls ≡ old.calls → IsLater state new
+pub turned : (state old new : CxxState) → IsLater state old → new.graph ≡ old.graph → new.here.scope ≡ old.here.scope → new.calls ≡ old.calls → IsLater state new
 turned state old new later same here calls = later_is_kept.later state old new later (later_same old new same here calls)
 
 pub define_tells : (name : Lexeme) (of : CxxType) → Answers IsLater Quietly (define_object name of)
@@ -159,6 +162,32 @@ define_tells name of state ahead =
 pub define_later_tells : (name : Lexeme) (number : ℕ) → Answers IsLater Quietly (define_declared name number)
 unfolding define_declared
 define_later_tells name number state ahead = by_then state ahead _ (undefined_quiet state name.place name.spelling number _) (λ is_first. tells_answer (tt, with_definition number state) (later_same state (with_definition number state) refl refl refl))
+
+-- ---- functions (8.3.5, 8.3.6)
+
+not_given_by_quiet : (state : CxxState) (place : Place) (word : List ℕ) (given : Option CxxGiven) → QuietBy (not_given_by state place word given)
+not_given_by_quiet state place word None = quiet_answer tt
+not_given_by_quiet state place word (Some given) = quiet_refusal _ refl
+
+not_given_quiet : (state : CxxState) (place : Place) (word : List ℕ) (first : Option FactId) (offers : List CxxOffered) → QuietBy (not_given state place word first offers)
+not_given_quiet state place word first [] = quiet_answer tt
+not_given_quiet state place word first (one ∷ others) = quiet_then _ (not_given_by_quiet state place word (given_before state first one.index)) (λ is_fresh. not_given_quiet state place word first others)
+
+all_given : (number : ℕ) (offers : List CxxOffered) (old state : CxxState) → IsLater old state → IsLater old (with_all_given number offers state)
+all_given number [] old state later = later
+all_given number (one ∷ others) old state later = all_given number others old (with_given number one.index one.tree state) (turned old state (with_given number one.index one.tree state) later refl refl refl)
+
+given_later : (state : CxxState) (offers : List CxxOffered) (answer : ℕ × CxxState) → IsLater state answer.1 → IsLater state (given_as offers answer).1
+given_later state offers answer later = turned state (with_all_given answer.0 offers answer.1) (without_offers (with_all_given answer.0 offers answer.1)) (all_given answer.0 offers state answer.1 later) refl refl refl
+
+declare_with_tells : (name : Lexeme) (of : CxxType) (first : Option FactId) (offers : List CxxOffered) → Answers IsLater Quietly (declare_with name of first offers)
+declare_with_tells name of first offers state ahead =
+    let fact = function_by state name of first offers in
+    by_then state ahead _ (free_quiet state fact name.spelling) (λ is_free. by_then state ahead _ (not_given_quiet state name.place name.spelling first offers) (λ is_fresh. by_answer state ahead _ (added_tells fact state ahead refl) (λ answer later. tells_answer (given_as offers answer) (given_later state offers answer later))))
+
+pub function_answer_tells : (list : Option ℕ) (name : Lexeme) (of : CxxType) → Answers IsLater Quietly (declare_function list name of)
+unfolding declare_function
+function_answer_tells list name of state ahead = declare_with_tells name of (first_function of (declared_here state (spelled name.spelling))) (offered_by list state.offered) state ahead
 
 pub parameter_answer_tells : (name : Option Lexeme) (place : Place) (of : CxxType) → Answers IsLater Quietly (declare_parameter name place of)
 unfolding declare_parameter

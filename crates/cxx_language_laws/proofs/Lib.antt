@@ -20,6 +20,7 @@ pub mod Reached
 pub mod Lists
 pub mod CallsTell
 pub mod TellsValues
+pub mod TellsDefaults
 pub mod Asked
 pub mod Both
 pub mod Declared
