@@ -2,6 +2,7 @@
 -- (7.2) are expressions, and casts and sizes (5.3.3, 5.4) have types.
 use Rattle.std.specs.Prelude.{ℕ, zero, suc, ℤ, Bool, if◌then◌else◌, List, [], ◌∷◌, ◌++◌, Option, Some, None}
 use Rattle.cxx_model.specs.declared.punct.TheConstants as punct
+use Rattle.cxx_model.specs.declared.place.Place.{Place}
 use Rattle.cxx_model.specs.Text.Lexemes.{Lexeme}
 use Rattle.cxx_model.specs.Types.Trees.{CxxType}
 use Rattle.cxx_reading.specs.Kinds.{Fallback, Kinds, Readers}
@@ -17,10 +18,10 @@ use Rattle.cxx_phrases.specs.Phrases.{Phrases, Inner}
 use Rattle.cxx_phrases.specs.Phrases as expressions
 
 -- What is asked of a default argument (8.3.6): where it begins, whether another one is being read round it; and behind it,
--- with that, the index of its parameter and the type, its tree as it is converted.
+-- with the place of its `=`, that answer, the index of its parameter and the type, its tree as it is converted.
 pub record Offering (S : Type 0) : Type 0 where
   pub begun : Asks S Bool
-  pub ended : Bool → ℕ → CxxType → CxxTree → Asks S CxxTree
+  pub ended : Place → Bool → ℕ → CxxType → CxxTree → Asks S CxxTree
 
 -- What is asked while a unit is read: of names and declarations, what an expression means, and of default arguments.
 pub record Asking (S : Type 0) : Type 0 where
@@ -96,7 +97,7 @@ fallback_at asks at inner index of = do
   equals ← taken
   was ← ask asks.defaults.begun
   tree ← assignment_at at inner
-  converted ← ask (asks.defaults.ended was index of tree)
+  converted ← ask (asks.defaults.ended equals was index of tree)
   give (converted ∷ [])
 
 -- ---- readers inside readers

@@ -7,7 +7,7 @@ ghost use Rattle.cxx_syntax.specs.Asking.{AnyKnown, IsAsked, IsTreeKnown, itself
 ghost use Rattle.cxx_tree.specs.Arena.{AreTreesBelow, IsNodeBelow, tree_over};
 ghost use Rattle.cxx_tree.specs.Held.{meaning, tree, trees, type_of};
 
-use cxx_model::{Node, Stop, TreeId, TypeId};
+use cxx_model::{Node, Place, Stop, TreeId, TypeId};
 use cxx_syntax::Kinds;
 use cxx_tree::State;
 
@@ -30,11 +30,12 @@ pub trait Asking: Kinds {
         requires { Self.is_ready self.now }
         ensures { IsAsked itself AnyKnown state.old state.new result ((offers self.now).begun (meaning state.old)) };
 
-    /// A default argument of the parameter with an index and a type was read, and is added as it is converted; `was` is what
-    /// `begun` answered.
+    /// A default argument of the parameter with an index and a type was read, and is added as it is converted at its `=`;
+    /// `was` is what `begun` answered.
     fn ended(
         &self,
         state: &mut State,
+        equals: Place,
         was: bool,
         index: usize,
         of: TypeId,
@@ -43,5 +44,5 @@ pub trait Asking: Kinds {
         requires ready { Self.is_ready self.now }
         requires of { of.0 < length (state.old).types }
         requires number { number.0 < length (trees state.old) }
-        ensures { IsAsked tree IsTreeKnown state.old state.new result ((offers self.now).ended was index (type_of state.old of) (tree state.old number) (meaning state.old)) };
+        ensures { IsAsked tree IsTreeKnown state.old state.new result ((offers self.now).ended equals was index (type_of state.old of) (tree state.old number) (meaning state.old)) };
 }

@@ -226,10 +226,11 @@ impl<K: Asking, P: Phrases> Values<'_, K, P> {
         requires known { of.0 < length (state.old).types }
         ensures { IsRead trees_held AreTreesHeld state.old state.new cursor.new result (definition.fallback_at (asking_by K.asks K.wholes K.offers self.now.kinds.now self.now.room) (P.asks self.now.phrases.now) (P.inner self.now.phrases.now) index (type_of state.old of) (meaning state.old) cursor.old) }
     {
+        let equals = cursor.place();
         cursor.advance();
         let was = self.kinds.begun(state)?;
         let number = read_expression(self.phrases, state, cursor, Level::Assignment)?;
-        let converted = self.kinds.ended(state, was, index, of, number)?;
+        let converted = self.kinds.ended(state, equals, was, index, of, number)?;
         Ok(one_tree(cursor.alloc(), converted)?)
     }
 }

@@ -209,15 +209,15 @@ begin_tells : Answers IsLater Told begin_default
 unfolding begin_default
 begin_tells state ahead = tells_answer (state.in_default, within_default true state) (later_same state (within_default true state) refl refl refl)
 
-end_tells : (was : Bool) (index : ℕ) (of : CxxType) (tree : CxxTree) → Answers IsLater Quietly (end_default was index of tree)
+end_tells : (equals : Place) (was : Bool) (index : ℕ) (of : CxxType) (tree : CxxTree) → Answers IsLater Quietly (end_default equals was index of tree)
 unfolding end_default
-end_tells was index of tree state ahead = by_answer state ahead _ (convert_tells later_is_quiet answers tree.label.start of tree state ahead) (λ answer later. tells_answer (offered_as was index answer) (turned state answer.1 (offered_as was index answer).1 later refl refl refl))
+end_tells equals was index of tree state ahead = by_answer state ahead _ (convert_tells later_is_quiet answers equals of tree state ahead) (λ answer later. tells_answer (offered_as was index answer) (turned state answer.1 (offered_as was index answer).1 later refl refl refl))
 
 pub offers_tell : (room : ℕ) → OffersTell IsLater Told (asked room).defaults
 unfolding asking
 offers_tell room = record {
   begun = begin_tells;
-  ended = λ was index of tree. calmly later_is_told (end_tells was index of tree);
+  ended = λ equals was index of tree. calmly later_is_told (end_tells equals was index of tree);
 }
 
 -- ---- what readers of expressions ask
