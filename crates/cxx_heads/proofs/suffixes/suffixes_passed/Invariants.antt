@@ -1,0 +1,11 @@
+use Rattle.std.specs.Prelude.{◌-◌}
+use Rattle.cxx_heads.specs.Heads.{suffixes_passed, suffix_step, give_unclosed}
+use Rattle.cxx_reading.specs.Reads.{repeat}
+use Rattle.cxx_syntax.specs.Looping.{IsTurning}
+use Rattle.cxx_tree.specs.Held.{meaning}
+use Rattle.cxx_heads.proofs.suffixes.suffixes_passed.Given as goal
+
+abbrev pub invariant-loop-turn : goal.invariant-loop-turn
+invariant-loop-turn g l =
+    let inner = g.N.Nested.inner l.fn.reader.nested.now in
+    IsTurning (repeat (suffix_step inner) give_unclosed (l._turn-end - l._turn) l.shape (meaning l.state) l.cursor) (suffixes_passed inner l.fn.shape (meaning l.fn.state) l.fn.cursor) (Unit {0}) l.fn.state l.state
