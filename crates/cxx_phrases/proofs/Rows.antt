@@ -20,6 +20,7 @@ use Rattle.cxx_phrases.specs.declared.level.Level.{Level}
 use Rattle.cxx_phrases.specs.declared.level.Level.TheVariants as level
 use Rattle.cxx_phrases.specs.Initializers.{Initializer, expression_at}
 use Rattle.cxx_phrases.specs.Knot.{phrases}
+use Rattle.cxx_strings.specs.SideBySide.{side_by_side, strings_from}
 use Rattle.cxx_reading.specs.Kinds.{Kinds}
 use Rattle.cxx_reading.specs.Reads.{Ahead, Got, place_ahead}
 use Rattle.cxx_reading.specs.Trees.{CxxPath, CxxPathPart, CxxTree, CxxTrees, no_trees, tree_then, Label}
@@ -273,8 +274,12 @@ unfolding row expression_row
 row_19 = refl
 
 row_20 : row level.Whole 9 (codes "\"ab\"") ≡ Read (codes " \"ab\"") 5
-unfolding row expression_row
+unfolding row expression_row side_by_side strings_from
 row_20 = refl
+
+row_20_beside : row level.Whole 9 (codes "\"a\"  \"b\"") ≡ Read (codes " \"a\" \"b\"") 9
+unfolding row expression_row side_by_side strings_from
+row_20_beside = refl
 
 row_21 : row level.Whole 9 (codes "(a)") ≡ Read (codes " ()[ a]") 4
 unfolding row expression_row
