@@ -1,5 +1,5 @@
 -- The declarations that the index of names finds are those that a name means.
-use Rattle.std.specs.Prelude.{◌≡◌, ◌<◌, ◌≤◌, suc, List, [], ◌∷◌, length, Option, Some, None, refl}
+use Rattle.std.specs.Prelude.{◌≡◌, ◌<◌, ◌≤◌, suc, Bool, true, false, ◌||◌, List, [], ◌∷◌, length, Option, Some, None, refl}
 use Rattle.std.proofs.Common.{ap, sym, subst, ◌∙◌, arith}
 use Rattle.std.proofs.lemmas.List.{length-map}
 use Rattle.std.proofs.lemmas.Option.{slice_get_within}
@@ -16,6 +16,7 @@ use Rattle.cxx_names.specs.Looked.{looked_up, seen_by}
 use Rattle.cxx_overload.proofs.Gathering.{fact_seen}
 use Rattle.cxx_reading.specs.Seen.{Numbered, found}
 use Rattle.cxx_tree.specs.Held.{Held, meaning}
+use Rattle.cxx_answers.specs.Answers.{is_parameter, names_parameter}
 use Rattle.cxx_expr.specs.Views.{AreFactsBelow, AreFactsKnown, numbered, numbered_in, with_fact}
 
 seen_same : (types : List CxxType) (n : FactId) (others : List Numbered) (o : Option Fact) → with_fact n.0 (option_map (fact_at types) o) others ≡ seen_by types n others o
@@ -65,3 +66,23 @@ all_found held seen said word numbers same is counted =
     subst (λ (g : Graph). length (numbered_in (graph_at held.types g) numbers) ≡ length numbers) same
     (ap length (looked_same held.types seen numbers ∙ is) ∙ (let all : List Numbered = found (graph_at held.types seen) said.0 word in sym (ap length counted ∙ length-map all number_of))) in
     subst (λ n. AreFactsBelow n numbers) (facts_counted held.types held.graph.facts) (all_below (graph_at held.types held.graph) numbers many)
+
+-- ---- parameters of functions
+
+pub parameter_more : (graph : CxxGraph) (types : List CxxType) (facts : List Fact) (number : FactId) (numbers : List FactId)
+    → names_parameter graph (looked_up types facts (number ∷ numbers)) ≡ (names_parameter graph (looked_up types facts (number ∷ [])) || names_parameter graph (looked_up types facts numbers))
+parameter_more graph types facts number numbers = by (slice_get facts number.0)
+  where
+    or_again : (a b : Bool) → (a || b) ≡ ((a || false) || b)
+    or_again true b = refl
+    or_again false b = refl
+
+    by : (o : Option Fact) → names_parameter graph (seen_by types number (looked_up types facts numbers) o) ≡ (names_parameter graph (seen_by types number [] o) || names_parameter graph (looked_up types facts numbers))
+    by None = refl
+    by (Some fact) = or_again (is_parameter graph (record { number = number.0; fact = fact_at types fact })) (names_parameter graph (looked_up types facts numbers))
+
+pub parameter_meant : (held : Held) (seen : Graph) (numbers : List FactId) (answer : Bool) → seen ≡ held.graph → ((types : List CxxType) → answer ≡ names_parameter (graph_at types seen) (looked_up types seen.facts numbers)) → answer ≡ names_parameter (meaning held).graph (numbered held numbers)
+unfolding meaning
+parameter_meant held seen numbers answer same is =
+    subst (λ (g : Graph). answer ≡ names_parameter (graph_at held.types g) (numbered_in (graph_at held.types g) numbers)) same
+    (is held.types ∙ ap (names_parameter (graph_at held.types seen)) (sym (looked_same held.types seen numbers)))

@@ -1,41 +1,28 @@
 //! Who answers what is asked of expressions by the declarations so far.
 
-ghost use Rattle.std.specs.Prelude.{◌≡◌, IfOk};
-ghost use Rattle.cxx_model.specs.Stops.{Faulty, not_built_at as not_built};
-ghost use Rattle.cxx_model.specs.Text.Lexemes.{nowhere};
-
 use crate::calls::call_here;
 use crate::constants::is_null_here;
+use crate::defaults::fallback_here;
 use crate::making::{built_in_here, cast_here, conditional_here};
 use crate::measured::type_of_operand;
 use crate::names::{bound_here, name_here};
 use crate::sizes::size_here;
 use cxx_builtin::{BuiltIn, ResultFault};
 use cxx_casts::CastSteps;
-use cxx_expr::faults::not_built_at;
 use cxx_expr::{Chosen, Questions};
 use cxx_meaning::SizeReason;
 use cxx_model::{
-    FactId, FactList, Fault, Operand, OperandList, OutOfMemory, Path, Place, Stop, TreeId, TypeId,
-    Wait,
+    FactId, FactList, Operand, OperandList, OutOfMemory, Path, Place, Stop, TreeId, TypeId, Wait,
 };
 use cxx_tree::State;
-use std::alloc::{AllocError, Global};
 
 /// What is asked of expressions is answered by the declarations so far.
 pub struct Answering;
 
-// No default arguments are read yet.
-fn no_fallback(alloc: Global) -> Result<Box<Fault>, AllocError>
-    ensures { IfOk result (λ at. Faulty at.value ≡ not_built nowhere) }
-{
-    not_built_at(alloc, Place { line: 0, column: 0 })
-}
-
 impl Questions for Answering {
-    ghost use Rattle.cxx_answers.specs.Answers.{no_fallback, questions};
+    ghost use Rattle.cxx_answers.specs.Answers.{questions};
 
-    ghost asks = { λ self. questions no_fallback };
+    ghost asks = { λ self. questions };
 
     ghost is_ready = { λ self. Unit {0} };
 
@@ -70,11 +57,9 @@ impl Questions for Answering {
         )
     }
 
-    #[tactic(auto, using(cxx_expr::proofs::Kept::later_refl), unfolding(crate::specs::Answers::questions))]
+    #[tactic(auto, unfolding(crate::specs::Answers::questions))]
     fn fallback(&self, state: &mut State, target: FactId, index: usize) -> Result<TreeId, Stop> {
-        let _ = target;
-        let _ = index;
-        Err(Stop::Fault(no_fallback(state.alloc())?))
+        fallback_here(state, target, index)
     }
 
     #[tactic(auto, unfolding(crate::specs::Answers::questions))]

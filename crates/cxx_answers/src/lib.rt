@@ -4,6 +4,7 @@
 mod answering;
 mod calls;
 mod constants;
+mod defaults;
 mod making;
 mod measured;
 mod names;
@@ -14,5 +15,6 @@ pub mod typed;
 pub use answering::Answering;
 pub use calls::call_here;
 pub use constants::{constant_here, is_null_here, value_here};
+pub use defaults::{begin_default, end_default};
 pub use names::{bound_here, name_here};
 pub use sizes::size_here;

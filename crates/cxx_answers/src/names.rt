@@ -1,16 +1,23 @@
 //! What a name means (3.4.1).
 
-ghost use Rattle.std.specs.Prelude.{◌≡◌, IfOk};
+ghost use Rattle.std.specs.Prelude.{◌≡◌, ◌&&◌, List, [], ◌∷◌, IfOk};
 ghost use Rattle.cxx_answers.specs.Answers as definition;
 ghost use Rattle.cxx_expr.specs.Views.{AreFactsKnown, numbered};
-ghost use Rattle.cxx_model.specs.Facts.Declarations.{spelled};
-ghost use Rattle.cxx_reading.specs.Declaring.{last_part, name_in};
+ghost use Rattle.cxx_model.specs.Facts.Declarations.{declares_at, graph_at, spelled};
+ghost use Rattle.cxx_model.specs.Types.Trees.{CxxType};
+ghost use Rattle.cxx_names.specs.Index.{Notes};
+ghost use Rattle.cxx_names.specs.Looked.{looked_up};
+ghost use Rattle.cxx_reading.specs.Declaring.{is_object as is_an_object, last_part, name_in};
 ghost use Rattle.cxx_reading.specs.Seen.{found as found_by};
 ghost use Rattle.cxx_tree.specs.Answered.{AnyKnown, IsAnswered, itself};
 ghost use Rattle.cxx_tree.specs.Arena.{path_at, path_parts_at};
 ghost use Rattle.cxx_tree.specs.Held.{meaning};
 
-use cxx_model::{FactId, FactList, Path, PathPart, Place, Stop};
+use crate::typed::fact_of;
+use cxx_expr::faults::fault;
+use cxx_graph::Graph;
+use cxx_model::{Entity, FactId, FactList, FaultText, Path, PathPart, Place, Stop};
+use cxx_names::Names;
 use cxx_tree::State;
 use std::alloc::{AllocError, Global};
 
@@ -24,6 +31,18 @@ fn last_word(parts: &[PathPart]) -> &[u8]
         return &[];
     }
     parts[count - 1].word.as_slice()
+}
+
+// Where it stands.
+#[tactic(auto, using(crate::proofs::Path::last_place, crate::proofs::Path::no_place))]
+fn last_place(parts: &[PathPart]) -> Place
+    ensures { result ≡ (last_part (path_parts_at parts.now)).place }
+{
+    let count = parts.len();
+    if count == 0 {
+        return Place { line: 0, column: 0 };
+    }
+    parts[count - 1].place
 }
 
 // The declarations of a name, by the index of names.
@@ -42,12 +61,65 @@ fn found(alloc: Global, state: &State, path: &Path) -> Result<FactList, AllocErr
     FactList::from_slice(alloc, declarations(state, word))
 }
 
-/// All declarations that a name means where the reader stands (3.4.1).
+fn is_object(what: Entity) -> bool
+    ensures { (types : List CxxType) → result ≡ is_an_object (declares_at types what) }
+{
+    match what {
+        Entity::Object { .. } => true,
+        _ => false,
+    }
+}
+
+// Whether a declaration is that of a parameter of a function (8.3.5).
+fn is_parameter(graph: &Graph, names: &Names, number: FactId) -> bool
+    requires { Notes names.now graph.now.facts }
+    ensures { (types : List CxxType) → result ≡ definition.names_parameter (graph_at types graph.now) (looked_up types graph.now.facts (number ∷ [])) }
+{
+    match fact_of(graph, number) {
+        Some(fact) => is_object(fact.what) && names.is_parameters(graph, fact.scope),
+        None => false,
+    }
+}
+
+// Whether one of some declarations is that of a parameter of a function.
+fn names_parameter(graph: &Graph, names: &Names, numbers: &[FactId]) -> bool
+    requires { Notes names.now graph.now.facts }
+    ensures { (types : List CxxType) → result ≡ definition.names_parameter (graph_at types graph.now) (looked_up types graph.now.facts numbers.now) }
+{
+    for number in numbers {
+        if is_parameter(graph, names, *number) {
+            return true;
+        }
+    }
+    false
+}
+
+// The same of the state.
+fn means_parameter(state: &State, numbers: &[FactId]) -> bool
+    ensures { result ≡ definition.names_parameter (meaning state.now).graph (numbered state.now numbers.now) }
+{
+    names_parameter(state.graph(), state.names(), numbers)
+}
+
+// A default argument means no parameter (8.3.6).
+#[tactic(auto, unfolding(cxx_tree::specs::Held::meaning))]
+fn is_refused(state: &State, numbers: &[FactId]) -> bool
+    ensures { result ≡ (meaning state.now).in_default && definition.names_parameter (meaning state.now).graph (numbered state.now numbers.now) }
+{
+    state.in_default() && means_parameter(state, numbers)
+}
+
+/// All declarations that a name means where the reader stands (3.4.1). It stops at a parameter in a default argument (8.3.6).
 #[tactic(auto, using(cxx_expr::proofs::Kept::later_refl), unfolding(crate::specs::Answers::name_here))]
 pub fn name_here(alloc: Global, state: &mut State, path: &Path) -> Result<FactList, Stop>
     ensures { IsAnswered numbered AreFactsKnown state.old state.new result (definition.name_here (path_at path.now) (meaning state.old)) }
 {
-    Ok(found(alloc, state, path)?)
+    let all = found(alloc, state, path)?;
+    if is_refused(state, all.as_slice()) {
+        let place = last_place(path.parts.as_slice());
+        return Err(Stop::Fault(fault(alloc, place, FaultText::OperandsDoNotFit)?));
+    }
+    Ok(all)
 }
 
 /// A name, by its place, means the entity with this first declaration, which is kept (3.4).

@@ -1,0 +1,93 @@
+//! Default arguments: those that declarations gave, and how they begin and end (8.3.6).
+
+ghost use Rattle.std.specs.Prelude.{Ok, ◌≡◌, ◌<◌, length, IfOk};
+ghost use Rattle.cxx_answers.specs.Answers as definition;
+ghost use Rattle.cxx_answers.specs.Defaults as defaults;
+ghost use Rattle.cxx_expr.specs.Making.{IsTreeKnown};
+ghost use Rattle.cxx_model.specs.Stops.{Faulty, not_built_at as not_built};
+ghost use Rattle.cxx_model.specs.Text.Lexemes.{nowhere};
+ghost use Rattle.cxx_tree.specs.Answered.{AnyKnown, IsAnswered, itself};
+ghost use Rattle.cxx_tree.specs.Defaults.{with_offer};
+ghost use Rattle.cxx_tree.specs.Held.{meaning, tree, trees, type_of};
+
+use crate::answering::Answering;
+use cxx_expr::convert;
+use cxx_expr::faults::not_built_at;
+use cxx_model::{FactId, Fault, Place, Stop, TreeId, TypeId};
+use cxx_tree::State;
+use std::alloc::{AllocError, Global};
+
+// No declaration gave one.
+fn no_fallback(alloc: Global) -> Result<Box<Fault>, AllocError>
+    ensures { IfOk result (λ at. Faulty at.value ≡ not_built nowhere) }
+{
+    not_built_at(alloc, Place { line: 0, column: 0 })
+}
+
+/// The default argument of the parameter with an index, by the first declaration of its function, as it is converted.
+#[tactic(auto, using(cxx_expr::proofs::Kept::later_refl), unfolding(crate::specs::Answers::fallback_here))]
+pub fn fallback_here(state: &mut State, target: FactId, index: usize) -> Result<TreeId, Stop>
+    ensures { IsAnswered tree IsTreeKnown state.old state.new result (definition.fallback_here target.0 index (meaning state.old)) }
+{
+    let Ok(index) = u32::try_from(index) else {
+        return Err(Stop::OutOfMemory);
+    };
+    match state.first_given(target, index) {
+        Some(given) => Ok(given.tree),
+        None => Err(Stop::Fault(no_fallback(state.alloc())?)),
+    }
+}
+
+/// A default argument begins to be read: whether another one is being read round it.
+#[tactic(auto, unfolding(crate::specs::Defaults::begin_default, cxx_tree::specs::Held::meaning))]
+pub fn begin_default(state: &mut State) -> Result<bool, Stop>
+    ensures { IsAnswered itself AnyKnown state.old state.new result (defaults.begin_default (meaning state.old)) }
+{
+    let was = state.in_default();
+    state.set_in_default(true);
+    Ok(was)
+}
+
+// Keeps a default argument, of the parameter with an index.
+fn offer(state: &mut State, index: usize, number: TreeId) -> Result<(), Stop>
+    requires { number.0 < length (trees state.old) }
+    ensures { IsAnswered itself AnyKnown state.old state.new result (Ok (tt, with_offer index (tree state.old number) (meaning state.old))) }
+{
+    let Ok(index) = u32::try_from(index) else {
+        return Err(Stop::OutOfMemory);
+    };
+    match state.add_offer(index, number) {
+        Ok(()) => Ok(()),
+        Err(_) => Err(Stop::OutOfMemory),
+    }
+}
+
+// The same, and it is read no more.
+#[tactic(auto, using(cxx_expr::proofs::Kept::later_trans, cxx_expr::proofs::Kept::tree_later, cxx_expr::proofs::Kept::tree_kept))]
+fn offered(state: &mut State, was: bool, index: usize, number: TreeId) -> Result<TreeId, Stop>
+    requires { number.0 < length (trees state.old) }
+    ensures { IsAnswered tree IsTreeKnown state.old state.new result (Ok (defaults.offered_as was index (tree state.old number, meaning state.old))) }
+{
+    offer(state, index, number)?;
+    state.set_in_default(was);
+    Ok(number)
+}
+
+/// A default argument was read, of the parameter with an index and a type: it is converted once, at its `=`, and kept.
+#[tactic(auto, using(cxx_expr::proofs::Kept::later_trans), unfolding(crate::specs::Defaults::end_default))]
+pub fn end_default(
+    alloc: Global,
+    state: &mut State,
+    equals: Place,
+    was: bool,
+    index: usize,
+    of: TypeId,
+    number: TreeId,
+) -> Result<TreeId, Stop>
+    requires of { of.0 < length (state.old).types }
+    requires number { number.0 < length (trees state.old) }
+    ensures { IsAnswered tree IsTreeKnown state.old state.new result (defaults.end_default equals was index (type_of state.old of) (tree state.old number) (meaning state.old)) }
+{
+    let converted = convert(alloc, &Answering, state, equals, of, number)?;
+    offered(state, was, index, converted)
+}
