@@ -9,7 +9,7 @@ use cxx_graph::Graph;
 use cxx_initialize::initialize;
 use cxx_knot::{read_declarator, read_initializer, read_specifiers};
 use cxx_language::{Declares, constant_value};
-use cxx_model::{Entity, FactId, Node, OutOfMemory, Stop, TreeId, TypeId};
+use cxx_model::{Entity, FactId, Node, OutOfMemory, ScopeId, Stop, TreeId, TypeId};
 use cxx_phrases::Initializer;
 use cxx_reading::{Naming, SpecifierPlace};
 use cxx_syntax::{Cursor, Declarator, NameToken, Specifiers};
@@ -29,6 +29,7 @@ fn is_own(graph: &Graph, number: FactId) -> bool
 }
 
 impl Declares for Declaring {
+    #[tactic(auto, unfolding(cxx_language::specs::Answers::asking))]
     fn specifiers(
         &self,
         state: &mut State,
@@ -38,6 +39,7 @@ impl Declares for Declaring {
         read_specifiers(self, state, cursor, SpecifierPlace::Declaration, room)
     }
 
+    #[tactic(auto, unfolding(cxx_language::specs::Answers::asking))]
     fn declarator(
         &self,
         state: &mut State,
@@ -47,6 +49,7 @@ impl Declares for Declaring {
         read_declarator(self, state, cursor, Naming::Required, room)
     }
 
+    #[tactic(auto, unfolding(cxx_language::specs::Answers::asking))]
     fn initializer(
         &self,
         state: &mut State,
@@ -78,10 +81,11 @@ impl Declares for Declaring {
     fn declare_function(
         &self,
         state: &mut State,
+        list: Option<ScopeId>,
         name: &NameToken,
         of: TypeId,
     ) -> Result<FactId, Stop> {
-        declare::declare_function(state, name.place, name.spelling.as_slice(), of)
+        declare::declare_function(state, list, name.place, name.spelling.as_slice(), of)
     }
 
     fn declare_object(

@@ -8,7 +8,7 @@ ghost use Rattle.cxx_syntax.specs.Asking.{IsAsked, IsEnumeration, enumeration_nu
 ghost use Rattle.cxx_syntax.specs.Views.{lexeme_at, name_of_option};
 ghost use Rattle.cxx_tree.specs.Held.{meaning};
 
-use cxx_answers::{Answering, constant_here};
+use cxx_answers::{Answering, begin_default, constant_here, end_default};
 use cxx_declare as declare;
 use cxx_elaborate::whole;
 use cxx_knot::Asking;
@@ -141,8 +141,28 @@ impl Asking for Declaring {
 
     ghost wholes = { λ self room. (asked room).whole };
 
+    ghost offers = { λ self. (asked 0).defaults };
+
     #[tactic(auto, unfolding(cxx_language::specs::Answers::asking))]
     fn whole(&self, state: &mut State, node: Node, _room: u32) -> Result<TreeId, Stop> {
         whole(&Answering, state, node)
+    }
+
+    #[tactic(auto, using(crate::proofs::Answering::asked), unfolding(cxx_language::specs::Answers::asking))]
+    fn begun(&self, state: &mut State) -> Result<bool, Stop> {
+        begin_default(state)
+    }
+
+    #[tactic(auto, using(crate::proofs::Answering::asked), unfolding(cxx_language::specs::Answers::asking))]
+    fn ended(
+        &self,
+        state: &mut State,
+        equals: Place,
+        was: bool,
+        index: usize,
+        of: TypeId,
+        number: TreeId,
+    ) -> Result<TreeId, Stop> {
+        end_default(state.alloc(), state, equals, was, index, of, number)
     }
 }

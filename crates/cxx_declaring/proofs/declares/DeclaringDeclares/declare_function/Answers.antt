@@ -1,9 +1,9 @@
-use Rattle.cxx_reading.specs.Declaring as definition
+use Rattle.cxx_declare.specs.Functions as definition
 use Rattle.cxx_syntax.specs.Views.{name_at}
-use Rattle.cxx_tree.specs.Answered.{IsFactKnown, fact_number}
+use Rattle.cxx_tree.specs.Answered.{IsFactKnown, fact_number, scope_of_option}
 use Rattle.cxx_tree.specs.Held.{meaning, type_of}
 use Rattle.cxx_declaring.proofs.Answering.{named_asked}
 use Rattle.cxx_declaring.proofs.declares.DeclaringDeclares.declare_function.Goals as goal
 
 pub returns : goal.returns
-returns c = named_asked fact_number IsFactKnown c.args.state.now c.declare_function.new.state c.declare_function.result (λ name. definition.declare_function name (type_of c.args.state.now c.args.of) (meaning c.args.state.now)) (name_at c.args.name.now) c.as_slice.result.now c.as_slice.ensures c.declare_function.ensures
+returns c = named_asked fact_number IsFactKnown c.args.state.now c.declare_function.new.state c.declare_function.result (λ name. definition.declare_function (scope_of_option c.args.list) name (type_of c.args.state.now c.args.of) (meaning c.args.state.now)) (name_at c.args.name.now) c.as_slice.result.now c.as_slice.ensures c.declare_function.ensures
