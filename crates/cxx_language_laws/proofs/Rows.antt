@@ -397,7 +397,7 @@ unfolding said said_of_tokens said_by
 fault_27 = refl
 
 -- a default argument has a value of the type of its parameter (8.3.6 p5)
-fault_28 : said (codes "int f(int *p = 1);") ≡ Some (record { place = record { line = 1; column = 16 }; text = says.NoConversion })
+fault_28 : said (codes "int f(int *p = 1);") ≡ Some (record { place = record { line = 1; column = 14 }; text = says.NoConversion })
 unfolding said said_of_tokens said_by
 fault_28 = refl
 
@@ -406,7 +406,7 @@ fault_29 : said (codes "int f(int = 1, int); int x = f();") ≡ Some (record { p
 unfolding said said_of_tokens said_by
 fault_29 = refl
 
--- two expressions in brackets make no value (8.5)
-fault_30 : said (codes "int x(1, 2);") ≡ Some (record { place = record { line = 1; column = 6 }; text = says.NoConversion })
+-- two values in brackets (8.5)
+fault_30 : said (codes "int x(1, 2);") ≡ Some (record { place = record { line = 1; column = 6 }; text = says.OperandsDoNotFit })
 unfolding said said_of_tokens said_by
 fault_30 = refl
