@@ -1,0 +1,88 @@
+-- The objects of declarations, by the nodes of their declarators.
+use Rattle.std.proofs.Common.{◌≡◌, ◌<◌, ℕ, ℤ, Bool, false, List, [], ◌∷◌, ◌++◌, length, Option, Some, None, option_map, refl, ap, sym, subst, ◌∙◌, arith}
+use Rattle.std.specs.Prelude.{flat_map}
+use Rattle.std.specs.List.{slice_get}
+use Rattle.cxx_model.specs.declared.tree.Node.{Node}
+use Rattle.cxx_model.specs.declared.types.FactId.{FactId}
+use Rattle.cxx_model.specs.declared.types.TreeId.{TreeId}
+use Rattle.cxx_page.specs.Sheets.{put, Sheet}
+use Rattle.cxx_page.proofs.Put.{put_none}
+use Rattle.cxx_phrase_text.specs.Named.{NamedState, trees_of, type_for}
+use Rattle.cxx_phrase_text.specs.Phrases.{initializer_words}
+use Rattle.cxx_phrase_text.specs.Written.{initializer_at}
+use Rattle.cxx_reading.specs.Declarators.{no_cv}
+use Rattle.cxx_reading.specs.Plain.{target_or, type_or_void}
+use Rattle.cxx_reading.specs.Trees.{CxxTree}
+use Rattle.cxx_reading.specs.Words.{Word, declared, name_word}
+use Rattle.cxx_tree.specs.Arena.{AreTreesBelow, tree_in, tree_over, trees_in}
+use Rattle.cxx_tree.specs.Held.{Held, tree, trees}
+use Rattle.cxx_tree.proofs.Arenas.{below_later}
+use Rattle.cxx_statement_text.specs.Objects.{first_in, first_initializer, first_name, initializers_in, is_static, object_words, printed_in}
+use Rattle.cxx_statement_text.specs.Statements.{declaration_lines, object_lines, one_object}
+use Rattle.cxx_statement_text.specs.Written.{AreTrees, facts_in, number_in, object_line_at, parts_in, scene_of}
+use Rattle.cxx_statement_text.proofs.Parts.{objects_are}
+
+pub earlier_below : (number count : ℕ) (children : List TreeId) → AreTreesBelow number children → number < count → AreTreesBelow count children
+earlier_below number count children all within = below_later number count children (omega arith) all
+
+-- ---- how it is written
+
+module _ (named : NamedState) (value : CxxTree → ℤ) where
+  here : (held : Held) (node : Node) (number : TreeId) → held ≡ named.held → tree held number ≡ tree_over held.types (trees held) node → tree named.held number ≡ tree_over named.held.types (trees_of named) node
+  here held node number same is = subst (λ (h : Held). tree h number ≡ tree_over h.types (trees h) node) same is
+
+  first_here : (held : Held) (number : TreeId) (found : Option FactId) (first : ℕ) → held ≡ named.held → option_map number_in found ≡ first_in (facts_in held) (tree held number) → first ≡ target_or (option_map number_in found) → first ≡ target_or (first_in (facts_in named.held) (tree named.held number))
+  first_here held number found first same is it = it ∙ ap target_or (is ∙ ap (λ (h : Held). first_in (facts_in h) (tree h number)) same)
+
+  made : ℕ → CxxTree → List Word
+  made first t = declared named.tags no_cv (type_or_void t.label.of) (name_word (named.name first) ∷ []) ++ first_initializer (scene_of named value) (initializers_in t.children)
+
+  pub object_is : (held : Held) (node : Node) (number : TreeId) (found : Option FactId) (first : ℕ) (parts : List TreeId) → held ≡ named.held → tree held number ≡ tree_over held.types (trees held) node → option_map number_in found ≡ first_in (facts_in held) (tree held number) → first ≡ target_or (option_map number_in found) → parts ≡ node.children
+      → declared named.tags no_cv (type_for named node.of) (name_word (named.name first) ∷ []) ++ first_initializer (scene_of named value) (initializers_in (parts_in named.held parts)) ≡ object_words (scene_of named value) false (tree_in (trees_of named) number.0)
+  object_is held node number found first parts same is found_is it are =
+      ap (λ (ns : List TreeId). declared named.tags no_cv (type_for named node.of) (name_word (named.name first) ∷ []) ++ first_initializer (scene_of named value) (initializers_in (parts_in named.held ns))) are
+      ∙ ap (made first) (sym (here held node number same is))
+      ∙ ap (λ n. made n (tree named.held number)) (first_here held number found first same found_is it)
+
+  -- ---- initializers
+
+  words_of : Option CxxTree → List Word
+  words_of None = []
+  words_of (Some one) = initializer_words named.tags named.name one
+
+  by_first : (all : List CxxTree) → words_of (slice_get all 0) ≡ first_initializer (scene_of named value) all
+  by_first [] = refl
+  by_first (one ∷ others) = refl
+
+  pub no_initializer : (held : Held) (parts : List TreeId) (page : Sheet) → held ≡ named.held → None ≡ slice_get (initializers_in (parts_in held parts)) 0 → put (first_initializer (scene_of named value) (initializers_in (parts_in named.held parts))) page ≡ Some page
+  no_initializer held parts page same none =
+      ap (λ (ws : List Word). put ws page) (sym (by_first (initializers_in (parts_in named.held parts))) ∙ ap words_of (sym (none ∙ ap (λ (h : Held). slice_get (initializers_in (parts_in h parts)) 0) same)))
+      ∙ put_none page
+
+  pub an_initializer : (held : Held) (parts : List TreeId) (number : TreeId) → held ≡ named.held → Some (tree held number) ≡ slice_get (initializers_in (parts_in held parts)) 0 → initializer_at named number ≡ first_initializer (scene_of named value) (initializers_in (parts_in named.held parts))
+  unfolding initializer_at
+  an_initializer held parts number same is =
+      ap words_of (subst (λ (h : Held). Some (tree h number) ≡ slice_get (initializers_in (parts_in h parts)) 0) same is)
+      ∙ by_first (initializers_in (parts_in named.held parts))
+
+  -- ---- declarations
+
+  printed_here : (held : Held) (parts found : List TreeId) → held ≡ named.held → AreTrees held found (printed_in (facts_in held) (parts_in held parts)) → AreTrees named.held found (printed_in (facts_in named.held) (parts_in named.held parts))
+  printed_here held parts found same are = subst (λ (h : Held). AreTrees h found (printed_in (facts_in h) (parts_in h parts))) same are
+
+  pub found_below : (held : Held) (found : List TreeId) (wanted : List CxxTree) → held ≡ named.held → AreTrees held found wanted → AreTreesBelow (length (trees_of named)) found
+  found_below held found wanted same are = subst (λ (h : Held). AreTreesBelow (length (trees h)) found) same are.below
+
+  pub declaration_is : (held : Held) (parts found : List TreeId) (static : Bool) (depth : ℕ) → held ≡ named.held → AreTrees held found (printed_in (facts_in held) (parts_in held parts)) → static ≡ is_static (parts_in held parts) → flat_map (object_line_at named value static depth) found ≡ declaration_lines (scene_of named value) depth (parts_in named.held parts)
+  declaration_is held parts found static depth same are it =
+      objects_are named value static depth found
+      ∙ ap (object_lines (scene_of named value) static depth) (printed_here held parts found same are).is
+      ∙ ap (λ b. object_lines (scene_of named value) b depth (printed_in (facts_in named.held) (parts_in named.held parts))) (it ∙ ap (λ (h : Held). is_static (parts_in h parts)) same)
+
+  pub first_name_is : (held : Held) (parts found : List TreeId) → held ≡ named.held → AreTrees held found (printed_in (facts_in held) (parts_in held parts)) → first_name (scene_of named value) (trees_in (trees_of named) found) ≡ first_name (scene_of named value) (printed_in (facts_in named.held) (parts_in named.held parts))
+  first_name_is held parts found same are = ap (first_name (scene_of named value)) (printed_here held parts found same are).is
+
+  pub one_object_is : (held : Held) (parts found : List TreeId) (static : Bool) → held ≡ named.held → AreTrees held found (printed_in (facts_in held) (parts_in held parts)) → static ≡ is_static (parts_in held parts) → one_object (scene_of named value) static (trees_in (trees_of named) found) ≡ one_object (scene_of named value) (is_static (parts_in named.held parts)) (printed_in (facts_in named.held) (parts_in named.held parts))
+  one_object_is held parts found static same are it =
+      ap (one_object (scene_of named value) static) (printed_here held parts found same are).is
+      ∙ ap (λ b. one_object (scene_of named value) b (printed_in (facts_in named.held) (parts_in named.held parts))) (it ∙ ap (λ (h : Held). is_static (parts_in h parts)) same)

@@ -1,0 +1,6 @@
+use Rattle.cxx_statement_text.specs.Written.{scene_of}
+use Rattle.cxx_statement_text.proofs.Firsts.{no_clause}
+use Rattle.cxx_statement_text.proofs.conditions.write_clause.Goals as goal
+
+pub returns-in-empty : goal.returns-in-empty
+returns-in-empty g c = no_clause (scene_of (g.N.Names.named c.args.names.now) (g.N.StatementNames.value c.args.names.now)) (g.N.Names.named c.args.names.now).held c.args.parts.now c.args.page.now c.in-empty.len_below

@@ -1,0 +1,13 @@
+use Rattle.std.proofs.Common.{◌+◌, ◌*◌, drop}
+use Rattle.cxx_statement_text.specs.Written.{facts_in, parts_in}
+use Rattle.cxx_statement_text.proofs.Printing.{SoFar}
+use Rattle.cxx_statement_text.proofs.objects.+printed.Given as goal
+
+abbrev pub decreases-add_each : goal.decreases-add_each
+decreases-add_each l = 2 * l.end.0
+
+abbrev pub decreases-add_in : goal.decreases-add_in
+decreases-add_in l = 2 * l.number.0 + 1
+
+abbrev pub invariant-add_each-loop-part : goal.invariant-add_each-loop-part
+invariant-add_each-loop-part l = SoFar l.state l.fn.found.items l.found.items (drop l.part-index l.parts) l.parts

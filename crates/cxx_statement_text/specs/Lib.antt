@@ -1,0 +1,6 @@
+-- The plain form of statements: the lines of each, at a depth of indentation.
+pub mod Productions
+pub mod Forms
+pub mod Objects
+pub mod Statements
+pub mod Written
