@@ -11,7 +11,7 @@ use Rattle.cxx_reading.specs.Trees.{CxxTree}
 use Rattle.cxx_reading.specs.Words.{Word}
 use Rattle.cxx_tree.specs.Arena.{tree_over}
 use Rattle.cxx_tree.specs.Held.{Held, tree, trees}
-use Rattle.cxx_statement_text.specs.Statements.{converted_words, declared_in}
+use Rattle.cxx_statement_text.specs.Statements.{clause_words, converted_words, declared_in, first_words}
 use Rattle.cxx_statement_text.specs.Written.{children_at, parts_in, scene_of}
 use Rattle.cxx_statement_text.proofs.Printing.{not_it}
 
@@ -21,7 +21,7 @@ module _ (named : NamedState) (value : CxxTree → ℤ) where
   here : (held : Held) (node : Node) (number : TreeId) → held ≡ named.held → tree held number ≡ tree_over held.types (trees held) node → tree named.held number ≡ tree_over named.held.types (trees_of named) node
   here held node number same is = subst (λ (h : Held). tree h number ≡ tree_over h.types (trees h) node) same is
 
-  made : CxxTree → List Word
+  abbrev made : CxxTree → List Word
   made t = cast_words named.tags (cast_keyword t.label.spelling) (type_or_void t.label.of) (converted_words (scene_of named value) t.children)
 
   by_cast : (number : TreeId) → eqb (tree named.held number).label.production 24 ≡ false → made (tree named.held number) ≡ converted_words (scene_of named value) (parts_in named.held (number ∷ []))
@@ -45,3 +45,12 @@ module _ (named : NamedState) (value : CxxTree → ℤ) where
 
   pub a_declared : (held : Held) (parts : List TreeId) (found : Option TreeId) (number : TreeId) → held ≡ named.held → option_map (children_at held) found ≡ declared_in (parts_in held parts) → found ≡ Some number → Some (children_at named.held number) ≡ declared_in (parts_in named.held parts)
   a_declared held parts found number same is some = sym (ap (option_map (children_at named.held)) some) ∙ declared_here held parts found same is
+
+  -- ---- the first part of a `for`
+
+  by_first : (number : TreeId) → eqb (tree named.held number).label.production 24 ≡ false → clause_words (scene_of named value) (parts_in named.held (number ∷ [])) ≡ first_words (scene_of named value) (parts_in named.held (number ∷ []))
+  by_first number e = rw e refl
+
+  pub first_clause : (held : Held) (node : Node) (number : TreeId) → held ≡ named.held → tree held number ≡ tree_over held.types (trees held) node → (node.production ≡ 24 → ⊥) → clause_words (scene_of named value) (parts_in named.held (number ∷ [])) ≡ first_words (scene_of named value) (parts_in named.held (number ∷ []))
+  first_clause held node number same is other =
+      by_first number (ap (λ (t : CxxTree). eqb t.label.production 24) (here held node number same is) ∙ not_it node.production 24 other)

@@ -1,11 +1,11 @@
 -- The objects of declarations, by the nodes of their declarators.
-use Rattle.std.proofs.Common.{◌≡◌, ◌<◌, ℕ, ℤ, Bool, false, List, [], ◌∷◌, ◌++◌, length, Option, Some, None, option_map, refl, ap, sym, subst, ◌∙◌, arith}
+use Rattle.std.proofs.Common.{◌≡◌, ◌<◌, ℕ, ℤ, Bool, true, false, List, [], ◌∷◌, ◌++◌, length, Option, Some, None, option_map, refl, ap, sym, subst, ◌∙◌, arith}
 use Rattle.std.specs.Prelude.{flat_map}
 use Rattle.std.specs.List.{slice_get}
 use Rattle.cxx_model.specs.declared.tree.Node.{Node}
 use Rattle.cxx_model.specs.declared.types.FactId.{FactId}
 use Rattle.cxx_model.specs.declared.types.TreeId.{TreeId}
-use Rattle.cxx_page.specs.Sheets.{put, Sheet}
+use Rattle.cxx_page.specs.Sheets.{put, put_lines, Sheet}
 use Rattle.cxx_page.proofs.Put.{put_none}
 use Rattle.cxx_phrase_text.specs.Named.{NamedState, trees_of, type_for}
 use Rattle.cxx_phrase_text.specs.Phrases.{initializer_words}
@@ -18,8 +18,9 @@ use Rattle.cxx_tree.specs.Arena.{AreTreesBelow, tree_in, tree_over, trees_in}
 use Rattle.cxx_tree.specs.Held.{Held, tree, trees}
 use Rattle.cxx_tree.proofs.Arenas.{below_later}
 use Rattle.cxx_statement_text.specs.Objects.{first_in, first_initializer, first_name, initializers_in, is_static, object_words, printed_in}
-use Rattle.cxx_statement_text.specs.Statements.{declaration_lines, object_lines, one_object}
+use Rattle.cxx_statement_text.specs.Statements.{Lines, declaration_lines, first_objects, has_several, is_first_static, object_lines, one_object, several_lines}
 use Rattle.cxx_statement_text.specs.Written.{AreTrees, facts_in, number_in, object_line_at, parts_in, scene_of}
+use Rattle.cxx_statement_text.proofs.Lining.{lines_none}
 use Rattle.cxx_statement_text.proofs.Parts.{objects_are}
 
 pub earlier_below : (number count : ℕ) (children : List TreeId) → AreTreesBelow number children → number < count → AreTreesBelow count children
@@ -34,7 +35,7 @@ module _ (named : NamedState) (value : CxxTree → ℤ) where
   first_here : (held : Held) (number : TreeId) (found : Option FactId) (first : ℕ) → held ≡ named.held → option_map number_in found ≡ first_in (facts_in held) (tree held number) → first ≡ target_or (option_map number_in found) → first ≡ target_or (first_in (facts_in named.held) (tree named.held number))
   first_here held number found first same is it = it ∙ ap target_or (is ∙ ap (λ (h : Held). first_in (facts_in h) (tree h number)) same)
 
-  made : ℕ → CxxTree → List Word
+  abbrev made : ℕ → CxxTree → List Word
   made first t = declared named.tags no_cv (type_or_void t.label.of) (name_word (named.name first) ∷ []) ++ first_initializer (scene_of named value) (initializers_in t.children)
 
   pub object_is : (held : Held) (node : Node) (number : TreeId) (found : Option FactId) (first : ℕ) (parts : List TreeId) → held ≡ named.held → tree held number ≡ tree_over held.types (trees held) node → option_map number_in found ≡ first_in (facts_in held) (tree held number) → first ≡ target_or (option_map number_in found) → parts ≡ node.children
@@ -46,7 +47,7 @@ module _ (named : NamedState) (value : CxxTree → ℤ) where
 
   -- ---- initializers
 
-  words_of : Option CxxTree → List Word
+  abbrev words_of : Option CxxTree → List Word
   words_of None = []
   words_of (Some one) = initializer_words named.tags named.name one
 
@@ -67,22 +68,51 @@ module _ (named : NamedState) (value : CxxTree → ℤ) where
 
   -- ---- declarations
 
-  printed_here : (held : Held) (parts found : List TreeId) → held ≡ named.held → AreTrees held found (printed_in (facts_in held) (parts_in held parts)) → AreTrees named.held found (printed_in (facts_in named.held) (parts_in named.held parts))
-  printed_here held parts found same are = subst (λ (h : Held). AreTrees h found (printed_in (facts_in h) (parts_in h parts))) same are
+  sliced : (held : Held) (found slice : List TreeId) (wanted : List CxxTree) → slice ≡ found → AreTrees held found wanted → AreTrees held slice wanted
+  sliced held found slice wanted same are = subst (λ (ns : List TreeId). AreTrees held ns wanted) (sym same) are
 
-  pub found_below : (held : Held) (found : List TreeId) (wanted : List CxxTree) → held ≡ named.held → AreTrees held found wanted → AreTreesBelow (length (trees_of named)) found
-  found_below held found wanted same are = subst (λ (h : Held). AreTreesBelow (length (trees h)) found) same are.below
+  printed_here : (held : Held) (parts found slice : List TreeId) → held ≡ named.held → slice ≡ found → AreTrees held found (printed_in (facts_in held) (parts_in held parts)) → AreTrees named.held slice (printed_in (facts_in named.held) (parts_in named.held parts))
+  printed_here held parts found slice same e are = subst (λ (h : Held). AreTrees h slice (printed_in (facts_in h) (parts_in h parts))) same (sliced held found slice (printed_in (facts_in held) (parts_in held parts)) e are)
 
-  pub declaration_is : (held : Held) (parts found : List TreeId) (static : Bool) (depth : ℕ) → held ≡ named.held → AreTrees held found (printed_in (facts_in held) (parts_in held parts)) → static ≡ is_static (parts_in held parts) → flat_map (object_line_at named value static depth) found ≡ declaration_lines (scene_of named value) depth (parts_in named.held parts)
-  declaration_is held parts found static depth same are it =
-      objects_are named value static depth found
-      ∙ ap (object_lines (scene_of named value) static depth) (printed_here held parts found same are).is
+  pub found_below : (held : Held) (found slice : List TreeId) (wanted : List CxxTree) → held ≡ named.held → slice ≡ found → AreTrees held found wanted → AreTreesBelow (length (trees_of named)) slice
+  found_below held found slice wanted same e are = subst (λ (h : Held). AreTreesBelow (length (trees h)) slice) same (sliced held found slice wanted e are).below
+
+  pub declaration_is : (held : Held) (parts found slice : List TreeId) (static : Bool) (depth : ℕ) → held ≡ named.held → slice ≡ found → AreTrees held found (printed_in (facts_in held) (parts_in held parts)) → static ≡ is_static (parts_in held parts) → flat_map (object_line_at named value static depth) slice ≡ declaration_lines (scene_of named value) depth (parts_in named.held parts)
+  declaration_is held parts found slice static depth same e are it =
+      objects_are named value static depth slice
+      ∙ ap (object_lines (scene_of named value) static depth) (printed_here held parts found slice same e are).is
       ∙ ap (λ b. object_lines (scene_of named value) b depth (printed_in (facts_in named.held) (parts_in named.held parts))) (it ∙ ap (λ (h : Held). is_static (parts_in h parts)) same)
 
-  pub first_name_is : (held : Held) (parts found : List TreeId) → held ≡ named.held → AreTrees held found (printed_in (facts_in held) (parts_in held parts)) → first_name (scene_of named value) (trees_in (trees_of named) found) ≡ first_name (scene_of named value) (printed_in (facts_in named.held) (parts_in named.held parts))
-  first_name_is held parts found same are = ap (first_name (scene_of named value)) (printed_here held parts found same are).is
+  pub first_name_is : (held : Held) (parts found slice : List TreeId) → held ≡ named.held → slice ≡ found → AreTrees held found (printed_in (facts_in held) (parts_in held parts)) → first_name (scene_of named value) (trees_in (trees_of named) slice) ≡ first_name (scene_of named value) (printed_in (facts_in named.held) (parts_in named.held parts))
+  first_name_is held parts found slice same e are = ap (first_name (scene_of named value)) (printed_here held parts found slice same e are).is
 
-  pub one_object_is : (held : Held) (parts found : List TreeId) (static : Bool) → held ≡ named.held → AreTrees held found (printed_in (facts_in held) (parts_in held parts)) → static ≡ is_static (parts_in held parts) → one_object (scene_of named value) static (trees_in (trees_of named) found) ≡ one_object (scene_of named value) (is_static (parts_in named.held parts)) (printed_in (facts_in named.held) (parts_in named.held parts))
-  one_object_is held parts found static same are it =
-      ap (one_object (scene_of named value) static) (printed_here held parts found same are).is
+  pub one_object_is : (held : Held) (parts found slice : List TreeId) (static : Bool) → held ≡ named.held → slice ≡ found → AreTrees held found (printed_in (facts_in held) (parts_in held parts)) → static ≡ is_static (parts_in held parts) → one_object (scene_of named value) static (trees_in (trees_of named) slice) ≡ one_object (scene_of named value) (is_static (parts_in named.held parts)) (printed_in (facts_in named.held) (parts_in named.held parts))
+  one_object_is held parts found slice static same e are it =
+      ap (one_object (scene_of named value) static) (printed_here held parts found slice same e are).is
       ∙ ap (λ b. one_object (scene_of named value) b (printed_in (facts_in named.held) (parts_in named.held parts))) (it ∙ ap (λ (h : Held). is_static (parts_in h parts)) same)
+
+  -- ---- before a `for`
+
+  firsts_here : (held : Held) (parts found slice : List TreeId) → held ≡ named.held → slice ≡ found → AreTrees held found (first_objects (facts_in held) (parts_in held parts)) → AreTrees named.held slice (first_objects (facts_in named.held) (parts_in named.held parts))
+  firsts_here held parts found slice same e are = subst (λ (h : Held). AreTrees h slice (first_objects (facts_in h) (parts_in h parts))) same (sliced held found slice (first_objects (facts_in held) (parts_in held parts)) e are)
+
+  several_here : (held : Held) (parts found slice : List TreeId) (b : Bool) → held ≡ named.held → slice ≡ found → AreTrees held found (first_objects (facts_in held) (parts_in held parts)) → b ≡ has_several (trees_in (trees held) slice) → b ≡ has_several (first_objects (facts_in named.held) (parts_in named.held parts))
+  several_here held parts found slice b same e are it =
+      it ∙ ap (λ (h : Held). has_several (trees_in (trees h) slice)) same ∙ ap has_several (firsts_here held parts found slice same e are).is
+
+  pub several_are : (held : Held) (parts found slice : List TreeId) (b static : Bool) (depth : ℕ) → held ≡ named.held → slice ≡ found → AreTrees held found (first_objects (facts_in held) (parts_in held parts)) → b ≡ has_several (trees_in (trees held) slice) → b ≡ true → static ≡ is_first_static (parts_in held parts) → flat_map (object_line_at named value static depth) slice ≡ several_lines (scene_of named value) (is_first_static (parts_in named.held parts)) depth (first_objects (facts_in named.held) (parts_in named.held parts))
+  several_are held parts found slice b static depth same e are it stands fixed =
+      objects_are named value static depth slice
+      ∙ ap (object_lines (scene_of named value) static depth) (firsts_here held parts found slice same e are).is
+      ∙ ap (λ s. object_lines (scene_of named value) s depth (first_objects (facts_in named.held) (parts_in named.held parts))) (fixed ∙ ap (λ (h : Held). is_first_static (parts_in h parts)) same)
+      ∙ by_count (sym (several_here held parts found slice b same e are it) ∙ stands)
+    where
+      by_count : has_several (first_objects (facts_in named.held) (parts_in named.held parts)) ≡ true → object_lines (scene_of named value) (is_first_static (parts_in named.held parts)) depth (first_objects (facts_in named.held) (parts_in named.held parts)) ≡ several_lines (scene_of named value) (is_first_static (parts_in named.held parts)) depth (first_objects (facts_in named.held) (parts_in named.held parts))
+      by_count few = rw few refl
+
+  pub not_several_are : (held : Held) (parts found slice : List TreeId) (b : Bool) (depth : ℕ) (page : Sheet) → held ≡ named.held → slice ≡ found → AreTrees held found (first_objects (facts_in held) (parts_in held parts)) → b ≡ has_several (trees_in (trees held) slice) → b ≡ false → put_lines (several_lines (scene_of named value) (is_first_static (parts_in named.held parts)) depth (first_objects (facts_in named.held) (parts_in named.held parts))) page ≡ Some page
+  not_several_are held parts found slice b depth page same e are it fails =
+      ap (λ (ls : Lines). put_lines ls page) (by_count (sym (several_here held parts found slice b same e are it) ∙ fails)) ∙ lines_none page
+    where
+      by_count : has_several (first_objects (facts_in named.held) (parts_in named.held parts)) ≡ false → several_lines (scene_of named value) (is_first_static (parts_in named.held parts)) depth (first_objects (facts_in named.held) (parts_in named.held parts)) ≡ []
+      by_count few = rw few refl

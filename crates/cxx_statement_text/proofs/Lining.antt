@@ -44,6 +44,9 @@ lines_append (words ∷ ones) twos sheet =
     then_same (put_line words sheet) (put_lines (ones ++ twos)) (λ next. and_then (put_lines ones next) (put_lines twos)) (lines_append ones twos)
     ∙ sym (then_then (put_line words sheet) (put_lines ones) (put_lines twos))
 
+pub lines_more : (words : List Word) (others : Lines) (sheet : Sheet) → put_lines (words ∷ others) sheet ≡ and_then (put_lines (words ∷ []) sheet) (put_lines others)
+lines_more words others sheet = lines_append (words ∷ []) others sheet
+
 pub lines_none : (sheet : Sheet) → put_lines [] sheet ≡ Some sheet
 unfolding put_lines
 lines_none sheet = refl

@@ -1,5 +1,5 @@
 -- The parts of statements, by the nodes of their trees.
-use Rattle.std.proofs.Common.{◌≡◌, ℕ, suc, ℤ, Bool, true, false, List, [], ◌∷◌, ◌++◌, map, Option, Some, None, option_map, refl, sym, ap, subst, ◌∙◌}
+use Rattle.std.proofs.Common.{◌≡◌, ◌<◌, ◌≤◌, ℕ, suc, ℤ, Bool, true, false, List, [], ◌∷◌, ◌++◌, length, map, Option, Some, None, option_map, refl, sym, ap, subst, ◌∙◌, arith}
 use Rattle.std.specs.Prelude.{flat_map}
 use Rattle.std.specs.List.{slice_get}
 use Rattle.std.proofs.lemmas.Option.{slice_get-map}
@@ -11,8 +11,9 @@ use Rattle.cxx_reading.specs.Trees.{CxxTree}
 use Rattle.cxx_tree.specs.Arena.{label_at, tree_in, tree_over, trees_in}
 use Rattle.cxx_tree.specs.Held.{Held, trees}
 use Rattle.cxx_statement_text.specs.declared.form.Form.{Form}
+use Rattle.cxx_statement_text.specs.declared.form.Form.TheVariants as form
 use Rattle.cxx_statement_text.specs.Forms.{form_of}
-use Rattle.cxx_statement_text.specs.Statements.{Lines, Statement, all_lines, braced, closed, else_lines, empty, inner_as, is_block_as, is_nothing_as, labelled_lines, lines_of, line, lines_or_empty, object_line, object_lines, otherwise_words, part, statement, statement_or_nothing, statements}
+use Rattle.cxx_statement_text.specs.Statements.{Lines, Statement, all_lines, braced, closed, else_lines, empty, inner_as, is_block_as, is_nothing_as, label_lines, label_words, labelled_lines, lines_of, line, lines_or_empty, object_line, object_lines, otherwise_words, part, statement, statement_or_nothing, statements}
 use Rattle.cxx_statement_text.specs.Written.{children_at, facts_in, inner_in, lines_at, lines_or_empty_at, object_line_at, parts_in, scene_of, statement_at, statement_found, statements_at}
 
 abbrev is_block_in : TreeId → Held → Bool
@@ -91,3 +92,33 @@ module _ (named : NamedState) (value : CxxTree → ℤ) where
 
   pub an_else : (parts : List TreeId) (found : Option TreeId) (number : TreeId) (depth : ℕ) → found ≡ slice_get parts 2 → found ≡ Some number → line depth otherwise_words ++ ((statement_at named value number).inner (suc depth) ++ closed depth) ≡ else_lines depth (slice_get (statements_at named value parts) 2)
   an_else parts found number depth is some = sym (ap (else_lines depth) (slice_get-map (statement_at named value) parts 2 ∙ ap (option_map (statement_at named value)) (sym is ∙ some)))
+
+  -- ---- by forms
+
+  pub form_block : (node : Node) (f : Form) (parts : List TreeId) (depth : ℕ) → f ≡ form.Block → parts ≡ node.children → flat_map (lines_at named value depth) parts ≡ inner_in named value f node depth
+  form_block node f parts depth same are =
+      all_are parts depth
+      ∙ ap (λ (ns : List TreeId). all_lines (statements_at named value ns) depth) are
+      ∙ sym (ap (λ (g : Form). inner_in named value g node depth) same)
+
+  pub behind_labels : (keyword : List ℕ) (parts : List TreeId) (depth : ℕ) → length keyword < 1 → flat_map (lines_or_empty_at named value depth) parts ≡ label_lines (scene_of named value) keyword (parts_in named.held parts) (statements_at named value parts) depth
+  behind_labels [] parts depth short = each_or_empty parts depth
+  behind_labels (b ∷ keyword) parts depth short = absurd (omega arith)
+
+  pub a_label : (keyword : List ℕ) (parts : List TreeId) (depth : ℕ) → 1 ≤ length keyword → line depth (label_words (scene_of named value) keyword (parts_in named.held parts)) ≡ label_lines (scene_of named value) keyword (parts_in named.held parts) (statements_at named value parts) depth
+  a_label [] parts depth many = absurd (omega arith)
+  a_label (b ∷ keyword) parts depth many = refl
+
+-- ---- asked of a node
+
+pub block_asked : (held : Held) (node : Node) (number : TreeId) (f : Form) (parts : List TreeId) → tree_in (trees held) number.0 ≡ tree_over held.types (trees held) node → f ≡ form_of node.production → parts ≡ node.children → is_block_as f (facts_in held) (parts_in held parts) ≡ is_block_as (form_of (tree_in (trees held) number.0).label.production) (facts_in held) (children_at held number)
+block_asked held node number f parts is same are =
+    ap (λ (g : Form). is_block_as g (facts_in held) (parts_in held parts)) same
+    ∙ ap (λ (ns : List TreeId). is_block_as (form_of node.production) (facts_in held) (parts_in held ns)) are
+    ∙ sym (ap (λ (t : CxxTree). is_block_as (form_of t.label.production) (facts_in held) t.children) is)
+
+pub nothing_asked : (held : Held) (node : Node) (number : TreeId) (f : Form) (parts : List TreeId) → tree_in (trees held) number.0 ≡ tree_over held.types (trees held) node → f ≡ form_of node.production → parts ≡ node.children → is_nothing_as f (facts_in held) (parts_in held parts) ≡ is_nothing_as (form_of (tree_in (trees held) number.0).label.production) (facts_in held) (children_at held number)
+nothing_asked held node number f parts is same are =
+    ap (λ (g : Form). is_nothing_as g (facts_in held) (parts_in held parts)) same
+    ∙ ap (λ (ns : List TreeId). is_nothing_as (form_of node.production) (facts_in held) (parts_in held ns)) are
+    ∙ sym (ap (λ (t : CxxTree). is_nothing_as (form_of t.label.production) (facts_in held) t.children) is)

@@ -13,8 +13,9 @@ use Rattle.cxx_tree.specs.Arena.{AreTreesBelow, tree_in, tree_over, trees_in}
 use Rattle.cxx_tree.specs.Held.{Held, tree, trees}
 use Rattle.cxx_tree.proofs.Arenas.{below_append, trees_append}
 use Rattle.cxx_statement_text.specs.Objects.{first_by, first_of_fact, if_printed, printed_in}
+use Rattle.cxx_statement_text.specs.Statements.{first_objects}
 use Rattle.cxx_statement_text.specs.Written.{AddsTrees, AreTrees, children_at, facts_in, parts_in}
-use Rattle.cxx_statement_text.proofs.Trees.{fact_is}
+use Rattle.cxx_statement_text.proofs.Trees.{fact_is, none_first}
 
 -- ---- what is declared
 
@@ -92,3 +93,15 @@ parts_all held first now parts i past so = record {
 
 pub all_added : (held : Held) (new : List TreeId) (wanted : List CxxTree) → AddsTrees held [] new wanted → AreTrees held new wanted
 all_added held new wanted added = record { is = added.is; below = added.below tt }
+
+-- ---- the objects of the first part of a `for`
+
+no_objects : (held : Held) (number : TreeId) → eqb (tree held number).label.production 24 ≡ false → [] ≡ first_objects (facts_in held) (parts_in held (number ∷ []))
+no_objects held number e = rw e refl
+
+pub another_first : (held : Held) (node : Node) (number : TreeId) (found : List TreeId) → tree held number ≡ tree_over held.types (trees held) node → (node.production ≡ 24 → ⊥) → AreTrees held found [] → AreTrees held found (first_objects (facts_in held) (parts_in held (number ∷ [])))
+another_first held node number found is other none =
+    subst (λ (ts : List CxxTree). AreTrees held found ts) (no_objects held number (ap (λ (t : CxxTree). eqb t.label.production 24) is ∙ not_it node.production 24 other)) none
+
+pub none_there : (held : Held) (parts found : List TreeId) → length parts < 1 → AreTrees held found [] → AreTrees held found (first_objects (facts_in held) (parts_in held parts))
+none_there held parts found short none = subst (λ (ts : CxxTrees). AreTrees held found (first_objects (facts_in held) ts)) (sym (none_first held parts short)) none

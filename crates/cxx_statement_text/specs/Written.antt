@@ -77,5 +77,6 @@ lines_or_empty_at named value depth number = lines_or_empty (statement_at named 
 abbrev pub HasRoom : ℕ → TreeId → Type 0
 HasRoom depth number = depth + 8 * number.0 < 9223372036854775808
 
-abbrev pub HasPartRoom : ℕ → TreeId → Type 0
-HasPartRoom depth end = depth + 8 * end.0 < 9223372036854775812
+-- the same of a statement at a depth that is greater by some
+abbrev pub HasRoomWithin : ℕ → ℕ → TreeId → Type 0
+HasRoomWithin more depth number = depth + 8 * number.0 < 9223372036854775808 + more

@@ -1,5 +1,5 @@
 //! Conditions, and the other expressions of statements.
-ghost use Rattle.std.specs.Prelude.{◌≡◌, ◌<◌, ◌+◌, [], ◌∷◌, ◌++◌, ℕ, codes, length, option_map, IfSome};
+ghost use Rattle.std.specs.Prelude.{◌≡◌, ◌<◌, ◌+◌, [], ◌∷◌, ◌++◌, codes, length, option_map, IfSome};
 ghost use Rattle.cxx_model.specs.Facts.Fitted.{IsTypeNumberBelow};
 ghost use Rattle.cxx_page.specs.Sheets.{Writes, put, put_line, put_lines};
 ghost use Rattle.cxx_phrase_text.specs.Named.{trees_of, type_for};
@@ -24,10 +24,12 @@ use cxx_tree::State;
 use std::alloc::Global;
 
 /// The trees behind the first one.
-pub(crate) fn after(parts: &[TreeId]) -> &[TreeId]
+pub(crate) fn after(parts: &[TreeId], end: TreeId) -> &[TreeId]
+    requires { AreTreesBelow end.0 parts.now }
     ensures is { (held : Held) → parts_in held result.now ≡ text.after (parts_in held parts.now) }
-    ensures below { (count : ℕ) → AreTreesBelow count parts.now → AreTreesBelow count result.now }
+    ensures below { AreTreesBelow end.0 result.now }
 {
+    let _ = end;
     match parts {
         [_, others @ ..] => others,
         [] => parts,
@@ -166,7 +168,8 @@ fn write_declared_name<N: StatementNames>(
     requires earlier { AreTreesBelow end.0 parts.now }
     ensures { Writes result page.new (put (objects.first_name (scene_of (N.named names.now) (N.value names.now)) (objects.printed_in (scene_of (N.named names.now) (N.value names.now)).facts (parts_in (N.named names.now).held parts.now))) page.old) }
 {
-    let found = printed(names.state(), alloc, parts, end)?;
+    let held = names.state();
+    let found = printed(held, alloc, parts, end)?;
     write_first_name(names, page, found.as_slice())
 }
 

@@ -299,7 +299,7 @@ pub(crate) fn write_do_end<N: StatementNames>(
     requires earlier { AreTreesBelow end.0 parts.now }
     ensures { Writes result page.new (put_lines (text.line depth (text.do_end (text.expression_words (scene_of (N.named names.now) (N.value names.now)) (text.after (parts_in (N.named names.now).held parts.now))))) page.old) }
 {
-    write_do_line(names, page, depth, after(parts), end)
+    write_do_line(names, page, depth, after(parts, end), end)
 }
 
 // ---- `for` (6.5.3)
@@ -365,7 +365,7 @@ fn write_step_after<N: StatementNames>(
     requires earlier { AreTreesBelow end.0 parts.now }
     ensures { Writes result page.new (put_line (semicolon_word ∷ (text.clause_words (scene_of (N.named names.now) (N.value names.now)) (text.after (parts_in (N.named names.now).held parts.now)) ++ close_word ∷ (text.open_brace ∷ []))) page.old) }
 {
-    write_step(names, page, after(parts), end)
+    write_step(names, page, after(parts, end), end)
 }
 
 #[tactic(auto, using(crate::proofs::Lining::line_append))]
@@ -431,9 +431,10 @@ fn write_declared_one<N: StatementNames>(
     requires earlier { AreTreesBelow end.0 parts.now }
     ensures { Writes result page.new (put (text.one_object (scene_of (N.named names.now) (N.value names.now)) (objects.is_static (parts_in (N.named names.now).held parts.now)) (objects.printed_in (scene_of (N.named names.now) (N.value names.now)).facts (parts_in (N.named names.now).held parts.now))) page.old) }
 {
-    let found = printed(names.state(), alloc, parts, end)?;
-    let is_static = is_static(names.state(), parts, end);
-    write_one(names, page, is_static, found.as_slice())
+    let held = names.state();
+    let found = printed(held, alloc, parts, end)?;
+    let stands = is_static(held, parts, end);
+    write_one(names, page, stands, found.as_slice())
 }
 
 fn write_first_tree<N: StatementNames>(
@@ -484,7 +485,7 @@ fn write_test_after<N: StatementNames>(
     requires earlier { AreTreesBelow end.0 parts.now }
     ensures { Writes result page.new (put_line (semicolon_word ∷ (text.unless_declared (text.clause_words (scene_of (N.named names.now) (N.value names.now)) (text.after (parts_in (N.named names.now).held parts.now))) (text.declared_in (text.after (parts_in (N.named names.now).held parts.now))) ++ semicolon_word ∷ (text.clause_words (scene_of (N.named names.now) (N.value names.now)) (text.after (text.after (parts_in (N.named names.now).held parts.now))) ++ close_word ∷ (text.open_brace ∷ [])))) page.old) }
 {
-    write_test(names, page, after(parts), end)
+    write_test(names, page, after(parts, end), end)
 }
 
 #[tactic(auto, using(crate::proofs::Lining::line_append))]
@@ -541,11 +542,7 @@ pub(crate) fn write_for_head<N: StatementNames>(
     write_for_words(alloc, names, page, parts, end)
 }
 
-fn first_objects_in(
-    state: &State,
-    alloc: Global,
-    number: TreeId,
-) -> Result<Vec<TreeId>, AllocError>
+fn first_objects_in(state: &State, alloc: Global, number: TreeId) -> Result<Vec<TreeId>, AllocError>
     requires { number.0 < length (trees state.now) }
     ensures { IfOk result (λ found. AreTrees state.now found.items (text.first_objects (facts_in state.now) (parts_in state.now (number ∷ [])))) }
 {
@@ -553,7 +550,14 @@ fn first_objects_in(
     if node.production == DECLARATION_STATEMENT {
         return printed(state, alloc, node.children.as_slice(), number);
     }
-    Ok(Vec::new(alloc))
+    Ok(no_objects(state, alloc))
+}
+
+fn no_objects(state: &State, alloc: Global) -> Vec<TreeId>
+    ensures { AreTrees state.now result.items [] }
+{
+    let _ = state;
+    Vec::new(alloc)
 }
 
 // The objects that the first part of a `for` declares, which stands first.
@@ -569,7 +573,7 @@ fn first_objects(
 {
     match parts {
         [first, ..] => first_objects_in(state, alloc, *first),
-        [] => Ok(Vec::new(alloc)),
+        [] => Ok(no_objects(state, alloc)),
     }
 }
 
@@ -594,7 +598,8 @@ pub(crate) fn has_several(
     ensures { IfOk result (λ several. several ≡ text.has_several (text.first_objects (facts_in state.now) (parts_in state.now parts.now))) }
 {
     let found = first_objects(state, alloc, parts, end)?;
-    Ok(are_several(found.as_slice()))
+    let numbers = found.as_slice();
+    Ok(are_several(numbers))
 }
 
 // Whether the first part of a `for`, which stands first, is static.
@@ -624,10 +629,13 @@ pub(crate) fn write_several<N: StatementNames>(
     requires earlier { AreTreesBelow end.0 parts.now }
     ensures { Writes result page.new (put_lines (text.several_lines (scene_of (N.named names.now) (N.value names.now)) (text.is_first_static (parts_in (N.named names.now).held parts.now)) depth (text.first_objects (scene_of (N.named names.now) (N.value names.now)).facts (parts_in (N.named names.now).held parts.now))) page.old) }
 {
-    let found = first_objects(names.state(), alloc, parts, end)?;
-    if are_several(found.as_slice()) {
-        let is_static = is_first_static(names.state(), parts, end);
-        return write_objects(names, page, is_static, depth, found.as_slice());
+    let held = names.state();
+    let found = first_objects(held, alloc, parts, end)?;
+    let numbers = found.as_slice();
+    let several = are_several(numbers);
+    if several {
+        let stands = is_first_static(held, parts, end);
+        return write_objects(names, page, stands, depth, numbers);
     }
     Ok(())
 }

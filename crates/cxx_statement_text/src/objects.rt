@@ -369,7 +369,8 @@ pub(crate) fn write_declaration<N: StatementNames>(
     requires earlier { AreTreesBelow end.0 parts.now }
     ensures { Writes result page.new (put_lines (text.declaration_lines (scene_of (N.named names.now) (N.value names.now)) depth (parts_in (N.named names.now).held parts.now)) page.old) }
 {
-    let found = printed(names.state(), alloc, parts, end)?;
-    let is_static = is_static(names.state(), parts, end);
-    write_objects(names, page, is_static, depth, found.as_slice())
+    let held = names.state();
+    let found = printed(held, alloc, parts, end)?;
+    let stands = is_static(held, parts, end);
+    write_objects(names, page, stands, depth, found.as_slice())
 }

@@ -1,5 +1,5 @@
 //! Which statements are one block, and of which nothing is written.
-ghost use Rattle.std.specs.Prelude.{◌≡◌, ◌<◌, ℕ, List, length, option_map, IfOk, IfSome};
+ghost use Rattle.std.specs.Prelude.{◌≡◌, ◌<◌, List, length, option_map, IfOk, IfSome};
 ghost use Rattle.std.specs.List.{slice_get};
 ghost use Rattle.cxx_reading.specs.Trees.{CxxTree, CxxTrees};
 ghost use Rattle.cxx_tree.specs.Arena.{trees_in, AreTreesBelow};
@@ -24,10 +24,12 @@ fn find(parts: &[TreeId], index: usize) -> Option<TreeId>
 }
 
 /// The part with a number, from 0, where there is one.
-pub(crate) fn child(parts: &[TreeId], index: usize) -> Option<TreeId>
+pub(crate) fn child(parts: &[TreeId], index: usize, end: TreeId) -> Option<TreeId>
+    requires { AreTreesBelow end.0 parts.now }
     ensures is { result ≡ slice_get parts.now index }
-    ensures below { (count : ℕ) → AreTreesBelow count parts.now → IfSome result (λ number. number.0 < count) }
+    ensures below { IfSome result (λ number. number.0 < end.0) }
 {
+    let _ = end;
     find(parts, index)
 }
 
@@ -66,11 +68,7 @@ fn is_block_by(
 }
 
 /// Whether a statement is one block.
-pub(crate) fn is_block(
-    state: &State,
-    alloc: Global,
-    number: TreeId,
-) -> Result<bool, AllocError>
+pub(crate) fn is_block(state: &State, alloc: Global, number: TreeId) -> Result<bool, AllocError>
     requires { number.0 < length (trees state.now) }
     ensures { IfOk result (λ one. one ≡ text.is_block_as (forms.form_of (tree state.now number).label.production) (facts_in state.now) (children_at state.now number)) }
 {
@@ -105,7 +103,8 @@ fn prints_nothing(
     ensures { IfOk result (λ one. one ≡ text.has_none (objects.printed_in (facts_in state.now) (parts_in state.now parts.now))) }
 {
     let found = printed(state, alloc, parts, end)?;
-    Ok(is_empty(found.as_slice()))
+    let numbers = found.as_slice();
+    Ok(is_empty(numbers))
 }
 
 fn is_nothing_by(
@@ -126,11 +125,7 @@ fn is_nothing_by(
 }
 
 /// Whether nothing of a statement is written.
-pub(crate) fn is_nothing(
-    state: &State,
-    alloc: Global,
-    number: TreeId,
-) -> Result<bool, AllocError>
+pub(crate) fn is_nothing(state: &State, alloc: Global, number: TreeId) -> Result<bool, AllocError>
     requires { number.0 < length (trees state.now) }
     ensures { IfOk result (λ one. one ≡ text.is_nothing_as (forms.form_of (tree state.now number).label.production) (facts_in state.now) (children_at state.now number)) }
 {

@@ -8,7 +8,7 @@ ghost use Rattle.cxx_reading.specs.Words.{keyword_word};
 ghost use Rattle.cxx_tree.specs.Arena.{tree_in, AreTreesBelow};
 ghost use Rattle.cxx_tree.specs.Held.{trees};
 ghost use Rattle.cxx_statement_text.specs.Statements as text;
-ghost use Rattle.cxx_statement_text.specs.Written.{children_at, facts_in, inner_in, lines_at, lines_or_empty_at, parts_in, scene_of, statement_at, statement_found, statements_at, HasPartRoom, HasRoom};
+ghost use Rattle.cxx_statement_text.specs.Written.{children_at, facts_in, inner_in, lines_at, lines_or_empty_at, parts_in, scene_of, statement_at, statement_found, statements_at, HasRoom, HasRoomWithin};
 
 use crate::conditions::{
     after, declared, write_declaration_of, write_declared_lines, write_expression_line,
@@ -30,8 +30,45 @@ use cxx_page::{Page, PlainFault};
 use cxx_reading::Role;
 use std::alloc::Global;
 
+#[cycle(statements)]
+fn write_next<N: StatementNames>(
+    alloc: Global,
+    names: &N,
+    page: &mut Page,
+    depth: u64,
+    number: TreeId,
+    end: TreeId,
+) -> Result<(), PlainFault>
+    requires ready { N.is_ready names.now }
+    requires known { end.0 < length (trees_of (N.named names.now)) }
+    requires within { number.0 < end.0 }
+    requires room { HasRoomWithin 1 depth end }
+    ensures { Writes result page.new (put_lines (lines_at (N.named names.now) (N.value names.now) depth number) page.old) }
+{
+    write_lines(alloc, names, page, depth, number)
+}
+
+#[cycle(statements)]
+fn write_behind<N: StatementNames>(
+    alloc: Global,
+    names: &N,
+    page: &mut Page,
+    depth: u64,
+    number: TreeId,
+    end: TreeId,
+) -> Result<(), PlainFault>
+    requires ready { N.is_ready names.now }
+    requires known { end.0 < length (trees_of (N.named names.now)) }
+    requires within { number.0 < end.0 }
+    requires room { HasRoomWithin 1 depth end }
+    ensures { Writes result page.new (put_lines (lines_or_empty_at (N.named names.now) (N.value names.now) depth number) page.old) }
+{
+    write_or_empty(alloc, names, page, depth, number)
+}
+
 // Writes each of some statements.
 #[cycle(statements)]
+#[tactic(auto, using(cxx_phrase_text::proofs::Parts::child_below))]
 fn write_all<N: StatementNames>(
     alloc: Global,
     names: &N,
@@ -43,17 +80,18 @@ fn write_all<N: StatementNames>(
     requires ready { N.is_ready names.now }
     requires known { end.0 < length (trees_of (N.named names.now)) }
     requires earlier { AreTreesBelow end.0 parts.now }
-    requires room { HasPartRoom depth end }
+    requires room { HasRoomWithin 1 depth end }
     ensures { Writes result page.new (put_lines (flat_map (lines_at (N.named names.now) (N.value names.now) depth) parts.now) page.old) }
 {
     for part in parts {
-        write_lines(alloc, names, page, depth, *part)?;
+        write_next(alloc, names, page, depth, *part, end)?;
     }
     Ok(())
 }
 
 // Writes labels and the statement behind them.
 #[cycle(statements)]
+#[tactic(auto, using(cxx_phrase_text::proofs::Parts::child_below))]
 fn write_each<N: StatementNames>(
     alloc: Global,
     names: &N,
@@ -65,11 +103,11 @@ fn write_each<N: StatementNames>(
     requires ready { N.is_ready names.now }
     requires known { end.0 < length (trees_of (N.named names.now)) }
     requires earlier { AreTreesBelow end.0 parts.now }
-    requires room { HasPartRoom depth end }
+    requires room { HasRoomWithin 1 depth end }
     ensures { Writes result page.new (put_lines (flat_map (lines_or_empty_at (N.named names.now) (N.value names.now) depth) parts.now) page.old) }
 {
     for part in parts {
-        write_or_empty(alloc, names, page, depth, *part)?;
+        write_behind(alloc, names, page, depth, *part, end)?;
     }
     Ok(())
 }
@@ -88,7 +126,9 @@ fn write_or_empty<N: StatementNames>(
     requires room { HasRoom depth number }
     ensures { Writes result page.new (put_lines (lines_or_empty_at (N.named names.now) (N.value names.now) depth number) page.old) }
 {
-    if is_nothing(names.state(), alloc, number)? {
+    let held = names.state();
+    let is_none = is_nothing(held, alloc, number)?;
+    if is_none {
         return write_empty(page, depth);
     }
     write_lines(alloc, names, page, depth, number)
@@ -108,7 +148,7 @@ fn write_found<N: StatementNames>(
     requires ready { N.is_ready names.now }
     requires known { end.0 < length (trees_of (N.named names.now)) }
     requires within { IfSome number (λ part. part.0 < end.0) }
-    requires room { HasPartRoom depth end }
+    requires room { HasRoomWithin 3 depth end }
     ensures { Writes result page.new (put_lines ((statement_found (N.named names.now) (N.value names.now) number).inner depth) page.old) }
 {
     match number {
@@ -131,15 +171,15 @@ fn write_part<N: StatementNames>(
     requires ready { N.is_ready names.now }
     requires known { end.0 < length (trees_of (N.named names.now)) }
     requires earlier { AreTreesBelow end.0 parts.now }
-    requires room { HasPartRoom depth end }
+    requires room { HasRoomWithin 3 depth end }
     ensures { Writes result page.new (put_lines ((text.part (statements_at (N.named names.now) (N.value names.now) parts.now) index).inner depth) page.old) }
 {
-    write_found(alloc, names, page, depth, child(parts, index), end)
+    write_found(alloc, names, page, depth, child(parts, index, end), end)
 }
 
 // Writes a part in braces.
 #[cycle(statements)]
-#[tactic(auto, using(crate::proofs::Lining::lines_append))]
+#[tactic(auto, using(crate::proofs::Lining::lines_append, crate::proofs::Lining::lines_more))]
 fn write_braced<N: StatementNames>(
     alloc: Global,
     names: &N,
@@ -152,7 +192,7 @@ fn write_braced<N: StatementNames>(
     requires ready { N.is_ready names.now }
     requires known { end.0 < length (trees_of (N.named names.now)) }
     requires earlier { AreTreesBelow end.0 parts.now }
-    requires room { HasPartRoom depth end }
+    requires room { HasRoomWithin 2 depth end }
     ensures { Writes result page.new (put_lines (text.braced (text.part (statements_at (N.named names.now) (N.value names.now) parts.now) index) depth) page.old) }
 {
     write_open_brace(page, depth)?;
@@ -162,7 +202,7 @@ fn write_braced<N: StatementNames>(
 
 // Writes a part, and the brace behind it.
 #[cycle(statements)]
-#[tactic(auto, using(crate::proofs::Lining::lines_append))]
+#[tactic(auto, using(crate::proofs::Lining::lines_append, crate::proofs::Lining::lines_more))]
 fn write_closed<N: StatementNames>(
     alloc: Global,
     names: &N,
@@ -175,7 +215,7 @@ fn write_closed<N: StatementNames>(
     requires ready { N.is_ready names.now }
     requires known { end.0 < length (trees_of (N.named names.now)) }
     requires earlier { AreTreesBelow end.0 parts.now }
-    requires room { HasPartRoom depth end }
+    requires room { HasRoomWithin 1 depth end }
     ensures { Writes result page.new (put_lines ((text.part (statements_at (N.named names.now) (N.value names.now) parts.now) index).inner (suc depth) ++ text.closed depth) page.old) }
 {
     write_part(alloc, names, page, depth + 1, parts, index, end)?;
@@ -185,7 +225,7 @@ fn write_closed<N: StatementNames>(
 // ---- selection (6.4)
 
 #[cycle(statements)]
-#[tactic(auto, using(crate::proofs::Lining::lines_append))]
+#[tactic(auto, using(crate::proofs::Lining::lines_append, crate::proofs::Lining::lines_more))]
 fn write_otherwise_part<N: StatementNames>(
     alloc: Global,
     names: &N,
@@ -197,7 +237,7 @@ fn write_otherwise_part<N: StatementNames>(
     requires ready { N.is_ready names.now }
     requires known { end.0 < length (trees_of (N.named names.now)) }
     requires within { number.0 < end.0 }
-    requires room { HasPartRoom depth end }
+    requires room { HasRoomWithin 1 depth end }
     ensures { Writes result page.new (put_lines (text.line depth text.otherwise_words ++ ((statement_at (N.named names.now) (N.value names.now) number).inner (suc depth) ++ text.closed depth)) page.old) }
 {
     write_otherwise(page, depth)?;
@@ -218,17 +258,17 @@ fn write_else<N: StatementNames>(
     requires ready { N.is_ready names.now }
     requires known { end.0 < length (trees_of (N.named names.now)) }
     requires earlier { AreTreesBelow end.0 parts.now }
-    requires room { HasPartRoom depth end }
+    requires room { HasRoomWithin 1 depth end }
     ensures { Writes result page.new (put_lines (text.else_lines depth (slice_get (statements_at (N.named names.now) (N.value names.now) parts.now) 2)) page.old) }
 {
-    match child(parts, 2) {
+    match child(parts, 2, end) {
         Some(number) => write_otherwise_part(alloc, names, page, depth, number, end),
         None => write_close_brace(page, depth),
     }
 }
 
 #[cycle(statements)]
-#[tactic(auto, using(crate::proofs::Lining::lines_append))]
+#[tactic(auto, using(crate::proofs::Lining::lines_append, crate::proofs::Lining::lines_more))]
 fn write_branches<N: StatementNames>(
     alloc: Global,
     names: &N,
@@ -240,7 +280,7 @@ fn write_branches<N: StatementNames>(
     requires ready { N.is_ready names.now }
     requires known { end.0 < length (trees_of (N.named names.now)) }
     requires earlier { AreTreesBelow end.0 parts.now }
-    requires room { HasPartRoom depth end }
+    requires room { HasRoomWithin 1 depth end }
     ensures { Writes result page.new (put_lines ((text.part (statements_at (N.named names.now) (N.value names.now) parts.now) 1).inner (suc depth) ++ text.else_lines depth (slice_get (statements_at (N.named names.now) (N.value names.now) parts.now) 2)) page.old) }
 {
     write_part(alloc, names, page, depth + 1, parts, 1, end)?;
@@ -248,7 +288,7 @@ fn write_branches<N: StatementNames>(
 }
 
 #[cycle(statements)]
-#[tactic(auto, using(crate::proofs::Lining::lines_append))]
+#[tactic(auto, using(crate::proofs::Lining::lines_append, crate::proofs::Lining::lines_more))]
 fn write_if<N: StatementNames>(
     alloc: Global,
     names: &N,
@@ -260,7 +300,7 @@ fn write_if<N: StatementNames>(
     requires ready { N.is_ready names.now }
     requires known { end.0 < length (trees_of (N.named names.now)) }
     requires earlier { AreTreesBelow end.0 parts.now }
-    requires room { HasPartRoom depth end }
+    requires room { HasRoomWithin 1 depth end }
     ensures { Writes result page.new (put_lines (text.if_lines (scene_of (N.named names.now) (N.value names.now)) (parts_in (N.named names.now).held parts.now) (statements_at (N.named names.now) (N.value names.now) parts.now) depth) page.old) }
 {
     write_declared_lines(alloc, names, page, depth, parts, end)?;
@@ -269,7 +309,7 @@ fn write_if<N: StatementNames>(
 }
 
 #[cycle(statements)]
-#[tactic(auto, using(crate::proofs::Lining::lines_append))]
+#[tactic(auto, using(crate::proofs::Lining::lines_append, crate::proofs::Lining::lines_more))]
 fn write_switch<N: StatementNames>(
     alloc: Global,
     names: &N,
@@ -281,7 +321,7 @@ fn write_switch<N: StatementNames>(
     requires ready { N.is_ready names.now }
     requires known { end.0 < length (trees_of (N.named names.now)) }
     requires earlier { AreTreesBelow end.0 parts.now }
-    requires room { HasPartRoom depth end }
+    requires room { HasRoomWithin 1 depth end }
     ensures { Writes result page.new (put_lines (text.switch_lines (scene_of (N.named names.now) (N.value names.now)) (parts_in (N.named names.now).held parts.now) (statements_at (N.named names.now) (N.value names.now) parts.now) depth) page.old) }
 {
     write_declared_lines(alloc, names, page, depth, parts, end)?;
@@ -292,9 +332,9 @@ fn write_switch<N: StatementNames>(
 // ---- iteration (6.5)
 
 // Writes a `break` in braces that are open.
-#[tactic(auto, using(crate::proofs::Lining::lines_append))]
+#[tactic(auto, using(crate::proofs::Lining::lines_append, crate::proofs::Lining::lines_more))]
 fn write_left(page: &mut Page, depth: u64) -> Result<(), PlainFault>
-    requires { depth < 9223372036854775808 + 16 }
+    requires { depth < 9223372036854775808 + 2 }
     ensures { Writes result page.new (put_lines (text.line (suc depth) text.break_words ++ text.closed depth) page.old) }
 {
     write_two_words_line(page, depth + 1, b"break", Role::Follows, b";")?;
@@ -303,7 +343,7 @@ fn write_left(page: &mut Page, depth: u64) -> Result<(), PlainFault>
 
 // Writes what a loop does in each round behind the declaration in its condition.
 #[cycle(statements)]
-#[tactic(auto, using(crate::proofs::Lining::lines_append))]
+#[tactic(auto, using(crate::proofs::Lining::lines_append, crate::proofs::Lining::lines_more))]
 fn write_rest<N: StatementNames>(
     alloc: Global,
     names: &N,
@@ -318,7 +358,7 @@ fn write_rest<N: StatementNames>(
     requires known { end.0 < length (trees_of (N.named names.now)) }
     requires earlier { AreTreesBelow end.0 parts.now }
     requires condition { AreTreesBelow end.0 condition.now }
-    requires room { HasPartRoom depth end }
+    requires room { HasRoomWithin 2 depth end }
     ensures { Writes result page.new (put_lines (text.line depth (text.head_words (codes "if") (prefix_word (codes "!") ∷ text.converted_words (scene_of (N.named names.now) (N.value names.now)) (parts_in (N.named names.now).held condition.now))) ++ ((text.line (suc depth) text.break_words ++ text.closed depth) ++ text.braced (text.part (statements_at (N.named names.now) (N.value names.now) parts.now) index) depth)) page.old) }
 {
     write_unless(alloc, names, page, depth, condition, end)?;
@@ -327,7 +367,7 @@ fn write_rest<N: StatementNames>(
 }
 
 #[cycle(statements)]
-#[tactic(auto, using(crate::proofs::Lining::lines_append))]
+#[tactic(auto, using(crate::proofs::Lining::lines_append, crate::proofs::Lining::lines_more))]
 fn write_declared_round<N: StatementNames>(
     alloc: Global,
     names: &N,
@@ -344,7 +384,7 @@ fn write_declared_round<N: StatementNames>(
     requires earlier { AreTreesBelow end.0 parts.now }
     requires condition { AreTreesBelow end.0 condition.now }
     requires declaration { declaration.0 < end.0 }
-    requires room { HasPartRoom depth end }
+    requires room { HasRoomWithin 2 depth end }
     ensures { Writes result page.new (put_lines (text.declaration_lines (scene_of (N.named names.now) (N.value names.now)) depth (children_at (N.named names.now).held declaration) ++ (text.line depth (text.head_words (codes "if") (prefix_word (codes "!") ∷ text.converted_words (scene_of (N.named names.now) (N.value names.now)) (parts_in (N.named names.now).held condition.now))) ++ ((text.line (suc depth) text.break_words ++ text.closed depth) ++ text.braced (text.part (statements_at (N.named names.now) (N.value names.now) parts.now) index) depth))) page.old) }
 {
     write_declaration_of(alloc, names, page, depth, declaration)?;
@@ -367,7 +407,7 @@ fn write_round<N: StatementNames>(
     requires known { end.0 < length (trees_of (N.named names.now)) }
     requires earlier { AreTreesBelow end.0 parts.now }
     requires condition { AreTreesBelow end.0 condition.now }
-    requires room { HasPartRoom depth end }
+    requires room { HasRoomWithin 2 depth end }
     ensures { Writes result page.new (put_lines (text.round_lines (scene_of (N.named names.now) (N.value names.now)) (parts_in (N.named names.now).held condition.now) (text.declared_in (parts_in (N.named names.now).held condition.now)) (text.part (statements_at (N.named names.now) (N.value names.now) parts.now) index) depth) page.old) }
 {
     match declared(names.state(), condition, end) {
@@ -387,7 +427,7 @@ fn write_round<N: StatementNames>(
 }
 
 #[cycle(statements)]
-#[tactic(auto, using(crate::proofs::Lining::lines_append))]
+#[tactic(auto, using(crate::proofs::Lining::lines_append, crate::proofs::Lining::lines_more))]
 fn write_rounds<N: StatementNames>(
     alloc: Global,
     names: &N,
@@ -402,7 +442,7 @@ fn write_rounds<N: StatementNames>(
     requires known { end.0 < length (trees_of (N.named names.now)) }
     requires earlier { AreTreesBelow end.0 parts.now }
     requires condition { AreTreesBelow end.0 condition.now }
-    requires room { HasPartRoom depth end }
+    requires room { HasRoomWithin 1 depth end }
     ensures { Writes result page.new (put_lines (text.round_lines (scene_of (N.named names.now) (N.value names.now)) (parts_in (N.named names.now).held condition.now) (text.declared_in (parts_in (N.named names.now).held condition.now)) (text.part (statements_at (N.named names.now) (N.value names.now) parts.now) index) (suc depth) ++ text.closed depth) page.old) }
 {
     write_round(alloc, names, page, depth + 1, parts, condition, index, end)?;
@@ -410,7 +450,7 @@ fn write_rounds<N: StatementNames>(
 }
 
 #[cycle(statements)]
-#[tactic(auto, using(crate::proofs::Lining::lines_append))]
+#[tactic(auto, using(crate::proofs::Lining::lines_append, crate::proofs::Lining::lines_more))]
 fn write_while<N: StatementNames>(
     alloc: Global,
     names: &N,
@@ -422,7 +462,7 @@ fn write_while<N: StatementNames>(
     requires ready { N.is_ready names.now }
     requires known { end.0 < length (trees_of (N.named names.now)) }
     requires earlier { AreTreesBelow end.0 parts.now }
-    requires room { HasPartRoom depth end }
+    requires room { HasRoomWithin 1 depth end }
     ensures { Writes result page.new (put_lines (text.while_lines (scene_of (N.named names.now) (N.value names.now)) (parts_in (N.named names.now).held parts.now) (statements_at (N.named names.now) (N.value names.now) parts.now) depth) page.old) }
 {
     write_while_head(names, page, depth, parts, end)?;
@@ -430,7 +470,7 @@ fn write_while<N: StatementNames>(
 }
 
 #[cycle(statements)]
-#[tactic(auto, using(crate::proofs::Lining::lines_append))]
+#[tactic(auto, using(crate::proofs::Lining::lines_append, crate::proofs::Lining::lines_more))]
 fn write_do<N: StatementNames>(
     alloc: Global,
     names: &N,
@@ -442,7 +482,7 @@ fn write_do<N: StatementNames>(
     requires ready { N.is_ready names.now }
     requires known { end.0 < length (trees_of (N.named names.now)) }
     requires earlier { AreTreesBelow end.0 parts.now }
-    requires room { HasPartRoom depth end }
+    requires room { HasRoomWithin 1 depth end }
     ensures { Writes result page.new (put_lines (text.do_lines (scene_of (N.named names.now) (N.value names.now)) (parts_in (N.named names.now).held parts.now) (statements_at (N.named names.now) (N.value names.now) parts.now) depth) page.old) }
 {
     write_two_words_line(page, depth, b"do", Role::Alone, b"{")?;
@@ -463,14 +503,14 @@ fn write_for_rounds<N: StatementNames>(
     requires ready { N.is_ready names.now }
     requires known { end.0 < length (trees_of (N.named names.now)) }
     requires earlier { AreTreesBelow end.0 parts.now }
-    requires room { HasPartRoom depth end }
+    requires room { HasRoomWithin 1 depth end }
     ensures { Writes result page.new (put_lines (text.round_lines (scene_of (N.named names.now) (N.value names.now)) (text.after (parts_in (N.named names.now).held parts.now)) (text.declared_in (text.after (parts_in (N.named names.now).held parts.now))) (text.part (statements_at (N.named names.now) (N.value names.now) parts.now) 3) (suc depth) ++ text.closed depth) page.old) }
 {
-    write_rounds(alloc, names, page, depth, parts, after(parts), 3, end)
+    write_rounds(alloc, names, page, depth, parts, after(parts, end), 3, end)
 }
 
 #[cycle(statements)]
-#[tactic(auto, using(crate::proofs::Lining::lines_append))]
+#[tactic(auto, using(crate::proofs::Lining::lines_append, crate::proofs::Lining::lines_more))]
 fn write_for<N: StatementNames>(
     alloc: Global,
     names: &N,
@@ -482,7 +522,7 @@ fn write_for<N: StatementNames>(
     requires ready { N.is_ready names.now }
     requires known { end.0 < length (trees_of (N.named names.now)) }
     requires earlier { AreTreesBelow end.0 parts.now }
-    requires room { HasPartRoom depth end }
+    requires room { HasRoomWithin 1 depth end }
     ensures { Writes result page.new (put_lines (text.for_lines (scene_of (N.named names.now) (N.value names.now)) (parts_in (N.named names.now).held parts.now) (statements_at (N.named names.now) (N.value names.now) parts.now) depth) page.old) }
 {
     write_several(alloc, names, page, depth, parts, end)?;
@@ -506,7 +546,7 @@ fn write_labels<N: StatementNames>(
     requires ready { N.is_ready names.now }
     requires known { end.0 < length (trees_of (N.named names.now)) }
     requires earlier { AreTreesBelow end.0 parts.now }
-    requires room { HasPartRoom depth end }
+    requires room { HasRoomWithin 1 depth end }
     ensures { Writes result page.new (put_lines (text.label_lines (scene_of (N.named names.now) (N.value names.now)) keyword.now (parts_in (N.named names.now).held parts.now) (statements_at (N.named names.now) (N.value names.now) parts.now) depth) page.old) }
 {
     match keyword {
@@ -528,7 +568,7 @@ fn write_form<N: StatementNames>(
 ) -> Result<(), PlainFault>
     requires ready { N.is_ready names.now }
     requires known { number.0 < length (trees_of (N.named names.now)) }
-    requires room { HasRoom depth number }
+    requires room { HasRoomWithin 1 depth number }
     requires earlier { AreTreesBelow number.0 node.now.children }
     ensures { Writes result page.new (put_lines (inner_in (N.named names.now) (N.value names.now) form node.now depth) page.old) }
 {
@@ -560,16 +600,24 @@ pub(crate) fn write_inner<N: StatementNames>(
 ) -> Result<(), PlainFault>
     requires ready { N.is_ready names.now }
     requires known { number.0 < length (trees_of (N.named names.now)) }
-    requires room { HasRoom depth number }
+    requires room { HasRoomWithin 1 depth number }
     ensures { Writes result page.new (put_lines ((statement_at (N.named names.now) (N.value names.now) number).inner depth) page.old) }
 {
     let node = names.state().node(number);
-    write_form(alloc, names, page, depth, form_of(node.production), node, number)
+    write_form(
+        alloc,
+        names,
+        page,
+        depth,
+        form_of(node.production),
+        node,
+        number,
+    )
 }
 
 // Writes a statement in braces.
 #[cycle(statements)]
-#[tactic(auto, using(crate::proofs::Lining::lines_append))]
+#[tactic(auto, using(crate::proofs::Lining::lines_append, crate::proofs::Lining::lines_more))]
 fn write_block<N: StatementNames>(
     alloc: Global,
     names: &N,
@@ -601,7 +649,9 @@ pub(crate) fn write_lines<N: StatementNames>(
     requires room { HasRoom depth number }
     ensures { Writes result page.new (put_lines (lines_at (N.named names.now) (N.value names.now) depth number) page.old) }
 {
-    if is_block(names.state(), alloc, number)? {
+    let held = names.state();
+    let is_one = is_block(held, alloc, number)?;
+    if is_one {
         return write_block(alloc, names, page, depth, number);
     }
     write_inner(alloc, names, page, depth, number)

@@ -7,7 +7,7 @@ use Rattle.cxx_statement_text.specs.Written.{scene_of}
 use Rattle.cxx_statement_text.proofs.heads.write_do_end.Goals as goal
 
 pub write_do_line-requires-clause-earlier : goal.write_do_line-requires-clause-earlier
-write_do_line-requires-clause-earlier g c = c.after.ensures.below c.args.end.0 c.requires.earlier
+write_do_line-requires-clause-earlier g c = c.after.ensures.below
 
 pub returns : goal.returns
 returns g c =

@@ -7,7 +7,7 @@ use Rattle.cxx_statement_text.specs.Written.{scene_of}
 use Rattle.cxx_statement_text.proofs.heads.write_step_after.Goals as goal
 
 pub write_step-requires-clause-earlier : goal.write_step-requires-clause-earlier
-write_step-requires-clause-earlier g c = c.after.ensures.below c.args.end.0 c.requires.earlier
+write_step-requires-clause-earlier g c = c.after.ensures.below
 
 pub returns : goal.returns
 returns g c =

@@ -5,11 +5,17 @@ use Rattle.cxx_page.specs.Sheets.{put_lines}
 use Rattle.cxx_statement_text.specs.Written.{lines_at, lines_or_empty_at}
 use Rattle.cxx_statement_text.proofs.statements.+statements.Given as goal
 
+abbrev pub decreases-write_next : goal.decreases-write_next
+decreases-write_next g l = 16 * l.end.0
+
+abbrev pub decreases-write_behind : goal.decreases-write_behind
+decreases-write_behind g l = 16 * l.end.0
+
 abbrev pub decreases-write_all : goal.decreases-write_all
-decreases-write_all g l = 16 * l.end.0
+decreases-write_all g l = 16 * l.end.0 + 1
 
 abbrev pub decreases-write_each : goal.decreases-write_each
-decreases-write_each g l = 16 * l.end.0
+decreases-write_each g l = 16 * l.end.0 + 1
 
 abbrev pub decreases-write_found : goal.decreases-write_found
 decreases-write_found g l = 16 * l.end.0
@@ -24,7 +30,7 @@ abbrev pub decreases-write_else : goal.decreases-write_else
 decreases-write_else g l = 16 * l.end.0 + 1
 
 abbrev pub decreases-write_labels : goal.decreases-write_labels
-decreases-write_labels g l = 16 * l.end.0 + 1
+decreases-write_labels g l = 16 * l.end.0 + 2
 
 abbrev pub decreases-write_braced : goal.decreases-write_braced
 decreases-write_braced g l = 16 * l.end.0 + 2

@@ -1,0 +1,17 @@
+use Rattle.std.proofs.Common.{subst, Option, ◌≡◌, Some}
+use Rattle.cxx_page.specs.Sheets.{put, put_lines, Writes}
+use Rattle.cxx_reading.specs.Trees.{CxxTrees}
+use Rattle.cxx_statement_text.specs.Statements.{clause_words, unless_declared}
+use Rattle.cxx_statement_text.specs.Written.{parts_in, scene_of}
+use Rattle.cxx_statement_text.proofs.Conditional.{a_declared, no_declared}
+use Rattle.cxx_statement_text.proofs.heads.write_clause_condition.Goals as goal
+
+pub returns-in-Some : goal.returns-in-Some
+returns-in-Some g c =
+    subst (λ (o : Option CxxTrees). Writes c.word.result c.word.new.self (put (unless_declared (clause_words (scene_of (g.N.Names.named c.args.names.now) (g.N.StatementNames.value c.args.names.now)) (parts_in (g.N.Names.named c.args.names.now).held c.args.parts.now)) o) c.args.page.now))
+    (a_declared (g.N.Names.named c.args.names.now) (g.N.StatementNames.value c.args.names.now) c.state.result.now c.args.parts.now c.declared.result _ c.state.ensures c.declared.ensures.is c.in-Some.is) c.word.ensures
+
+pub returns-in-None : goal.returns-in-None
+returns-in-None g c =
+    subst (λ (o : Option CxxTrees). Writes c.write_clause.result c.write_clause.new.page (put (unless_declared (clause_words (scene_of (g.N.Names.named c.args.names.now) (g.N.StatementNames.value c.args.names.now)) (parts_in (g.N.Names.named c.args.names.now).held c.args.parts.now)) o) c.args.page.now))
+    (no_declared (g.N.Names.named c.args.names.now) (g.N.StatementNames.value c.args.names.now) c.state.result.now c.args.parts.now c.declared.result c.state.ensures c.declared.ensures.is c.in-None.is) c.write_clause.ensures
