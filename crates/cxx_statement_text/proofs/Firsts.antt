@@ -1,5 +1,5 @@
 -- What is written of the tree that stands first.
-use Rattle.std.proofs.Common.{◌≡◌, ◌<◌, ◌≤◌, ℕ, ℤ, Bool, true, false, eqb, List, [], ◌∷◌, length, get_or, Some, refl, ap, sym, ◌∙◌, arith}
+use Rattle.std.proofs.Common.{◌≡◌, ◌<◌, ◌≤◌, ℤ, Bool, false, eqb, List, [], ◌∷◌, length, get_or, Some, refl, ap, sym, ◌∙◌, arith}
 use Rattle.cxx_model.specs.declared.tree.Node.{Node}
 use Rattle.cxx_model.specs.declared.types.TreeId.{TreeId}
 use Rattle.cxx_page.specs.Sheets.{put, Sheet}
@@ -10,9 +10,9 @@ use Rattle.cxx_reading.specs.Trees.{CxxTree, CxxTrees}
 use Rattle.cxx_reading.specs.Words.{Word}
 use Rattle.cxx_tree.specs.Arena.{tree_in, tree_over, trees_in}
 use Rattle.cxx_tree.specs.Held.{Held, tree, trees}
-use Rattle.cxx_statement_text.specs.Objects.{Scene, first_name, name_of}
+use Rattle.cxx_statement_text.specs.Objects.{Scene, first_name}
 use Rattle.cxx_statement_text.specs.Statements.{clause_words, constant_words, converted_words, expression_words, first_words, one_object}
-use Rattle.cxx_statement_text.specs.Written.{children_at, parts_in, scene_of}
+use Rattle.cxx_statement_text.specs.Written.{parts_in, scene_of}
 use Rattle.cxx_statement_text.proofs.Printing.{not_it}
 use Rattle.cxx_statement_text.proofs.Trees.{none_first}
 

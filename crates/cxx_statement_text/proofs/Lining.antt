@@ -2,8 +2,8 @@
 use Rattle.std.proofs.Common.{◌≡◌, ◌<◌, ◌≤◌, ◌+◌, ℕ, List, [], ◌∷◌, ◌++◌, length, drop, get_or, Option, Some, None, refl, sym, ap, ◌∙◌}
 use Rattle.std.specs.Prelude.{flat_map}
 use Rattle.std.proofs.lemmas.List.{at_drop_more, at_drop_all}
-use Rattle.cxx_page.specs.Sheets.{Sheet, and_then, line_ended, put, put_line, put_lines, put_word}
-use Rattle.cxx_page.proofs.Put.{put_append, put_more}
+use Rattle.cxx_page.specs.Sheets.{Sheet, and_then, line_ended, put, put_line, put_lines}
+use Rattle.cxx_page.proofs.Put.{put_append}
 use Rattle.cxx_reading.specs.Words.{Word}
 use Rattle.cxx_statement_text.specs.Statements.{Lines, indent, line}
 

@@ -1,20 +1,19 @@
 -- The declarators that print, one part after another.
-use Rattle.std.proofs.Common.{◌≡◌, ◌<◌, ◌≤◌, ◌+◌, ℕ, Bool, true, false, eqb, List, [], ◌∷◌, ◌++◌, length, drop, get_or, Option, Some, None, option_map, refl, ap, sym, subst, ◌∙◌, append-nil, append_assoc}
-use Rattle.std.specs.Prelude.{nat_eq, if◌then◌else◌}
+use Rattle.std.proofs.Common.{◌≡◌, ◌<◌, ◌+◌, ℕ, Bool, true, false, eqb, List, [], ◌∷◌, ◌++◌, length, drop, get_or, Some, None, option_map, refl, ap, sym, subst, ◌∙◌, append-nil, append_assoc}
 use Rattle.std.specs.List.{slice_get}
 use Rattle.std.proofs.lemmas.Bool.{eqb-true}
-use Rattle.std.proofs.lemmas.List.{at_drop_more, at_drop_all}
+use Rattle.std.proofs.lemmas.List.{at_drop_more}
 use Rattle.cxx_model.specs.declared.facts.Fact.{Fact}
 use Rattle.cxx_model.specs.declared.tree.Node.{Node}
 use Rattle.cxx_model.specs.declared.types.TreeId.{TreeId}
 use Rattle.cxx_model.specs.Facts.Declarations.{CxxFact, declares_at, fact_at}
 use Rattle.cxx_reading.specs.Trees.{CxxTree, CxxTrees, in_turn}
-use Rattle.cxx_tree.specs.Arena.{AreTreesBelow, tree_in, tree_over, trees_in}
+use Rattle.cxx_tree.specs.Arena.{AreTreesBelow, tree_over, trees_in}
 use Rattle.cxx_tree.specs.Held.{Held, tree, trees}
 use Rattle.cxx_tree.proofs.Arenas.{below_append, trees_append}
-use Rattle.cxx_statement_text.specs.Objects.{first_by, first_of_fact, if_printed, printed_in}
+use Rattle.cxx_statement_text.specs.Objects.{first_by, first_of_fact, printed_in}
 use Rattle.cxx_statement_text.specs.Statements.{first_objects}
-use Rattle.cxx_statement_text.specs.Written.{AddsTrees, AreTrees, children_at, facts_in, parts_in}
+use Rattle.cxx_statement_text.specs.Written.{AddsTrees, AreTrees, facts_in, parts_in}
 use Rattle.cxx_statement_text.proofs.Trees.{fact_is, none_first}
 
 -- ---- what is declared
@@ -33,12 +32,6 @@ one_added held number old new is within = record {
   below = λ all. subst (λ (ns : List TreeId). AreTreesBelow (length (trees held)) ns) (sym is) (below_append (length (trees held)) old (number ∷ []) all (within, tt));
 }
 
-pub none_added : (held : Held) (old : List TreeId) → AddsTrees held old old []
-none_added held old = record { is = sym (append-nil (trees_in (trees held) old)); below = λ all. all }
-
-pub adds_same : (held : Held) (old new : List TreeId) (one two : List CxxTree) → one ≡ two → AddsTrees held old new one → AddsTrees held old new two
-adds_same held old new one two same added = subst (λ (ts : List CxxTree). AddsTrees held old new ts) same added
-
 pub not_it : (n m : ℕ) → (n ≡ m → ⊥) → eqb n m ≡ false
 not_it n m other = by (eqb n m) refl
   where
@@ -46,53 +39,24 @@ not_it n m other = by (eqb n m) refl
     by true e = absurd (other (eqb-true n m e))
     by false e = e
 
--- ---- one tree
-
-of_declarator : (all : List CxxFact) (tree : CxxTree) → eqb tree.label.production 20 ≡ true → printed_in all (in_turn (tree ∷ [])) ≡ if_printed all tree
-of_declarator all tree e = rw e (append-nil (if_printed all tree))
-
-of_another : (all : List CxxFact) (tree : CxxTree) → eqb tree.label.production 20 ≡ false → printed_in all (in_turn (tree ∷ [])) ≡ printed_in all tree.children
-of_another all tree e = rw e (append-nil (printed_in all tree.children))
-
-pub declarator_is : (held : Held) (node : Node) (number : TreeId) → tree held number ≡ tree_over held.types (trees held) node → node.production ≡ 20 → if_printed (facts_in held) (tree held number) ≡ printed_in (facts_in held) (parts_in held (number ∷ []))
-declarator_is held node number is it = sym (of_declarator (facts_in held) (tree held number) (ap (λ (t : CxxTree). eqb t.label.production 20) is ∙ ap (λ n. eqb n 20) it))
-
-pub another_is : (held : Held) (node : Node) (number : TreeId) (children : List TreeId) → tree held number ≡ tree_over held.types (trees held) node → children ≡ node.children → (node.production ≡ 20 → ⊥) → printed_in (facts_in held) (parts_in held children) ≡ printed_in (facts_in held) (parts_in held (number ∷ []))
-another_is held node number children is are other =
-    ap (λ (ns : List TreeId). printed_in (facts_in held) (parts_in held ns)) are
-    ∙ ap (λ (t : CxxTree). printed_in (facts_in held) t.children) (sym is)
-    ∙ sym (of_another (facts_in held) (tree held number) (ap (λ (t : CxxTree). eqb t.label.production 20) is ∙ not_it node.production 20 other))
-
 -- ---- trees in turn
 
-cons_is : (all : List CxxFact) (tree : CxxTree) (rest : CxxTrees) (others : List CxxTree) → printed_in all (in_turn (tree ∷ others)) ≡ printed_in all (in_turn (tree ∷ [])) ++ printed_in all (in_turn others)
-cons_is all tree rest others = ap (λ (ts : List CxxTree). ts ++ printed_in all (in_turn others)) (sym (append-nil _))
+cons_is : (all : List CxxFact) (tree : CxxTree) (others : List CxxTree) → printed_in all (in_turn (tree ∷ others)) ≡ printed_in all (in_turn (tree ∷ [])) ++ printed_in all (in_turn others)
+cons_is all tree others = ap (λ (ts : List CxxTree). ts ++ printed_in all (in_turn others)) (sym (append-nil _))
 
 -- Those before an index were looked at, from the first list of trees on.
 pub record SoFar (held : Held) (first now left all : List TreeId) : Type 0 where
   pub is : trees_in (trees held) now ++ printed_in (facts_in held) (parts_in held left) ≡ trees_in (trees held) first ++ printed_in (facts_in held) (parts_in held all)
   pub below : AreTreesBelow (length (trees held)) first → AreTreesBelow (length (trees held)) now
 
-pub at_first : (held : Held) (first all : List TreeId) → SoFar held first first all all
-at_first held first all = record { is = refl; below = λ below. below }
-
 pub part_more : (held : Held) (first now new parts : List TreeId) (i : ℕ) (d : TreeId) → i < length parts → SoFar held first now (drop i parts) parts → AddsTrees held now new (printed_in (facts_in held) (parts_in held (get_or parts i d ∷ []))) → SoFar held first new (drop (i + 1) parts) parts
 part_more held first now new parts i d within so added =
     let left : List CxxTree = printed_in (facts_in held) (parts_in held (drop (i + 1) parts)) in
     let next : List CxxTree = printed_in (facts_in held) (parts_in held (get_or parts i d ∷ [])) in
     record {
-      is = ap (λ (ts : List CxxTree). ts ++ left) added.is ∙ append_assoc (trees_in (trees held) now) next left ∙ ap (λ (ts : List CxxTree). trees_in (trees held) now ++ ts) (sym (at_drop_more (λ (ns : List TreeId). printed_in (facts_in held) (parts_in held ns)) parts i d within ∙ cons_is (facts_in held) (tree held (get_or parts i d)) (parts_in held []) (trees_in (trees held) (drop (i + 1) parts)))) ∙ so.is;
+      is = ap (λ (ts : List CxxTree). ts ++ left) added.is ∙ append_assoc (trees_in (trees held) now) next left ∙ ap (λ (ts : List CxxTree). trees_in (trees held) now ++ ts) (sym (at_drop_more (λ (ns : List TreeId). printed_in (facts_in held) (parts_in held ns)) parts i d within ∙ cons_is (facts_in held) (tree held (get_or parts i d)) (trees_in (trees held) (drop (i + 1) parts)))) ∙ so.is;
       below = λ below. added.below (so.below below);
     }
-
-pub parts_all : (held : Held) (first now parts : List TreeId) (i : ℕ) → length parts ≤ i → SoFar held first now (drop i parts) parts → AddsTrees held first now (printed_in (facts_in held) (parts_in held parts))
-parts_all held first now parts i past so = record {
-  is = sym (append-nil (trees_in (trees held) now)) ∙ ap (λ (ts : List CxxTree). trees_in (trees held) now ++ ts) (sym (at_drop_all (λ (ns : List TreeId). printed_in (facts_in held) (parts_in held ns)) parts i past)) ∙ so.is;
-  below = so.below;
-}
-
-pub all_added : (held : Held) (new : List TreeId) (wanted : List CxxTree) → AddsTrees held [] new wanted → AreTrees held new wanted
-all_added held new wanted added = record { is = added.is; below = added.below tt }
 
 -- ---- the objects of the first part of a `for`
 

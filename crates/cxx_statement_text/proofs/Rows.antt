@@ -8,10 +8,9 @@ use Rattle.cxx_model.specs.declared.types.FactId.{FactId}
 use Rattle.cxx_model.specs.Facts.Declarations as facts
 use Rattle.cxx_model.specs.Facts.Declarations.{CxxFact, Declares, spelled}
 use Rattle.cxx_model.specs.Text.Lexemes.{nowhere}
-use Rattle.cxx_model.specs.Types.Trees.{CxxType, fundamental, enumeration, pointer_to, array_of, function_of, qualified, no_types, type_then, number_bound}
+use Rattle.cxx_model.specs.Types.Trees.{CxxType, fundamental, pointer_to, array_of, function_of, qualified, no_types, type_then, number_bound}
 use Rattle.cxx_reading.specs.Declarators.{no_cv}
 use Rattle.cxx_reading.specs.Trees.{CxxTree, Label, tree_of}
-use Rattle.cxx_reading.specs.Words.{Tags}
 use Rattle.std.specs.Fmt.{digits}
 use Rattle.cxx_page.specs.Sheets.{text_of_lines}
 use Rattle.cxx_statement_text.specs.Objects.{Scene}

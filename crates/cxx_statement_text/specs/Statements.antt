@@ -3,7 +3,7 @@ use Rattle.std.specs.Prelude.{ℕ, zero, suc, Bool, true, false, if◌then◌els
 use Rattle.std.specs.List.{slice_get}
 use Rattle.cxx_model.specs.Facts.Declarations.{CxxFact}
 use Rattle.cxx_reading.specs.declared.role.Role.TheVariants as role
-use Rattle.cxx_reading.specs.Plain.{is_empty, type_or_void}
+use Rattle.cxx_reading.specs.Plain.{type_or_void}
 use Rattle.cxx_reading.specs.Productions as read
 use Rattle.cxx_reading.specs.Trees.{CxxTree, CxxTrees, no_trees, tree_then, Label}
 use Rattle.cxx_reading.specs.Words.{Word, keyword_word, open_word, close_word, semicolon_word, value_words}

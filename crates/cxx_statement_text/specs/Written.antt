@@ -1,12 +1,11 @@
 -- Statements by their numbers, part by part as they are written.
-use Rattle.std.specs.Prelude.{ℕ, ℤ, ◌≡◌, ◌<◌, ◌+◌, ◌*◌, Bool, List, ◌++◌, length, map, Option, Some, None}
+use Rattle.std.specs.Prelude.{ℕ, ℤ, ◌≡◌, ◌<◌, ◌+◌, ◌*◌, Bool, List, ◌++◌, length, map, Option}
 use Rattle.std.specs.Option.{option_map}
 use Rattle.cxx_model.specs.declared.tree.Node.{Node}
 use Rattle.cxx_model.specs.declared.types.FactId.{FactId}
 use Rattle.cxx_model.specs.declared.types.TreeId.{TreeId}
 use Rattle.cxx_model.specs.Facts.Declarations.{CxxFact, facts_at}
 use Rattle.cxx_reading.specs.Trees.{CxxTree, CxxTrees, in_turn}
-use Rattle.cxx_reading.specs.Words.{Word}
 use Rattle.cxx_tree.specs.Arena.{AreTreesBelow, label_at, tree_in, trees_in}
 use Rattle.cxx_tree.specs.Held.{Held, trees}
 use Rattle.cxx_phrase_text.specs.Named.{NamedState, trees_of}

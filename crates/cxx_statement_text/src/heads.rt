@@ -4,7 +4,7 @@ ghost use Rattle.cxx_page.specs.Sheets.{Writes, put, put_line, put_lines};
 ghost use Rattle.cxx_phrase_text.specs.Named.{trees_of};
 ghost use Rattle.cxx_phrase_text.specs.Phrases.{prefix_word};
 ghost use Rattle.cxx_reading.specs.Trees.{CxxTree};
-ghost use Rattle.cxx_reading.specs.Words.{close_word, keyword_word, open_word, semicolon_word};
+ghost use Rattle.cxx_reading.specs.Words.{close_word, open_word, semicolon_word};
 ghost use Rattle.cxx_tree.specs.Arena.{trees_in, AreTreesBelow};
 ghost use Rattle.cxx_tree.specs.Held.{trees};
 ghost use Rattle.cxx_statement_text.specs.Objects as objects;

@@ -1,7 +1,7 @@
 //! Lines at a depth of indentation.
-ghost use Rattle.std.specs.Prelude.{[], ◌∷◌, codes};
+ghost use Rattle.std.specs.Prelude.{[], ◌∷◌};
 ghost use Rattle.cxx_page.specs.Sheets.{Writes, put, put_line, put_lines, word_of};
-ghost use Rattle.cxx_reading.specs.Words.{close_word, keyword_word, open_word, semicolon_word};
+ghost use Rattle.cxx_reading.specs.Words.{close_word, keyword_word, open_word};
 ghost use Rattle.cxx_statement_text.specs.Statements as text;
 
 use cxx_page::{Page, PlainFault};

@@ -4,11 +4,9 @@ ghost use Rattle.std.specs.List.{slice_get};
 ghost use Rattle.cxx_page.specs.Sheets.{Writes, put_lines};
 ghost use Rattle.cxx_phrase_text.specs.Named.{trees_of};
 ghost use Rattle.cxx_phrase_text.specs.Phrases.{prefix_word};
-ghost use Rattle.cxx_reading.specs.Words.{keyword_word};
-ghost use Rattle.cxx_tree.specs.Arena.{tree_in, AreTreesBelow};
-ghost use Rattle.cxx_tree.specs.Held.{trees};
+ghost use Rattle.cxx_tree.specs.Arena.{AreTreesBelow};
 ghost use Rattle.cxx_statement_text.specs.Statements as text;
-ghost use Rattle.cxx_statement_text.specs.Written.{children_at, facts_in, inner_in, lines_at, lines_or_empty_at, parts_in, scene_of, statement_at, statement_found, statements_at, HasRoom, HasRoomWithin};
+ghost use Rattle.cxx_statement_text.specs.Written.{children_at, inner_in, lines_at, lines_or_empty_at, parts_in, scene_of, statement_at, statement_found, statements_at, HasRoom, HasRoomWithin};
 
 use crate::conditions::{
     after, declared, write_declaration_of, write_declared_lines, write_expression_line,
@@ -23,7 +21,7 @@ use crate::lines::{
     write_close_brace, write_empty, write_open_brace, write_otherwise, write_two_words_line,
 };
 use crate::names::StatementNames;
-use crate::objects::{printed, write_declaration};
+use crate::objects::write_declaration;
 use crate::standing::{child, is_block, is_nothing};
 use cxx_model::{Node, TreeId};
 use cxx_page::{Page, PlainFault};

@@ -1,5 +1,5 @@
-use Rattle.std.proofs.Common.{subst, Option, ◌≡◌, Some}
-use Rattle.cxx_page.specs.Sheets.{put, put_lines, Writes}
+use Rattle.std.proofs.Common.{subst, Option}
+use Rattle.cxx_page.specs.Sheets.{put, Writes}
 use Rattle.cxx_reading.specs.Trees.{CxxTrees}
 use Rattle.cxx_statement_text.specs.Statements.{condition_by}
 use Rattle.cxx_statement_text.specs.Written.{parts_in, scene_of}

@@ -1,8 +1,8 @@
 use Rattle.std.proofs.Common.{subst, Option, ◌≡◌, Some}
-use Rattle.cxx_page.specs.Sheets.{put, put_lines, Writes}
+use Rattle.cxx_page.specs.Sheets.{put_lines, Writes}
 use Rattle.cxx_reading.specs.Trees.{CxxTrees}
 use Rattle.cxx_statement_text.specs.Statements.{declared_lines}
-use Rattle.cxx_statement_text.specs.Written.{parts_in, scene_of}
+use Rattle.cxx_statement_text.specs.Written.{scene_of}
 use Rattle.cxx_statement_text.proofs.Conditional.{a_declared, no_declared}
 use Rattle.cxx_statement_text.proofs.Lining.{lines_none}
 use Rattle.cxx_statement_text.proofs.conditions.write_declared_lines.Goals as goal

@@ -1,7 +1,6 @@
-use Rattle.std.proofs.Common.{subst, ◌∷◌, ◌++◌, []}
-use Rattle.cxx_page.specs.Sheets.{put_line, put_lines, Writes}
+use Rattle.std.proofs.Common.{subst}
+use Rattle.cxx_page.specs.Sheets.{put_lines, Writes}
 use Rattle.cxx_reading.specs.Trees.{CxxTrees}
-use Rattle.cxx_reading.specs.Words.{close_word, semicolon_word}
 use Rattle.cxx_statement_text.specs.Statements.{do_end, expression_words, line}
 use Rattle.cxx_statement_text.specs.Written.{scene_of}
 use Rattle.cxx_statement_text.proofs.heads.write_do_end.Goals as goal

@@ -1,5 +1,5 @@
 use Rattle.std.proofs.Common.{subst, ◌∷◌, ◌++◌, []}
-use Rattle.cxx_page.specs.Sheets.{put_line, put_lines, Writes}
+use Rattle.cxx_page.specs.Sheets.{put_line, Writes}
 use Rattle.cxx_reading.specs.Trees.{CxxTrees}
 use Rattle.cxx_reading.specs.Words.{close_word, semicolon_word}
 use Rattle.cxx_statement_text.specs.Statements.{after, clause_words, declared_in, open_brace, unless_declared}

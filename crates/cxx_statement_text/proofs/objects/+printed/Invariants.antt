@@ -1,5 +1,4 @@
 use Rattle.std.proofs.Common.{◌+◌, ◌*◌, drop}
-use Rattle.cxx_statement_text.specs.Written.{facts_in, parts_in}
 use Rattle.cxx_statement_text.proofs.Printing.{SoFar}
 use Rattle.cxx_statement_text.proofs.objects.+printed.Given as goal
 

@@ -1,10 +1,8 @@
 use Rattle.std.proofs.Common.{length, subst, sym, List}
-use Rattle.cxx_page.specs.Sheets.{put, Writes}
 use Rattle.cxx_phrase_text.specs.Named.{trees_of}
-use Rattle.cxx_reading.specs.Words.{Word}
 use Rattle.cxx_tree.specs.Arena.{AreTreesBelow}
 use Rattle.cxx_model.specs.declared.types.TreeId.{TreeId}
-use Rattle.cxx_statement_text.proofs.Declaring.{earlier_below, object_is}
+use Rattle.cxx_statement_text.proofs.Declaring.{earlier_below}
 use Rattle.cxx_statement_text.proofs.objects.write_node.Goals as goal
 
 pub write_initialized-requires-clause-below : goal.write_initialized-requires-clause-below

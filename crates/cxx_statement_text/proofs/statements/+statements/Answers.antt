@@ -1,4 +1,4 @@
-use Rattle.std.proofs.Common.{◌≡◌, ◌++◌, suc, rules, get_or, subst, Option}
+use Rattle.std.proofs.Common.{◌++◌, suc, rules, get_or, subst, Option}
 use Rattle.std.specs.Prelude.{flat_map}
 use Rattle.cxx_model.specs.declared.types.TreeId.{TreeId}
 use Rattle.cxx_page.specs.Sheets.{put_lines, Sheet, Writes}
