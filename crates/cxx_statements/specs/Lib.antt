@@ -1,0 +1,6 @@
+-- How statements are read.
+pub mod Productions
+pub mod Statements
+pub mod Views
+pub mod Making
+pub mod Knot
