@@ -1,7 +1,6 @@
 //! How a statement begins: a declaration is told from an expression (6.8), in a condition too (6.4).
 #![tactic(auto)]
 
-mod brackets;
 mod conditions;
 mod head;
 mod heads;

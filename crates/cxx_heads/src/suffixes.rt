@@ -7,11 +7,10 @@ ghost use Rattle.cxx_syntax.specs.Reading.{IsRead, Takes};
 ghost use Rattle.cxx_syntax.specs.Views.{turn_at};
 ghost use Rattle.cxx_tree.specs.Held.{meaning};
 
-use crate::brackets::brackets_passed;
 use crate::names::is_cv_word;
 use crate::shape::Shape;
 use cxx_model::{Stop, TokenKind, keyword, punct};
-use cxx_syntax::{Cursor, Kinds, Nested, Reader, Turn, is_keyword, is_punct};
+use cxx_syntax::{Cursor, Kinds, Nested, Reader, Turn, is_keyword, is_punct, brackets_passed};
 use cxx_tree::State;
 
 // Brackets, behind which cv words may stand or not.

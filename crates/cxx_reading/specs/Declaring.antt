@@ -188,6 +188,53 @@ enter_parameters state = do
 unfoldable pub leave_parameters : Asks CxxState (Unit {0})
 leave_parameters state = Ok (tt, at_scope (parent_of state.graph state.here.scope) state)
 
+-- ---- blocks (3.3.2)
+
+-- a block in the scope where the reader stands; that of a body is of a declaration of its function
+abbrev pub block_scope : Option FactId → CxxState → CxxFact
+block_scope function state = record {
+  place = place_of_scope state.graph state.here.scope;
+  scope = state.here.scope;
+  name = unnamed;
+  access = Public;
+  what = facts.scope (Some (record { 0 = state.here.scope })) (scope_kind.Block function);
+}
+
+abbrev pub entered_block : ℕ → ℕ × CxxState → Unit {0} × CxxState
+entered_block scope answer = (tt, at_scope scope answer.1)
+
+unfoldable pub enter_block : Option FactId → Asks CxxState (Unit {0})
+enter_block function state = do
+  answer ← added (block_scope function state) state
+  Ok (entered_block (scope_count state.graph) answer)
+
+unfoldable pub leave_block : Asks CxxState (Unit {0})
+leave_block state = Ok (tt, at_scope (parent_of state.graph state.here.scope) state)
+
+-- ---- bodies (8.4)
+
+-- 6.6.3: what the function returns whose body is read
+abbrev pub with_result : Option CxxType → CxxState → CxxState
+with_result of state = record state { here = record state.here { result = of } }
+
+-- a body begins in the scope of the parameters of its function, by its declaration
+unfoldable pub begin_body : ℕ → ℕ → CxxType → Asks CxxState (Unit {0})
+begin_body list number result state = enter_block (Some (number_id number)) (at_scope list (with_result (Some result) state))
+
+-- behind it the reader stands in a scope again
+unfoldable pub end_body : ℕ → Asks CxxState (Unit {0})
+end_body scope state = Ok (tt, at_scope scope (with_result None state))
+
+-- ---- conditions (6.4, 6.5.3)
+
+abbrev pub with_tested : Option ℕ → CxxState → CxxState
+with_tested number state = record state { tested = number }
+
+abbrev pub within_step : Bool → CxxState → CxxState
+within_step inside state = record state { in_step = inside }
+
+-- ---- parameters that are declared
+
 abbrev pub parameter_object : CxxType → Declares
 parameter_object of = facts.object of member.Free false None None
 

@@ -35,17 +35,20 @@ storage_word n =
     if n == keyword.TYPEDEF then Some storage.Typedef else
     None))))
 
--- 7.1.1: which of these words may stand among the specifiers of a declaration of a namespace, and of a parameter
+-- 7.1.1: which of these words may stand among the specifiers of a declaration of a namespace, of one in a block, and of a
+-- parameter
 abbrev pub may_store : SpecifierPlace → StorageWord → Bool
 may_store where_.Declaration storage.Extern = true
 may_store where_.Declaration storage.Static = true
 may_store where_.Declaration storage.Typedef = true
+may_store where_.Block word = true
 may_store where_.Parameter storage.Auto = true
 may_store where_.Parameter storage.Register = true
 may_store _ _ = false
 
 abbrev pub is_declaration : SpecifierPlace → Bool
 is_declaration where_.Declaration = true
+is_declaration where_.Block = true
 is_declaration _ = false
 
 abbrev pub is_some_storage : Option StorageWord → Bool

@@ -63,6 +63,9 @@ pub record CxxState : Type 0 where
   -- those that were read in the part that is being read, and whether one is being read
   pub offered : List CxxOffered
   pub in_default : Bool
+  -- 6.4: the object that a condition declared last, and whether what a `for` does behind each turn is being read (6.5.3)
+  pub tested : Option ℕ
+  pub in_step : Bool
   pub calls : List CxxCall
   pub parts : List CxxPart
   -- the names that were bound in the part that is being read
@@ -86,6 +89,8 @@ first_state = record {
   given = [];
   offered = [];
   in_default = false;
+  tested = None;
+  in_step = false;
   calls = [];
   parts = [];
   uses = [];

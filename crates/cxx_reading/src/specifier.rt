@@ -45,6 +45,8 @@ pub enum StorageWord {
 pub enum SpecifierPlace {
     /// A declaration of a namespace.
     Declaration,
+    /// A declaration in a block.
+    Block,
     Parameter,
     TypeId,
 }

@@ -38,7 +38,7 @@ pub use nested::Nested;
 pub use nodes::{node_from, path_to, push};
 pub use parameters::specified;
 pub use reader::Reader;
-pub use shapes::{Fits, Outline, Run};
+pub use shapes::{Fits, Outline, Run, brackets_passed};
 pub use specifiers::Specifiers;
 pub use turn::Turn;
 pub use words::base_of_words;

@@ -82,9 +82,9 @@ fn bracket_step(cursor: &mut Cursor<'_>, count: u64) -> Result<Turn<u64, ()>, St
     Ok(Turn::More(count))
 }
 
-// From an opening bracket behind its end, or to the end of the unit.
+/// Passes what stands between brackets, whatever it is: from an opening one behind its end, or to the end of the unit.
 #[tactic(auto, using(crate::proofs::Loops::turn, crate::proofs::Loops::no_turn), unfolding(cxx_reading::specs::Shapes::brackets_passed))]
-fn brackets_passed(cursor: &mut Cursor<'_>) -> Result<(), Stop>
+pub fn brackets_passed(cursor: &mut Cursor<'_>) -> Result<(), Stop>
     ensures { Takes (λ x. x) cursor.new result (shape.brackets_passed tt cursor.old) }
 {
     let room = cursor.count();

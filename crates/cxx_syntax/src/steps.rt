@@ -35,6 +35,7 @@ fn may_store(place: SpecifierPlace, word: StorageWord) -> bool
             StorageWord::Typedef => true,
             _ => false,
         },
+        SpecifierPlace::Block => true,
         SpecifierPlace::Parameter => match word {
             StorageWord::Auto => true,
             StorageWord::Register => true,
@@ -69,6 +70,7 @@ fn is_declaration(place: SpecifierPlace) -> bool
 {
     match place {
         SpecifierPlace::Declaration => true,
+        SpecifierPlace::Block => true,
         _ => false,
     }
 }

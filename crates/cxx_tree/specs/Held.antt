@@ -8,8 +8,8 @@ use Rattle.cxx_model.specs.declared.types.FactId.{FactId}
 use Rattle.cxx_model.specs.declared.types.ScopeId.{ScopeId}
 use Rattle.cxx_model.specs.declared.types.TypeId.{TypeId}
 use Rattle.cxx_model.specs.declared.types.TreeId.{TreeId}
-use Rattle.cxx_model.specs.Facts.Declarations.{graph_at}
-use Rattle.cxx_model.specs.Facts.Fitted.{Fitted}
+use Rattle.cxx_model.specs.Facts.Declarations.{graph_at, type_of_option}
+use Rattle.cxx_model.specs.Facts.Fitted.{Fitted, IsTypeNumberBelow}
 use Rattle.cxx_model.specs.Facts.Graph.{Graph, scopes}
 use Rattle.cxx_model.specs.Facts.Here.{CxxHere}
 use Rattle.cxx_model.specs.Types.Trees.{CxxType}
@@ -36,6 +36,9 @@ pub record Held : Type 0 where
   pub fallbacks : List Fallback
   pub offers : List Offer
   pub in_default : Bool
+  pub result : Option TypeId
+  pub tested : Option FactId
+  pub in_step : Bool
   pub calls : List Decided
   pub pieces : List Piece
   pub uses : List Binding
@@ -107,17 +110,23 @@ enumeration_of_option (Some number) = Some number.0
 abbrev pub trees : Held → List CxxTree
 trees held = trees_of held.types held.nodes
 
-abbrev pub here_in : ScopeId → Option EnumId → CxxHere
-here_in scope enumeration = record at_unit { scope = scope.0; enumeration = enumeration_of_option enumeration }
+abbrev pub fact_of_option : Option FactId → Option ℕ
+fact_of_option None = None
+fact_of_option (Some number) = Some number.0
+
+abbrev pub here_in : List CxxType → ScopeId → Option EnumId → Option TypeId → CxxHere
+here_in types scope enumeration result = record at_unit { scope = scope.0; enumeration = enumeration_of_option enumeration; result = type_of_option types result }
 
 abbrev pub state_over : List CxxType → List CxxTree → Held → CxxState
 state_over types all held = record {
   graph = graph_at types held.graph;
-  here = here_in held.scope held.enumeration;
+  here = here_in types held.scope held.enumeration held.result;
   defined = numbers_at held.defined;
   given = fallbacks_at all held.fallbacks;
   offered = offers_at all held.offers;
   in_default = held.in_default;
+  tested = fact_of_option held.tested;
+  in_step = held.in_step;
   calls = calls_at types held.calls;
   parts = pieces_at all held.pieces;
   uses = uses_at held.uses;
@@ -175,3 +184,4 @@ pub record IsSound (held : Held) : Type 0 where
   pub pieces : ArePiecesBelow (length held.nodes) held.pieces
   pub calls : AreCallsBelow (length held.types) held.calls
   pub scope : held.scope.0 < scopes held.graph.facts
+  pub result : IsTypeNumberBelow (length held.types) held.result
