@@ -1,8 +1,13 @@
 -- The reading of a unit with expressions.
 pub mod Answers
+pub mod Asked
 pub mod Known
 pub mod Earlier
 pub mod Noting
 pub mod Parts
 pub mod Objects
+pub mod Declared
+pub mod Blocks
+pub mod Statements
+pub mod Bodies
 pub mod Units

@@ -1,76 +1,75 @@
--- The reading of a unit with expressions: its declarations in order (3.5, clause 7).
-use Rattle.std.specs.Prelude.{ℕ, zero, suc, Bool, true, false, if◌then◌else◌, List, [], ◌++◌}
+-- The reading of a unit with expressions: its declarations in order (3.5, clause Rattle.std.specs.Prelude.{ℕ, zero, suc, nat_eq, Bool, true, false, ◌||◌, if◌then◌else◌, List, [], ◌∷◌, ◌++◌, Option, Some, None}
+use Rattle.cxx_model.specs.declared.fault.FaultText.TheVariants as says
+use Rattle.cxx_model.specs.declared.fault.LeftOut.TheVariants as form
+use Rattle.cxx_model.specs.declared.keyword.TheConstants as keyword
 use Rattle.cxx_model.specs.declared.limits.TheConstants as limits
 use Rattle.cxx_model.specs.declared.options.Options.{Options}
 use Rattle.cxx_model.specs.declared.punct.TheConstants as punct
 use Rattle.cxx_model.specs.declared.stop.LimitKind.TheVariants.{Nesting}
 use Rattle.cxx_model.specs.Stops.{Answer}
 use Rattle.cxx_model.specs.Text.Lexemes.{Lexeme, first_place}
+use Rattle.cxx_model.specs.Types.Trees.{CxxType}
 use Rattle.cxx_reading.specs.declared.specifier.Naming.TheVariants as naming
 use Rattle.cxx_reading.specs.declared.specifier.SpecifierPlace.TheVariants as where_
 use Rattle.cxx_reading.specs.Declarators.{Specifiers, Declarator, declared_type, is_function_type, own_parameters}
-use Rattle.cxx_reading.specs.Declaring.{declare_object, define_object}
-use Rattle.cxx_reading.specs.Reads.{Reads, Ahead, Turn, More, Done, ◌>>=◌, got, give, ask, limited, looked, kind_ahead, count_ahead, behind, repeat}
+use Rattle.cxx_reading.specs.Labels.{label_from}
+use Rattle.cxx_reading.specs.Productions as production
+use Rattle.cxx_reading.specs.Reads.{Reads, Ahead, Turn, More, Done, ◌>>=◌, got, give, ask, fault_at, limited, looked, kind_ahead, place_ahead, count_ahead, behind, repeat}
 use Rattle.cxx_reading.specs.Specifiers.{specifiers_at}
 use Rattle.cxx_reading.specs.State.{CxxState, first_state}
 use Rattle.cxx_reading.specs.Syntax.{declarator_at}
-use Rattle.cxx_reading.specs.Tokens.{is_punct, is_end, no_declaration}
-use Rattle.cxx_reading.specs.Trees.{CxxTree}
-use Rattle.cxx_reading.specs.Units.{CxxReading, Said, Listed, read_as, part_added, specifiers_tree, declarator_tree, name_in, declared_fits, declared_synonym, function_ended, one_tree, declarator_ended, give_trees, no_declarators, nothing_declared, said_by, simple_tree, empty_tree, another_ahead, linkages_passed, linkage_list, linked_tree, inside_step}
-use Rattle.cxx_expr.specs.Questions.{Questions}
-use Rattle.cxx_phrases.specs.Phrases.{Phrases}
-use Rattle.cxx_answers.specs.Answers.{questions}
+use Rattle.cxx_reading.specs.Tokens.{is_punct, is_keyword, is_end, no_declaration, refused}
+use Rattle.cxx_reading.specs.Trees.{CxxTree, tree_of}
+use Rattle.cxx_reading.specs.Units.{CxxReading, Said, Listed, read_as, part_added, specifiers_tree, declarator_tree, name_in, declared_fits, declared_synonym, ends_declarator, one_tree, declarator_ended, with_declarator, give_trees, no_declarators, nothing_declared, said_by, empty_tree, another_ahead, linkages_passed, linkage_list, linked_tree, inside_step}
 use Rattle.cxx_declare.specs.Functions.{declare_function}
-use Rattle.cxx_language.specs.Answers.{asking}
-use Rattle.cxx_language.specs.Objects.{defined_part, extern_part}
-use Rattle.cxx_knot.specs.Readers.{Asking, Both, both, here}
-
--- ---- what is asked
-
-abbrev pub answers : Questions
-answers = questions
-
-abbrev pub asked : ℕ → Asking CxxState
-asked room = asking room
-
-abbrev pub inner_at : ℕ → Both CxxState
-inner_at room = both asked room
-
-abbrev pub phrases_at : ℕ → Phrases CxxState
-phrases_at room = here (asked room) (inner_at room) room
+use Rattle.cxx_statements.specs.Productions as statement
+use Rattle.cxx_language.specs.Asked.{asked, inner_at}
+use Rattle.cxx_language.specs.Bodies.{function_body}
+use Rattle.cxx_language.specs.Declared.{defined_object, extern_object}
 
 -- ---- one declarator (8, 8.5)
 
-unfoldable pub extern_object : ℕ → Said → Declarator → Ahead → Reads CxxState CxxTree
-extern_object room said declarator from = do
-  number ← ask (declare_object (name_in declarator) (declared_type declarator.layers said.of))
-  parts ← extern_part answers (phrases_at room) (inner_at room).phrases (name_in declarator) (declared_type declarator.layers said.of) number
-  to ← looked
-  give (declarator_tree true (name_in declarator) (declared_type declarator.layers said.of) number (declarator.parts ++ parts) from to)
+-- what a declarator leads to: its tree, and the body of the function that it defines
+pub record Declares : Type 0 where
+  pub tree : CxxTree
+  pub body : List CxxTree
 
-unfoldable pub defined_object : ℕ → Said → Declarator → Ahead → Reads CxxState CxxTree
-defined_object room said declarator from = do
-  number ← ask (define_object (name_in declarator) (declared_type declarator.layers said.of))
-  parts ← defined_part answers (phrases_at room) (inner_at room).phrases (name_in declarator) (declared_type declarator.layers said.of) number
-  to ← looked
-  give (declarator_tree false (name_in declarator) (declared_type declarator.layers said.of) number (declarator.parts ++ parts) from to)
+abbrev pub alone : CxxTree → Reads CxxState Declares
+alone tree = give (record { tree = tree; body = [] })
 
-unfoldable pub declared_function : Said → Bool → Declarator → Ahead → Reads CxxState CxxTree
-declared_function said is_first declarator from = do
+-- 8.4: behind the first declarator of a declaration, where it has its own list of parameters, a body may stand
+abbrev pub behind_list : ℕ → Lexeme → CxxType → ℕ → Option ℕ → Reads CxxState (List CxxTree)
+behind_list room name of number None = refused
+behind_list room name of number (Some list) state ahead =
+    if is_punct punct.LEFT_BRACE (kind_ahead ahead) then (function_body room name of number list >>= one_tree) state ahead else (
+    if is_keyword keyword.TRY (kind_ahead ahead) then fault_at (place_ahead ahead) (says.LeftOut form.Exception) state ahead else
+    refused state ahead)
+
+abbrev pub not_ended : ℕ → Bool → Lexeme → CxxType → ℕ → Option ℕ → Reads CxxState (List CxxTree)
+not_ended room true name of number list = behind_list room name of number list
+not_ended room false name of number list = refused
+
+unfoldable pub function_ended : ℕ → Bool → Declarator → CxxType → ℕ → Reads CxxState (List CxxTree)
+function_ended room is_first declarator of number state ahead =
+    if ends_declarator (kind_ahead ahead) then got [] state ahead else
+    not_ended room is_first (name_in declarator) of number (own_parameters declarator.layers) state ahead
+
+unfoldable pub declared_function : ℕ → Said → Bool → Declarator → Ahead → Reads CxxState Declares
+declared_function room said is_first declarator from = do
   number ← ask (declare_function (own_parameters declarator.layers) (name_in declarator) (declared_type declarator.layers said.of))
-  ended ← function_ended is_first declarator
   to ← looked
-  give (declarator_tree said.is_extern (name_in declarator) (declared_type declarator.layers said.of) number declarator.parts from to)
+  body ← function_ended room is_first declarator (declared_type declarator.layers said.of) number
+  give (record { tree = declarator_tree said.is_extern (name_in declarator) (declared_type declarator.layers said.of) number declarator.parts from to; body = body })
 
 -- 3.3.1: a name is declared once its declarator is complete, before what follows is looked at
-abbrev pub declared_by : ℕ → Said → Bool → Ahead → Declarator → Reads CxxState CxxTree
+abbrev pub declared_by : ℕ → Said → Bool → Ahead → Declarator → Reads CxxState Declares
 declared_by room said is_first from declarator =
-    if said.is_typedef then declared_synonym said declarator from else (
-    if is_function_type (declared_type declarator.layers said.of) then declared_function said is_first declarator from else (
-    if said.is_extern then extern_object room said declarator from else
-    defined_object room said declarator from))
+    if said.is_typedef then declared_synonym said declarator from >>= alone else (
+    if is_function_type (declared_type declarator.layers said.of) then declared_function room said is_first declarator from else (
+    if said.is_extern then extern_object room said declarator from >>= alone else
+    defined_object room said declarator from >>= alone))
 
-unfoldable pub init_declarator_at : ℕ → Said → Bool → Reads CxxState CxxTree
+unfoldable pub init_declarator_at : ℕ → Said → Bool → Reads CxxState Declares
 init_declarator_at room said is_first = do
   from ← looked
   declarator ← declarator_at (asked room).kinds (inner_at room).types naming.Required
@@ -79,8 +78,16 @@ init_declarator_at room said is_first = do
 
 -- ---- simple declarations (clause 7)
 
+-- behind a body a declaration has ended
+abbrev pub ended_by : Listed → Declares → Reads CxxState (Turn Listed (List CxxTree))
+ended_by so_far one = by one.body
+  where
+    by : List CxxTree → Reads CxxState (Turn Listed (List CxxTree))
+    by [] = declarator_ended so_far one.tree
+    by (body ∷ others) = give (Done ((with_declarator one.tree so_far).trees ++ body ∷ []))
+
 unfoldable pub declarator_step : ℕ → Said → Listed → Reads CxxState (Turn Listed (List CxxTree))
-declarator_step room said so_far = init_declarator_at room said so_far.is_first >>= declarator_ended so_far
+declarator_step room said so_far = init_declarator_at room said so_far.is_first >>= ended_by so_far
 
 unfoldable pub declarators_at : ℕ → Said → Reads CxxState (List CxxTree)
 declarators_at room said state ahead = repeat (declarator_step room said) give_trees (count_ahead ahead) no_declarators state ahead
@@ -90,6 +97,15 @@ declarators_of room counts_as_extern specifiers state ahead =
     if is_punct punct.SEMICOLON (kind_ahead ahead) then nothing_declared specifiers state ahead else
     declarators_at room (said_by counts_as_extern specifiers) state ahead
 
+-- a declaration with a body is the definition of a function
+abbrev pub has_body : List CxxTree → Bool
+has_body [] = false
+has_body (tree ∷ others) = nat_eq tree.label.production statement.block || has_body others
+
+abbrev pub declaration_tree : CxxTree → List CxxTree → Ahead → Ahead → CxxTree
+declaration_tree specifiers declarators from to =
+    tree_of (label_from (if has_body declarators then production.function_definition else production.simple_declaration) [] from to) (specifiers ∷ declarators)
+
 unfoldable pub simple_declaration_at : ℕ → Bool → Reads CxxState CxxTree
 simple_declaration_at room counts_as_extern = do
   from ← looked
@@ -97,7 +113,7 @@ simple_declaration_at room counts_as_extern = do
   between ← looked
   declarators ← declarators_of room counts_as_extern specifiers
   to ← looked
-  give (simple_tree (specifiers_tree specifiers from between) declarators from to)
+  give (declaration_tree (specifiers_tree specifiers from between) declarators from to)
 
 unfoldable pub plain_declaration_at : ℕ → Bool → Reads CxxState CxxTree
 plain_declaration_at room counts_as_extern state ahead =

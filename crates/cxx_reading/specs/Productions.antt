@@ -24,6 +24,10 @@ elaborated = 9
 abbrev pub enumeration_list : ℕ
 enumeration_list = 11
 
+-- 8.4
+abbrev pub function_definition : ℕ
+function_definition = 15
+
 -- clause 8
 abbrev pub declarator : ℕ
 declarator = 20
