@@ -1,0 +1,133 @@
+-- Declarations in blocks (6.7) and in conditions (6.4).
+use Rattle.std.specs.Prelude.{ℕ, Bool, true, false, ◌||◌, if◌then◌else◌, List, [], ◌∷◌, ◌++◌, Option, Some, Ok}
+use Rattle.cxx_model.specs.declared.fault.FaultText.TheVariants as says
+use Rattle.cxx_model.specs.declared.punct.TheConstants as punct
+use Rattle.cxx_model.specs.declared.tree.Form.TheVariants as form
+use Rattle.cxx_model.specs.Text.Lexemes.{Lexeme}
+use Rattle.cxx_meaning.specs.Conversions.Sizes.{referred}
+use Rattle.cxx_model.specs.Types.Trees.{CxxType}
+use Rattle.cxx_reading.specs.declared.specifier.Naming.TheVariants as naming
+use Rattle.cxx_reading.specs.declared.specifier.SpecifierPlace.TheVariants as where_
+use Rattle.cxx_reading.specs.Declarators.{Specifiers, Declarator, declared_type, is_function_type}
+use Rattle.cxx_reading.specs.Declaring.{define_object, with_tested}
+use Rattle.cxx_reading.specs.Labels.{label_from}
+use Rattle.cxx_reading.specs.Reads.{Reads, Asks, Ahead, Turn, ◌>>=◌, give, ask, fault_at, looked, kind_ahead, count_ahead, behind, repeat}
+use Rattle.cxx_reading.specs.Specifiers.{specifiers_at}
+use Rattle.cxx_reading.specs.State.{CxxState}
+use Rattle.cxx_reading.specs.Syntax.{declarator_at}
+use Rattle.cxx_reading.specs.Tokens.{is_punct, refused}
+use Rattle.cxx_reading.specs.Trees.{CxxTree, tree_of}
+use Rattle.cxx_reading.specs.Units.{Said, Listed, specifiers_tree, declarator_tree, name_in, declared_fits, declared_synonym, declarator_ended, give_trees, no_declarators, nothing_declared, said_by, simple_tree}
+use Rattle.cxx_phrases.specs.Initializers.{Initializer, copy_at}
+use Rattle.cxx_phrases.specs.Phrases.{Phrases, Inner}
+use Rattle.cxx_expr.specs.Initializing.{initialize}
+use Rattle.cxx_expr.specs.Operands.{object_operand}
+use Rattle.cxx_expr.specs.Questions.{Questions}
+use Rattle.cxx_statements.specs.Productions as production
+use Rattle.cxx_language.specs.Asked.{answers, asked, inner_at, phrases_at}
+use Rattle.cxx_language.specs.Declared.{defined_object}
+use Rattle.cxx_language.specs.Known.{note_known, type_known}
+use Rattle.cxx_language.specs.Objects.{initializer_tree, some_elements}
+
+-- ---- one declarator
+
+-- a function, and an object that is declared with `extern`, are not read in a block yet (3.5)
+abbrev pub not_read_there : Declarator → Reads CxxState CxxTree
+not_read_there declarator = fault_at (name_in declarator).place says.NotBuilt
+
+abbrev pub locally_declared : ℕ → Said → Ahead → Declarator → Reads CxxState CxxTree
+locally_declared room said from declarator =
+    if said.is_typedef then declared_synonym said declarator from else (
+    if is_function_type (declared_type declarator.layers said.of) || said.is_extern then not_read_there declarator else
+    defined_object room said declarator from)
+
+unfoldable pub local_declarator_at : ℕ → Said → Reads CxxState CxxTree
+local_declarator_at room said = do
+  from ← looked
+  declarator ← declarator_at (asked room).kinds (inner_at room).types naming.Required
+  fits ← declared_fits said declarator
+  locally_declared room said from declarator
+
+-- ---- declarations in blocks
+
+unfoldable pub local_step : ℕ → Said → Listed → Reads CxxState (Turn Listed (List CxxTree))
+local_step room said so_far = local_declarator_at room said >>= declarator_ended so_far
+
+unfoldable pub local_declarators_at : ℕ → Said → Reads CxxState (List CxxTree)
+local_declarators_at room said state ahead = repeat (local_step room said) give_trees (count_ahead ahead) no_declarators state ahead
+
+unfoldable pub local_declarators_of : ℕ → Specifiers → Reads CxxState (List CxxTree)
+local_declarators_of room specifiers state ahead =
+    if is_punct punct.SEMICOLON (kind_ahead ahead) then nothing_declared specifiers state ahead else
+    local_declarators_at room (said_by false specifiers) state ahead
+
+-- a declaration in a block, with its end
+unfoldable pub local_declaration_at : ℕ → Reads CxxState CxxTree
+local_declaration_at room = do
+  from ← looked
+  specifiers ← specifiers_at (asked room).kinds (inner_at room).types where_.Block
+  between ← looked
+  declarators ← local_declarators_of room specifiers
+  to ← looked
+  give (simple_tree (specifiers_tree specifiers from between) declarators from to)
+
+-- ---- declarations in conditions
+
+-- behind the declarator stands `=`, and behind that an assignment-expression
+unfoldable pub condition_value : Phrases CxxState → Inner CxxState → Reads CxxState Initializer
+condition_value at inner state ahead = if is_punct punct.EQUALS (kind_ahead ahead) then copy_at at inner state (behind ahead) else refused state ahead
+
+unfoldable pub condition_part : Questions → Phrases CxxState → Inner CxxState → Lexeme → CxxType → ℕ → Reads CxxState (List CxxTree)
+condition_part q at inner name of number = do
+  from ← looked
+  read ← condition_value at inner
+  to ← looked
+  tree ← ask (initialize q of (initializer_tree read from to))
+  fits ← some_elements name (type_known of tree)
+  noted ← ask (note_known name number of tree)
+  give (tree ∷ [])
+
+-- 6.5.3: the object is kept, since a `for` may not name it behind each turn
+unfoldable pub keep_tested : ℕ → Asks CxxState (Unit {0})
+keep_tested number state = Ok (tt, with_tested (Some number) state)
+
+unfoldable pub tested_object : ℕ → Said → Declarator → Ahead → Reads CxxState CxxTree
+tested_object room said declarator from = do
+  number ← ask (define_object (name_in declarator) (declared_type declarator.layers said.of))
+  parts ← condition_part answers (phrases_at room) (inner_at room).phrases (name_in declarator) (declared_type declarator.layers said.of) number
+  kept ← ask (keep_tested number)
+  to ← looked
+  give (declarator_tree false (name_in declarator) (declared_type declarator.layers said.of) number (declarator.parts ++ parts) from to)
+
+abbrev pub tested_by : ℕ → Said → Ahead → Declarator → Reads CxxState CxxTree
+tested_by room said from declarator =
+    if is_function_type (declared_type declarator.layers said.of) then not_read_there declarator else tested_object room said declarator from
+
+unfoldable pub tested_declarator_at : ℕ → Said → Reads CxxState CxxTree
+tested_declarator_at room said = do
+  from ← looked
+  declarator ← declarator_at (asked room).kinds (inner_at room).types naming.Required
+  fits ← declared_fits said declarator
+  tested_by room said from declarator
+
+-- the type of the object of a declarator, and its place
+abbrev pub type_of_declarator : Option CxxType → CxxType → CxxType
+type_of_declarator (Some of) other = of
+type_of_declarator _ other = other
+
+-- A declaration in a condition stands for its object, at whose name its questions are asked.
+abbrev pub condition_tree : CxxType → CxxTree → CxxTree → Ahead → Ahead → CxxTree
+condition_tree other specifiers declarator from to =
+    tree_of (record (label_from production.declaration_statement [] from to) {
+      place = declarator.label.place;
+      operand = Some (object_operand (referred (type_of_declarator declarator.label.of other)));
+    }) (simple_tree specifiers (declarator ∷ []) from to ∷ [])
+
+unfoldable pub declared_condition_at : ℕ → Reads CxxState CxxTree
+declared_condition_at room = do
+  from ← looked
+  specifiers ← specifiers_at (asked room).kinds (inner_at room).types where_.TypeId
+  between ← looked
+  declarator ← tested_declarator_at room (said_by false specifiers)
+  to ← looked
+  give (condition_tree (said_by false specifiers).of (specifiers_tree specifiers from between) declarator from to)
