@@ -1,5 +1,5 @@
 -- The state of a reading: what is declared so far, where the reader stands, and what the reading keeps.
-use Rattle.std.specs.Prelude.{ℕ, zero, Bool, false, List, [], ◌∷◌, None}
+use Rattle.std.specs.Prelude.{ℕ, zero, Bool, false, List, [], ◌∷◌, Option, None}
 use Rattle.cxx_model.specs.declared.facts.Access.TheVariants.{Public}
 use Rattle.cxx_model.specs.declared.facts.ScopeKind.TheVariants as kind
 use Rattle.cxx_model.specs.declared.overload.Outcome.{Outcome}
