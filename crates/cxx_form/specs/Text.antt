@@ -1,16 +1,17 @@
 -- The plain form of a reading with expressions.
 use Rattle.std.specs.Prelude.{ℕ, nat_eq, if◌then◌else◌, List, [], ◌∷◌, ◌++◌, flat_map, map, codes}
-use Rattle.cxx_model.specs.Facts.Declarations.{CxxFact}
+use Rattle.cxx_model.specs.Facts.Declarations.{CxxFact, CxxGraph}
 use Rattle.cxx_reading.specs.Declarators.{no_cv}
-use Rattle.cxx_reading.specs.Plain.{NamesOfText, NamedFunction, names_of_text, named_function, type_or_void, is_empty, enumeration_words, function_words}
+use Rattle.cxx_reading.specs.Plain.{NamesOfText, NamedFunction, named_function, type_or_void, is_empty, enumeration_words, function_words}
 use Rattle.cxx_reading.specs.Productions as production
 use Rattle.cxx_reading.specs.State.{CxxState}
-use Rattle.cxx_reading.specs.TextOrder.{Line, enumeration_line, function_line, object_line, lines}
 use Rattle.cxx_reading.specs.Trees.{CxxTree, CxxTrees, no_trees, tree_then}
 use Rattle.cxx_reading.specs.Units.{CxxReading}
 use Rattle.cxx_reading.specs.Words.{Word, keyword_word, name_word, semicolon_word, declared, line_text}
 use Rattle.cxx_phrase_text.specs.Calls.{CallOfText, calls_of}
 use Rattle.cxx_phrase_text.specs.Phrases as phrases
+use Rattle.cxx_form.specs.Definitions.{definition_calls, definition_words}
+use Rattle.cxx_form.specs.Order.{Line, enumeration_line, function_line, object_line, definition_lines, lines, names_of_text}
 
 -- the initializers among the parts of a declarator
 abbrev pub initializers_in : CxxTrees → List CxxTree
@@ -28,13 +29,18 @@ object_words names tree number =
     (if is_empty tree.label.spelling then [] else keyword_word (codes "extern") ∷ []) ++
     (declared names.tags no_cv (type_or_void tree.label.of) (name_word (names.name_of number) ∷ []) ++ (initializer_words names (initializers_in tree.children) ++ semicolon_word ∷ []))
 
-abbrev pub line_words : NamesOfText → List CxxFact → Line → List Word
-line_words names all (enumeration_line n number) = enumeration_words names all n number
-line_words names all (function_line number) = function_words names all number
-line_words names all (object_line tree number) = object_words names tree number
+-- the words of each line
+abbrev pub words_on : NamesOfText → CxxGraph → Line → List (List Word)
+words_on names graph (enumeration_line n number) = enumeration_words names graph.facts n number ∷ []
+words_on names graph (function_line number) = function_words names graph.facts number ∷ []
+words_on names graph (object_line tree number) = object_words names tree number ∷ []
+words_on names graph (definition_lines tree) = definition_words names graph tree
+
+abbrev pub text_on : NamesOfText → CxxGraph → Line → List ℕ
+text_on names graph line = flat_map line_text (words_on names graph line)
 
 abbrev pub text_by : NamesOfText → CxxState → List ℕ
-text_by names state = flat_map (λ line. line_text (line_words names state.graph.facts line)) (lines state)
+text_by names state = flat_map (text_on names state.graph) (lines state)
 
 -- the plain form
 unfoldable pub plain_text : CxxReading → List ℕ
@@ -46,13 +52,14 @@ abbrev pub calls_of_trees : List CxxTree → List CallOfText
 calls_of_trees [] = []
 calls_of_trees (tree ∷ others) = calls_of tree
 
-abbrev pub calls_on : Line → List CallOfText
-calls_on (object_line tree number) = calls_of_trees (initializers_in tree.children)
-calls_on _ = []
+abbrev pub calls_on : List CxxFact → Line → List CallOfText
+calls_on all (object_line tree number) = calls_of_trees (initializers_in tree.children)
+calls_on all (definition_lines tree) = definition_calls all tree
+calls_on all _ = []
 
 -- in the order of the text
 unfoldable pub printed_calls : CxxState → List CallOfText
-printed_calls state = flat_map calls_on (lines state)
+printed_calls state = flat_map (calls_on state.graph.facts) (lines state)
 
 -- the functions that they name
 unfoldable pub functions_of_text : CxxReading → List NamedFunction

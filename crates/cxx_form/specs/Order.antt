@@ -1,0 +1,175 @@
+-- What the plain form of a reading with bodies declares, line by line, and the number of each declared name.
+--
+-- Enumerations stand first, by the end of their lists, then functions, by their first declarations, then objects of
+-- namespaces, each declaration of one in its place, then definitions of functions in the order of reading. A name has its
+-- number by where it stands first in the text.
+use Rattle.std.specs.Prelude.{ℕ, zero, suc, Bool, true, false, ◌&&◌, nat_eq, if◌then◌else◌, List, [], ◌∷◌, ◌++◌, map, flat_map, Option, Some, None}
+use Rattle.std.specs.List.{slice_get}
+use Rattle.cxx_model.specs.Facts.Conflicts.{has_name}
+use Rattle.cxx_model.specs.Facts.Declarations as facts
+use Rattle.cxx_model.specs.Facts.Declarations.{CxxFact, Declares}
+use Rattle.cxx_model.specs.Facts.Entities.{first_or}
+use Rattle.cxx_reading.specs.Declaring.{is_object}
+use Rattle.cxx_reading.specs.Plain.{NamesOfText, name_by, number_of_enumeration}
+use Rattle.cxx_reading.specs.Productions as production
+use Rattle.cxx_reading.specs.State.{CxxState}
+use Rattle.cxx_reading.specs.TextOrder.{enumerators_of, part_tree, with_each_new}
+use Rattle.cxx_reading.specs.Trees.{CxxTree, CxxTrees, no_trees, tree_then}
+use Rattle.cxx_statement_text.specs.Objects.{first_in, printed_in}
+use Rattle.cxx_statement_text.specs.Productions as statement
+
+-- Lines of the plain form: of an enumeration, by its number and that of its declaration; of a function, by its first
+-- declaration; of an object, by the tree of a declarator of it, and its first declaration; and those of the definition of a
+-- function, by its tree.
+pub data Line : Type 0 where
+  enumeration_line : ℕ → ℕ → Line
+  function_line : ℕ → Line
+  object_line : CxxTree → ℕ → Line
+  definition_lines : CxxTree → Line
+
+-- ---- lines
+
+abbrev pub enumeration_of : ℕ → Declares → List Line
+enumeration_of number (facts.enumeration n) = enumeration_line n number ∷ []
+enumeration_of number _ = []
+
+abbrev pub enumeration_lines : ℕ → List CxxFact → List Line
+enumeration_lines number [] = []
+enumeration_lines number (fact ∷ others) = enumeration_of number fact.what ++ enumeration_lines (suc number) others
+
+abbrev pub function_of_fact : ℕ → Declares → List Line
+function_of_fact number (facts.function of member flags defaults None) = function_line number ∷ []
+function_of_fact number _ = []
+
+abbrev pub function_lines : ℕ → List CxxFact → List Line
+function_lines number [] = []
+function_lines number (fact ∷ others) = function_of_fact number fact.what ++ function_lines (suc number) others
+
+-- the declarators of declarations among trees, in order, but for those in definitions of functions
+abbrev pub declarators_in : CxxTrees → List CxxTree
+declarators_in no_trees = []
+declarators_in (tree_then label children next) =
+    if nat_eq label.production production.declarator then record { label = label; children = children } ∷ declarators_in next else (
+    if nat_eq label.production production.function_definition then declarators_in next else
+    declarators_in children ++ declarators_in next)
+
+abbrev pub declarators_of : CxxTree → List CxxTree
+declarators_of tree = declarators_in (tree_then tree.label tree.children no_trees)
+
+abbrev pub object_of_fact : CxxTree → ℕ → Option CxxFact → List Line
+object_of_fact tree number None = []
+object_of_fact tree number (Some fact) = by fact.what
+  where
+    by : Declares → List Line
+    by (facts.object of member is_mutable value first) = object_line tree (first_or number first) ∷ []
+    by _ = []
+
+abbrev pub object_by : List CxxFact → CxxTree → Option ℕ → List Line
+object_by all tree None = []
+object_by all tree (Some number) = object_of_fact tree number (slice_get all number)
+
+abbrev pub object_lines : List CxxFact → List CxxTree → List Line
+object_lines all [] = []
+object_lines all (tree ∷ others) = object_by all tree tree.label.target ++ object_lines all others
+
+-- the definitions of functions among trees, in order
+abbrev pub definitions_in : CxxTrees → List CxxTree
+definitions_in no_trees = []
+definitions_in (tree_then label children next) =
+    if nat_eq label.production production.function_definition then record { label = label; children = children } ∷ definitions_in next else (
+    if nat_eq label.production production.declarator then definitions_in next else
+    definitions_in children ++ definitions_in next)
+
+abbrev pub definitions_of : CxxTree → List CxxTree
+definitions_of tree = definitions_in (tree_then tree.label tree.children no_trees)
+
+-- the lines of the plain form, in order
+unfoldable pub lines : CxxState → List Line
+lines state =
+    enumeration_lines zero state.graph.facts ++
+    (function_lines zero state.graph.facts ++
+    (object_lines state.graph.facts (flat_map declarators_of (map part_tree state.parts)) ++
+    map definition_lines (flat_map definitions_of (map part_tree state.parts))))
+
+-- ---- the parts of a definition (8.4)
+
+-- those of a production among some trees
+abbrev pub parts_of_production : ℕ → CxxTrees → List CxxTree
+parts_of_production n no_trees = []
+parts_of_production n (tree_then label children next) =
+    if nat_eq label.production n then record { label = label; children = children } ∷ parts_of_production n next else parts_of_production n next
+
+abbrev pub first_tree : List CxxTree → Option CxxTree
+first_tree [] = None
+first_tree (tree ∷ others) = Some tree
+
+abbrev pub declarator_of : CxxTree → Option CxxTree
+declarator_of tree = first_tree (parts_of_production production.declarator tree.children)
+
+abbrev pub body_of : CxxTree → Option CxxTree
+body_of tree = first_tree (parts_of_production statement.block tree.children)
+
+-- ---- parameters of a definition
+
+-- the declarations of the parameters in the list with a scope, in order
+abbrev pub is_in_list : ℕ → CxxFact → Bool
+is_in_list scope fact = nat_eq fact.scope scope && is_object fact.what
+
+abbrev pub parameters_in : ℕ → ℕ → List CxxFact → List ℕ
+parameters_in scope number [] = []
+parameters_in scope number (fact ∷ others) = if is_in_list scope fact then number ∷ parameters_in scope (suc number) others else parameters_in scope (suc number) others
+
+abbrev pub scope_of_fact : Option CxxFact → ℕ
+scope_of_fact None = zero
+scope_of_fact (Some fact) = fact.scope
+
+abbrev pub list_by : List CxxFact → Option ℕ → ℕ
+list_by all None = zero
+list_by all (Some number) = scope_of_fact (slice_get all number)
+
+-- the scope that holds that of a body, which its tree names by its declaration
+abbrev pub list_of_body : List CxxFact → Option CxxTree → ℕ
+list_of_body all None = zero
+list_of_body all (Some body) = list_by all body.label.target
+
+-- the parameters of a definition, by their declarations
+abbrev pub parameters_of : List CxxFact → CxxTree → List ℕ
+parameters_of all tree = parameters_in (list_of_body all (body_of tree)) zero all
+
+-- ---- numbers
+
+abbrev pub is_named : Option CxxFact → Bool
+is_named None = false
+is_named (Some fact) = has_name fact.name
+
+abbrev pub named_among : List CxxFact → List ℕ → List ℕ
+named_among all [] = []
+named_among all (number ∷ others) = if is_named (slice_get all number) then number ∷ named_among all others else named_among all others
+
+abbrev pub first_number : Option ℕ → List ℕ
+first_number None = []
+first_number (Some number) = number ∷ []
+
+-- the objects of blocks that are written, by their first declarations
+abbrev pub locals_in : List CxxFact → Option CxxTree → List ℕ
+locals_in all None = []
+locals_in all (Some body) = flat_map (λ tree. first_number (first_in all tree)) (printed_in all body.children)
+
+-- what lines declare, by first declarations
+abbrev pub declared_on : List CxxFact → Line → List ℕ
+declared_on all (enumeration_line n number) = number ∷ enumerators_of n zero all
+declared_on all (function_line number) = number ∷ []
+declared_on all (object_line tree number) = number ∷ []
+declared_on all (definition_lines tree) = named_among all (parameters_of all tree) ++ locals_in all (body_of tree)
+
+-- every declaration whose name stands in the text, in the order of its first appearance there
+unfoldable pub text_order : CxxState → List ℕ
+text_order state = with_each_new [] (flat_map (declared_on state.graph.facts) (lines state))
+
+-- ---- names
+
+unfoldable pub names_of_text : CxxState → NamesOfText
+names_of_text state = record {
+  name_of = name_by state.graph.facts (text_order state);
+  tags = record { class_name = λ n. []; enumeration_name = λ n. name_by state.graph.facts (text_order state) (number_of_enumeration n zero state.graph.facts) };
+}
