@@ -25,7 +25,7 @@ use Rattle.cxx_expr.specs.Operands.{object_operand}
 use Rattle.cxx_expr.specs.Questions.{Questions}
 use Rattle.cxx_statements.specs.Productions as production
 use Rattle.cxx_language.specs.Asked.{answers, asked, inner_at, phrases_at}
-use Rattle.cxx_language.specs.Declared.{defined_object}
+use Rattle.cxx_language.specs.Made.{defined_object}
 use Rattle.cxx_language.specs.Known.{note_known, type_known}
 use Rattle.cxx_language.specs.Objects.{initializer_tree, some_elements}
 

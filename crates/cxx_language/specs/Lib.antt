@@ -6,7 +6,7 @@ pub mod Earlier
 pub mod Noting
 pub mod Parts
 pub mod Objects
-pub mod Declared
+pub mod Made
 pub mod Blocks
 pub mod Statements
 pub mod Bodies

@@ -1,4 +1,5 @@
--- The reading of a unit with expressions: its declarations in order (3.5, clause Rattle.std.specs.Prelude.{ℕ, zero, suc, nat_eq, Bool, true, false, ◌||◌, if◌then◌else◌, List, [], ◌∷◌, ◌++◌, Option, Some, None}
+-- The reading of a unit with expressions: its declarations in order (3.5, clause 7).
+use Rattle.std.specs.Prelude.{ℕ, zero, suc, nat_eq, Bool, true, false, ◌||◌, if◌then◌else◌, List, [], ◌∷◌, ◌++◌, Option, Some, None}
 use Rattle.cxx_model.specs.declared.fault.FaultText.TheVariants as says
 use Rattle.cxx_model.specs.declared.fault.LeftOut.TheVariants as form
 use Rattle.cxx_model.specs.declared.keyword.TheConstants as keyword
@@ -25,7 +26,7 @@ use Rattle.cxx_declare.specs.Functions.{declare_function}
 use Rattle.cxx_statements.specs.Productions as statement
 use Rattle.cxx_language.specs.Asked.{asked, inner_at}
 use Rattle.cxx_language.specs.Bodies.{function_body}
-use Rattle.cxx_language.specs.Declared.{defined_object, extern_object}
+use Rattle.cxx_language.specs.Made.{defined_object, extern_object}
 
 -- ---- one declarator (8, 8.5)
 
@@ -39,7 +40,7 @@ alone tree = give (record { tree = tree; body = [] })
 
 -- 8.4: behind the first declarator of a declaration, where it has its own list of parameters, a body may stand
 abbrev pub behind_list : ℕ → Lexeme → CxxType → ℕ → Option ℕ → Reads CxxState (List CxxTree)
-behind_list room name of number None = refused
+behind_list room name of number None state ahead = refused state ahead
 behind_list room name of number (Some list) state ahead =
     if is_punct punct.LEFT_BRACE (kind_ahead ahead) then (function_body room name of number list >>= one_tree) state ahead else (
     if is_keyword keyword.TRY (kind_ahead ahead) then fault_at (place_ahead ahead) (says.LeftOut form.Exception) state ahead else
@@ -79,12 +80,12 @@ init_declarator_at room said is_first = do
 -- ---- simple declarations (clause 7)
 
 -- behind a body a declaration has ended
+abbrev pub ended_behind : Listed → CxxTree → List CxxTree → Reads CxxState (Turn Listed (List CxxTree))
+ended_behind so_far tree [] = declarator_ended so_far tree
+ended_behind so_far tree (body ∷ others) = give (Done ((with_declarator tree so_far).trees ++ body ∷ []))
+
 abbrev pub ended_by : Listed → Declares → Reads CxxState (Turn Listed (List CxxTree))
-ended_by so_far one = by one.body
-  where
-    by : List CxxTree → Reads CxxState (Turn Listed (List CxxTree))
-    by [] = declarator_ended so_far one.tree
-    by (body ∷ others) = give (Done ((with_declarator one.tree so_far).trees ++ body ∷ []))
+ended_by so_far one = ended_behind so_far one.tree one.body
 
 unfoldable pub declarator_step : ℕ → Said → Listed → Reads CxxState (Turn Listed (List CxxTree))
 declarator_step room said so_far = init_declarator_at room said so_far.is_first >>= ended_by so_far
