@@ -55,7 +55,7 @@ operand_kept : (old new : List CxxType) (x : Option Operand) → Keeps old new �
 operand_kept old new None kept ok = refl
 operand_kept old new (Some x) kept ok = (let same : type_at new x.of.0 ≡ type_at old x.of.0 = kept.same x.of.0 ok in let make : CxxType → Option CxxOperand = λ of. Some (record { of = of; lvalue = x.lvalue; constant = x.constant }) in ap make same)
 
-of_kept : (old new : List CxxType) (x : Option TypeId) → Keeps old new → IsTypeNumberBelow (length old) x → type_of_option new x ≡ type_of_option old x
+pub of_kept : (old new : List CxxType) (x : Option TypeId) → Keeps old new → IsTypeNumberBelow (length old) x → type_of_option new x ≡ type_of_option old x
 of_kept old new None kept ok = refl
 of_kept old new (Some x) kept ok = (let same : type_at new x.0 ≡ type_at old x.0 = kept.same x.0 ok in let make : CxxType → Option CxxType = λ of. Some of in ap make same)
 
@@ -76,7 +76,7 @@ operand_later : (old new : ℕ) (x : Option Operand) → old ≤ new → IsOpera
 operand_later old new None more ok = tt
 operand_later old new (Some x) more ok = omega arith
 
-of_later : (old new : ℕ) (x : Option TypeId) → old ≤ new → IsTypeNumberBelow old x → IsTypeNumberBelow new x
+pub of_later : (old new : ℕ) (x : Option TypeId) → old ≤ new → IsTypeNumberBelow old x → IsTypeNumberBelow new x
 of_later old new None more ok = tt
 of_later old new (Some x) more ok = omega arith
 

@@ -1,5 +1,5 @@
 -- What a state answers of what it keeps, and what becomes of it when it keeps more.
-use Rattle.std.specs.Prelude.{ℕ, Bool, ◌≡◌, ◌<◌, ◌+◌, List, [], ◌∷◌, ◌++◌, length, Some, refl}
+use Rattle.std.specs.Prelude.{ℕ, Bool, ◌≡◌, ◌<◌, ◌+◌, List, [], ◌∷◌, ◌++◌, length, Option, Some, refl}
 use Rattle.std.specs.List.{slice_get}
 use Rattle.std.proofs.Common.{ap, sym, subst, ◌∙◌, arith}
 use Rattle.cxx_model.specs.declared.tree.Node.{Node}
@@ -7,9 +7,11 @@ use Rattle.cxx_model.specs.declared.place.Place.{Place}
 use Rattle.cxx_model.specs.declared.types.FactId.{FactId}
 use Rattle.cxx_model.specs.declared.types.ScopeId.{ScopeId}
 use Rattle.cxx_model.specs.declared.types.TreeId.{TreeId}
+use Rattle.cxx_model.specs.declared.types.TypeId.{TypeId}
+use Rattle.cxx_model.specs.Facts.Declarations.{type_of_option}
 use Rattle.cxx_model.specs.Facts.Graph.{scopes}
 use Rattle.cxx_model.specs.Types.Trees.{CxxType}
-use Rattle.cxx_reading.specs.Declaring.{at_scope}
+use Rattle.cxx_reading.specs.Declaring.{at_scope, with_result, with_tested, within_step}
 use Rattle.cxx_reading.specs.Initializers.{with_call}
 use Rattle.cxx_reading.specs.State.{CxxCall, CxxGiven, CxxOffered, CxxPart, CxxState, CxxUse}
 use Rattle.cxx_reading.specs.Trees.{CxxTree}
@@ -22,7 +24,7 @@ use Rattle.cxx_tree.specs.declared.kept.Piece.{Piece}
 use Rattle.cxx_tree.specs.Arena.{AreTreesBelow, IsNodeBelow, tree_in, tree_over}
 use Rattle.cxx_tree.specs.Defaults.{without_offers, with_given, with_offer, within_default}
 use Rattle.cxx_tree.specs.Uses.{with_use}
-use Rattle.cxx_tree.specs.Held.{AreCallsBelow, AreFallbacksBelow, AreOffersBelow, ArePiecesBelow, Held, IsSound, call_at, calls_at, fallback_at, fallbacks_at, meaning, offer_at, offers_at, piece_at, pieces_at, tree, trees, use_at, uses_at}
+use Rattle.cxx_tree.specs.Held.{AreCallsBelow, AreFallbacksBelow, AreOffersBelow, ArePiecesBelow, Held, IsSound, call_at, calls_at, fact_of_option, fallback_at, fallbacks_at, meaning, offer_at, offers_at, piece_at, pieces_at, tree, trees, use_at, uses_at}
 use Rattle.cxx_tree.proofs.Arenas.{children_below, length_trees, node_below, tree_after}
 
 -- ---- nodes
@@ -69,6 +71,7 @@ sound_call seen held new call same sound ok is = record {
   pieces = sound.pieces;
   calls = subst (λ cs. AreCallsBelow (length held.types) cs) (sym is) (calls_more (length held.types) held.calls call sound.calls (subst (λ (h : Held). AreCallsBelow (length h.types) (call ∷ [])) (sym same) ok));
   scope = sound.scope;
+  result = sound.result;
 }
 
 pub call_number : (seen held : Held) (count : ℕ) → held ≡ seen → count ≡ length held.calls → count ≡ length (meaning seen).calls
@@ -89,7 +92,7 @@ uses_more [] one = refl
 uses_more (other ∷ others) one = ap (λ us. use_at other ∷ us) (uses_more others one)
 
 pub sound_use : (held : Held) (new : List Binding) → IsSound held → IsSound (record held { uses = new })
-sound_use held new sound = record { fitted = sound.fitted; nodes = sound.nodes; children = sound.children; fallbacks = sound.fallbacks; offers = sound.offers; pieces = sound.pieces; calls = sound.calls; scope = sound.scope }
+sound_use held new sound = record { fitted = sound.fitted; nodes = sound.nodes; children = sound.children; fallbacks = sound.fallbacks; offers = sound.offers; pieces = sound.pieces; calls = sound.calls; scope = sound.scope; result = sound.result }
 
 pub use_added : (seen held : Held) (new : List Binding) (place : Place) (target : FactId) → held ≡ seen → new ≡ held.uses ++ record { scope = held.scope; place = place; target = target } ∷ [] → meaning (record held { uses = new }) ≡ with_use place target.0 (meaning seen)
 unfolding meaning
@@ -121,6 +124,7 @@ sound_fallback seen held new one same sound ok is = record {
   pieces = sound.pieces;
   calls = sound.calls;
   scope = sound.scope;
+  result = sound.result;
 }
 
 pub fallback_added : (seen held : Held) (new : List Fallback) (declaration : FactId) (index : ℕ) (number : TreeId) → held ≡ seen → new ≡ held.fallbacks ++ record { declaration = declaration; index = index; tree = number } ∷ []
@@ -154,6 +158,7 @@ sound_offer seen held new one same sound ok is = record {
   pieces = sound.pieces;
   calls = sound.calls;
   scope = sound.scope;
+  result = sound.result;
 }
 
 pub offer_added : (seen held : Held) (new : List Offer) (index : ℕ) (number : TreeId) → held ≡ seen → new ≡ held.offers ++ record { scope = held.scope; index = index; tree = number } ∷ []
@@ -167,14 +172,14 @@ offer_added seen held new index number same is =
     make offered = record (meaning held) { offered = offered }
 
 pub sound_default : (held : Held) (inside : Bool) → IsSound held → IsSound (record held { in_default = inside })
-sound_default held inside sound = record { fitted = sound.fitted; nodes = sound.nodes; children = sound.children; fallbacks = sound.fallbacks; offers = sound.offers; pieces = sound.pieces; calls = sound.calls; scope = sound.scope }
+sound_default held inside sound = record { fitted = sound.fitted; nodes = sound.nodes; children = sound.children; fallbacks = sound.fallbacks; offers = sound.offers; pieces = sound.pieces; calls = sound.calls; scope = sound.scope; result = sound.result }
 
 pub default_set : (seen held : Held) (inside : Bool) → held ≡ seen → meaning (record held { in_default = inside }) ≡ within_default inside (meaning seen)
 unfolding meaning
 default_set seen held inside same = subst (λ (h : Held). meaning (record held { in_default = inside }) ≡ within_default inside (meaning h)) same refl
 
 pub sound_cleared : (held : Held) → IsSound held → IsSound (record held { offers = [] })
-sound_cleared held sound = record { fitted = sound.fitted; nodes = sound.nodes; children = sound.children; fallbacks = sound.fallbacks; offers = tt; pieces = sound.pieces; calls = sound.calls; scope = sound.scope }
+sound_cleared held sound = record { fitted = sound.fitted; nodes = sound.nodes; children = sound.children; fallbacks = sound.fallbacks; offers = tt; pieces = sound.pieces; calls = sound.calls; scope = sound.scope; result = sound.result }
 
 pub offers_cleared : (seen held : Held) (offers : List Offer) → held ≡ seen → offers ≡ [] → meaning (record held { offers = offers }) ≡ without_offers (meaning seen)
 unfolding meaning
@@ -200,6 +205,7 @@ sound_piece seen held new uses offers piece same sound ok left is = record {
   pieces = subst (λ ps. ArePiecesBelow (length held.nodes) ps) (sym is) (pieces_more (length held.nodes) held.pieces piece sound.pieces (node_within seen held piece.tree.0 same ok));
   calls = sound.calls;
   scope = sound.scope;
+  result = sound.result;
 }
 
 pub piece_added : (seen held : Held) (new : List Piece) (uses : List Binding) (offers : List Offer) (piece : Piece) → held ≡ seen → piece.scope.0 ≡ 0 → piece.uses ≡ held.uses → uses ≡ [] → offers ≡ [] → new ≡ held.pieces ++ piece ∷ []
@@ -231,8 +237,23 @@ sound_scope seen held scope same sound ok = record {
   pieces = sound.pieces;
   calls = sound.calls;
   scope = subst (λ (h : Held). scope.0 < scopes h.graph.facts) (sym same) ok;
+  result = sound.result;
 }
 
 pub scope_set : (seen held : Held) (scope : ScopeId) → held ≡ seen → meaning (record held { scope = scope }) ≡ at_scope scope.0 (meaning seen)
 unfolding meaning
 scope_set seen held scope same = subst (λ (h : Held). meaning (record held { scope = scope }) ≡ at_scope scope.0 (meaning h)) same refl
+
+-- ---- bodies
+
+pub result_set : (seen held : Held) (of : Option TypeId) → held ≡ seen → meaning (record held { result = of }) ≡ with_result (type_of_option seen.types of) (meaning seen)
+unfolding meaning
+result_set seen held of same = subst (λ (h : Held). meaning (record held { result = of }) ≡ with_result (type_of_option h.types of) (meaning h)) same refl
+
+pub tested_set : (seen held : Held) (number : Option FactId) → held ≡ seen → meaning (record held { tested = number }) ≡ with_tested (fact_of_option number) (meaning seen)
+unfolding meaning
+tested_set seen held number same = subst (λ (h : Held). meaning (record held { tested = number }) ≡ with_tested (fact_of_option number) (meaning h)) same refl
+
+pub step_set : (seen held : Held) (inside : Bool) → held ≡ seen → meaning (record held { in_step = inside }) ≡ within_step inside (meaning seen)
+unfolding meaning
+step_set seen held inside same = subst (λ (h : Held). meaning (record held { in_step = inside }) ≡ within_step inside (meaning h)) same refl

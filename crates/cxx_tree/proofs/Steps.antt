@@ -5,7 +5,7 @@ use Rattle.cxx_model.specs.declared.memory.OutOfMemory.{OutOfMemory}
 use Rattle.cxx_model.specs.declared.tree.Node.{Node}
 use Rattle.cxx_model.specs.declared.types.TreeId.{TreeId}
 use Rattle.cxx_model.specs.declared.types.TypeId.{TypeId}
-use Rattle.cxx_model.specs.Facts.Declarations.{CxxGraph, graph_at}
+use Rattle.cxx_model.specs.Facts.Declarations.{CxxGraph, graph_at, type_of_option}
 use Rattle.cxx_model.specs.Facts.Fitted.{Fitted}
 use Rattle.cxx_model.specs.Facts.Graph.{Graph, IsTypeInRange, AreTypesInRange, IsBoundInRange}
 use Rattle.cxx_model.specs.Types.Trees.{CxxType, CxxBound, fundamental, class_type, enumeration, pointer_to, reference_to, array_of, function_of, qualified, type_parameter, specialisation, nested_in, any_cv, merged, layered, with_cv, decayed, adjusted, unqualified}
@@ -18,10 +18,10 @@ use Rattle.cxx_types.specs.Makes as table
 use Rattle.cxx_reading.specs.State.{CxxCall, CxxGiven, CxxOffered, CxxPart, CxxState}
 use Rattle.cxx_reading.specs.Trees.{CxxTree}
 use Rattle.cxx_tree.specs.Arena.{AreTreesBelow, bound_of, IsNodeBelow, KeepsTrees, tree_in, tree_over}
-use Rattle.cxx_tree.specs.Held.{AreFallbacksBelow, AreOffersBelow, ArePiecesBelow, Held, IsSound, calls_at, fallbacks_at, meaning, offers_at, pieces_at, state_over, trees}
+use Rattle.cxx_tree.specs.Held.{AreFallbacksBelow, AreOffersBelow, ArePiecesBelow, Held, IsSound, calls_at, fallbacks_at, here_in, meaning, offers_at, pieces_at, state_over, trees}
 use Rattle.cxx_tree.specs.Later.{IsType, Later, MakesTree, MakesType}
 use Rattle.cxx_tree.proofs.Calls.{calls_kept, calls_later}
-use Rattle.cxx_tree.proofs.Arenas.{KeepsTrees_refl, KeepsTrees_trans, after_kept, after_more, children_more, fallbacks_kept, fallbacks_later, keeps_more, last_tree, length_trees, nodes_later, nodes_more, offers_kept, offers_later, pieces_kept, pieces_later}
+use Rattle.cxx_tree.proofs.Arenas.{KeepsTrees_refl, KeepsTrees_trans, after_kept, after_more, children_more, fallbacks_kept, fallbacks_later, keeps_more, last_tree, length_trees, nodes_later, nodes_more, of_kept, of_later, offers_kept, offers_later, pieces_kept, pieces_later}
 
 pub Later_refl : (held : Held) → Later held held
 Later_refl held = record { types = Keeps-refl held.types; trees = KeepsTrees_refl (trees held) }
@@ -44,6 +44,7 @@ sound_node held node sound ok children = record {
   pieces = pieces_later (length held.nodes) (length (held.nodes ++ node ∷ [])) held.pieces (omega (arith, length-append held.nodes (node ∷ []))) sound.pieces;
   calls = sound.calls;
   scope = sound.scope;
+  result = sound.result;
 }
 
 node_keeps : (held : Held) (node : Node) → KeepsTrees (trees held) (trees (with_node held node))
@@ -89,6 +90,7 @@ sound_types held new sound keeps fitted = record {
   offers = sound.offers;
   pieces = sound.pieces;
   calls = calls_later (length held.types) (length new) held.calls keeps.grows sound.calls;
+  result = of_later (length held.types) (length new) held.result keeps.grows sound.result;
 }
 
 pub fitted_by : (held : Held) (new : List CxxType) (result : Result TypeId OutOfMemory) (t : CxxType) → IsSound held → table.Makes held.types new result t → IsTypeInRange held.graph t → Fitted held.graph new
@@ -104,12 +106,13 @@ types_later held new sound keeps = record { types = keeps; trees = subst (λ ts.
 types_same : (held : Held) (new : List CxxType) → IsSound held → Keeps held.types new → meaning (record held { types = new }) ≡ meaning held
 unfolding meaning
 types_same held new sound keeps =
-    ap (λ graph. make graph (calls_at new held.calls) (trees (record held { types = new }))) (graph-kept held.types new held.graph keeps sound.fitted.numbers)
-    ∙ ap (λ calls. make (graph_at held.types held.graph) calls (trees (record held { types = new }))) (calls_kept held.types new held.calls keeps sound.calls)
-    ∙ ap (make (graph_at held.types held.graph) (calls_at held.types held.calls)) (trees_same held new sound keeps)
+    ap (λ graph. make graph (calls_at new held.calls) (type_of_option new held.result) (trees (record held { types = new }))) (graph-kept held.types new held.graph keeps sound.fitted.numbers)
+    ∙ ap (λ calls. make (graph_at held.types held.graph) calls (type_of_option new held.result) (trees (record held { types = new }))) (calls_kept held.types new held.calls keeps sound.calls)
+    ∙ ap (λ of. make (graph_at held.types held.graph) (calls_at held.types held.calls) of (trees (record held { types = new }))) (of_kept held.types new held.result keeps sound.result)
+    ∙ ap (make (graph_at held.types held.graph) (calls_at held.types held.calls) (type_of_option held.types held.result)) (trees_same held new sound keeps)
   where
-    make : CxxGraph → List CxxCall → List CxxTree → CxxState
-    make graph calls all = record (state_over held.types all held) { graph = graph; calls = calls }
+    make : CxxGraph → List CxxCall → Option CxxType → List CxxTree → CxxState
+    make graph calls of all = record (state_over held.types all held) { graph = graph; calls = calls; here = record (here_in held.types held.scope held.enumeration held.result) { result = of } }
 
 pub makes_type : (held : Held) (new : List CxxType) (result : Result TypeId OutOfMemory) (t : CxxType) → IsSound held → table.Makes held.types new result t → MakesType held (record held { types = new }) result t
 makes_type held new result t sound makes = record {

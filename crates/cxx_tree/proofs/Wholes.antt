@@ -18,7 +18,8 @@ use Rattle.cxx_model.specs.declared.facts.Entity.{Entity}
 use Rattle.cxx_model.specs.declared.facts.Entity.TheVariants as entity
 use Rattle.cxx_model.specs.declared.facts.Fact.{Fact}
 use Rattle.cxx_model.specs.declared.facts.Pattern.{Pattern}
-use Rattle.cxx_model.specs.declared.facts.ScopeKind.TheVariants.{Parameters}
+use Rattle.cxx_model.specs.declared.facts.ScopeKind.{ScopeKind}
+use Rattle.cxx_model.specs.declared.facts.ScopeKind.TheVariants.{Block, Parameters}
 use Rattle.cxx_model.specs.declared.facts.Specialisation.{Specialisation}
 use Rattle.cxx_model.specs.declared.memory.OutOfMemory.{OutOfMemory}
 use Rattle.cxx_model.specs.declared.place.Place.{Place}
@@ -35,19 +36,19 @@ use Rattle.cxx_model.specs.Types.Numbers.{Keeps}
 use Rattle.cxx_model.specs.Types.Trees.{CxxType, enumeration}
 use Rattle.cxx_model.specs.Facts.Declarations.{CxxFact, CxxGraph, classes_at, declares_at, fact_at, facts_at, graph_at, spelled}
 use Rattle.cxx_model.specs.Facts.Fitted.{Fitted, IsFactBelow}
-use Rattle.cxx_model.specs.Facts.Graph.{Graph, InRange, IsEntityInRange, IsTypeInRange, MayFollow, appended, enumerations, scopes}
+use Rattle.cxx_model.specs.Facts.Graph.{Graph, InRange, IsEntityInRange, IsKindInRange, IsTypeInRange, MayFollow, appended, enumerations, scopes}
 use Rattle.cxx_names.proofs.Clashing.{none_brought_more, plain_not_brought}
 use Rattle.cxx_names.specs.Clashes.{IsPlain, IsPlainEntity, NoneBrought}
 use Rattle.cxx_names.specs.declared.names.Names.{Names}
 use Rattle.cxx_names.specs.Index.{Notes}
-use Rattle.cxx_reading.specs.Declaring.{added, at_scope, enter_parameters, entered_as, in_enumeration, leave_parameters, parameters_scope, place_of_scope, scope_count, with_definition, with_fact}
+use Rattle.cxx_reading.specs.Declaring.{added, at_scope, enter_block, enter_parameters, entered_as, entered_block, in_enumeration, leave_block, leave_parameters, place_of_scope, scope_count, with_definition, with_fact}
 use Rattle.cxx_reading.specs.Seen.{found, parent_of, type_in}
 use Rattle.cxx_reading.specs.State.{CxxState, first_state}
 use Rattle.cxx_sizes.specs.declared.layouts.Layouts.{Layouts}
 use Rattle.cxx_sizes.specs.Noted.{Notes as Measures}
 use Rattle.cxx_model.specs.declared.tree.Node.{Node}
 use Rattle.cxx_model.specs.Text.Lexemes.{first_place}
-use Rattle.cxx_tree.specs.Answered.{AnyKnown, IsAnswered, IsFactKnown, fact_number, scope_number}
+use Rattle.cxx_tree.specs.Answered.{AnyKnown, IsAnswered, IsFactKnown, fact_number, itself, scope_number}
 use Rattle.cxx_tree.specs.Held.{Held, IsSound, enumeration_of_option, meaning, numbers_at, trees}
 use Rattle.cxx_tree.specs.Later.{Later, MakesType}
 use Rattle.cxx_tree.specs.declared.kept.Binding.{Binding}
@@ -55,7 +56,7 @@ use Rattle.cxx_tree.specs.declared.kept.Decided.{Decided}
 use Rattle.cxx_tree.specs.declared.kept.Fallback.{Fallback}
 use Rattle.cxx_tree.specs.declared.kept.Offer.{Offer}
 use Rattle.cxx_tree.specs.declared.kept.Piece.{Piece}
-use Rattle.cxx_tree.specs.Whole.{IsWhole, parameters_fact, place_by, scope_places, stopped_as, unit_fact, unit_graph}
+use Rattle.cxx_tree.specs.Whole.{IsFunctionBelow, IsWhole, entered_scope, left_scope, place_by, scope_fact, scope_places, scope_within, stopped_as, unit_fact, unit_graph}
 use Rattle.cxx_tree.proofs.Arenas.{KeepsTrees_refl}
 use Rattle.cxx_tree.proofs.Graphs.{facts_more, length_classes, length_facts, opened_at, opened_nowhere, parent_there, places_more, scope_next, scopes_later}
 use Rattle.cxx_tree.proofs.Steps.{Later_refl, Later_trans, fitted_by, makes_type, sound_types}
@@ -105,6 +106,7 @@ sound_fact held fact sound below = record {
   pieces = sound.pieces;
   calls = sound.calls;
   scope = scopes_later held.graph.facts (fact ∷ []) held.scope.0 sound.scope;
+  result = sound.result;
 }
 
 pub meaning_fact : (held : Held) (fact : Fact) → meaning (record held { graph = appended held.graph fact }) ≡ with_fact (fact_at held.types fact) (meaning held)
@@ -265,7 +267,7 @@ measured_here seen held layouts (Some kept) same measured is = subst (λ (h : He
 pub fact_in_range : (seen held : Held) (fact : Fact) → held ≡ seen → InRange held.graph → MayFollow seen.graph fact → InRange (appended held.graph fact)
 fact_in_range seen held fact same range follows = appended-in-range held.graph fact range (subst (λ (h : Held). MayFollow h.graph fact) (sym same) follows)
 
--- ---- a scope of parameters
+-- ---- a scope in another
 
 may_follow_by : (facts : List Fact) (classes : List (Option Specialisation)) (patterns : List Pattern) (fact : Fact) → fact.scope.0 < scopes facts → IsEntityInRange (record { facts = facts; classes = classes; patterns = patterns }) fact fact.what → MayFollow (record { facts = facts; classes = classes; patterns = patterns }) fact
 may_follow_by [] classes patterns fact within ok = absurd (omega arith)
@@ -274,22 +276,22 @@ may_follow_by (one ∷ others) classes patterns fact within ok = (within, ok)
 pub may_follow : (graph : Graph) (fact : Fact) → fact.scope.0 < scopes graph.facts → IsEntityInRange graph fact fact.what → MayFollow graph fact
 may_follow graph fact within ok = may_follow_by graph.facts graph.classes graph.patterns fact within ok
 
-pub parameters_in_range : (held : Held) (place : Place) → IsSound held → InRange held.graph → InRange (appended held.graph (parameters_fact place held.scope))
-parameters_in_range held place sound range = appended-in-range held.graph (parameters_fact place held.scope) range (may_follow held.graph (parameters_fact place held.scope) sound.scope (refl, tt))
+pub scope_in_range : (seen held : Held) (kind : ScopeKind) (place : Place) → held ≡ seen → IsSound held → InRange held.graph → IsKindInRange seen.graph kind → InRange (appended held.graph (scope_fact kind place held.scope))
+scope_in_range seen held kind place same sound range ok = appended-in-range held.graph (scope_fact kind place held.scope) range (may_follow held.graph (scope_fact kind place held.scope) sound.scope (refl, subst (λ (h : Held). IsKindInRange h.graph kind) (sym same) ok))
 
-pub parameters_are : (seen held : Held) (place : Place) → held ≡ seen → place ≡ place_of_scope (meaning seen).graph seen.scope.0 → fact_at held.types (parameters_fact place held.scope) ≡ parameters_scope (meaning held)
+pub scope_is : (seen held : Held) (kind : ScopeKind) (place : Place) → held ≡ seen → place ≡ place_of_scope (meaning seen).graph seen.scope.0 → fact_at held.types (scope_fact kind place held.scope) ≡ scope_within kind (meaning held)
 unfolding meaning
-parameters_are seen held place same is = ap (λ (p : Place). fact_at held.types (parameters_fact p held.scope)) (subst (λ (h : Held). place ≡ place_of_scope (graph_at h.types h.graph) h.scope.0) (sym same) is)
+scope_is seen held kind place same is = ap (λ (p : Place). fact_at held.types (scope_fact kind p held.scope)) (subst (λ (h : Held). place ≡ place_of_scope (graph_at h.types h.graph) h.scope.0) (sym same) is)
 
-pub parameters_below : (count : ℕ) (place : Place) (scope : ScopeId) → IsFactBelow count (parameters_fact place scope)
-parameters_below count place scope = record { name = tt; what = tt }
+pub scope_below : (count : ℕ) (kind : ScopeKind) (place : Place) (scope : ScopeId) → IsFactBelow count (scope_fact kind place scope)
+scope_below count kind place scope = record { name = tt; what = tt }
 
-pub whole_parameters : (names names' : Names) (definitions : Definitions) (openings : List Place) (layouts layouts' : Option Layouts) (held : Held) (new : Graph) (opened : List Place) (place : Place) → IsWhole names definitions openings layouts held
-    → new ≡ appended held.graph (parameters_fact place held.scope) → opened ≡ openings ++ place ∷ [] → Notes names' new.facts → AreMeasured layouts' (graph_at held.types new).facts → IsWhole names' definitions opened layouts' (record held { graph = new })
-whole_parameters names names' definitions openings layouts layouts' held new opened place whole appends opens noted measured =
+pub whole_scope : (names names' : Names) (definitions : Definitions) (openings : List Place) (layouts layouts' : Option Layouts) (held : Held) (new : Graph) (opened : List Place) (kind : ScopeKind) (place : Place) → IsWhole names definitions openings layouts held
+    → new ≡ appended held.graph (scope_fact kind place held.scope) → opened ≡ openings ++ place ∷ [] → Notes names' new.facts → AreMeasured layouts' (graph_at held.types new).facts → IsWhole names' definitions opened layouts' (record held { graph = new })
+whole_scope names names' definitions openings layouts layouts' held new opened kind place whole appends opens noted measured =
     subst (λ ps. IsWhole names' definitions ps layouts' (record held { graph = new })) (sym opens)
     (subst (λ (g : Graph). IsWhole names' definitions (openings ++ place ∷ []) layouts' (record held { graph = g })) (sym appends)
-    (whole_more names definitions openings layouts held (parameters_fact place held.scope) whole (parameters_below (length held.types) place held.scope) refl names' layouts' (subst (λ (g : Graph). Notes names' g.facts) appends noted) (subst (λ (g : Graph). AreMeasured layouts' (graph_at held.types g).facts) appends measured)))
+    (whole_more names definitions openings layouts held (scope_fact kind place held.scope) whole (scope_below (length held.types) kind place held.scope) refl names' layouts' (subst (λ (g : Graph). Notes names' g.facts) appends noted) (subst (λ (g : Graph). AreMeasured layouts' (graph_at held.types g).facts) appends measured)))
 
 -- ---- a definition
 
@@ -300,7 +302,7 @@ numbers_more (one ∷ others) number = ap (λ ns. one.0 ∷ ns) (numbers_more ot
 pub whole_definition : (names : Names) (definitions definitions' : Definitions) (openings : List Place) (layouts : Option Layouts) (held : Held) (new : List FactId) (number : FactId) → IsWhole names definitions openings layouts held → new ≡ held.defined ++ number ∷ []
     → Defines definitions' held.graph.facts (numbers_at held.defined ++ number.0 ∷ []) → IsWhole names definitions' openings layouts (record held { defined = new })
 whole_definition names definitions definitions' openings layouts held new number whole is defines = record {
-  sound = record { fitted = whole.sound.fitted; nodes = whole.sound.nodes; children = whole.sound.children; fallbacks = whole.sound.fallbacks; offers = whole.sound.offers; pieces = whole.sound.pieces; calls = whole.sound.calls; scope = whole.sound.scope };
+  sound = record { fitted = whole.sound.fitted; nodes = whole.sound.nodes; children = whole.sound.children; fallbacks = whole.sound.fallbacks; offers = whole.sound.offers; pieces = whole.sound.pieces; calls = whole.sound.calls; scope = whole.sound.scope; result = whole.sound.result };
   noted = whole.noted;
   own = whole.own;
   defines = subst (λ ns. Defines definitions' held.graph.facts (numbers_at ns)) (sym is) (subst (λ ns. Defines definitions' held.graph.facts ns) (sym (numbers_more held.defined number)) defines);
@@ -324,11 +326,19 @@ enumeration_set seen held number same = subst (λ (h : Held). meaning (record he
 pub outside_there : (seen held : Held) (scope : ScopeId) → held ≡ seen → IsSound held → InRange held.graph → scope.0 ≡ parent_of (graph_at held.types held.graph) held.scope.0 → scope.0 < scopes seen.graph.facts
 outside_there seen held scope same sound range is = subst (λ (h : Held). scope.0 < scopes h.graph.facts) same (subst (λ n. n < scopes held.graph.facts) (sym is) (parent_there held.graph held.types held.scope.0 range sound.scope))
 
-pub left : (seen held new : Held) (scope : ScopeId) → held ≡ seen → scope.0 ≡ parent_of (graph_at held.types held.graph) held.scope.0 → meaning new ≡ at_scope scope.0 (meaning seen) → leave_parameters (meaning seen) ≡ Ok (tt, meaning new)
-unfolding meaning leave_parameters
+pub left : (seen held new : Held) (scope : ScopeId) → held ≡ seen → scope.0 ≡ parent_of (graph_at held.types held.graph) held.scope.0 → meaning new ≡ at_scope scope.0 (meaning seen) → meaning new ≡ left_scope (meaning seen)
+unfolding meaning
 left seen held new scope same is set =
-    subst (λ (h : Held). meaning new ≡ at_scope scope.0 (meaning h) → leave_parameters (meaning h) ≡ Ok (tt, meaning new)) same
-    (λ set. ap (λ n. Ok (tt, at_scope n (meaning held))) (sym is) ∙ ap (λ (s : CxxState). Ok (tt, s)) (sym set)) set
+    subst (λ (h : Held). meaning new ≡ at_scope scope.0 (meaning h) → meaning new ≡ left_scope (meaning h)) same
+    (λ set. set ∙ ap (λ n. at_scope n (meaning held)) is) set
+
+pub parameters_left : (old new : Held) → meaning new ≡ left_scope (meaning old) → leave_parameters (meaning old) ≡ Ok (tt, meaning new)
+unfolding leave_parameters
+parameters_left old new is = ap (λ (s : CxxState). Ok (tt, s)) (sym is)
+
+pub block_left : (old new : Held) → meaning new ≡ left_scope (meaning old) → leave_block (meaning old) ≡ Ok (tt, meaning new)
+unfolding leave_block
+block_left old new is = ap (λ (s : CxxState). Ok (tt, s)) (sym is)
 
 -- ---- types
 
@@ -345,12 +355,12 @@ pub named_made : (seen held : Held) (new : List CxxType) (result : Result TypeId
 unfolding meaning
 named_made seen held new result word same sound makes = type_made_by seen held new result (named_in word) same sound makes
 
--- ---- the list of parameters
+-- ---- a scope that begins
 
-pub entered : (old middle new : Held) (number : ScopeId) (fact : FactId) → IsAnswered fact_number IsFactKnown old middle (Ok fact) (added (parameters_scope (meaning old)) (meaning old)) → number.0 ≡ scope_count (graph_at old.types old.graph) → Later middle new → meaning new ≡ at_scope number.0 (meaning middle)
-    → IsAnswered scope_number AnyKnown old new (Ok number) (enter_parameters (meaning old))
-unfolding meaning enter_parameters
-entered old middle new number fact answered is later set = record {
+pub entered : (old middle new : Held) (kind : ScopeKind) (number : ScopeId) (fact : FactId) → IsAnswered fact_number IsFactKnown old middle (Ok fact) (added (scope_within kind (meaning old)) (meaning old)) → number.0 ≡ scope_count (graph_at old.types old.graph) → Later middle new → meaning new ≡ at_scope number.0 (meaning middle)
+    → IsAnswered scope_number AnyKnown old new (Ok number) (entered_scope kind (meaning old))
+unfolding meaning
+entered old middle new kind number fact answered is later set = record {
   is = (
     ap (λ (a : Answer (ℕ × CxxState)). a >>= λ answer. Ok (entered_as (scope_count (graph_at old.types old.graph)) answer)) answered.is.0
         ∙ (ap (λ n. Ok (n, at_scope n (meaning middle))) (sym is) ∙ ap (λ (s : CxxState). Ok (number.0, s)) (sym set)),
@@ -359,20 +369,57 @@ entered old middle new number fact answered is later set = record {
   later = Later_trans old middle new answered.later later;
 }
 
-pub not_entered : (old new : Held) (why : Stop) → IsAnswered fact_number IsFactKnown old new (Err why) (added (parameters_scope (meaning old)) (meaning old)) → IsAnswered scope_number AnyKnown old new (Err why) (enter_parameters (meaning old))
-unfolding enter_parameters
-not_entered old new why answered = record { is = by why answered.is; later = answered.later }
+pub not_entered : (old new : Held) (kind : ScopeKind) (why : Stop) → IsAnswered fact_number IsFactKnown old new (Err why) (added (scope_within kind (meaning old)) (meaning old)) → IsAnswered scope_number AnyKnown old new (Err why) (entered_scope kind (meaning old))
+not_entered old new kind why answered = record { is = by why answered.is; later = answered.later }
   where
     go : ℕ × CxxState → Answer (ℕ × CxxState)
     go answer = Ok (entered_as (scope_count (meaning old).graph) answer)
 
-    by : (s : Stop) → Stops s (added (parameters_scope (meaning old)) (meaning old)) → Stops s (added (parameters_scope (meaning old)) (meaning old) >>= go)
+    by : (s : Stop) → Stops s (added (scope_within kind (meaning old)) (meaning old)) → Stops s (added (scope_within kind (meaning old)) (meaning old) >>= go)
     by stop.OutOfMemory e = tt
     by (stop.Fault f) e = ap (λ (a : Answer (ℕ × CxxState)). a >>= go) e
     by (stop.Limit k) e = ap (λ (a : Answer (ℕ × CxxState)). a >>= go) e
 
-pub scope_there : (old new : Held) (place : Place) (number : ScopeId) → new ≡ record old { graph = appended old.graph (parameters_fact place old.scope) } → number.0 ≡ scopes old.graph.facts → number.0 < scopes new.graph.facts
-scope_there old new place number is counted = subst (λ (h : Held). number.0 < scopes h.graph.facts) (sym is) (subst (λ n. n < scopes (old.graph.facts ++ parameters_fact place old.scope ∷ [])) (sym counted) (scope_next old.graph.facts (parameters_fact place old.scope) (Some old.scope) Parameters refl))
+pub parameters_entered : (old new : Held) (result : Result ScopeId Stop) → IsAnswered scope_number AnyKnown old new result (entered_scope Parameters (meaning old)) → IsAnswered scope_number AnyKnown old new result (enter_parameters (meaning old))
+unfolding enter_parameters
+parameters_entered old new result answered = answered
+
+pub kind_of_function : (graph : Graph) (function : Option FactId) → IsFunctionBelow (length graph.facts) function → IsKindInRange graph (Block function)
+kind_of_function graph None ok = tt
+kind_of_function graph (Some function) ok = ok
+
+-- the number of the scope is not answered of a block
+abbrev nothing_answered : ℕ × CxxState → Answer (Unit {0} × CxxState)
+nothing_answered answer = Ok (tt, answer.1)
+
+block_is : (scope : ℕ) (a : Answer (ℕ × CxxState)) → (a >>= λ answer. Ok (entered_block scope answer)) ≡ ((a >>= λ answer. Ok (entered_as scope answer)) >>= nothing_answered)
+block_is scope (Ok answer) = refl
+block_is scope (Err why) = refl
+
+pub block_entered : (old new : Held) (function : Option FactId) (number : ScopeId) → IsAnswered scope_number AnyKnown old new (Ok number) (entered_scope (Block function) (meaning old)) → IsAnswered itself AnyKnown old new (Ok tt) (enter_block function (meaning old))
+unfolding enter_block
+block_entered old new function number answered = record {
+  is = (block_is (scope_count (meaning old).graph) (added (scope_within (Block function) (meaning old)) (meaning old)) ∙ ap (λ (a : Answer (ℕ × CxxState)). a >>= nothing_answered) answered.is.0, tt);
+  later = answered.later;
+}
+
+pub block_not_entered : (old new : Held) (function : Option FactId) (why : Stop) → IsAnswered scope_number AnyKnown old new (Err why) (entered_scope (Block function) (meaning old)) → IsAnswered itself AnyKnown old new (Err why) (enter_block function (meaning old))
+unfolding enter_block
+block_not_entered old new function why answered = record { is = by why answered.is; later = answered.later }
+  where
+    inner : Answer (ℕ × CxxState)
+    inner = added (scope_within (Block function) (meaning old)) (meaning old)
+
+    same : enter_block function (meaning old) ≡ (entered_scope (Block function) (meaning old) >>= nothing_answered)
+    same = block_is (scope_count (meaning old).graph) inner
+
+    by : (s : Stop) → Stops s (entered_scope (Block function) (meaning old)) → Stops s (enter_block function (meaning old))
+    by stop.OutOfMemory e = tt
+    by (stop.Fault f) e = same ∙ ap (λ (a : Answer (ℕ × CxxState)). a >>= nothing_answered) e
+    by (stop.Limit k) e = same ∙ ap (λ (a : Answer (ℕ × CxxState)). a >>= nothing_answered) e
+
+pub scope_there : (old new : Held) (kind : ScopeKind) (place : Place) (number : ScopeId) → new ≡ record old { graph = appended old.graph (scope_fact kind place old.scope) } → number.0 ≡ scopes old.graph.facts → number.0 < scopes new.graph.facts
+scope_there old new kind place number is counted = subst (λ (h : Held). number.0 < scopes h.graph.facts) (sym is) (subst (λ n. n < scopes (old.graph.facts ++ scope_fact kind place old.scope ∷ [])) (sym counted) (scope_next old.graph.facts (scope_fact kind place old.scope) (Some old.scope) kind refl))
 
 pub scopes_here : (seen held : Held) (number : ScopeId) → held ≡ seen → number.0 ≡ scope_count (graph_at held.types held.graph) → number.0 ≡ scope_count (graph_at seen.types seen.graph)
 scopes_here seen held number same is = subst (λ (h : Held). number.0 ≡ scope_count (graph_at h.types h.graph)) same is
@@ -413,7 +460,7 @@ opened_nowhere_here seen held openings n same opened at = subst (λ (h : Held). 
 module _ (names : Names) (definitions : Definitions) (graph : Graph) (types : List CxxType) (nodes : List Node) (defined : List FactId) (fallbacks : List Fallback) (offers : List Offer) (calls : List Decided) (pieces : List Piece) (uses : List Binding)
     (g : graph ≡ unit_graph) (t : types ≡ []) (n : nodes ≡ []) (d : defined ≡ []) (f : fallbacks ≡ []) (o : offers ≡ []) (c : calls ≡ []) (p : pieces ≡ []) (u : uses ≡ []) where
   abbrev begun : Graph → List CxxType → List Node → List FactId → List Fallback → List Offer → List Decided → List Piece → List Binding → Held
-  begun graph types nodes defined fallbacks offers calls pieces uses = record { graph = graph; types = types; nodes = nodes; scope = record { 0 = 0 }; enumeration = None; defined = defined; fallbacks = fallbacks; offers = offers; in_default = false; calls = calls; pieces = pieces; uses = uses }
+  begun graph types nodes defined fallbacks offers calls pieces uses = record { graph = graph; types = types; nodes = nodes; scope = record { 0 = 0 }; enumeration = None; defined = defined; fallbacks = fallbacks; offers = offers; in_default = false; result = None; tested = None; in_step = false; calls = calls; pieces = pieces; uses = uses }
 
   is_begun : begun graph types nodes defined fallbacks offers calls pieces uses ≡ begun unit_graph [] [] [] [] [] [] [] []
   is_begun =
@@ -433,6 +480,7 @@ module _ (names : Names) (definitions : Definitions) (graph : Graph) (types : Li
     pieces = tt;
     calls = tt;
     scope = omega arith;
+    result = tt;
   }
 
   pub whole_first : (openings : List Place) (layouts : Option Layouts) → openings ≡ first_place ∷ [] → Notes names graph.facts → ((facts : List Fact) → Defines definitions facts []) → AreMeasured layouts (graph_at types graph).facts → IsWhole names definitions openings layouts (begun graph types nodes defined fallbacks offers calls pieces uses)

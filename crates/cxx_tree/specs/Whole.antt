@@ -1,5 +1,5 @@
 -- What is kept beside the state of a reading, and how it follows from that.
-use Rattle.std.specs.Prelude.{◌≡◌, List, [], ◌∷◌, ◌++◌, Option, Some, None, IfSome, Result, Ok, Err}
+use Rattle.std.specs.Prelude.{ℕ, ◌≡◌, ◌<◌, List, [], ◌∷◌, ◌++◌, Option, Some, None, IfSome, Result, Ok, Err}
 use Rattle.cxx_graph.specs.declared.graph.AddFault.{AddFault}
 use Rattle.cxx_graph.specs.declared.graph.AddFault.TheVariants as fault
 use Rattle.cxx_model.specs.declared.facts.Access.TheVariants.{Public}
@@ -7,20 +7,28 @@ use Rattle.cxx_model.specs.declared.facts.Entity.{Entity}
 use Rattle.cxx_model.specs.declared.facts.Entity.TheVariants as entity
 use Rattle.cxx_model.specs.declared.facts.Fact.{Fact}
 use Rattle.cxx_model.specs.declared.facts.Name.TheVariants.{Unnamed}
-use Rattle.cxx_model.specs.declared.facts.ScopeKind.TheVariants.{Parameters, Space}
+use Rattle.cxx_model.specs.declared.facts.ScopeKind.{ScopeKind}
+use Rattle.cxx_model.specs.declared.facts.ScopeKind.TheVariants.{Space}
 use Rattle.cxx_model.specs.declared.place.Place.{Place}
 use Rattle.cxx_model.specs.declared.stop.LimitKind.TheVariants.{Facts}
 use Rattle.cxx_model.specs.declared.stop.Stop.{Stop}
 use Rattle.cxx_model.specs.declared.stop.Stop.TheVariants as stop
+use Rattle.cxx_model.specs.declared.types.FactId.{FactId}
 use Rattle.cxx_model.specs.declared.types.ScopeId.{ScopeId}
-use Rattle.cxx_model.specs.Facts.Declarations.{graph_at}
+use Rattle.cxx_model.specs.Facts.Declarations as facts
+use Rattle.cxx_model.specs.Facts.Declarations.{CxxFact, graph_at, unnamed}
 use Rattle.cxx_model.specs.Facts.Graph.{Graph}
+use Rattle.cxx_model.specs.Stops.{◌>>=◌}
 use Rattle.cxx_model.specs.Text.Lexemes.{first_place}
 use Rattle.cxx_names.specs.Clashes.{NoneBrought}
 use Rattle.cxx_defined.specs.Defined.{Defines}
 use Rattle.cxx_defined.specs.declared.defined.Definitions.{Definitions}
 use Rattle.cxx_names.specs.declared.names.Names.{Names}
 use Rattle.cxx_names.specs.Index.{Notes}
+use Rattle.cxx_reading.specs.Declaring.{added, at_scope, entered_as, place_of_scope, scope_count}
+use Rattle.cxx_reading.specs.Reads.{Asks}
+use Rattle.cxx_reading.specs.Seen.{parent_of}
+use Rattle.cxx_reading.specs.State.{CxxState}
 use Rattle.cxx_sizes.specs.declared.layouts.Layouts.{Layouts}
 use Rattle.cxx_sizes.specs.Noted.{Notes as Measures}
 use Rattle.cxx_tree.specs.Held.{Held, IsSound, numbers_at}
@@ -41,9 +49,34 @@ unit_fact = record { place = first_place; scope = record { 0 = 0 }; name = Unnam
 abbrev pub unit_graph : Graph
 unit_graph = record { facts = unit_fact ∷ []; classes = []; patterns = [] }
 
--- 3.3.2: the scope of parameters in another
-abbrev pub parameters_fact : Place → ScopeId → Fact
-parameters_fact place scope = record { place = place; scope = scope; name = Unnamed; access = Public; what = entity.Scope (Some scope) Parameters }
+-- 3.3: a scope of a kind in another
+abbrev pub scope_fact : ScopeKind → Place → ScopeId → Fact
+scope_fact kind place scope = record { place = place; scope = scope; name = Unnamed; access = Public; what = entity.Scope (Some scope) kind }
+
+-- the same in the scope where the reader stands
+abbrev pub scope_within : ScopeKind → CxxState → CxxFact
+scope_within kind state = record {
+  place = place_of_scope state.graph state.here.scope;
+  scope = state.here.scope;
+  name = unnamed;
+  access = Public;
+  what = facts.scope (Some (record { 0 = state.here.scope })) kind;
+}
+
+-- it begins, and the reader stands in it then
+abbrev pub entered_scope : ScopeKind → Asks CxxState ℕ
+entered_scope kind state = do
+  answer ← added (scope_within kind state) state
+  Ok (entered_as (scope_count state.graph) answer)
+
+-- the scope where the reader stands ends
+abbrev pub left_scope : CxxState → CxxState
+left_scope state = at_scope (parent_of state.graph state.here.scope) state
+
+-- 3.3.2: the function that a block names, where it names one, is declared
+abbrev pub IsFunctionBelow : ℕ → Option FactId → Type 0
+IsFunctionBelow count None = Unit {0}
+IsFunctionBelow count (Some function) = function.0 < count
 
 -- The names, the definitions, the places of scopes and what sizes need are kept of the state.
 pub record IsWhole (names : Names) (definitions : Definitions) (openings : List Place) (layouts : Option Layouts) (held : Held) : Type 0 where

@@ -4,6 +4,7 @@
 //! position.
 #![tactic(auto)]
 
+mod bodies;
 mod given;
 mod kept;
 mod maker;

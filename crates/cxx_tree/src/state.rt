@@ -3,7 +3,7 @@ ghost use Rattle.std.specs.List.{slice_get};
 ghost use Rattle.std.specs.Option.{option_copied};
 ghost use Rattle.cxx_model.specs.Facts.Declarations.{fact_at, graph_at, spelled};
 ghost use Rattle.cxx_model.specs.Facts.Fitted.{Fitted, IsFactBelow};
-ghost use Rattle.cxx_model.specs.Facts.Graph.{IsUnitScope, MayFollow, appended, enumerations, scopes};
+ghost use Rattle.cxx_model.specs.Facts.Graph.{IsKindInRange, IsUnitScope, MayFollow, appended, enumerations, scopes};
 ghost use Rattle.cxx_model.specs.Types.Numbers.{AreTypesBelow, IsBoundBelow, bound_at, type_at, types_at};
 ghost use Rattle.cxx_model.specs.Types.Trees as definition;
 ghost use Rattle.cxx_model.specs.Types.Trees.{CxxType, decayed, fundamental};
@@ -13,7 +13,7 @@ ghost use Rattle.cxx_names.specs.Index.{Notes};
 ghost use Rattle.cxx_types.specs.Parameters.{adjusted_types};
 ghost use Rattle.cxx_reading.specs.Declarators.{no_cv};
 ghost use Rattle.cxx_reading.specs.Declaring as declaring;
-ghost use Rattle.cxx_reading.specs.Declaring.{added, at_scope, in_enumeration, parameters_scope, with_definition};
+ghost use Rattle.cxx_reading.specs.Declaring.{added, at_scope, in_enumeration, with_definition};
 ghost use Rattle.cxx_reading.specs.Initializers.{with_call};
 ghost use Rattle.cxx_reading.specs.Seen.{found, type_in};
 ghost use Rattle.cxx_reading.specs.State.{first_state};
@@ -25,7 +25,7 @@ ghost use Rattle.cxx_tree.specs.Held.{AreCallsBelow, AreFallbacksBelow, AreOffer
 ghost use Rattle.cxx_tree.specs.Later.{Later, MakesTree, MakesType};
 ghost use Rattle.cxx_sizes.specs.Noted.{Notes as Measures};
 ghost use Rattle.cxx_tree.specs.Uses.{with_use};
-ghost use Rattle.cxx_tree.specs.Whole.{parameters_fact, stopped_as};
+ghost use Rattle.cxx_tree.specs.Whole.{entered_scope, left_scope, scope_fact, scope_within, stopped_as};
 
 use crate::given::first_given;
 use crate::kept::{
@@ -69,6 +69,12 @@ pub struct State {
     fallbacks: FallbackList,
     offers: OfferList,
     in_default: bool,
+    // What the function returns whose body is read.
+    pub(crate) result: Option<TypeId>,
+    // The object that a condition declared last.
+    pub(crate) tested: Option<FactId>,
+    // Whether what a `for` does behind each turn is being read.
+    pub(crate) in_step: bool,
     calls: DecidedList,
     pieces: PieceList,
     uses: BindingList,
@@ -87,9 +93,9 @@ impl Model for State {
 
     ghost coded = { Prim.hlevel (codes, coded_type, formula.the_row.coded, tree.the_row.coded) };
 
-    ghost view = { λ state. record { graph = state.graph; types = state.types; nodes = state.trees; scope = state.scope; enumeration = state.enumeration; defined = state.defined.items; fallbacks = state.fallbacks; offers = state.offers; in_default = state.in_default; calls = state.calls; pieces = state.pieces; uses = state.uses } };
+    ghost view = { λ state. record { graph = state.graph; types = state.types; nodes = state.trees; scope = state.scope; enumeration = state.enumeration; defined = state.defined.items; fallbacks = state.fallbacks; offers = state.offers; in_default = state.in_default; result = state.result; tested = state.tested; in_step = state.in_step; calls = state.calls; pieces = state.pieces; uses = state.uses } };
 
-    ghost invariant = { λ state. IsWhole state.names state.definitions state.openings.items state.layouts (record { graph = state.graph; types = state.types; nodes = state.trees; scope = state.scope; enumeration = state.enumeration; defined = state.defined.items; fallbacks = state.fallbacks; offers = state.offers; in_default = state.in_default; calls = state.calls; pieces = state.pieces; uses = state.uses }) };
+    ghost invariant = { λ state. IsWhole state.names state.definitions state.openings.items state.layouts (record { graph = state.graph; types = state.types; nodes = state.trees; scope = state.scope; enumeration = state.enumeration; defined = state.defined.items; fallbacks = state.fallbacks; offers = state.offers; in_default = state.in_default; result = state.result; tested = state.tested; in_step = state.in_step; calls = state.calls; pieces = state.pieces; uses = state.uses }) };
 }
 
 fn place_at(places: &[Place], scope: ScopeId) -> Option<&Place>
@@ -190,6 +196,9 @@ impl State {
             fallbacks: Listed::new(alloc),
             offers: Listed::new(alloc),
             in_default: false,
+            result: None,
+            tested: None,
+            in_step: false,
             calls: Listed::new(alloc),
             pieces: Listed::new(alloc),
             uses: Listed::new(alloc),
@@ -357,11 +366,12 @@ impl State {
         Ok(number)
     }
 
-    // Adds a scope of parameters in the scope where the reader stands.
-    fn add_parameters(&mut self, place: Place) -> Result<FactId, Stop>
-        requires { place ≡ declaring.place_of_scope (meaning self.old).graph (self.old).scope.0 }
-        ensures answered { IsAnswered fact_number IsFactKnown self.old self.new result (added (parameters_scope (meaning self.old)) (meaning self.old)) }
-        ensures held { OnOk result (self.new ≡ record self.old { graph = appended (self.old).graph (parameters_fact place (self.old).scope) }) }
+    // Adds a scope of a kind in the scope where the reader stands.
+    fn add_scope(&mut self, kind: ScopeKind, place: Place) -> Result<FactId, Stop>
+        requires kind { IsKindInRange (self.old).graph kind }
+        requires place { place ≡ declaring.place_of_scope (meaning self.old).graph (self.old).scope.0 }
+        ensures answered { IsAnswered fact_number IsFactKnown self.old self.new result (added (scope_within kind (meaning self.old)) (meaning self.old)) }
+        ensures held { OnOk result (self.new ≡ record self.old { graph = appended (self.old).graph (scope_fact kind place (self.old).scope) }) }
     {
         let scope = self.scope;
         let fact = Fact {
@@ -371,7 +381,7 @@ impl State {
             access: Access::Public,
             what: Entity::Scope {
                 parent: Some(scope),
-                kind: ScopeKind::Parameters,
+                kind,
             },
         };
         self.graph.in_range();
@@ -383,15 +393,33 @@ impl State {
         Ok(number)
     }
 
+    // A scope of a kind begins, where there is room for it. The reader stands in it then.
+    pub(crate) fn enter_scope(&mut self, kind: ScopeKind) -> Result<ScopeId, Stop>
+        requires { IsKindInRange (self.old).graph kind }
+        ensures { IsAnswered scope_number AnyKnown self.old self.new result (entered_scope kind (meaning self.old)) }
+    {
+        let number = self.names.scopes(&self.graph);
+        let place = self.place_of_scope(self.scope);
+        self.add_scope(kind, place)?;
+        self.set_scope(number);
+        Ok(number)
+    }
+
+    // The scope where the reader stands ends: the reader stands in the scope that holds it.
+    pub(crate) fn leave_scope(&mut self)
+        ensures later { Later self.old self.new }
+        ensures is { meaning self.new ≡ left_scope (meaning self.old) }
+    {
+        self.graph.in_range();
+        let outside = self.names.parent(&self.graph, self.scope);
+        self.set_scope(outside);
+    }
+
     /// A list of parameters begins (3.3.2), where there is room for its scope. The reader stands in that then.
     pub fn enter_parameters(&mut self) -> Result<ScopeId, Stop>
         ensures { IsAnswered scope_number AnyKnown self.old self.new result (declaring.enter_parameters (meaning self.old)) }
     {
-        let number = self.names.scopes(&self.graph);
-        let place = self.place_of_scope(self.scope);
-        self.add_parameters(place)?;
-        self.set_scope(number);
-        Ok(number)
+        self.enter_scope(ScopeKind::Parameters)
     }
 
     /// A list of parameters ends: the reader stands in the scope that holds its scope (3.3.2).
@@ -399,9 +427,7 @@ impl State {
         ensures later { Later self.old self.new }
         ensures is { declaring.leave_parameters (meaning self.old) ≡ Ok (tt, meaning self.new) }
     {
-        self.graph.in_range();
-        let outside = self.names.parent(&self.graph, self.scope);
-        self.set_scope(outside);
+        self.leave_scope();
     }
 
     /// Notes that a declaration is a definition (3.2). An `Err` changes nothing.

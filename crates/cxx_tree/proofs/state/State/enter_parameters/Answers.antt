@@ -1,14 +1,5 @@
-use Rattle.std.proofs.lemmas.Result.{err_from_is_err_and}
-use Rattle.cxx_tree.proofs.Wholes.{entered, not_entered, scope_there, scopes_here, scopes_counted_here}
+use Rattle.cxx_tree.proofs.Wholes.{parameters_entered}
 use Rattle.cxx_tree.proofs.state.State.enter_parameters.Goals as goal
 
-pub returns-in_err-add_parameters : goal.returns-in_err-add_parameters
-returns-in_err-add_parameters c =
-    let p = err_from_is_err_and c.from_residual.result c.from_residual.ensures.1 in
-    rw (p.1, p.2) (not_entered _ _ c.in_err-add_parameters.field-0.0 c.in_err-add_parameters.ensures.answered)
-
-pub set_scope-requires : goal.set_scope-requires
-set_scope-requires c = scope_there _ _ c.place_of_scope-place.result c.scopes-number.result c.in_ok-add_parameters.ensures.held (scopes_counted_here _ _ c.scopes-number.result c.self.view_is c.scopes-number.ensures.counted)
-
 pub returns : goal.returns
-returns c = entered _ _ _ c.scopes-number.result c.in_ok-add_parameters.field-0 c.in_ok-add_parameters.ensures.answered (scopes_here _ _ c.scopes-number.result c.self.view_is (c.scopes-number.ensures.is c.self.inside.types)) c.set_scope.ensures.later c.set_scope.ensures.is
+returns c = parameters_entered _ _ c.enter_scope.result c.enter_scope.ensures
