@@ -8,7 +8,8 @@ use Rattle.cxx_page.specs.declared.fault.PlainFault.{PlainFault}
 use Rattle.cxx_page.specs.declared.fault.PlainFault.TheVariants as fault
 use Rattle.cxx_page.specs.Sheets.{and_then, blank, put_line, put_lines, Sheet, Writes}
 use Rattle.cxx_phrase_text.specs.declared.calls.ListedCall.{ListedCall}
-use Rattle.cxx_reading.specs.Plain.{function_words, names_of_text}
+use Rattle.cxx_reading.specs.Plain.{function_words}
+use Rattle.cxx_form.specs.Order.{names_of_text}
 use Rattle.cxx_reading.specs.State.{CxxState}
 use Rattle.cxx_reading.specs.Units.{CxxReading}
 use Rattle.cxx_reading.specs.Words.{line_text, Word}

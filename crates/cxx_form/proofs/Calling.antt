@@ -7,7 +7,7 @@ use Rattle.cxx_model.specs.declared.types.TreeId.{TreeId}
 use Rattle.cxx_phrase_text.specs.declared.calls.ListedCall.{ListedCall}
 use Rattle.cxx_phrase_text.specs.Calls.{CallOfText}
 use Rattle.cxx_phrase_text.specs.Listing.{call_of}
-use Rattle.cxx_reading.specs.TextOrder.{lines}
+use Rattle.cxx_form.specs.Order.{lines}
 use Rattle.cxx_reading.specs.Trees.{in_turn, CxxTree}
 use Rattle.cxx_tree.specs.Arena.{tree_in, tree_over, trees_in}
 use Rattle.cxx_tree.specs.Held.{meaning, trees, Held}

@@ -7,7 +7,8 @@ use Rattle.cxx_model.specs.declared.tree.Node.{Node}
 use Rattle.cxx_model.specs.declared.types.TreeId.{TreeId}
 use Rattle.cxx_model.specs.Types.Trees.{CxxType}
 use Rattle.cxx_reading.specs.Productions as production
-use Rattle.cxx_reading.specs.TextOrder.{declarators_in, declarators_of, part_tree}
+use Rattle.cxx_reading.specs.TextOrder.{part_tree}
+use Rattle.cxx_form.specs.Order.{declarators_in, declarators_of}
 use Rattle.cxx_reading.specs.Trees.{CxxTree, CxxTrees, Label, in_turn, tree_of}
 use Rattle.cxx_tree.specs.Arena.{label_at, tree_in, tree_over, trees_in, AreTreesBelow}
 use Rattle.cxx_tree.specs.declared.kept.Piece.{Piece}

@@ -12,8 +12,9 @@ use Rattle.cxx_model.specs.Types.Trees.{CxxType}
 use Rattle.cxx_model.specs.Facts.Declarations as facts
 use Rattle.cxx_model.specs.Facts.Declarations.{CxxFact, CxxName, Declares, declares_at, fact_at, facts_at}
 use Rattle.cxx_meaning.specs.Lookups.Gathered.{before, gathered}
-use Rattle.cxx_reading.specs.TextOrder as text
-use Rattle.cxx_reading.specs.TextOrder.{enumeration_of, enumeration_lines, function_of_fact, function_lines, lines, object_by, object_lines, object_of_fact, part_tree}
+use Rattle.cxx_form.specs.Order as text
+use Rattle.cxx_reading.specs.TextOrder.{part_tree}
+use Rattle.cxx_form.specs.Order.{enumeration_of, enumeration_lines, function_of_fact, function_lines, lines, object_by, object_lines, object_of_fact}
 use Rattle.cxx_reading.specs.Trees.{CxxTree}
 use Rattle.cxx_tree.specs.Arena.{number_of_option, tree_in, tree_over, trees_in}
 use Rattle.cxx_tree.specs.Held.{meaning, pieces_at, trees, Held}

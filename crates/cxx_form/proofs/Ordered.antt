@@ -5,7 +5,8 @@ use Rattle.std.proofs.lemmas.List.{at_drop_more, at_drop_all, map-append, take_a
 use Rattle.cxx_model.specs.declared.types.EnumId.{EnumId}
 use Rattle.cxx_model.specs.declared.types.FactId.{FactId}
 use Rattle.cxx_model.specs.Facts.Declarations.{CxxFact}
-use Rattle.cxx_reading.specs.TextOrder.{declared_on, enumerators_of, lines, text_order, with_each_new, with_new}
+use Rattle.cxx_reading.specs.TextOrder.{enumerators_of, with_each_new, with_new}
+use Rattle.cxx_form.specs.Order.{declared_on, lines, text_order}
 use Rattle.cxx_reading.specs.Trees.{CxxTree}
 use Rattle.cxx_tree.specs.Held.{meaning, trees, Held}
 use Rattle.cxx_form.specs.declared.lines.Line.{Line}

@@ -14,7 +14,8 @@ use Rattle.cxx_model.specs.Types.Trees.{CxxType, CxxTypes, fundamental, class_ty
 use Rattle.cxx_page.specs.Views.{text_or_none}
 use Rattle.cxx_reading.specs.Declarators.{no_cv}
 use Rattle.cxx_reading.specs.Plain.{number_of_enumeration}
-use Rattle.cxx_reading.specs.TextOrder.{name_stem, number_in, stem_of_fact, text_name, text_order}
+use Rattle.cxx_reading.specs.TextOrder.{name_stem, number_in, stem_of_fact, text_name}
+use Rattle.cxx_form.specs.Order.{text_order}
 use Rattle.cxx_reading.specs.Words.{Tags, Word, ampersand_word, bound_words, close_bracket_word, close_word, cv_words, declared, declared_each, is_bracketed, one_word, open_bracket_word, open_word, separated, star_word, type_name_word, within}
 use Rattle.cxx_tree.specs.Held.{meaning, Held}
 use Rattle.cxx_form.specs.Giving.{declared_or, AreDeclared}

@@ -14,7 +14,8 @@ use Rattle.cxx_form.specs.Books.{names_of, type_for, IsBook}
 use Rattle.cxx_form.specs.Names.{names_in}
 use Rattle.cxx_form.specs.Views.{facts_in}
 use Rattle.cxx_model.specs.Printing.Names.{printed_name}
-use Rattle.cxx_reading.specs.TextOrder.{number_in, stem_of_fact, text_name, text_order}
+use Rattle.cxx_reading.specs.TextOrder.{number_in, stem_of_fact, text_name}
+use Rattle.cxx_form.specs.Order.{text_order}
 use Rattle.cxx_tree.specs.Held.{meaning}
 use Rattle.cxx_form.proofs.Tagged.{same_declared, AreSameTags}
 

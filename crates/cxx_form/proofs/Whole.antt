@@ -10,8 +10,8 @@ use Rattle.cxx_page.specs.Sheets.{blank, held, put_lines, text_of_lines, Sheet, 
 use Rattle.cxx_page.proofs.Held.{held_fits, held_not}
 use Rattle.cxx_page.proofs.Texts.{has_lines}
 use Rattle.cxx_reading.specs.declared.role.Role.TheVariants as role
-use Rattle.cxx_reading.specs.Plain.{names_of_text}
-use Rattle.cxx_reading.specs.TextOrder.{lines}
+use Rattle.cxx_form.specs.Order.{names_of_text}
+use Rattle.cxx_form.specs.Order.{lines}
 use Rattle.cxx_reading.specs.Words.{line_text, Word}
 use Rattle.cxx_tree.specs.Held.{meaning, Held}
 use Rattle.cxx_form.specs.declared.book.Book.{Book}

@@ -6,7 +6,7 @@ use Rattle.cxx_model.specs.Facts.Fitted.{Fitted}
 use Rattle.cxx_model.specs.Types.Trees.{CxxType}
 use Rattle.cxx_phrase_text.specs.Named.{NamedState}
 use Rattle.cxx_reading.specs.Plain.{type_or_void, NamesOfText}
-use Rattle.cxx_reading.specs.TextOrder.{text_order}
+use Rattle.cxx_form.specs.Order.{text_order}
 use Rattle.cxx_reading.specs.Trees.{CxxTree}
 use Rattle.cxx_tree.specs.Held.{meaning, trees, Held}
 use Rattle.cxx_form.specs.declared.book.Book.{Book}

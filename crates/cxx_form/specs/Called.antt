@@ -2,7 +2,8 @@
 use Rattle.std.specs.Prelude.{ℕ, Bool, false, ◌||◌, nat_lt, List, [], ◌∷◌, flat_map, length, map}
 use Rattle.cxx_model.specs.declared.limits.TheConstants as limits
 use Rattle.cxx_phrase_text.specs.declared.calls.ListedCall.{ListedCall}
-use Rattle.cxx_reading.specs.Plain.{function_words, names_of_text}
+use Rattle.cxx_reading.specs.Plain.{function_words}
+use Rattle.cxx_form.specs.Order.{names_of_text}
 use Rattle.cxx_reading.specs.State.{CxxState}
 use Rattle.cxx_reading.specs.Units.{CxxReading}
 use Rattle.cxx_reading.specs.Words.{line_text}

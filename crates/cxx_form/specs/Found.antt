@@ -1,7 +1,7 @@
 -- The declarators of declarations, and what they declare.
 use Rattle.std.specs.Prelude.{◌≡◌, List, ◌++◌, flat_map, length}
 use Rattle.cxx_model.specs.declared.types.TreeId.{TreeId}
-use Rattle.cxx_reading.specs.TextOrder.{declarators_of}
+use Rattle.cxx_form.specs.Order.{declarators_of}
 use Rattle.cxx_reading.specs.Trees.{CxxTree}
 use Rattle.cxx_tree.specs.Arena.{AreTreesBelow, trees_in}
 

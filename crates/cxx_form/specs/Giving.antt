@@ -5,7 +5,7 @@ use Rattle.cxx_model.specs.Facts.Declarations as facts
 use Rattle.cxx_model.specs.Facts.Declarations.{CxxFact, Declares, fact_at, facts_at}
 use Rattle.cxx_meaning.specs.Lookups.Gathered.{before, gathered}
 use Rattle.cxx_reading.specs.Plain.{number_of_enumeration}
-use Rattle.cxx_reading.specs.TextOrder.{Line, enumeration_line, function_line}
+use Rattle.cxx_form.specs.Order.{Line, enumeration_line, function_line}
 use Rattle.cxx_form.specs.Rows.{row_at}
 use Rattle.cxx_form.specs.Slots.{slot_at}
 

@@ -11,5 +11,7 @@ pub mod Parts
 pub mod Printed
 pub mod Rows
 pub mod Slots
+pub mod Order
+pub mod Definitions
 pub mod Text
 pub mod Views

@@ -5,7 +5,7 @@ use Rattle.cxx_model.specs.Facts.Declarations.{Declares}
 use Rattle.cxx_model.specs.Facts.Entities.{first_or}
 use Rattle.cxx_model.specs.declared.types.EnumId.{EnumId}
 use Rattle.cxx_model.specs.declared.types.FactId.{FactId}
-use Rattle.cxx_reading.specs.TextOrder as text
+use Rattle.cxx_form.specs.Order as text
 use Rattle.cxx_reading.specs.Trees.{CxxTree}
 use Rattle.cxx_tree.specs.Arena.{tree_in}
 use Rattle.cxx_form.specs.declared.lines.Line.{Line}

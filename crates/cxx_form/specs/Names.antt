@@ -4,7 +4,8 @@ use Rattle.std.specs.List.{slice_get}
 use Rattle.cxx_model.specs.Facts.Graph.{enumerations}
 use Rattle.cxx_page.specs.Views.{text_or_none}
 use Rattle.cxx_reading.specs.Plain.{number_of_enumeration, NamesOfText}
-use Rattle.cxx_reading.specs.TextOrder.{text_name, text_order}
+use Rattle.cxx_reading.specs.TextOrder.{text_name}
+use Rattle.cxx_form.specs.Order.{text_order}
 use Rattle.cxx_tree.specs.Held.{meaning, Held}
 use Rattle.cxx_form.specs.Views.{facts_in}
 

@@ -1,6 +1,7 @@
 //! The declarators of declarations (clause 8).
 ghost use Rattle.std.specs.Prelude.{◌≡◌, ◌<◌, [], ◌∷◌, length, map, IfOk, OnOk};
-ghost use Rattle.cxx_reading.specs.TextOrder.{declarators_of, part_tree};
+ghost use Rattle.cxx_reading.specs.TextOrder.{part_tree};
+ghost use Rattle.cxx_form.specs.Order.{declarators_of};
 ghost use Rattle.cxx_tree.specs.Arena.{AreTreesBelow, trees_in};
 ghost use Rattle.cxx_tree.specs.Held.{pieces_at, tree, trees};
 ghost use Rattle.cxx_form.specs.Found.{each_declarators, AddsTrees};

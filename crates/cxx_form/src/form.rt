@@ -3,7 +3,7 @@ ghost use Rattle.std.specs.Prelude.{◌≡◌, ◌<◌, ◌≤◌, length, true,
 ghost use Rattle.cxx_model.specs.declared.limits.TheConstants.{MOST_OUTPUT};
 ghost use Rattle.cxx_model.specs.Facts.Fitted.{Fitted};
 ghost use Rattle.cxx_model.specs.declared.options.Options.{Options};
-ghost use Rattle.cxx_reading.specs.TextOrder.{lines as lines_of};
+ghost use Rattle.cxx_form.specs.Order.{lines as lines_of};
 ghost use Rattle.cxx_tree.specs.Held.{meaning};
 ghost use Rattle.cxx_form.specs.Books.{trees_of, IsBook};
 ghost use Rattle.cxx_form.specs.Called.{is_past_output};

@@ -4,7 +4,7 @@ ghost use Rattle.std.specs.List.{slice_get};
 ghost use Rattle.cxx_model.specs.Facts.Declarations.{declares_at};
 ghost use Rattle.cxx_model.specs.Types.Trees.{CxxType};
 ghost use Rattle.cxx_meaning.specs.Lookups.Gathered.{before};
-ghost use Rattle.cxx_reading.specs.TextOrder.{enumeration_lines, function_lines, lines as lines_of, object_by, object_lines};
+ghost use Rattle.cxx_form.specs.Order.{enumeration_lines, function_lines, lines as lines_of, object_by, object_lines};
 ghost use Rattle.cxx_reading.specs.Trees.{CxxTree};
 ghost use Rattle.cxx_tree.specs.Arena.{tree_in, trees_in, AreTreesBelow};
 ghost use Rattle.cxx_tree.specs.Held.{meaning, trees};

@@ -1,6 +1,7 @@
 //! The order in which names stand in the text.
 ghost use Rattle.std.specs.Prelude.{◌≡◌, ◌++◌, [], flat_map, IfOk, OnOk};
-ghost use Rattle.cxx_reading.specs.TextOrder.{declared_on, lines as lines_of, text_order, with_each_new};
+ghost use Rattle.cxx_reading.specs.TextOrder.{with_each_new};
+ghost use Rattle.cxx_form.specs.Order.{declared_on, lines as lines_of, text_order};
 ghost use Rattle.cxx_tree.specs.Held.{meaning, trees};
 ghost use Rattle.cxx_form.specs.Giving.{AreEnumerators};
 ghost use Rattle.cxx_form.specs.Lines.{line_at, lines_at, numbers_in};

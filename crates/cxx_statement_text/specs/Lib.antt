@@ -3,4 +3,5 @@ pub mod Productions
 pub mod Forms
 pub mod Objects
 pub mod Statements
+pub mod Calls
 pub mod Written

@@ -1,7 +1,7 @@
 use Rattle.std.proofs.Common.{◌≡◌, ◌≤◌, ◌∙◌, ap, arith, length}
 use Rattle.cxx_model.specs.Facts.Graph.{Graph}
 use Rattle.cxx_meaning.specs.Lookups.Gathered.{gathered}
-use Rattle.cxx_reading.specs.TextOrder.{function_lines}
+use Rattle.cxx_form.specs.Order.{function_lines}
 use Rattle.cxx_tree.specs.Held.{trees}
 use Rattle.cxx_form.specs.Giving.{function_given}
 use Rattle.cxx_form.specs.Views.{facts_in}

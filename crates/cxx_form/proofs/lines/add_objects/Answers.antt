@@ -1,7 +1,7 @@
 use Rattle.std.proofs.Common.{[], length, option_map, slice_index_or}
 use Rattle.cxx_model.specs.declared.types.TreeId.{TreeId}
 use Rattle.cxx_meaning.specs.Lookups.Gathered.{before}
-use Rattle.cxx_reading.specs.TextOrder.{object_by, object_lines}
+use Rattle.cxx_form.specs.Order.{object_by, object_lines}
 use Rattle.cxx_tree.specs.Arena.{tree_in, trees_in}
 use Rattle.cxx_tree.specs.Held.{trees}
 use Rattle.cxx_form.specs.Lines.{line_at}

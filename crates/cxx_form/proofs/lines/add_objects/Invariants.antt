@@ -1,5 +1,5 @@
 use Rattle.std.proofs.Common.{drop}
-use Rattle.cxx_reading.specs.TextOrder.{object_lines}
+use Rattle.cxx_form.specs.Order.{object_lines}
 use Rattle.cxx_tree.specs.Arena.{trees_in}
 use Rattle.cxx_tree.specs.Held.{trees}
 use Rattle.cxx_form.specs.Views.{facts_in}

@@ -1,6 +1,6 @@
 use Rattle.std.proofs.Common.{◌∙◌, ap, length}
 use Rattle.cxx_model.specs.Facts.Graph.{Graph}
-use Rattle.cxx_reading.specs.TextOrder.{text_order}
+use Rattle.cxx_form.specs.Order.{text_order}
 use Rattle.cxx_tree.specs.Held.{meaning}
 use Rattle.cxx_form.proofs.Tagged.{tag_is}
 use Rattle.cxx_form.proofs.names.tag.Goals as goal

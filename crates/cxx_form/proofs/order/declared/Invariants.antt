@@ -1,6 +1,6 @@
 use Rattle.std.proofs.Common.{◌≡◌, ◌++◌, drop}
 use Rattle.std.specs.Prelude.{flat_map}
-use Rattle.cxx_reading.specs.TextOrder.{declared_on}
+use Rattle.cxx_form.specs.Order.{declared_on}
 use Rattle.cxx_tree.specs.Held.{trees}
 use Rattle.cxx_form.specs.Lines.{lines_at, numbers_in}
 use Rattle.cxx_form.specs.Views.{facts_in}

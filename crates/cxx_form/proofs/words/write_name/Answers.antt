@@ -1,6 +1,6 @@
 use Rattle.std.proofs.Common.{ℕ, List, [], ◌∷◌, subst}
 use Rattle.cxx_page.specs.Sheets.{put, Writes}
-use Rattle.cxx_reading.specs.TextOrder.{text_order}
+use Rattle.cxx_form.specs.Order.{text_order}
 use Rattle.cxx_reading.specs.Words.{name_word}
 use Rattle.cxx_tree.specs.Held.{meaning}
 use Rattle.cxx_form.proofs.Typed.{name_is}
