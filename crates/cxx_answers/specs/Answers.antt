@@ -1,7 +1,8 @@
 -- What is asked to find what an expression means, answered by the declarations so far (3.4, 5.3.3, 5.19, 13.3).
-use Rattle.std.specs.Prelude.{ℕ, zero, ◌^◌, nat_lt, ℤ, pos, negsuc, Bool, true, false, ◌&&◌, ◌||◌, if◌then◌else◌, List, [], ◌∷◌, length, Option, Some, None, Result, Ok, Err}
+use Rattle.std.specs.Prelude.{ℕ, zero, ◌^◌, nat_eq, nat_lt, ℤ, pos, negsuc, Bool, true, false, ◌&&◌, ◌||◌, if◌then◌else◌, List, [], ◌∷◌, length, Option, Some, None, Result, Ok, Err}
 use Rattle.std.specs.List.{slice_get}
 use Rattle.cxx_model.specs.declared.fault.FaultText.TheVariants as says
+use Rattle.cxx_model.specs.declared.fault.LeftOut.TheVariants as form
 use Rattle.cxx_model.specs.declared.limits.TheConstants as limits
 use Rattle.cxx_model.specs.declared.place.Place.{Place}
 use Rattle.cxx_model.specs.declared.stop.LimitKind.TheVariants.{Arguments}
@@ -40,11 +41,22 @@ names_parameter graph (one ∷ others) = is_parameter graph one || names_paramet
 abbrev pub meant_here : CxxPath → CxxState → List Numbered
 meant_here path state = found state.graph state.here.scope (name_in path)
 
--- 8.3.6: a default argument means no parameter
+-- whether a declaration is that of the object which the last condition declares, in a scope
+abbrev pub is_tested : Option ℕ → ℕ → Numbered → Bool
+is_tested None scope one = false
+is_tested (Some number) scope one = nat_eq one.number number && nat_eq one.fact.scope scope
+
+abbrev pub names_tested : Option ℕ → ℕ → List Numbered → Bool
+names_tested tested scope [] = false
+names_tested tested scope (one ∷ others) = is_tested tested scope one || names_tested tested scope others
+
+-- 8.3.6: a default argument means no parameter. 6.5.3: What a `for` does behind each turn does not name the object that its
+-- condition declares, which stands in the scope of the `for` itself.
 unfoldable pub name_here : CxxPath → Asks CxxState (List Numbered)
 name_here path state =
-    if state.in_default && names_parameter state.graph (meant_here path state) then Err (fault (last_part path.parts).place says.OperandsDoNotFit) else
-    Ok (meant_here path state, state)
+    if state.in_default && names_parameter state.graph (meant_here path state) then Err (fault (last_part path.parts).place says.OperandsDoNotFit) else (
+    if state.in_step && names_tested state.tested state.here.scope (meant_here path state) then Err (fault (last_part path.parts).place (says.LeftOut form.ConditionNameInStep)) else
+    Ok (meant_here path state, state))
 
 unfoldable pub bound_here : Place → ℕ → Asks CxxState (Unit {0})
 bound_here place target state = Ok (tt, with_use place target state)
