@@ -8,3 +8,4 @@ pub mod Declaring
 pub mod Firsts
 pub mod Counts
 pub mod Conditional
+pub mod Calling

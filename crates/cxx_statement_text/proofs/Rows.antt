@@ -1,5 +1,5 @@
--- Worked statements: their texts.
-use Rattle.std.specs.Prelude.{ℕ, ℤ, pos, negsuc, ◌≡◌, refl, true, false, nat_eq, if◌then◌else◌, List, [], ◌∷◌, slice_index_or, Option, Some, None, codes}
+-- Worked statements: their texts, and the calls that are listed of them.
+use Rattle.std.specs.Prelude.{ℕ, ℤ, pos, negsuc, ◌≡◌, refl, true, false, nat_eq, if◌then◌else◌, List, [], ◌∷◌, map, slice_index_or, Option, Some, None, codes}
 use Rattle.cxx_model.specs.declared.base.Base.TheVariants as base
 use Rattle.cxx_model.specs.declared.facts.Access.TheVariants as access
 use Rattle.cxx_model.specs.declared.facts.FunctionFlags.{FunctionFlags}
@@ -13,6 +13,7 @@ use Rattle.cxx_reading.specs.Declarators.{no_cv}
 use Rattle.cxx_reading.specs.Trees.{CxxTree, Label, tree_of}
 use Rattle.std.specs.Fmt.{digits}
 use Rattle.cxx_page.specs.Sheets.{text_of_lines}
+use Rattle.cxx_statement_text.specs.Calls.{statement_calls}
 use Rattle.cxx_statement_text.specs.Objects.{Scene}
 use Rattle.cxx_statement_text.specs.Statements.{body_lines, statement_lines}
 
@@ -325,3 +326,62 @@ returned_value = refl
 returned_nothing : text (block (returns_nothing ∷ returns f ∷ [])) ≡ codes "{\n  return;\n  return f__1();\n}\n"
 unfolding statement_lines
 returned_nothing = refl
+
+-- ---- calls
+
+-- the call f() with a number
+abbrev numbered : ℕ → CxxTree
+numbered n = tree_of (record (label 40 []) { target = Some 0; call = Some n }) []
+
+abbrev numbers : CxxTree → List ℕ
+numbers tree = map (λ call. call.number) (statement_calls declared tree)
+
+-- if (int x = f()) f(); else return f();
+calls_of_an_if : numbers (if_else (bool (declares (object 2 (numbered 0) ∷ []))) (expression (numbered 1)) (returns (numbered 2))) ≡ 0 ∷ 1 ∷ 2 ∷ []
+unfolding statement_calls
+calls_of_an_if = refl
+
+-- if (f()) f();
+calls_without_an_else : numbers (if_ (bool (numbered 0)) (expression (numbered 1))) ≡ 0 ∷ 1 ∷ []
+unfolding statement_calls
+calls_without_an_else = refl
+
+-- for (f(); f(); f()) f();
+calls_of_a_for : numbers (for_ (expression (numbered 0)) (bool (numbered 1)) (expression (numbered 2)) (expression (numbered 3))) ≡ 0 ∷ 1 ∷ 2 ∷ 3 ∷ []
+unfolding statement_calls
+calls_of_a_for = refl
+
+-- for (int x = f(), y = f(); f(); f()) { f(); { f(); } }
+calls_of_several : numbers (for_ (declares (object 2 (numbered 0) ∷ object 3 (numbered 1) ∷ [])) (bool (numbered 2)) (numbered 3) (block (expression (numbered 4) ∷ block (expression (numbered 5) ∷ []) ∷ []))) ≡ 0 ∷ 1 ∷ 2 ∷ 3 ∷ 4 ∷ 5 ∷ []
+unfolding statement_calls
+calls_of_several = refl
+
+-- for (int x = f(); int y = f(); f()) f(); where the second declaration stands behind the third call
+calls_of_a_declared_condition : numbers (for_ (declares (object 2 (numbered 0) ∷ [])) (bool (declares (object 3 (numbered 1) ∷ []))) (numbered 2) (expression (numbered 3))) ≡ 0 ∷ 2 ∷ 1 ∷ 3 ∷ []
+unfolding statement_calls
+calls_of_a_declared_condition = refl
+
+-- for (;;) f();
+calls_without_a_head : numbers (for_ empty empty empty (expression (numbered 0))) ≡ 0 ∷ []
+unfolding statement_calls
+calls_without_a_head = refl
+
+-- while (int x = f()) f();
+calls_of_a_while : numbers (while_ (bool (declares (object 2 (numbered 0) ∷ []))) (expression (numbered 1))) ≡ 0 ∷ 1 ∷ []
+unfolding statement_calls
+calls_of_a_while = refl
+
+-- switch (int x = f()) { case 0: case 1: f(); break; default: int y = f(); }
+calls_behind_labels : numbers (switch (declares (object 2 (numbered 0) ∷ [])) (block (labelled (case_ (constant 0) ∷ case_ (constant 1) ∷ expression (numbered 1) ∷ []) ∷ break_ ∷ labelled (default ∷ declares (object 3 (numbered 2) ∷ []) ∷ []) ∷ []))) ≡ 0 ∷ 1 ∷ 2 ∷ []
+unfolding statement_calls
+calls_behind_labels = refl
+
+-- do f(); while (f());
+calls_of_a_do : numbers (do_ (expression (numbered 0)) (bool (numbered 1))) ≡ 0 ∷ 1 ∷ []
+unfolding statement_calls
+calls_of_a_do = refl
+
+-- { static int x = g(f()), h(); extern int y; typedef int T; }, where g(f()) has the number 1
+calls_of_objects : numbers (block (declaration (codes "static") (object 2 (tree_of (record (label 40 []) { target = Some 1; call = Some 1 }) (numbered 0 ∷ [])) ∷ declarator [] 0 (function_of int no_types false no_cv) [] ∷ []) ∷ declaration (codes "extern") (declarator (codes "extern") 6 int [] ∷ []) ∷ a_typedef ∷ [])) ≡ 0 ∷ 1 ∷ []
+unfolding statement_calls
+calls_of_objects = refl

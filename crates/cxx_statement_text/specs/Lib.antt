@@ -5,3 +5,5 @@ pub mod Objects
 pub mod Statements
 pub mod Calls
 pub mod Written
+pub mod Calls
+pub mod Listed

@@ -201,8 +201,8 @@ fn is_static_tree(state: &State, number: TreeId) -> bool
 
 // ---- how they are written
 
-// The first initializer among the parts of a declarator.
-fn initializer(state: &State, parts: &[TreeId]) -> Option<TreeId>
+/// The first initializer among the parts of a declarator.
+pub(crate) fn initializer(state: &State, parts: &[TreeId]) -> Option<TreeId>
     requires { AreTreesBelow (length (trees state.now)) parts.now }
     ensures is { option_map (tree state.now) result ≡ slice_get (objects.initializers_in (parts_in state.now parts.now)) 0 }
     ensures below { IfSome result (λ number. number.0 < length (trees state.now)) }
