@@ -5,5 +5,4 @@ pub mod Objects
 pub mod Statements
 pub mod Calls
 pub mod Written
-pub mod Calls
 pub mod Listed
