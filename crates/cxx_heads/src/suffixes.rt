@@ -10,7 +10,7 @@ ghost use Rattle.cxx_tree.specs.Held.{meaning};
 use crate::names::is_cv_word;
 use crate::shape::Shape;
 use cxx_model::{Stop, TokenKind, keyword, punct};
-use cxx_syntax::{Cursor, Kinds, Nested, Reader, Turn, is_keyword, is_punct, brackets_passed};
+use cxx_syntax::{Cursor, Kinds, Nested, Reader, Turn, brackets_passed, is_keyword, is_punct};
 use cxx_tree::State;
 
 // Brackets, behind which cv words may stand or not.

@@ -1,3 +1,4 @@
 mod Rows
 pub mod Kept
+pub mod Carried
 pub mod Binary

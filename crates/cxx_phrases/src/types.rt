@@ -79,7 +79,7 @@ fn type_declared(
 }
 
 // The type of specifiers and a declarator.
-#[tactic(auto, using(cxx_syntax::proofs::Kept::layers_kept, cxx_syntax::proofs::Kept::layers_later, cxx_syntax::proofs::Kept::trees_kept, cxx_syntax::proofs::Kept::trees_later, cxx_syntax::proofs::Kept::later_trans, cxx_syntax::proofs::Kept::later_refl))]
+#[tactic(auto, using(crate::proofs::Carried::type_carried, cxx_syntax::proofs::Kept::layers_later, cxx_syntax::proofs::Kept::trees_later))]
 fn type_made(
     state: &mut State,
     cursor: &Cursor<'_>,
