@@ -1,5 +1,5 @@
 -- The declarations that the index of names finds are those that a name means.
-use Rattle.std.specs.Prelude.{◌≡◌, ◌<◌, ◌≤◌, suc, Bool, true, false, ◌||◌, List, [], ◌∷◌, length, Option, Some, None, refl}
+use Rattle.std.specs.Prelude.{ℕ, ◌≡◌, ◌<◌, ◌≤◌, suc, Bool, true, false, ◌||◌, List, [], ◌∷◌, length, Option, Some, None, refl}
 use Rattle.std.proofs.Common.{ap, sym, subst, ◌∙◌, arith}
 use Rattle.std.proofs.lemmas.List.{length-map}
 use Rattle.std.proofs.lemmas.Option.{slice_get_within}
@@ -15,8 +15,8 @@ use Rattle.cxx_names.specs.Index.{number_of, numbers_in}
 use Rattle.cxx_names.specs.Looked.{looked_up, seen_by}
 use Rattle.cxx_overload.proofs.Gathering.{fact_seen}
 use Rattle.cxx_reading.specs.Seen.{Numbered, found}
-use Rattle.cxx_tree.specs.Held.{Held, meaning}
-use Rattle.cxx_answers.specs.Answers.{is_parameter, names_parameter}
+use Rattle.cxx_tree.specs.Held.{Held, fact_of_option, meaning}
+use Rattle.cxx_answers.specs.Answers.{is_parameter, is_tested, names_parameter, names_tested}
 use Rattle.cxx_expr.specs.Views.{AreFactsBelow, AreFactsKnown, numbered, numbered_in, with_fact}
 
 seen_same : (types : List CxxType) (n : FactId) (others : List Numbered) (o : Option Fact) → with_fact n.0 (option_map (fact_at types) o) others ≡ seen_by types n others o
@@ -69,14 +69,14 @@ all_found held seen said word numbers same is counted =
 
 -- ---- parameters of functions
 
+or_again : (a b : Bool) → (a || b) ≡ ((a || false) || b)
+or_again true b = refl
+or_again false b = refl
+
 pub parameter_more : (graph : CxxGraph) (types : List CxxType) (facts : List Fact) (number : FactId) (numbers : List FactId)
     → names_parameter graph (looked_up types facts (number ∷ numbers)) ≡ (names_parameter graph (looked_up types facts (number ∷ [])) || names_parameter graph (looked_up types facts numbers))
 parameter_more graph types facts number numbers = by (slice_get facts number.0)
   where
-    or_again : (a b : Bool) → (a || b) ≡ ((a || false) || b)
-    or_again true b = refl
-    or_again false b = refl
-
     by : (o : Option Fact) → names_parameter graph (seen_by types number (looked_up types facts numbers) o) ≡ (names_parameter graph (seen_by types number [] o) || names_parameter graph (looked_up types facts numbers))
     by None = refl
     by (Some fact) = or_again (is_parameter graph (record { number = number.0; fact = fact_at types fact })) (names_parameter graph (looked_up types facts numbers))
@@ -86,3 +86,21 @@ unfolding meaning
 parameter_meant held seen numbers answer same is =
     subst (λ (g : Graph). answer ≡ names_parameter (graph_at held.types g) (numbered_in (graph_at held.types g) numbers)) same
     (is held.types ∙ ap (names_parameter (graph_at held.types seen)) (sym (looked_same held.types seen numbers)))
+
+-- ---- the object that a condition declares
+
+pub tested_more : (tested : Option ℕ) (scope : ℕ) (types : List CxxType) (facts : List Fact) (number : FactId) (numbers : List FactId)
+    → names_tested tested scope (looked_up types facts (number ∷ numbers)) ≡ (names_tested tested scope (looked_up types facts (number ∷ [])) || names_tested tested scope (looked_up types facts numbers))
+tested_more tested scope types facts number numbers = by (slice_get facts number.0)
+  where
+    by : (o : Option Fact) → names_tested tested scope (seen_by types number (looked_up types facts numbers) o) ≡ (names_tested tested scope (seen_by types number [] o) || names_tested tested scope (looked_up types facts numbers))
+    by None = refl
+    by (Some fact) = or_again (is_tested tested scope (record { number = number.0; fact = fact_at types fact })) (names_tested tested scope (looked_up types facts numbers))
+
+pub tested_meant : (held : Held) (seen : Graph) (tested : Option FactId) (said : ScopeId) (numbers : List FactId) (answer : Bool) → seen ≡ held.graph → tested ≡ held.tested → said ≡ held.scope → ((types : List CxxType) → answer ≡ names_tested (fact_of_option tested) said.0 (looked_up types seen.facts numbers)) → answer ≡ names_tested (meaning held).tested (meaning held).here.scope (numbered held numbers)
+unfolding meaning
+tested_meant held seen tested said numbers answer same kept there is =
+    subst (λ (n : ScopeId). answer ≡ names_tested (fact_of_option held.tested) n.0 (numbered_in (graph_at held.types held.graph) numbers)) there
+    (subst (λ (t : Option FactId). answer ≡ names_tested (fact_of_option t) said.0 (numbered_in (graph_at held.types held.graph) numbers)) kept
+    (subst (λ (g : Graph). answer ≡ names_tested (fact_of_option tested) said.0 (numbered_in (graph_at held.types g) numbers)) same
+    (is held.types ∙ ap (names_tested (fact_of_option tested) said.0) (sym (looked_same held.types seen numbers)))))

@@ -11,12 +11,14 @@ ghost use Rattle.cxx_reading.specs.Declaring.{is_object as is_an_object, last_pa
 ghost use Rattle.cxx_reading.specs.Seen.{found as found_by};
 ghost use Rattle.cxx_tree.specs.Answered.{AnyKnown, IsAnswered, itself};
 ghost use Rattle.cxx_tree.specs.Arena.{path_at, path_parts_at};
-ghost use Rattle.cxx_tree.specs.Held.{meaning};
+ghost use Rattle.cxx_tree.specs.Held.{fact_of_option, meaning};
 
 use crate::typed::fact_of;
 use cxx_expr::faults::fault;
 use cxx_graph::Graph;
-use cxx_model::{Entity, FactId, FactList, FaultText, Path, PathPart, Place, Stop};
+use cxx_model::{
+    Entity, FactId, FactList, FaultText, LeftOut, Path, PathPart, Place, ScopeId, Stop,
+};
 use cxx_names::Names;
 use cxx_tree::State;
 use std::alloc::{AllocError, Global};
@@ -109,7 +111,48 @@ fn is_refused(state: &State, numbers: &[FactId]) -> bool
     state.in_default() && means_parameter(state, numbers)
 }
 
-/// All declarations that a name means where the reader stands (3.4.1). It stops at a parameter in a default argument (8.3.6).
+// Whether a declaration is that of the object which the last condition declares, in a scope (6.4).
+fn is_tested(graph: &Graph, tested: Option<FactId>, scope: ScopeId, number: FactId) -> bool
+    ensures { (types : List CxxType) → result ≡ definition.names_tested (fact_of_option tested) scope.0 (looked_up types graph.now.facts (number ∷ [])) }
+{
+    match fact_of(graph, number) {
+        Some(fact) => match tested {
+            Some(tested) => number.0 == tested.0 && fact.scope.0 == scope.0,
+            None => false,
+        },
+        None => false,
+    }
+}
+
+// Whether one of some declarations is that of this object.
+fn names_tested(graph: &Graph, tested: Option<FactId>, scope: ScopeId, numbers: &[FactId]) -> bool
+    ensures { (types : List CxxType) → result ≡ definition.names_tested (fact_of_option tested) scope.0 (looked_up types graph.now.facts numbers.now) }
+{
+    for number in numbers {
+        if is_tested(graph, tested, scope, *number) {
+            return true;
+        }
+    }
+    false
+}
+
+// The same of the state.
+fn means_tested(state: &State, numbers: &[FactId]) -> bool
+    ensures { result ≡ definition.names_tested (meaning state.now).tested (meaning state.now).here.scope (numbered state.now numbers.now) }
+{
+    names_tested(state.graph(), state.tested(), state.scope(), numbers)
+}
+
+// What a `for` does behind each turn does not name the object that its condition declares (6.5.3).
+#[tactic(auto, unfolding(cxx_tree::specs::Held::meaning))]
+fn is_left_out(state: &State, numbers: &[FactId]) -> bool
+    ensures { result ≡ (meaning state.now).in_step && definition.names_tested (meaning state.now).tested (meaning state.now).here.scope (numbered state.now numbers.now) }
+{
+    state.in_step() && means_tested(state, numbers)
+}
+
+/// All declarations that a name means where the reader stands (3.4.1). It stops at a parameter in a default argument (8.3.6),
+/// and at the object that the condition of a `for` declares in what that does behind each turn (6.5.3).
 #[tactic(auto, using(cxx_expr::proofs::Kept::later_refl), unfolding(crate::specs::Answers::name_here))]
 pub fn name_here(alloc: Global, state: &mut State, path: &Path) -> Result<FactList, Stop>
     ensures { IsAnswered numbered AreFactsKnown state.old state.new result (definition.name_here (path_at path.now) (meaning state.old)) }
@@ -118,6 +161,11 @@ pub fn name_here(alloc: Global, state: &mut State, path: &Path) -> Result<FactLi
     if is_refused(state, all.as_slice()) {
         let place = last_place(path.parts.as_slice());
         return Err(Stop::Fault(fault(alloc, place, FaultText::OperandsDoNotFit)?));
+    }
+    if is_left_out(state, all.as_slice()) {
+        let place = last_place(path.parts.as_slice());
+        let text = FaultText::LeftOut(LeftOut::ConditionNameInStep);
+        return Err(Stop::Fault(fault(alloc, place, text)?));
     }
     Ok(all)
 }
