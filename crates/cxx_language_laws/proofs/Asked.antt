@@ -24,7 +24,7 @@ use Rattle.cxx_expr.specs.Elaborating.{elaborate}
 use Rattle.cxx_language.specs.Answers.{asking}
 use Rattle.cxx_answers.specs.Answers.{bound_here, call_here, constant_by, constant_here, fallback_by, fallback_here, is_held, meant_here, name_here, names_parameter, questions, size_here}
 use Rattle.cxx_answers.specs.Defaults.{begin_default, end_default, offered_as}
-use Rattle.cxx_language.specs.Units.{answers, asked, inner_at, phrases_at}
+use Rattle.cxx_language.specs.Asked.{answers, asked, inner_at, phrases_at}
 use Rattle.cxx_language_laws.specs.Told.{IsUnitCall, unknown_name, unknown_call, unknown_type, declared}
 use Rattle.cxx_language_laws.proofs.CallsTell.{call_asked_tells}
 use Rattle.cxx_language_laws.proofs.Later.{IsLater, by_answer, later_same, later_is_kept, later_is_quiet, calmly, turned, parameter_answer_tells, enumeration_answer_tells, enumerator_answer_tells, enumerated_tells, kind_tells, type_tells}
@@ -79,7 +79,7 @@ constant_by_tells state ahead tree (Err (not_constant part)) = quiet_by later_is
 constant_by_tells state ahead tree (Err (overflow part)) = quiet_by later_is_told refl
 constant_by_tells state ahead tree (Err (divide_by_zero part)) = quiet_by later_is_told refl
 
-constant_tells : (tree : CxxTree) → Answers IsLater Told (constant_here tree)
+pub constant_tells : (tree : CxxTree) → Answers IsLater Told (constant_here tree)
 unfolding constant_here
 constant_tells tree state ahead = constant_by_tells state ahead tree (constant state.graph tree)
 

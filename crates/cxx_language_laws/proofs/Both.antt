@@ -3,7 +3,7 @@ use Rattle.std.proofs.Common.{refl}
 use Rattle.std.specs.Prelude.{ℕ, zero, suc, true}
 use Rattle.cxx_phrases.specs.declared.shape.TypeShape.TheVariants as shape
 use Rattle.cxx_knot.specs.Readers.{both}
-use Rattle.cxx_language.specs.Units.{asked, inner_at, phrases_at}
+use Rattle.cxx_language.specs.Asked.{asked, inner_at, phrases_at}
 use Rattle.cxx_language_laws.proofs.Asked.{kinds_tell, offers_tell, phrases_tell}
 use Rattle.cxx_language_laws.proofs.Later.{IsLater}
 use Rattle.cxx_language_laws.proofs.PhrasesTell.{InnerTell}

@@ -1,32 +1,44 @@
 -- Where the reading of a declaration stops.
-use Rattle.std.proofs.Common.{◌≡◌, refl}
-use Rattle.std.specs.Prelude.{ℕ, zero, suc, Bool, true, false, not, ◌&&◌, ◌||◌, List, [], ◌∷◌, ◌++◌, Ok, if◌then◌else◌}
+use Rattle.std.proofs.Common.{arith, ◌≡◌, ◌<◌, refl, sym, subst}
+use Rattle.std.specs.Prelude.{ℕ, zero, suc, Bool, true, false, not, ◌&&◌, ◌||◌, List, [], ◌∷◌, ◌++◌, Option, Some, None, length, Ok, if◌then◌else◌}
 use Rattle.cxx_model.specs.declared.fault.FaultText.TheVariants as says
+use Rattle.cxx_model.specs.declared.keyword.TheConstants as keyword
 use Rattle.cxx_model.specs.declared.punct.TheConstants as punct
+use Rattle.cxx_model.specs.Stops.{Answer}
 use Rattle.cxx_model.specs.Text.Lexemes.{Lexeme}
 use Rattle.cxx_model.specs.Types.Trees.{CxxType}
 use Rattle.cxx_reading.specs.declared.specifier.Naming.TheVariants as naming
 use Rattle.cxx_reading.specs.declared.specifier.SpecifierPlace.TheVariants as where_
-use Rattle.cxx_reading.specs.Declarators.{Declarator, declared_type, refused_in, is_refused, Specifiers, is_void, is_function_type}
-use Rattle.cxx_reading.specs.Declaring.{declare_object, define_object, define_declared}
-use Rattle.cxx_reading.specs.Reads.{Ahead, Reads, More, Done, ◌>>=◌, then_read, fault_at, give, got, count_ahead, kind_ahead, behind}
+use Rattle.cxx_reading.specs.Declarators.{Declarator, declared_type, refused_in, is_refused, Specifiers, is_void, is_function_type, own_parameters}
+use Rattle.cxx_reading.specs.Declaring.{begin_body, declare_object, define_object, define_declared, end_body, number_id, scope_count}
+use Rattle.cxx_reading.specs.Reads.{Ahead, Got, Reads, More, Done, ◌>>=◌, then_read, answered, ask, taken, fault_at, give, got, count_ahead, kind_ahead, behind}
 use Rattle.cxx_reading.specs.State.{CxxState}
-use Rattle.cxx_reading.specs.Tokens.{is_punct}
-use Rattle.cxx_reading.specs.Trees.{CxxTree}
-use Rattle.cxx_reading.specs.Units.{specifiers_tree, declarator_tree, name_in as name_of_declarator, declared_fits, ends_declarator, give_trees, no_declarators, said_by, simple_tree, empty_tree, another_ahead, linkages_passed, linkage_list, inside_step, Said, Listed}
+use Rattle.cxx_reading.specs.Tokens.{is_keyword, is_punct}
+use Rattle.cxx_reading.specs.Labels.{label_from}
+use Rattle.cxx_reading.specs.Trees.{CxxTree, tree_of}
+use Rattle.cxx_reading.specs.Units.{specifiers_tree, declarator_tree, name_in as name_of_declarator, declared_fits, ends_declarator, give_trees, no_declarators, said_by, empty_tree, another_ahead, linkages_passed, linkage_list, inside_step, Said, Listed}
+use Rattle.cxx_declare.specs.Functions.{declare_function}
+use Rattle.cxx_statements.specs.Productions as production
+use Rattle.cxx_statements.specs.Statements.{body_at}
 use Rattle.cxx_answers.specs.Typed.{type_so_far}
+use Rattle.cxx_language.specs.Asked.{answers, inner_at, phrases_at}
+use Rattle.cxx_language.specs.Bodies.{function_body, result_of, statements_within}
+use Rattle.cxx_language.specs.Made.{defined_object, extern_object}
 use Rattle.cxx_language.specs.Objects.{begins_initializer, defined_later, defined_part, extern_part, without_initializer}
-use Rattle.cxx_language.specs.Units.{answers, declaration_at, declaration_by, declarator_step, declarators_at, declarators_of, declared_by, defined_object, extern_object, init_declarator_at, inner_at, linkage_by, linkage_opened, linked_by, linked_one, phrases_at, plain_declaration_at, simple_declaration_at}
-use Rattle.cxx_language_laws.specs.Stopping.{Gives, Initializes, Leads, Part, a_declaration, a_declarator, a_simple_declaration, an_initializer, by_definition, by_extern, declarator_of, in_declaration, in_declarator, in_specifiers, initializer_of, linked_declarations, next_declaration, next_declarator, some_declarators, some_specifiers, specifiers_of, to_braces, to_declarators, to_initializer, to_linked, to_unlinked}
+use Rattle.cxx_language.specs.Statements.{parts_at}
+use Rattle.cxx_language.specs.Units.{Declares, alone, behind_list, declaration_at, declaration_by, declaration_tree, declarator_step, declarators_at, declarators_of, declared_by, declared_function, ended_behind, ended_by, function_ended, init_declarator_at, linkage_by, linkage_opened, linked_by, linked_one, not_ended, plain_declaration_at, simple_declaration_at}
+use Rattle.cxx_language_laws.specs.Stopping.{BeginsBody, Gives, Initializes, Leads, Part, a_body, a_declaration, a_declarator, a_simple_declaration, an_initializer, begins_body, body_of, by_definition, by_extern, declarator_of, in_declaration, in_declarator, in_specifiers, initializer_of, linked_declarations, next_declaration, next_declarator, some_declarators, some_specifiers, specifiers_of, to_body, to_braces, to_declarators, to_initializer, to_linked, to_unlinked}
 use Rattle.cxx_language_laws.specs.Told.{EndsIn}
 use Rattle.cxx_language_laws.proofs.Asked.{kinds_tell}
+use Rattle.cxx_language_laws.proofs.Begun.{Begun, Brings, HaveBegun, brings, brings_none, declarator_has_begun, own_has_begun}
 use Rattle.cxx_language_laws.proofs.Both.{both_tell}
-use Rattle.cxx_language_laws.proofs.Declared.{declared_function_tells, declared_synonym_tells, declarator_ended_tells, give_trees_tells, linkages_tell, linked_tree_tells, no_declaration_tells, nothing_tells, one_tree_tells, uninitialized_tells}
-use Rattle.cxx_language_laws.proofs.Later.{IsLater, define_later_tells, define_tells, later_is_quiet, object_tells}
+use Rattle.cxx_language_laws.proofs.Declared.{declared_synonym_tells, declarator_ended_tells, give_trees_tells, linkages_tell, linked_tree_tells, no_declaration_tells, nothing_tells, one_tree_tells, uninitialized_tells}
+use Rattle.cxx_language_laws.proofs.Later.{IsLater, define_later_tells, define_tells, function_answer_tells, later_is_kept, later_is_quiet, object_tells}
 use Rattle.cxx_language_laws.proofs.Objects.{initialized_tells}
-use Rattle.cxx_language_laws.proofs.Reached.{later_is_told}
-use Rattle.cxx_language_laws.proofs.Stopping.{Inside, Stops, calm, calm_from, innermost_stops, leads_here, leads_in, repeat_stops, then_asked, then_calm, which_in, whole_calm, whole_stops}
-use Rattle.cxx_language_laws.proofs.Tells.{tells_stop, then_from, then_in, if_in, same_in, next_in, give_in, looked_in, past_stands, quiet_in}
+use Rattle.cxx_language_laws.proofs.Reached.{count_more, later_is_told, reached_by_later, reached_later}
+use Rattle.cxx_language_laws.proofs.Stopping.{Inside, Stops, calm, calm_from, innermost_stops, leads_here, leads_in, quiet_told, repeat_stops, then_asked, then_asked_from, then_calm, told_within, which_in, whole_calm, whole_stops, within_part}
+use Rattle.cxx_language_laws.proofs.Tells.{Quietly, Tells, ToldBy, tells_answer, tells_read, tells_refusal, tells_stop, ends_later, then_from, then_in, if_in, same_in, next_in, give_in, looked_in, past_stands, quiet_in}
+use Rattle.cxx_language_laws.proofs.TellsBodies.{IsInBlock, begun_body, body_later, body_reached, body_tells_at, ended_body, enter_tells, in_list}
 use Rattle.cxx_language_laws.proofs.TellsSpecifiers.{specifiers_tell}
 use Rattle.cxx_language_laws.proofs.TellsSyntax.{declarator_tells}
 
@@ -64,7 +76,95 @@ extern_part_stops between rest room name of number leads later stands =
     which_in (begins_initializer rest) (λ begins. defined_later_stops between rest room name of number (leads begins) later stands) (λ none. calm_from later stands (
     if_in (ends_declarator (kind_ahead rest)) (same_in later_is_quiet [] between rest) (quiet_in later_is_quiet refl)))
 
+-- ---- bodies (8.4)
+
+body_stops : (room : ℕ) (state : CxxState) (ahead : Ahead) → Stops (a_body room) state ahead (body_of room state ahead)
+body_stops room state ahead = innermost_stops tt (λ fault is. is) (body_tells_at room state ahead)
+
+-- behind a body
+abbrev behind_body : ℕ → List CxxTree → Reads CxxState (List CxxTree)
+behind_body outside statements = ask (end_body outside) >>= λ ended. give statements
+
+body_ends : {part : Part} {state : CxxState} {ahead : Ahead} (room list number : ℕ) (result : CxxType) (between t : CxxState) (rest : Ahead) → list < scope_count between.graph → IsLater state between → EndsIn ahead.tokens rest.tokens
+    → IsLater (begun_body list number result between) t → Leads part state ahead (a_body room) t (behind rest) → {r : Answer (Got CxxState (List CxxTree))} → Stops (a_body room) t (behind rest) r → Inside part state ahead (then_read r (behind_body between.here.scope))
+unfolding end_body
+body_ends {state = state} {ahead = ahead} room list number result between t rest there first stands begun leads (tells_read one later ends) =
+    let all = later_is_kept.later (begun_body list number result between) t one.state begun later in
+    tells_read (record { value = one.value; state = ended_body between.here.scope one.state; rest = one.rest }) (later_is_kept.later state between (ended_body between.here.scope one.state) first (body_later list number result between one.state there all)) (ends_later ahead.tokens (behind rest).tokens one.rest.tokens (past_stands ahead rest stands) ends)
+body_ends {part = part} {state = state} {ahead = ahead} room list number result between t rest there first stands begun leads (tells_stop why true_of) =
+    let reached = reached_later state between (begun_body list number result between) (reached_by_later state between first) (body_reached list number result between there) in
+    tells_stop why (told_within part (a_body room) state t ahead (behind rest) why leads (reached_later state (begun_body list number result between) t reached (reached_by_later (begun_body list number result between) t begun)) (past_stands ahead rest stands) true_of)
+
+begun_stops : {part : Part} {state : CxxState} {ahead : Ahead} (room list number : ℕ) (result : CxxType) (between : CxxState) (rest : Ahead) → list < scope_count between.graph → IsLater state between → EndsIn ahead.tokens rest.tokens
+    → {r : Answer (Unit {0} × CxxState)} → ToldBy (IsInBlock (Some (number_id number))) Quietly (in_list list result between) rest r → ((begun : Unit {0} × CxxState) → r ≡ Ok begun → Leads part state ahead (a_body room) begun.1 (behind rest))
+    → Inside part state ahead (then_read (answered r rest) (λ begun. taken >>= λ opened. body_at parts_at room >>= behind_body between.here.scope))
+begun_stops room list number result between rest there later stands (tells_answer one begun) leads = body_ends room list number result between one.1 rest there later stands begun (leads one refl) (body_stops room one.1 (behind rest))
+begun_stops {part = part} {state = state} {ahead = ahead} room list number result between rest there later stands (tells_refusal why quiet) leads = tells_stop why (quiet_told within_part part state ahead why quiet)
+
+statements_stop : {part : Part} {state : CxxState} {ahead : Ahead} (room list number : ℕ) (result : CxxType) (between : CxxState) (rest : Ahead) → list < scope_count between.graph → IsLater state between → EndsIn ahead.tokens rest.tokens
+    → ((less : ℕ) (begun : Unit {0} × CxxState) → room ≡ suc less → begin_body list number result between ≡ Ok begun → Leads part state ahead (a_body less) begun.1 (behind rest))
+    → Inside part state ahead (statements_within room list number result between rest)
+unfolding statements_within begin_body
+statements_stop zero list number result between rest there later stands leads = calm (quiet_in later_is_quiet refl)
+statements_stop (suc room) list number result between rest there later stands leads = begun_stops room list number result between rest there later stands (enter_tells (Some (number_id number)) (in_list list result between) rest) (λ begun is. leads room begun refl is)
+
+-- of the function with a number
+abbrev LeadsToBody : Part → CxxState → Ahead → ℕ → Lexeme → CxxType → ℕ → ℕ → CxxState → Ahead → Type 0
+LeadsToBody part state ahead room name of number list between rest = (less : ℕ) (defined begun : Unit {0} × CxxState) → room ≡ suc less → define_declared name number between ≡ Ok defined → begin_body list number (result_of of) defined.1 ≡ Ok begun → Leads part state ahead (a_body less) begun.1 (behind rest)
+
+function_body_stops : {part : Part} {state : CxxState} {ahead : Ahead} (room : ℕ) (name : Lexeme) (of : CxxType) (number list : ℕ) (between : CxxState) (rest : Ahead) → list < scope_count between.graph → IsLater state between → EndsIn ahead.tokens rest.tokens
+    → LeadsToBody part state ahead room name of number list between rest → Inside part state ahead (function_body room name of number list between rest)
+unfolding function_body
+function_body_stops room name of number list between rest there later stands leads =
+    then_asked_from _ (define_declared name number) (define_later_tells name number between rest) later stands (λ defined is keeps later.
+    let more = count_more between defined.1 keeps.grown in
+    then_calm (statements_stop room list number (result_of of) defined.1 rest (omega (arith, there, more)) later stands (λ less begun is_more begins. leads less defined begun is_more is begins)) (λ statements state ahead.
+    then_in later_is_quiet (looked_in later_is_quiet state ahead) (λ to. give_in later_is_quiet (tree_of (record (label_from production.block [] rest to) { target = Some (length defined.1.graph.facts) }) statements))))
+
+behind_list_stops : {part : Part} {state : CxxState} {ahead : Ahead} (room : ℕ) (name : Lexeme) (of : CxxType) (number list : ℕ) (between : CxxState) (rest : Ahead) → list < scope_count between.graph → IsLater state between → EndsIn ahead.tokens rest.tokens
+    → (is_punct punct.LEFT_BRACE (kind_ahead rest) ≡ true → LeadsToBody part state ahead room name of number list between rest) → Inside part state ahead (behind_list room name of number (Some list) between rest)
+behind_list_stops room name of number list between rest there later stands leads =
+    which_in (is_punct punct.LEFT_BRACE (kind_ahead rest)) (λ brace. then_calm (function_body_stops room name of number list between rest there later stands (leads brace)) one_tree_tells) (λ none. calm (
+    if_in (is_keyword keyword.TRY (kind_ahead rest)) (quiet_in later_is_quiet refl) (quiet_in later_is_quiet refl)))
+
+not_ended_stops : {part : Part} {state : CxxState} {ahead : Ahead} (room : ℕ) (is_first : Bool) (name : Lexeme) (of : CxxType) (number : ℕ) (own : Option ℕ) (between : CxxState) (rest : Ahead) → ((list : ℕ) → own ≡ Some list → list < scope_count between.graph) → IsLater state between → EndsIn ahead.tokens rest.tokens
+    → ((list : ℕ) → is_first ≡ true → own ≡ Some list → is_punct punct.LEFT_BRACE (kind_ahead rest) ≡ true → LeadsToBody part state ahead room name of number list between rest) → Inside part state ahead (not_ended room is_first name of number own between rest)
+not_ended_stops room true name of number None between rest there later stands leads = calm (quiet_in later_is_quiet refl)
+not_ended_stops room true name of number (Some list) between rest there later stands leads = behind_list_stops room name of number list between rest (there list refl) later stands (leads list refl refl)
+not_ended_stops room false name of number own between rest there later stands leads = calm (quiet_in later_is_quiet refl)
+
+function_ended_stops : {part : Part} {state : CxxState} {ahead : Ahead} (room : ℕ) (is_first : Bool) (declarator : Declarator) (of : CxxType) (number : ℕ) (between : CxxState) (rest : Ahead) → ((list : ℕ) → own_parameters declarator.layers ≡ Some list → list < scope_count between.graph) → IsLater state between → EndsIn ahead.tokens rest.tokens
+    → ((list : ℕ) → is_first ≡ true → own_parameters declarator.layers ≡ Some list → is_punct punct.LEFT_BRACE (kind_ahead rest) ≡ true → LeadsToBody part state ahead room (name_of_declarator declarator) of number list between rest)
+    → Inside part state ahead (function_ended room is_first declarator of number between rest)
+unfolding function_ended
+function_ended_stops room is_first declarator of number between rest there later stands leads =
+    which_in (ends_declarator (kind_ahead rest)) (λ ends. calm_from later stands (same_in later_is_quiet [] between rest)) (λ none. not_ended_stops room is_first (name_of_declarator declarator) of number (own_parameters declarator.layers) between rest there later stands leads)
+
+-- with room for one more bracket
+leads_to_body : (room less : ℕ) (said : Said) (so_far : Listed) (declarator : Declarator) (state between after : CxxState) (ahead rest : Ahead) → room ≡ suc less → so_far.is_first ≡ true → Gives (declarator_of room) state ahead declarator between rest
+    → said.is_typedef ≡ false → is_function_type (declared_type declarator.layers said.of) ≡ true → BeginsBody said declarator between after → is_punct punct.LEFT_BRACE (kind_ahead rest) ≡ true → Leads (some_declarators room said so_far) state ahead (a_body less) after (behind rest)
+leads_to_body room less said so_far declarator state between after ahead rest is_more is_first is no_synonym function begins brace =
+    subst (λ (n : ℕ). Leads (some_declarators n said so_far) state ahead (a_body less) after (behind rest)) (sym is_more)
+    (to_body is_first (subst (λ (n : ℕ). Gives (declarator_of n) state ahead declarator between rest) is_more is) no_synonym function begins brace)
+
+declared_function_stops : (room : ℕ) (said : Said) (so_far : Listed) (declarator : Declarator) (from : Ahead) (state between : CxxState) (ahead rest : Ahead) → Gives (declarator_of room) state ahead declarator between rest → HaveBegun between declarator.layers
+    → said.is_typedef ≡ false → is_function_type (declared_type declarator.layers said.of) ≡ true → IsLater state between → EndsIn ahead.tokens rest.tokens
+    → Inside (some_declarators room said so_far) state ahead (declared_function room said so_far.is_first declarator from between rest)
+unfolding declared_function
+declared_function_stops room said so_far declarator from state between ahead rest is begun no_synonym function later stands =
+    let name = name_of_declarator declarator in
+    let of = declared_type declarator.layers said.of in
+    let own = own_parameters declarator.layers in
+    then_asked_from _ (declare_function own name of) (function_answer_tells own name of between rest) later stands (λ answer is_declared keeps later.
+    let more = count_more between answer.1 keeps.grown in
+    then_calm (function_ended_stops room so_far.is_first declarator of answer.0 answer.1 rest (λ list is_own. let there = own_has_begun between declarator.layers list begun is_own in omega (arith, there, more)) later stands
+    (λ list is_first is_own brace less defined body is_more is_defined begins. leads_to_body room less said so_far declarator state between body.1 ahead rest is_more is_first is no_synonym function (begins_body list answer defined body is_own is_declared is_defined begins) brace))
+    (λ body. give_in later_is_quiet _))
+
 -- ---- one declarator
+
+alone_tells : (tree : CxxTree) → Tells IsLater Quietly (alone tree)
+alone_tells tree = give_in later_is_quiet _
 
 -- from an initializer of this declarator
 abbrev LeadsOn : ℕ → Said → Listed → Declarator → CxxState → Ahead → CxxState → Ahead → Type 0
@@ -94,14 +194,24 @@ which_reads : {A : Type 0} {part : Part} {state : CxxState} {ahead : Ahead} (b :
 which_reads true x y after rest one two = one refl
 which_reads false x y after rest one two = two refl
 
-declared_by_stops : (room : ℕ) (said : Said) (so_far : Listed) (is_first : Bool) (from : Ahead) (declarator : Declarator) (state between : CxxState) (ahead rest : Ahead) → Gives (declarator_of room) state ahead declarator between rest → IsLater state between → EndsIn ahead.tokens rest.tokens
-    → Inside (some_declarators room said so_far) state ahead (declared_by room said is_first from declarator between rest)
-declared_by_stops room said so_far is_first from declarator state between ahead rest is later stands =
-    which_reads said.is_typedef _ _ between rest (λ synonym. calm_from later stands (declared_synonym_tells said declarator from between rest)) (λ no_synonym.
-    which_reads (is_function_type (declared_type declarator.layers said.of)) _ _ between rest (λ function. calm_from later stands (declared_function_tells said is_first declarator from between rest)) (λ no_function.
+declared_by_stops : (room : ℕ) (said : Said) (so_far : Listed) (from : Ahead) (declarator : Declarator) (state between : CxxState) (ahead rest : Ahead) → Gives (declarator_of room) state ahead declarator between rest → HaveBegun between declarator.layers → IsLater state between → EndsIn ahead.tokens rest.tokens
+    → Inside (some_declarators room said so_far) state ahead (declared_by room said so_far.is_first from declarator between rest)
+declared_by_stops room said so_far from declarator state between ahead rest is begun later stands =
+    which_reads said.is_typedef _ _ between rest (λ synonym. calm_from later stands (then_in later_is_quiet (declared_synonym_tells said declarator from between rest) alone_tells)) (λ no_synonym.
+    which_reads (is_function_type (declared_type declarator.layers said.of)) _ _ between rest (λ function. declared_function_stops room said so_far declarator from state between ahead rest is begun no_synonym function later stands) (λ no_function.
     let leads : LeadsOn room said so_far declarator state ahead between rest = λ number after initializes begins. to_initializer is no_synonym no_function initializes begins in
-    which_reads said.is_extern _ _ between rest (λ is_extern. extern_object_stops room said so_far declarator from state between ahead rest is_extern leads later stands)
-    (λ no_extern. defined_object_stops room said so_far declarator from state between ahead rest no_extern leads later stands)))
+    which_reads said.is_extern _ _ between rest (λ is_extern. then_calm (extern_object_stops room said so_far declarator from state between ahead rest is_extern leads later stands) alone_tells)
+    (λ no_extern. then_calm (defined_object_stops room said so_far declarator from state between ahead rest no_extern leads later stands) alone_tells)))
+
+is_begun : {r : Answer (Got CxxState Declarator)} {state : CxxState} (one : Got CxxState Declarator) → Brings Begun state r → r ≡ Ok one → HaveBegun one.state one.value.layers
+is_begun one (brings other later are) e = subst (λ (g : Got CxxState Declarator). HaveBegun g.state g.value.layers) (by e) are
+  where
+    same : Answer (Got CxxState Declarator) → Answer (Got CxxState Declarator) → Type 0
+    same x y = x ≡ y
+
+    by : same (Ok other) (Ok one) → other ≡ one
+    by e = cc
+is_begun one (brings_none why) e = absurd cc
 
 -- what follows where a declarator fits
 fits_stops : {B : Type 0} {part : Part} {state : CxxState} {ahead : Ahead} (said : Said) (declarator : Declarator) (go : Unit {0} → Reads CxxState B) (after : CxxState) (rest : Ahead) → Inside part state ahead (go tt after rest) → Inside part state ahead (then_read (declared_fits said declarator after rest) go)
@@ -116,11 +226,18 @@ init_declarator_stops : (room : ℕ) (said : Said) (so_far : Listed) (state : Cx
 unfolding init_declarator_at
 init_declarator_stops room said so_far state ahead =
     then_from (λ declarator. declared_fits said declarator >>= λ fits. declared_by room said so_far.is_first ahead declarator) (leads_here in_declarator (declarator_stops room state ahead)) (λ one is later stands.
-    fits_stops said one.value (λ fits. declared_by room said so_far.is_first ahead one.value) one.state one.rest (declared_by_stops room said so_far so_far.is_first ahead one.value state one.state ahead one.rest is later stands))
+    fits_stops said one.value (λ fits. declared_by room said so_far.is_first ahead one.value) one.state one.rest (declared_by_stops room said so_far ahead one.value state one.state ahead one.rest is (is_begun one (declarator_has_begun room naming.Required state ahead) is) later stands))
+
+ended_behind_tells : (so_far : Listed) (tree : CxxTree) (body : List CxxTree) → Tells IsLater Quietly (ended_behind so_far tree body)
+ended_behind_tells so_far tree [] = declarator_ended_tells so_far tree
+ended_behind_tells so_far tree (body ∷ others) = give_in later_is_quiet _
+
+ended_by_tells : (so_far : Listed) (one : Declares) → Tells IsLater Quietly (ended_by so_far one)
+ended_by_tells so_far one = ended_behind_tells so_far one.tree one.body
 
 declarator_step_stops : (room : ℕ) (said : Said) (so_far : Listed) (state : CxxState) (ahead : Ahead) → Inside (some_declarators room said so_far) state ahead (declarator_step room said so_far state ahead)
 unfolding declarator_step
-declarator_step_stops room said so_far state ahead = then_calm (init_declarator_stops room said so_far state ahead) (declarator_ended_tells so_far)
+declarator_step_stops room said so_far state ahead = then_calm (init_declarator_stops room said so_far state ahead) (ended_by_tells so_far)
 
 declarators_stop : (room : ℕ) (said : Said) (state : CxxState) (ahead : Ahead) → Stops (some_declarators room said no_declarators) state ahead (declarators_at room said state ahead)
 unfolding declarators_at
@@ -137,7 +254,7 @@ unfolding simple_declaration_at
 simple_stops room as_extern state ahead =
     whole_stops (λ fault is. is) (then_from _ (leads_here in_specifiers (specifiers_stop room state ahead)) (λ one is later stands.
     then_calm (leads_in (to_declarators is) later stands (declarators_of_stop room as_extern one.value one.state one.rest)) (λ declarators state rest.
-    then_in later_is_quiet (looked_in later_is_quiet state rest) (λ to. give_in later_is_quiet (simple_tree (specifiers_tree one.value ahead one.rest) declarators ahead to)))))
+    then_in later_is_quiet (looked_in later_is_quiet state rest) (λ to. give_in later_is_quiet (declaration_tree (specifiers_tree one.value ahead one.rest) declarators ahead to)))))
 
 plain_stops : (room : ℕ) (as_extern : Bool) (state : CxxState) (ahead : Ahead) → Stops (a_simple_declaration room as_extern) state ahead (plain_declaration_at room as_extern state ahead)
 unfolding plain_declaration_at

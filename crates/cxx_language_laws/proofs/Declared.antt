@@ -8,14 +8,13 @@ use Rattle.cxx_model.specs.declared.token.TokenKind.{TokenKind}
 use Rattle.cxx_model.specs.declared.token.TokenKind.TheVariants.{Keyword}
 use Rattle.cxx_model.specs.Text.Lexemes.{Lexeme}
 use Rattle.cxx_model.specs.Types.Trees.{CxxType}
-use Rattle.cxx_reading.specs.Declarators.{Declarator, declared_type, Specifiers, is_reference, own_parameters}
+use Rattle.cxx_reading.specs.Declarators.{Declarator, declared_type, Specifiers, is_reference}
 use Rattle.cxx_reading.specs.Reads.{Ahead, More, Done, give, count_ahead, kind_ahead, word_ahead, behind}
 use Rattle.cxx_reading.specs.State.{CxxState}
 use Rattle.cxx_reading.specs.Tokens.{is_punct, is_keyword, is_qualified, begins_unbuilt, form_of_keyword, form_of_kind, no_declaration}
 use Rattle.cxx_reading.specs.Trees.{CxxTree}
-use Rattle.cxx_reading.specs.Units.{is_unbounded, declarator_tree, name_in as name_of_declarator, is_const_type, uninitialized, ends_declarator, one_tree, is_some_scope, function_ended, synonym_ended, declared_synonym, with_declarator, declarator_ended, give_trees, is_some_storage, nothing_declared, is_linkage, is_language, linkage_step, linkages_passed, linkage_tree, linked_tree, Said, Listed}
-use Rattle.cxx_language.specs.Units.{declared_function}
-use Rattle.cxx_language_laws.proofs.Later.{IsLater, later_is_quiet, synonym_tells, function_answer_tells}
+use Rattle.cxx_reading.specs.Units.{is_unbounded, declarator_tree, name_in as name_of_declarator, is_const_type, uninitialized, ends_declarator, one_tree, synonym_ended, declared_synonym, with_declarator, declarator_ended, give_trees, is_some_storage, nothing_declared, is_linkage, is_language, linkage_step, linkages_passed, linkage_tree, linked_tree, Said, Listed}
+use Rattle.cxx_language_laws.proofs.Later.{IsLater, later_is_quiet, synonym_tells}
 use Rattle.cxx_language_laws.proofs.Tells.{saying, nothing, Quietly, Tells, quiet_in, if_in, past_in, then_in, ask_in, same_in, next_in, repeat_tells, looked_in, give_in}
 use Rattle.cxx_language_laws.proofs.TellsSyntax.{quiet_if}
 
@@ -25,14 +24,6 @@ uninitialized_tells name of state ahead = if_in (is_unbounded of) (quiet_in late
 
 pub one_tree_tells : (tree : CxxTree) → Tells IsLater Quietly (one_tree tree)
 one_tree_tells tree = give_in later_is_quiet (tree ∷ [])
-
-pub function_ended_tells : (is_first : Bool) (declarator : Declarator) → Tells IsLater Quietly (function_ended is_first declarator)
-unfolding function_ended
-function_ended_tells is_first declarator state ahead = if_in (ends_declarator (kind_ahead ahead)) (same_in later_is_quiet (tt) state ahead) (if_in (is_first && is_some_scope (own_parameters declarator.layers)) (if_in (is_punct punct.LEFT_BRACE (kind_ahead ahead) || is_punct punct.COLON (kind_ahead ahead)) (quiet_in later_is_quiet refl) (if_in (is_keyword keyword.TRY (kind_ahead ahead)) (quiet_in later_is_quiet refl) (quiet_in later_is_quiet refl))) (quiet_in later_is_quiet refl))
-
-pub declared_function_tells : (said : Said) (is_first : Bool) (declarator : Declarator) (from : Ahead) → Tells IsLater Quietly (declared_function said is_first declarator from)
-unfolding declared_function
-declared_function_tells said is_first declarator from state ahead = then_in later_is_quiet (ask_in ahead (function_answer_tells (own_parameters declarator.layers) (name_of_declarator declarator) (declared_type declarator.layers said.of) state ahead)) (λ number state ahead. then_in later_is_quiet (function_ended_tells is_first declarator state ahead) (λ ended state ahead. then_in later_is_quiet (looked_in later_is_quiet state ahead) (λ to. give_in later_is_quiet (declarator_tree said.is_extern (name_of_declarator declarator) (declared_type declarator.layers said.of) number declarator.parts from to))))
 
 pub synonym_ended_tells : Tells IsLater Quietly synonym_ended
 unfolding synonym_ended

@@ -14,6 +14,8 @@ pub mod TellsConversions
 pub mod TellsOperators
 pub mod TellsNames
 pub mod TellsExpressions
+pub mod TellsHeads
+pub mod TellsStatements
 pub mod Scopes
 pub mod Later
 pub mod Reached
@@ -23,8 +25,11 @@ pub mod TellsValues
 pub mod TellsDefaults
 pub mod Asked
 pub mod Both
+pub mod Begun
 pub mod Declared
 pub mod Objects
+pub mod TellsBlocks
+pub mod TellsBodies
 pub mod Stopping
 pub mod Declarations
 pub mod Whole

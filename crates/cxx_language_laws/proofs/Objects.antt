@@ -10,7 +10,7 @@ use Rattle.cxx_reading.specs.Units.{is_unbounded}
 use Rattle.cxx_answers.specs.Typed.{entity_number}
 use Rattle.cxx_language.specs.Known.{is_some_value, known_answer, known_object, known_value, note_known, noted, type_known}
 use Rattle.cxx_language.specs.Objects.{initialized_part, initializer_tree, is_empty_array, some_elements}
-use Rattle.cxx_language.specs.Units.{answers, inner_at, phrases_at}
+use Rattle.cxx_language.specs.Asked.{answers, inner_at, phrases_at}
 use Rattle.cxx_language_laws.proofs.Asked.{phrases_tell}
 use Rattle.cxx_language_laws.proofs.Both.{both_tell}
 use Rattle.cxx_language_laws.proofs.Later.{IsLater, added_tells, by_answer, calm_by, later_is_quiet}
@@ -26,13 +26,13 @@ noted_tells : (name : Lexeme) (number : ℕ) (of : CxxType) (tree : CxxTree) →
 unfolding noted
 noted_tells name number of tree state ahead = by_answer state ahead _ (added_tells (fact_here state (spelled name.spelling) name.place (known_object (entity_number state number) (type_known of tree) (known_value state.graph of tree))) state ahead refl) (λ answer later. tells_answer (known_answer answer) later)
 
-note_tells : (name : Lexeme) (number : ℕ) (of : CxxType) (tree : CxxTree) → Answers IsLater Quietly (note_known name number of tree)
+pub note_tells : (name : Lexeme) (number : ℕ) (of : CxxType) (tree : CxxTree) → Answers IsLater Quietly (note_known name number of tree)
 unfolding note_known
 note_tells name number of tree state ahead = if_by (is_unbounded of || is_some_value (known_value state.graph of tree)) (noted_tells name number of tree state ahead) (same_by later_is_quiet tt state ahead)
 
 -- ---- initializers
 
-some_elements_tell : (name : Lexeme) (of : CxxType) → Tells IsLater Told (some_elements name of)
+pub some_elements_tell : (name : Lexeme) (of : CxxType) → Tells IsLater Told (some_elements name of)
 unfolding some_elements
 some_elements_tell name of state ahead = if_in (is_empty_array of) (quiet_in later_is_told refl) (same_in later_is_told tt state ahead)
 

@@ -28,7 +28,7 @@ scopes_more (x ∷ xs) ys = by x.what (scopes_more xs ys)
     by (facts.scope parent kind) e = omega (arith, e)
     by _ e = e
 
-count_more : (old new : CxxState) → IsGrown old new → scope_count old.graph ≤ scope_count new.graph
+pub count_more : (old new : CxxState) → IsGrown old new → scope_count old.graph ≤ scope_count new.graph
 count_more old new grown = subst (λ (g : CxxGraph). scope_count old.graph ≤ scope_count g) (sym grown.declared) (scopes_more old.graph.facts grown.own)
 
 scope_later : (s t u : CxxState) → IsGrown s t → IsScopeSince s t → IsScopeSince t u → IsScopeSince s u

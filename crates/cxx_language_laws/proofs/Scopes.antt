@@ -3,12 +3,14 @@ use Rattle.std.proofs.Common.{arith, ◌≡◌, ◌⊎◌, inl, inr, ℕ, zero, 
 use Rattle.std.specs.List.{slice_get}
 use Rattle.std.proofs.lemmas.List.{append-nil, length-append}
 use Rattle.std.proofs.lemmas.Option.{same_Some}
+use Rattle.cxx_model.specs.declared.facts.Access.TheVariants.{Public}
+use Rattle.cxx_model.specs.declared.facts.ScopeKind.{ScopeKind}
 use Rattle.cxx_model.specs.Facts.Conflicts.{scope_facts}
 use Rattle.cxx_model.specs.Facts.Declarations as facts
-use Rattle.cxx_model.specs.Facts.Declarations.{CxxFact, CxxGraph, CxxName, Declares}
+use Rattle.cxx_model.specs.Facts.Declarations.{CxxFact, CxxGraph, CxxName, Declares, unnamed}
 use Rattle.cxx_model.specs.Facts.Entities.{scope_kinds}
 use Rattle.cxx_meaning.specs.Lookups.Wanted.{names_type}
-use Rattle.cxx_reading.specs.Declaring.{with_fact, at_scope, scope_count, parameters_scope}
+use Rattle.cxx_reading.specs.Declaring.{with_fact, at_scope, scope_count, place_of_scope}
 use Rattle.cxx_reading.specs.Seen.{Numbered, declared_in, scope_of_option, parent_of, or_outside, kept, any_declaration, found, found_from, found_types}
 use Rattle.cxx_reading.specs.State.{CxxState, first_state}
 
@@ -83,14 +85,39 @@ scopes_added state fact here is = by fact.what (scopes_last state.graph.facts fa
     by (facts.scope parent kind) are = in_scopes (with_fact (record fact { what = facts.scope parent kind }) state) (scopes ++ record fact { what = facts.scope parent kind } ∷ []) are (more (record fact { what = facts.scope parent kind })) (held_last scopes (record fact { what = facts.scope parent kind }) below is.held)
     by what are = in_scopes (with_fact (record fact { what = what }) state) scopes (are ∙ append-nil scopes) is.within is.held
 
--- 3.3.2: a scope of parameters begins, in which the reader stands then
-pub scopes_entered : (state : CxxState) → InScopes state → InScopes (at_scope (scope_count state.graph) (with_fact (parameters_scope state) state))
-scopes_entered state is =
+-- 3.3.2: a scope of parameters, or a block, where the reader stands
+abbrev pub scope_within : ScopeKind → CxxState → CxxFact
+scope_within kind state = record {
+  place = place_of_scope state.graph state.here.scope;
+  scope = state.here.scope;
+  name = unnamed;
+  access = Public;
+  what = facts.scope (Some (record { 0 = state.here.scope })) kind;
+}
+
+-- it begins, and the reader stands in it then
+abbrev pub entered : ScopeKind → CxxState → CxxState
+entered kind state = at_scope (scope_count state.graph) (with_fact (scope_within kind state) state)
+
+pub scopes_entered : (kind : ScopeKind) (state : CxxState) → InScopes state → InScopes (entered kind state)
+scopes_entered kind state is =
     let scopes = scope_facts state.graph.facts in
-    let last = parameters_scope state in
+    let last = scope_within kind state in
     let count = length-append scopes (last ∷ []) in
     let counted = scopes_counted state.graph.facts in
-    in_scopes (at_scope (scope_count state.graph) (with_fact last state)) (scopes ++ last ∷ []) (scopes_last state.graph.facts last) (omega (arith, count, counted)) (held_last scopes last is.within is.held)
+    in_scopes (entered kind state) (scopes ++ last ∷ []) (scopes_last state.graph.facts last) (omega (arith, count, counted)) (held_last scopes last is.within is.held)
+
+-- the reader stands in another scope that there is
+pub scopes_at : (scope : ℕ) (state : CxxState) → scope < scope_count state.graph → InScopes state → InScopes (at_scope scope state)
+scopes_at scope state there is =
+    let counted = scopes_counted state.graph.facts in
+    in_scopes (at_scope scope state) (scope_facts state.graph.facts) refl (omega (arith, counted, there)) is.held
+
+pub scope_is_there : (state : CxxState) → InScopes state → state.here.scope < scope_count state.graph
+scope_is_there state is =
+    let counted = scopes_counted state.graph.facts in
+    let within = is.within in
+    omega (arith, counted, within)
 
 none_is_past : (scopes : List CxxFact) (scope : ℕ) → scope < length scopes → slice_get scopes scope ≡ None → ⊥
 none_is_past [] scope within none = absurd (omega (arith, within))

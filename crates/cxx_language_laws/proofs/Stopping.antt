@@ -8,7 +8,7 @@ use Rattle.cxx_reading.specs.State.{CxxState}
 use Rattle.cxx_language_laws.specs.Stopping.{Gives, IsInnermost, IsStopped, IsStoppedIn, Leads, Part, StopsWithin, it_leads, it_stops}
 use Rattle.cxx_language_laws.specs.Told.{EndsIn}
 use Rattle.cxx_language_laws.proofs.Later.{IsLater, later_is_kept, later_is_quiet}
-use Rattle.cxx_language_laws.proofs.Reached.{IsChosen, IsUndeclared, Reached, Told as ToldOf, ToldSo as ToldSoOf}
+use Rattle.cxx_language_laws.proofs.Reached.{IsChosen, IsReached, IsUndeclared, Reached, reached_by_later, reached_later, Told as ToldOf, ToldSo as ToldSoOf}
 use Rattle.cxx_language_laws.proofs.Tells.{Saying, choosing, undeclared, nothing, saying, IsQuiet, Quietly, whole_stands, ends_later, ToldIn, tells_read, tells_stop, Tells, ToldBy, tells_answer, tells_refusal, from_in, then_from}
 
 -- ---- what is true of a stop
@@ -20,14 +20,14 @@ pub record Chained (part : Part) (state : CxxState) (ahead : Ahead) (fault : Fau
   pub from : Ahead
   pub stops : StopsWithin fault part state ahead last before from
   pub innermost : IsInnermost last
-  pub later : IsLater state before
+  pub later : IsReached state before
   pub stands : EndsIn ahead.tokens from.tokens
   pub is : P before from
 
 -- the same within a part, whether or not its reading stops
 pub data Within (part : Part) (state : CxxState) (ahead : Ahead) (fault : Fault) (P : CxxState → Ahead → Type 0) : Type 0 where
   it_is_here : IsInnermost part → P state ahead → Within part state ahead fault P
-  it_is_in : (next : Part) (t : CxxState) (middle : Ahead) → Leads part state ahead next t middle → IsLater state t → EndsIn ahead.tokens middle.tokens → Chained next t middle fault P → Within part state ahead fault P
+  it_is_in : (next : Part) (t : CxxState) (middle : Ahead) → Leads part state ahead next t middle → IsReached state t → EndsIn ahead.tokens middle.tokens → Chained next t middle fault P → Within part state ahead fault P
 
 pub data Sight : Type 0 where
   whole_part : Sight
@@ -68,7 +68,7 @@ Calm state ahead r = ToldIn IsLater Quietly state ahead r
 
 -- ---- from one part to another
 
-quiet_told : (sight : Sight) (part : Part) (state : CxxState) (ahead : Ahead) (why : Stopped) → IsQuiet why → ChainedOf sight part state ahead why
+pub quiet_told : (sight : Sight) (part : Part) (state : CxxState) (ahead : Ahead) (why : Stopped) → IsQuiet why → ChainedOf sight part state ahead why
 quiet_told sight part state ahead (Faulty fault) quiet = subst (ChainedSo sight part state ahead fault) (sym quiet) tt
 quiet_told sight part state ahead (Limited kind) quiet = tt
 
@@ -76,18 +76,18 @@ pub later_here : (state : CxxState) → IsLater state state
 later_here state = later_is_kept.same state
 
 -- what stops the part to which another leads
-so_within : (part next : Part) (s t : CxxState) (ahead middle : Ahead) (fault : Fault) (what : Saying) → Leads part s ahead next t middle → IsLater s t → EndsIn ahead.tokens middle.tokens → ChainedSo whole_part next t middle fault what → ChainedSo within_part part s ahead fault what
+so_within : (part next : Part) (s t : CxxState) (ahead middle : Ahead) (fault : Fault) (what : Saying) → Leads part s ahead next t middle → IsReached s t → EndsIn ahead.tokens middle.tokens → ChainedSo whole_part next t middle fault what → ChainedSo within_part part s ahead fault what
 so_within part next s t ahead middle fault choosing leads later stands told = it_is_in next t middle leads later stands told
 so_within part next s t ahead middle fault (undeclared word) leads later stands told = it_is_in next t middle leads later stands told
 so_within part next s t ahead middle fault nothing leads later stands told = tt
 
-told_within : (part next : Part) (s t : CxxState) (ahead middle : Ahead) (why : Stopped) → Leads part s ahead next t middle → IsLater s t → EndsIn ahead.tokens middle.tokens → ChainedOf whole_part next t middle why → ChainedOf within_part part s ahead why
+pub told_within : (part next : Part) (s t : CxxState) (ahead middle : Ahead) (why : Stopped) → Leads part s ahead next t middle → IsReached s t → EndsIn ahead.tokens middle.tokens → ChainedOf whole_part next t middle why → ChainedOf within_part part s ahead why
 told_within part next s t ahead middle (Faulty fault) leads later stands told = so_within part next s t ahead middle fault (saying fault.text) leads later stands told
 told_within part next s t ahead middle (Limited kind) leads later stands told = tt
 
 pub leads_in : {A : Type 0} {part next : Part} {s t : CxxState} {ahead middle : Ahead} {r : Answer (Got CxxState A)} → Leads part s ahead next t middle → IsLater s t → EndsIn ahead.tokens middle.tokens → Stops next t middle r → Inside part s ahead r
 leads_in {s = s} {t = t} {ahead = ahead} {middle = middle} leads later stands (tells_read one keeps ends) = tells_read one (later_is_kept.later s t one.state later keeps) (ends_later ahead.tokens middle.tokens one.rest.tokens stands ends)
-leads_in {part = part} {next = next} {s = s} {t = t} {ahead = ahead} {middle = middle} leads later stands (tells_stop why true_of) = tells_stop why (told_within part next s t ahead middle why leads later stands true_of)
+leads_in {part = part} {next = next} {s = s} {t = t} {ahead = ahead} {middle = middle} leads later stands (tells_stop why true_of) = tells_stop why (told_within part next s t ahead middle why leads (reached_by_later s t later) stands true_of)
 
 -- the same where nothing was read
 pub leads_here : {A : Type 0} {part next : Part} {state : CxxState} {ahead : Ahead} {r : Answer (Got CxxState A)} → Leads part state ahead next state ahead → Stops next state ahead r → Inside part state ahead r
@@ -102,7 +102,7 @@ reached_by part state ahead fault P stops (it_is_here innermost is) = record {
   from = ahead;
   stops = it_stops stops;
   innermost = innermost;
-  later = later_here state;
+  later = reached_by_later state state (later_here state);
   stands = whole_stands ahead.tokens;
   is = is;
 }
@@ -112,7 +112,7 @@ reached_by part state ahead fault P stops (it_is_in next t middle leads later st
   from = reached.from;
   stops = it_leads stops leads reached.stops;
   innermost = reached.innermost;
-  later = later_is_kept.later state t reached.before later reached.later;
+  later = reached_later state t reached.before later reached.later;
   stands = ends_later ahead.tokens middle.tokens reached.from.tokens stands reached.stands;
   is = reached.is;
 }
@@ -168,13 +168,17 @@ pub whole_then_calm : {A B : Type 0} {part : Part} {state : CxxState} {ahead : A
 whole_then_calm {state = state} {ahead = ahead} {go = go} first second = then_from go first (λ one is_read later stands. whole_calm (from_in later_is_quiet state one.state ahead one.rest later stands (second one.value one.state one.rest)))
 
 -- a question that is answered
+pub then_asked_from : {A B : Type 0} {part : Part} {s t : CxxState} {ahead middle : Ahead} (go : A → Reads CxxState B) (question : Asks CxxState A) → ToldBy IsLater Quietly t middle (question t) → IsLater s t → EndsIn ahead.tokens middle.tokens
+    → ((answer : A × CxxState) → question t ≡ Ok answer → IsLater t answer.1 → IsLater s answer.1 → Inside part s ahead (go answer.0 answer.1 middle)) → Inside part s ahead (then_read (answered (question t) middle) go)
+then_asked_from {A = A} {part = part} {s = s} {t = t} {ahead = ahead} {middle = middle} go question tells later stands goes = by tells goes
+  where
+    by : {r : Answer (A × CxxState)} → ToldBy IsLater Quietly t middle r → ((answer : A × CxxState) → r ≡ Ok answer → IsLater t answer.1 → IsLater s answer.1 → Inside part s ahead (go answer.0 answer.1 middle)) → Inside part s ahead (then_read (answered r middle) go)
+    by (tells_answer one keeps) goes = goes one refl keeps (later_is_kept.later s t one.1 later keeps)
+    by (tells_refusal why quiet) goes = tells_stop why (quiet_told within_part part s ahead why quiet)
+
 pub then_asked : {A B : Type 0} {part : Part} {s t : CxxState} {ahead middle : Ahead} (go : A → Reads CxxState B) (question : Asks CxxState A) → ToldBy IsLater Quietly t middle (question t) → IsLater s t → EndsIn ahead.tokens middle.tokens
     → ((answer : A × CxxState) → question t ≡ Ok answer → IsLater s answer.1 → Inside part s ahead (go answer.0 answer.1 middle)) → Inside part s ahead (then_read (answered (question t) middle) go)
-then_asked {A = A} {part = part} {s = s} {t = t} {ahead = ahead} {middle = middle} go question tells later stands goes = by tells goes
-  where
-    by : {r : Answer (A × CxxState)} → ToldBy IsLater Quietly t middle r → ((answer : A × CxxState) → r ≡ Ok answer → IsLater s answer.1 → Inside part s ahead (go answer.0 answer.1 middle)) → Inside part s ahead (then_read (answered r middle) go)
-    by (tells_answer one keeps) goes = goes one refl (later_is_kept.later s t one.1 later keeps)
-    by (tells_refusal why quiet) goes = tells_stop why (quiet_told within_part part s ahead why quiet)
+then_asked go question tells later stands goes = then_asked_from go question tells later stands (λ answer is keeps later. goes answer is later)
 
 -- a test decides what is read
 pub which_in : {A : Type 0} {part : Part} {state : CxxState} {ahead : Ahead} (b : Bool) {x y : Answer (Got CxxState A)} → (b ≡ true → Inside part state ahead x) → (b ≡ false → Inside part state ahead y) → Inside part state ahead (if b then x else y)

@@ -67,7 +67,7 @@ expression_tells is asks inner level.Clause = clause_tells is asks inner
 initialized_tells : {S : Type 0} {kept : S → S → Type 0} {told : S → Ahead → Stopped → Type 0} → IsTold kept told → (form : Form) (parts : List CxxTree) → Tells kept told (initialized {S = S} form parts)
 initialized_tells is form parts = give_in is (record { form = form; parts = parts })
 
-copy_tells : {S : Type 0} {kept : S → S → Type 0} {told : S → Ahead → Stopped → Type 0} → IsTold kept told → {asks : Phrases S} {inner : Inner S} → PhrasesTell kept told asks inner → InnerTell kept told inner → Tells kept told (copy_at asks inner)
+pub copy_tells : {S : Type 0} {kept : S → S → Type 0} {told : S → Ahead → Stopped → Type 0} → IsTold kept told → {asks : Phrases S} {inner : Inner S} → PhrasesTell kept told asks inner → InnerTell kept told inner → Tells kept told (copy_at asks inner)
 unfolding copy_at
 copy_tells is asks inner state ahead = then_in is (assignment_tells is asks inner state ahead) (λ tree. initialized_tells is form.Copy (tree ∷ []))
 

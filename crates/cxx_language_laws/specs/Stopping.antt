@@ -1,6 +1,6 @@
 -- Where the reading of a declaration stops: in which of its parts, in which state, and with which tokens ahead. What stands
 -- before is read whole, and the reading of each part round that place stops with the same fault.
-use Rattle.std.specs.Prelude.{◌≡◌, ℕ, suc, Bool, true, false, List, [], Ok, Err}
+use Rattle.std.specs.Prelude.{◌≡◌, ℕ, suc, Bool, true, false, List, [], Some, Ok, Err}
 use Rattle.cxx_model.specs.declared.punct.TheConstants as punct
 use Rattle.cxx_model.specs.declared.stop.Fault.{Fault}
 use Rattle.cxx_model.specs.Stops.{Faulty}
@@ -8,8 +8,8 @@ use Rattle.cxx_model.specs.Text.Lexemes.{Lexeme}
 use Rattle.cxx_model.specs.Types.Trees.{CxxType}
 use Rattle.cxx_reading.specs.declared.specifier.Naming.TheVariants as naming
 use Rattle.cxx_reading.specs.declared.specifier.SpecifierPlace.TheVariants as where_
-use Rattle.cxx_reading.specs.Declarators.{Declarator, Specifiers, declared_type, is_function_type}
-use Rattle.cxx_reading.specs.Declaring.{declare_object, define_declared, define_object}
+use Rattle.cxx_reading.specs.Declarators.{Declarator, Specifiers, declared_type, is_function_type, own_parameters}
+use Rattle.cxx_reading.specs.Declaring.{begin_body, declare_object, define_declared, define_object}
 use Rattle.cxx_reading.specs.Reads.{Ahead, Reads, Turn, More, behind, give, got, kind_ahead, repeat}
 use Rattle.cxx_reading.specs.Specifiers.{specifiers_at}
 use Rattle.cxx_reading.specs.State.{CxxState}
@@ -17,8 +17,13 @@ use Rattle.cxx_reading.specs.Syntax.{declarator_at}
 use Rattle.cxx_reading.specs.Tokens.{is_punct}
 use Rattle.cxx_reading.specs.Trees.{CxxTree}
 use Rattle.cxx_reading.specs.Units.{Said, Listed, give_trees, inside_step, linkages_passed, name_in, no_declarators, said_by}
+use Rattle.cxx_language.specs.Bodies.{result_of}
 use Rattle.cxx_language.specs.Objects.{begins_initializer, initialized_part}
-use Rattle.cxx_language.specs.Units.{answers, asked, declaration_at, declarator_step, inner_at, phrases_at, simple_declaration_at}
+use Rattle.cxx_declare.specs.Functions.{declare_function}
+use Rattle.cxx_statements.specs.Statements.{body_at}
+use Rattle.cxx_language.specs.Asked.{answers, asked, inner_at, phrases_at}
+use Rattle.cxx_language.specs.Statements.{parts_at}
+use Rattle.cxx_language.specs.Units.{declaration_at, declarator_step, simple_declaration_at}
 
 -- a reader reads a value from a state with these tokens ahead, to another
 abbrev pub Gives : {S A : Type 0} → Reads S A → S → Ahead → A → S → Ahead → Type 0
@@ -36,6 +41,10 @@ declarator_of room = declarator_at (asked room).kinds (inner_at room).types nami
 abbrev pub initializer_of : ℕ → Lexeme → CxxType → ℕ → Reads CxxState (List CxxTree)
 initializer_of room name of number = initialized_part answers (phrases_at room) (inner_at room).phrases name of number
 
+-- 8.4: the statements of a body
+abbrev pub body_of : ℕ → Reads CxxState (List CxxTree)
+body_of room = body_at parts_at room
+
 -- What is read, with room for so many brackets, and of a list what was read of it so far.
 pub data Part : Type 0 where
   -- clause 7
@@ -52,12 +61,15 @@ pub data Part : Type 0 where
   a_declarator : ℕ → Part
   -- 8.5: an initializer, from `=` or `(` on
   an_initializer : ℕ → Lexeme → CxxType → ℕ → Part
+  -- 8.4: the statements of the body of a function, behind its `{`
+  a_body : ℕ → Part
 
 -- it has no part in turn: expressions stand in it
 abbrev pub IsInnermost : Part → Type 0
 IsInnermost (some_specifiers room) = Unit {0}
 IsInnermost (a_declarator room) = Unit {0}
 IsInnermost (an_initializer room name of number) = Unit {0}
+IsInnermost (a_body room) = Unit {0}
 IsInnermost _ = ⊥
 
 -- for some number of turns
@@ -73,12 +85,20 @@ IsStopped (some_declarators room said so_far) state ahead fault = IsStoppedIn (d
 IsStopped (some_specifiers room) state ahead fault = specifiers_of room state ahead ≡ Err (Faulty fault)
 IsStopped (a_declarator room) state ahead fault = declarator_of room state ahead ≡ Err (Faulty fault)
 IsStopped (an_initializer room name of number) state ahead fault = initializer_of room name of number state ahead ≡ Err (Faulty fault)
+IsStopped (a_body room) state ahead fault = body_of room state ahead ≡ Err (Faulty fault)
 
 -- 3.1, 3.2, 3.3.1: The name of a declarator is declared, with a number, before its initializer, which is ahead.
 pub data Initializes (said : Said) (declarator : Declarator) (before : CxxState) : ℕ → CxxState → Type 0 where
   by_definition : (answer : ℕ × CxxState) → said.is_extern ≡ false → define_object (name_in declarator) (declared_type declarator.layers said.of) before ≡ Ok answer → Initializes said declarator before answer.0 answer.1
   by_extern : (answer : ℕ × CxxState) (defined : Unit {0} × CxxState) → said.is_extern ≡ true → declare_object (name_in declarator) (declared_type declarator.layers said.of) before ≡ Ok answer
       → define_declared (name_in declarator) answer.0 answer.1 ≡ Ok defined → Initializes said declarator before answer.0 defined.1
+
+-- 3.2, 3.3.2, 8.4: The function of a declarator is declared, with a number, and defined, and its body begins in the scope of
+-- its own list of parameters.
+pub data BeginsBody (said : Said) (declarator : Declarator) (before : CxxState) : CxxState → Type 0 where
+  begins_body : (list : ℕ) (answer : ℕ × CxxState) (defined begun : Unit {0} × CxxState) → own_parameters declarator.layers ≡ Some list
+      → declare_function (own_parameters declarator.layers) (name_in declarator) (declared_type declarator.layers said.of) before ≡ Ok answer → define_declared (name_in declarator) answer.0 answer.1 ≡ Ok defined
+      → begin_body list answer.0 (result_of (declared_type declarator.layers said.of)) defined.1 ≡ Ok begun → BeginsBody said declarator before begun.1
 
 -- From one part of a declaration, in a state with these tokens ahead, the reading comes to another, in a state with those
 -- tokens ahead.
@@ -104,6 +124,10 @@ pub data Leads : Part → CxxState → Ahead → Part → CxxState → Ahead →
   to_initializer : {room number : ℕ} {said : Said} {so_far : Listed} {declarator : Declarator} {state between after : CxxState} {ahead rest : Ahead} → Gives (declarator_of room) state ahead declarator between rest
       → said.is_typedef ≡ false → is_function_type (declared_type declarator.layers said.of) ≡ false → Initializes said declarator between number after → begins_initializer rest ≡ true
       → Leads (some_declarators room said so_far) state ahead (an_initializer room (name_in declarator) (declared_type declarator.layers said.of) number) after rest
+  -- 8.4: the body of the function of a whole first declarator begins, and its statements are ahead
+  to_body : {room : ℕ} {said : Said} {so_far : Listed} {declarator : Declarator} {state between after : CxxState} {ahead rest : Ahead} → so_far.is_first ≡ true → Gives (declarator_of (suc room)) state ahead declarator between rest
+      → said.is_typedef ≡ false → is_function_type (declared_type declarator.layers said.of) ≡ true → BeginsBody said declarator between after → is_punct punct.LEFT_BRACE (kind_ahead rest) ≡ true
+      → Leads (some_declarators (suc room) said so_far) state ahead (a_body room) after (behind rest)
 
 -- The reading of a part, from a state with these tokens ahead, stops with a fault, and so does that of each part to which it
 -- comes there, to the last one, in a state with those tokens ahead.

@@ -20,7 +20,8 @@ use Rattle.cxx_phrases.specs.Arguments.{arguments_at}
 use Rattle.cxx_phrases.specs.Phrases.{Phrases, Inner}
 use Rattle.cxx_expr.specs.Operands.{judged_each}
 use Rattle.cxx_overload.specs.Decided.{NoneViable, IsAmbiguous}
-use Rattle.cxx_language.specs.Units.{answers, declaration_at, inner_at, phrases_at}
+use Rattle.cxx_language.specs.Asked.{answers, inner_at, phrases_at}
+use Rattle.cxx_language.specs.Units.{declaration_at}
 use Rattle.cxx_language_laws.specs.Best.{values_of}
 use Rattle.cxx_language_laws.specs.Stopping.{Gives, IsInnermost, Part, StopsWithin, a_declaration}
 
