@@ -2,6 +2,7 @@
 use Rattle.std.proofs.Common.{◌≡◌, refl, sym, ap, subst}
 use Rattle.std.specs.Prelude.{ℕ, Bool, true, false, ◌&&◌, if◌then◌else◌, List, [], ◌∷◌, Option, Some, None, Ok, Err}
 use Rattle.cxx_model.specs.declared.fault.FaultText.TheVariants as says
+use Rattle.cxx_model.specs.declared.fault.LeftOut.TheVariants as form
 use Rattle.cxx_model.specs.declared.place.Place.{Place}
 use Rattle.cxx_model.specs.declared.stop.Fault.{Fault}
 use Rattle.cxx_model.specs.Facts.Declarations.{spelled}
@@ -16,13 +17,13 @@ use Rattle.cxx_reading.specs.Seen.{Numbered, found, found_types}
 use Rattle.cxx_reading.specs.Specifiers.{path_of}
 use Rattle.cxx_reading.specs.State.{CxxGiven, CxxState}
 use Rattle.cxx_reading.specs.Tokens.{is_name, token_in}
-use Rattle.cxx_reading.specs.Trees.{CxxTree, children_of, each_tree, in_turn, Label}
+use Rattle.cxx_reading.specs.Trees.{CxxPath, CxxTree, children_of, each_tree, in_turn, Label}
 use Rattle.cxx_tree.specs.Defaults.{first_given, within_default}
 use Rattle.cxx_tree.specs.Uses.{with_use}
 use Rattle.cxx_expr.specs.Names.{path_in, word_in}
 use Rattle.cxx_expr.specs.Elaborating.{elaborate}
 use Rattle.cxx_language.specs.Answers.{asking}
-use Rattle.cxx_answers.specs.Answers.{bound_here, call_here, constant_by, constant_here, fallback_by, fallback_here, is_held, meant_here, name_here, names_parameter, questions, size_here}
+use Rattle.cxx_answers.specs.Answers.{bound_here, call_here, constant_by, constant_here, fallback_by, fallback_here, is_held, meant_here, name_here, names_parameter, names_tested, questions, size_here}
 use Rattle.cxx_answers.specs.Defaults.{begin_default, end_default, offered_as}
 use Rattle.cxx_language.specs.Asked.{answers, asked, inner_at, phrases_at}
 use Rattle.cxx_language_laws.specs.Told.{IsUnitCall, unknown_name, unknown_call, unknown_type, declared}
@@ -32,7 +33,7 @@ use Rattle.cxx_language_laws.proofs.Lists.{listed_tells}
 use Rattle.cxx_language_laws.proofs.PhrasesTell.{PhrasesTell}
 use Rattle.cxx_language_laws.proofs.QuestionsTell.{QuestionsTell, if_by, quiet_by, same_by}
 use Rattle.cxx_language_laws.proofs.Reached.{Told, IsUndeclared, reached_here, later_is_told, later_is_told_of}
-use Rattle.cxx_language_laws.proofs.Tells.{IsTold, KindsTell, Quietly, ReadersTell, ToldBy, tells_answer, tells_refusal, Answers}
+use Rattle.cxx_language_laws.proofs.Tells.{IsQuiet, IsTold, KindsTell, Quietly, ReadersTell, ToldBy, tells_answer, tells_refusal, Answers}
 use Rattle.cxx_language_laws.proofs.TellsConversions.{convert_tells}
 use Rattle.cxx_language_laws.proofs.TellsDefaults.{OffersTell}
 use Rattle.cxx_language_laws.proofs.TellsExpressions.{plain_tells, name_tells, call_tells}
@@ -117,28 +118,43 @@ NameAnswers = Answer (List Numbered × CxxState)
 abbrev AreNames : NameAnswers → NameAnswers → Type 0
 AreNames one two = one ≡ two
 
--- what was found, where that is what is answered
-one_is : (refused : Bool) (why : Stopped) (x one : List Numbered × CxxState) → AreNames (if refused then Err why else Ok x) (Ok one) → x ≡ one
-one_is true why x one e = absurd cc
-one_is false why x one e = cc
+-- what was found, where nothing refuses the name, and no refusal says that it is not declared
+data NamedSo (x : List Numbered × CxxState) : NameAnswers → Type 0 where
+  named_so : NamedSo x (Ok x)
+  not_named : (why : Stopped) → IsQuiet why → NamedSo x (Err why)
+
+if_named : {x : List Numbered × CxxState} (refused : Bool) {one two : NameAnswers} → NamedSo x one → NamedSo x two → NamedSo x (if refused then one else two)
+if_named true one two = one
+if_named false one two = two
+
+-- 6.5.3, 8.3.6: what a `for` does behind each turn, and a default argument, do not name everything
+names_so : (path : CxxPath) (state : CxxState) → NamedSo (meant_here path state, state) (name_here path state)
+unfolding name_here
+names_so path state =
+    if_named (state.in_default && names_parameter state.graph (meant_here path state)) (not_named (fault (last_part path.parts).place says.OperandsDoNotFit) refl) (
+    if_named (state.in_step && names_tested state.tested state.here.scope (meant_here path state)) (not_named (fault (last_part path.parts).place (says.LeftOut form.ConditionNameInStep)) refl) named_so)
+
+one_is : (x one : List Numbered × CxxState) {answer : NameAnswers} → NamedSo x answer → answer ≡ Ok one → x ≡ one
+one_is x one named_so e = by e
+  where
+    by : AreNames (Ok x) (Ok one) → x ≡ one
+    by e = cc
+one_is x one (not_named why quiet) e = absurd cc
+
+named_tells : {told : CxxState → Ahead → Stopped → Type 0} → IsTold IsLater told → (all : List Numbered) (state : CxxState) (ahead : Ahead) {answer : NameAnswers} → NamedSo (all, state) answer → ToldBy IsLater told state ahead answer
+named_tells is all state ahead named_so = same_by is all state ahead
+named_tells is all state ahead (not_named why quiet) = quiet_by is quiet
 
 -- a name that means nothing, in the state in which it is asked
 unknown_by : (told : CxxState → Ahead → Stopped → Type 0) (ahead : Ahead) (why : Stopped) (all : List Numbered) (state : CxxState) (one : List Numbered × CxxState) → (all, state) ≡ one → (all ≡ [] → told state ahead why) → one.0 ≡ [] → told one.1 ahead why
 unknown_by told ahead why all state one is tells = subst (λ (x : List Numbered × CxxState). x.0 ≡ [] → told x.1 ahead why) is tells
 
--- 8.3.6: in a default argument a name of a parameter is refused
-abbrev is_refused_here : Label → CxxState → Bool
-is_refused_here label state = state.in_default && names_parameter state.graph (meant_here (path_in label) state)
-
-abbrev refusal_of : Label → Stopped
-refusal_of label = fault (last_part (path_in label).parts).place says.OperandsDoNotFit
-
 name_answers : {told : CxxState → Ahead → Stopped → Type 0} → IsTold IsLater told → (label : Label) (state : CxxState) (ahead : Ahead) → (found state.graph state.here.scope (name_in (path_in label)) ≡ [] → told state ahead (undeclared_at (word_in label).place (word_in label).word))
     → NameTells IsLater told answers label state ahead
-unfolding questions name_here
+unfolding questions
 name_answers {told = told} is label state ahead unknown = record {
-  answers = if_by (is_refused_here label state) (quiet_by is refl) (same_by is _ state ahead);
-  unknown = λ one e. let found_one = one_is (is_refused_here label state) (refusal_of label) (meant_here (path_in label) state, state) one e in unknown_by told ahead (undeclared_at (word_in label).place (word_in label).word) (meant_here (path_in label) state) state one found_one unknown;
+  answers = named_tells is (meant_here (path_in label) state) state ahead (names_so (path_in label) state);
+  unknown = λ one e. unknown_by told ahead (undeclared_at (word_in label).place (word_in label).word) (meant_here (path_in label) state) state one (one_is (meant_here (path_in label) state, state) one (names_so (path_in label) state) e) unknown;
 }
 
 -- ---- a name that is ahead
@@ -175,14 +191,14 @@ call_unknown state ahead room call unknown =
 
 -- where the question of its name is answered
 abbrev AreDeclared : {room : ℕ} {state : CxxState} {ahead : Ahead} → IsUnitCall room state ahead → Label → List Numbered × CxxState → Type 0
-AreDeclared call label one = AreNames (if is_refused_here label call.at then Err (refusal_of label) else Ok (declared call, call.at)) (Ok one)
+AreDeclared call label one = AreNames (name_here (path_in label) call.at) (Ok one)
 
 asked_by : (state : CxxState) (ahead rest : Ahead) (room : ℕ) (call : IsUnitCall room state ahead) (spelling : List ℕ) (from : Ahead) (one : List Numbered × CxxState) → AreDeclared call (call_tree spelling call.name call.arguments from call.rest).label one
     → AskedOf IsLater (λ t ahead' why. Told state ahead why) answers (call_tree spelling call.name call.arguments from call.rest) call.arguments one.0 one.1 rest
 unfolding questions call_here
 asked_by state ahead rest room call spelling from one e =
     let label = (call_tree spelling call.name call.arguments from call.rest).label in
-    let found_one = one_is (is_refused_here label call.at) (refusal_of label) (declared call, call.at) one e in
+    let found_one = one_is (declared call, call.at) one (names_so (path_in label) call.at) e in
     subst (λ (x : List Numbered × CxxState). AskedOf IsLater (λ t ahead' why. Told state ahead why) answers (call_tree spelling call.name call.arguments from call.rest) call.arguments x.0 x.1 rest) found_one (call_asked_tells state ahead rest room call)
 
 asked_of : (state : CxxState) (ahead rest : Ahead) (room : ℕ) (call : IsUnitCall room state ahead) (spelling : List ℕ) (from : Ahead) (one : List Numbered × CxxState) → AreDeclared call (call_tree spelling call.name call.arguments from call.rest).label one
@@ -196,7 +212,7 @@ asked_later state ahead rest at first (tells_answer one later) = tells_answer on
 asked_later state ahead rest at first (tells_refusal why true_of) = tells_refusal why true_of
 
 call_ahead_tells : (room : ℕ) (state : CxxState) (ahead : Ahead) (call : IsUnitCall room state ahead) → IsLater state call.at → (spelling : List ℕ) (from : Ahead) → ToldBy IsLater Told state ahead (elaborate answers (call_tree spelling call.name call.arguments from call.rest) call.at)
-unfolding questions name_here
+unfolding questions
 call_ahead_tells room state ahead call later spelling from =
     let is = later_is_told_of state ahead in
     asked_later state ahead ahead call.at later (call_tells is (questions_tell is) spelling call.name call.arguments from call.rest call.at ahead
