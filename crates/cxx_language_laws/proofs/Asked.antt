@@ -74,15 +74,15 @@ elaborated_tells state ahead named = by ahead.last ahead.tokens named
 
 -- ---- declarations
 
-constant_by_tells : (state : CxxState) (ahead : Ahead) (tree : CxxTree) (value : CxxValue) → ToldBy IsLater Told state ahead (constant_by state tree value)
-constant_by_tells state ahead tree (Ok value) = if_by (is_held value) (same_by later_is_told value state ahead) (quiet_by later_is_told refl)
-constant_by_tells state ahead tree (Err (not_constant part)) = quiet_by later_is_told refl
-constant_by_tells state ahead tree (Err (overflow part)) = quiet_by later_is_told refl
-constant_by_tells state ahead tree (Err (divide_by_zero part)) = quiet_by later_is_told refl
+constant_by_tells : {told : CxxState → Ahead → Stopped → Type 0} → IsTold IsLater told → (state : CxxState) (ahead : Ahead) (tree : CxxTree) (value : CxxValue) → ToldBy IsLater told state ahead (constant_by state tree value)
+constant_by_tells is state ahead tree (Ok value) = if_by (is_held value) (same_by is value state ahead) (quiet_by is refl)
+constant_by_tells is state ahead tree (Err (not_constant part)) = quiet_by is refl
+constant_by_tells is state ahead tree (Err (overflow part)) = quiet_by is refl
+constant_by_tells is state ahead tree (Err (divide_by_zero part)) = quiet_by is refl
 
-pub constant_tells : (tree : CxxTree) → Answers IsLater Told (constant_here tree)
+pub constant_tells : {told : CxxState → Ahead → Stopped → Type 0} → IsTold IsLater told → (tree : CxxTree) → Answers IsLater told (constant_here tree)
 unfolding constant_here
-constant_tells tree state ahead = constant_by_tells state ahead tree (constant state.graph tree)
+constant_tells is tree state ahead = constant_by_tells is state ahead tree (constant state.graph tree)
 
 pub kinds_tell : (room : ℕ) → KindsTell IsLater Told (asked room).kinds
 unfolding asking
@@ -93,7 +93,7 @@ kinds_tell room = record {
   enumeration = λ name place. calmly later_is_told (enumeration_answer_tells name place);
   enumerator = λ number name value. calmly later_is_told (enumerator_answer_tells number name value);
   enumerated = λ number. calmly later_is_told (enumerated_tells number);
-  constant = constant_tells;
+  constant = constant_tells later_is_told;
   parameter = λ name place of. calmly later_is_told (parameter_answer_tells name place of);
   listed = listed_tells;
 }

@@ -1,12 +1,11 @@
 -- The scope of a list of parameters has begun where its declarator was read (3.3.2, 8.3.5).
-use Rattle.std.proofs.Common.{arith, ◌≡◌, ◌≤◌, ◌<◌, refl, subst, sym, ◌∙◌, ap}
+use Rattle.std.proofs.Common.{arith, ◌≡◌, ◌<◌, refl, subst}
 use Rattle.std.proofs.lemmas.Option.{same_Some}
-use Rattle.std.specs.Prelude.{ℕ, zero, suc, Bool, true, false, not, if◌then◌else◌, ◌||◌, length, List, [], ◌∷◌, ◌++◌, Option, Some, None, Ok, Err}
+use Rattle.std.specs.Prelude.{ℕ, zero, suc, Bool, true, false, not, if◌then◌else◌, ◌||◌, length, List, [], ◌∷◌, ◌++◌, Some, Ok, Err}
 use Rattle.cxx_model.specs.declared.keyword.TheConstants as keyword
 use Rattle.cxx_model.specs.declared.limits.TheConstants as limits
 use Rattle.cxx_model.specs.declared.punct.TheConstants as punct
 use Rattle.cxx_model.specs.Stops.{Answer, Stopped}
-use Rattle.cxx_model.specs.Text.Lexemes.{Lexeme}
 use Rattle.cxx_reading.specs.declared.specifier.Naming.{Naming}
 use Rattle.cxx_reading.specs.declared.specifier.Naming.TheVariants as naming
 use Rattle.cxx_reading.specs.declared.specifier.SpecifierPlace.TheVariants as where_
@@ -17,7 +16,7 @@ use Rattle.cxx_reading.specs.Reads.{Ahead, Got, Reads, Turn, More, Done, then_re
 use Rattle.cxx_reading.specs.Shapes.{begins_type}
 use Rattle.cxx_reading.specs.Specifiers.{specifiers_at}
 use Rattle.cxx_reading.specs.State.{CxxState}
-use Rattle.cxx_reading.specs.Syntax.{Suffixed, is_required, is_never, array_part, bound_by, function_part, array_suffix, function_suffix, function_by, bracket_suffix, suffix_at, give_declarator, suffixes_at, name_read, name_part, grouped_part, grouped_by, bracket_part, star_part, ampersand_part, declarator_at, pointed_at, referred_at, grouped_at, specified_type, place_of_declarator, parameter_fits, parameter_tree, default_at, with_parameter, with_ellipsis, list_ended, comma_passed, parameter_ended, parameter_at, parameter_step, past_most, parameters_over, no_parameters, some_parameters, turn_result, is_void_list, list_at, parameters_at}
+use Rattle.cxx_reading.specs.Syntax.{Suffixed, is_required, is_never, bound_by, array_suffix, function_suffix, function_by, bracket_suffix, suffix_at, give_declarator, suffixes_at, name_read, name_part, grouped_part, grouped_by, bracket_part, star_part, ampersand_part, declarator_at, pointed_at, referred_at, grouped_at, specified_type, place_of_declarator, parameter_fits, parameter_tree, default_at, with_parameter, with_ellipsis, list_ended, comma_passed, parameter_ended, parameter_at, parameter_step, past_most, parameters_over, no_parameters, some_parameters, turn_result, is_void_list, list_at, parameters_at}
 use Rattle.cxx_reading.specs.Tokens.{is_punct, is_keyword, is_name, is_qualified, no_declarator, punct_taken}
 use Rattle.cxx_knot.specs.Readers.{both}
 use Rattle.cxx_language.specs.Answers.{asking}
@@ -27,7 +26,7 @@ use Rattle.cxx_language_laws.proofs.Both.{both_tell}
 use Rattle.cxx_language_laws.proofs.Later.{IsLater, later_is_kept}
 use Rattle.cxx_language_laws.proofs.Lists.{ListIn, list_in, no_list, list_begins}
 use Rattle.cxx_language_laws.proofs.Reached.{Told, later_is_told, count_more}
-use Rattle.cxx_language_laws.proofs.Tells.{KindsTell, ReadersTell, ToldIn, tells_read, tells_stop, punct_in, tokens_in, token_told, unit_is_told, returned_in, past_in}
+use Rattle.cxx_language_laws.proofs.Tells.{KindsTell, ReadersTell, ToldIn, tells_read, tells_stop, punct_in, tokens_in, token_told, unit_is_told, returned_in, past_in, names_tell}
 use Rattle.cxx_language_laws.proofs.TellsDefaults.{fallback_at_tells}
 use Rattle.cxx_language_laws.proofs.TellsShapes.{abstract_tells}
 use Rattle.cxx_language_laws.proofs.TellsSyntax.{FallbackTells, cv_tells, exceptions_tell, parameter_list_tells}
@@ -190,7 +189,7 @@ bracket_part_begins : {asks : Kinds CxxState} → KindsTell IsLater Told asks �
 unfolding bracket_part
 bracket_part_begins asks inner naming state ahead =
     if_brings (is_required naming) (grouped_part_begins inner naming state ahead)
-    (brings_then (told_brings (abstract_tells later_is_told asks state ahead)) (λ is_list t rest later none. grouped_by_begins inner naming is_list t rest))
+    (brings_then (told_brings (abstract_tells later_is_told (names_tell asks) state ahead)) (λ is_list t rest later none. grouped_by_begins inner naming is_list t rest))
 
 declarator_begins : {asks : Kinds CxxState} → KindsTell IsLater Told asks → {inner : Readers CxxState} → ReadersBegin inner → (naming : Naming) → EachBrings Begun (declarator_at asks inner naming)
 unfolding declarator_at star_part ampersand_part

@@ -8,7 +8,7 @@ use Rattle.cxx_language_laws.proofs.Asked.{kinds_tell, offers_tell, phrases_tell
 use Rattle.cxx_language_laws.proofs.Later.{IsLater}
 use Rattle.cxx_language_laws.proofs.PhrasesTell.{InnerTell}
 use Rattle.cxx_language_laws.proofs.Reached.{Told, later_is_told}
-use Rattle.cxx_language_laws.proofs.Tells.{ReadersTell, quiet_in, same_in}
+use Rattle.cxx_language_laws.proofs.Tells.{ReadersTell, quiet_in, same_in, names_tell, lists_tell}
 use Rattle.cxx_language_laws.proofs.TellsDefaults.{fallback_at_tells}
 use Rattle.cxx_language_laws.proofs.TellsKnot.{inner_tells}
 use Rattle.cxx_language_laws.proofs.TellsShapes.{parameters_shape_tells}
@@ -50,7 +50,7 @@ both_tell (suc room) =
         bound = bound_tells later_is_told (asked room) kinds at inside.phrases;
         parameters = parameters_tell later_is_told kinds (fallback_at_tells later_is_told (asked room) (offers_tell room) at inside.phrases) inside.types;
         enumerators = enumerators_tell later_is_told (asked room) kinds at inside.phrases;
-        holds_parameters = parameters_shape_tells later_is_told kinds inside.types;
+        holds_parameters = parameters_shape_tells later_is_told (names_tell kinds) (lists_tell inside.types);
       };
       phrases = inner_tells later_is_told (phrases_at room) (inner_at room).phrases at inside.phrases (asked room).kinds kinds (inner_at room).types inside.types;
     }

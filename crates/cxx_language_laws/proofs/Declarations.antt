@@ -1,7 +1,6 @@
 -- Where the reading of a declaration stops.
 use Rattle.std.proofs.Common.{arith, ◌≡◌, ◌<◌, refl, sym, subst}
-use Rattle.std.specs.Prelude.{ℕ, zero, suc, Bool, true, false, not, ◌&&◌, ◌||◌, List, [], ◌∷◌, ◌++◌, Option, Some, None, length, Ok, if◌then◌else◌}
-use Rattle.cxx_model.specs.declared.fault.FaultText.TheVariants as says
+use Rattle.std.specs.Prelude.{ℕ, zero, suc, Bool, true, false, List, [], ◌∷◌, ◌++◌, Option, Some, None, length, Ok}
 use Rattle.cxx_model.specs.declared.keyword.TheConstants as keyword
 use Rattle.cxx_model.specs.declared.punct.TheConstants as punct
 use Rattle.cxx_model.specs.Stops.{Answer}
@@ -9,9 +8,9 @@ use Rattle.cxx_model.specs.Text.Lexemes.{Lexeme}
 use Rattle.cxx_model.specs.Types.Trees.{CxxType}
 use Rattle.cxx_reading.specs.declared.specifier.Naming.TheVariants as naming
 use Rattle.cxx_reading.specs.declared.specifier.SpecifierPlace.TheVariants as where_
-use Rattle.cxx_reading.specs.Declarators.{Declarator, declared_type, refused_in, is_refused, Specifiers, is_void, is_function_type, own_parameters}
+use Rattle.cxx_reading.specs.Declarators.{Declarator, declared_type, Specifiers, is_function_type, own_parameters}
 use Rattle.cxx_reading.specs.Declaring.{begin_body, declare_object, define_object, define_declared, end_body, number_id, scope_count}
-use Rattle.cxx_reading.specs.Reads.{Ahead, Got, Reads, More, Done, ◌>>=◌, then_read, answered, ask, taken, fault_at, give, got, count_ahead, kind_ahead, behind}
+use Rattle.cxx_reading.specs.Reads.{Ahead, Got, Reads, More, Done, ◌>>=◌, then_read, answered, ask, taken, give, count_ahead, kind_ahead, behind}
 use Rattle.cxx_reading.specs.State.{CxxState}
 use Rattle.cxx_reading.specs.Tokens.{is_keyword, is_punct}
 use Rattle.cxx_reading.specs.Labels.{label_from}
@@ -20,66 +19,24 @@ use Rattle.cxx_reading.specs.Units.{specifiers_tree, declarator_tree, name_in as
 use Rattle.cxx_declare.specs.Functions.{declare_function}
 use Rattle.cxx_statements.specs.Productions as production
 use Rattle.cxx_statements.specs.Statements.{body_at}
-use Rattle.cxx_answers.specs.Typed.{type_so_far}
-use Rattle.cxx_language.specs.Asked.{answers, inner_at, phrases_at}
 use Rattle.cxx_language.specs.Bodies.{function_body, result_of, statements_within}
 use Rattle.cxx_language.specs.Made.{defined_object, extern_object}
-use Rattle.cxx_language.specs.Objects.{begins_initializer, defined_later, defined_part, extern_part, without_initializer}
+use Rattle.cxx_language.specs.Objects.{begins_initializer}
 use Rattle.cxx_language.specs.Statements.{parts_at}
 use Rattle.cxx_language.specs.Units.{Declares, alone, behind_list, declaration_at, declaration_by, declaration_tree, declarator_step, declarators_at, declarators_of, declared_by, declared_function, ended_behind, ended_by, function_ended, init_declarator_at, linkage_by, linkage_opened, linked_by, linked_one, not_ended, plain_declaration_at, simple_declaration_at}
-use Rattle.cxx_language_laws.specs.Stopping.{BeginsBody, Gives, Initializes, Leads, Part, a_body, a_declaration, a_declarator, a_simple_declaration, an_initializer, begins_body, body_of, by_definition, by_extern, declarator_of, in_declaration, in_declarator, in_specifiers, initializer_of, linked_declarations, next_declaration, next_declarator, some_declarators, some_specifiers, specifiers_of, to_body, to_braces, to_declarators, to_initializer, to_linked, to_unlinked}
+use Rattle.cxx_language_laws.specs.Stopping.{BeginsBody, Gives, Initializes, Leads, Part, a_body, a_declaration, a_simple_declaration, an_initializer, begins_body, by_definition, by_extern, declarator_of, in_declaration, in_declarator, in_specifiers, linked_declarations, next_declaration, next_declarator, some_declarators, to_body, to_braces, to_declarators, to_initializer, to_linked, to_unlinked}
 use Rattle.cxx_language_laws.specs.Told.{EndsIn}
-use Rattle.cxx_language_laws.proofs.Asked.{kinds_tell}
 use Rattle.cxx_language_laws.proofs.Begun.{Begun, Brings, HaveBegun, brings, brings_none, declarator_has_begun, own_has_begun}
-use Rattle.cxx_language_laws.proofs.Both.{both_tell}
-use Rattle.cxx_language_laws.proofs.Declared.{declared_synonym_tells, declarator_ended_tells, give_trees_tells, linkages_tell, linked_tree_tells, no_declaration_tells, nothing_tells, one_tree_tells, uninitialized_tells}
+use Rattle.cxx_language_laws.proofs.Declared.{declared_synonym_tells, declarator_ended_tells, give_trees_tells, linkages_tell, linked_tree_tells, no_declaration_tells, nothing_tells, one_tree_tells}
+use Rattle.cxx_language_laws.proofs.DeclaratorsStop.{declarator_stops, defined_part_stops, extern_part_stops, fits_stops, specifiers_stop, which_reads}
 use Rattle.cxx_language_laws.proofs.Later.{IsLater, define_later_tells, define_tells, function_answer_tells, later_is_kept, later_is_quiet, object_tells}
-use Rattle.cxx_language_laws.proofs.Objects.{initialized_tells}
-use Rattle.cxx_language_laws.proofs.Reached.{count_more, later_is_told, reached_by_later, reached_later}
-use Rattle.cxx_language_laws.proofs.Stopping.{Inside, Stops, calm, calm_from, innermost_stops, leads_here, leads_in, quiet_told, repeat_stops, then_asked, then_asked_from, then_calm, told_within, which_in, whole_calm, whole_stops, within_part}
+use Rattle.cxx_language_laws.proofs.Reached.{count_more, reached_by_later, reached_later}
+use Rattle.cxx_language_laws.proofs.StatementsStop.{body_stops}
+use Rattle.cxx_language_laws.proofs.Stopping.{Inside, Stops, calm, calm_from, leads_here, leads_in, quiet_told, repeat_stops, then_asked, then_asked_from, then_calm, told_within, which_in, whole_calm, whole_stops, within_part}
 use Rattle.cxx_language_laws.proofs.Tells.{Quietly, Tells, ToldBy, tells_answer, tells_read, tells_refusal, tells_stop, ends_later, then_from, then_in, if_in, same_in, next_in, give_in, looked_in, past_stands, quiet_in}
-use Rattle.cxx_language_laws.proofs.TellsBodies.{IsInBlock, begun_body, body_later, body_reached, body_tells_at, ended_body, enter_tells, in_list}
-use Rattle.cxx_language_laws.proofs.TellsSpecifiers.{specifiers_tell}
-use Rattle.cxx_language_laws.proofs.TellsSyntax.{declarator_tells}
-
--- ---- innermost parts
-
-specifiers_stop : (room : ℕ) (state : CxxState) (ahead : Ahead) → Stops (some_specifiers room) state ahead (specifiers_of room state ahead)
-specifiers_stop room state ahead = innermost_stops tt (λ fault is. is) (specifiers_tell later_is_told (kinds_tell room) (both_tell room).types where_.Declaration state ahead)
-
-declarator_stops : (room : ℕ) (state : CxxState) (ahead : Ahead) → Stops (a_declarator room) state ahead (declarator_of room state ahead)
-declarator_stops room state ahead = innermost_stops tt (λ fault is. is) (declarator_tells later_is_told (kinds_tell room) (both_tell room).types naming.Required state ahead)
-
-initializer_stops : (room : ℕ) (name : Lexeme) (of : CxxType) (number : ℕ) (state : CxxState) (ahead : Ahead) → Stops (an_initializer room name of number) state ahead (initializer_of room name of number state ahead)
-initializer_stops room name of number state ahead = innermost_stops tt (λ fault is. is) (initialized_tells room name of number state ahead)
-
--- ---- what follows a declarator
-
-defined_part_stops : {part : Part} {state : CxxState} {ahead : Ahead} (after : CxxState) (rest : Ahead) (room : ℕ) (name : Lexeme) (of : CxxType) (number : ℕ) → (begins_initializer rest ≡ true → Leads part state ahead (an_initializer room name of number) after rest) → IsLater state after → EndsIn ahead.tokens rest.tokens
-    → Inside part state ahead (defined_part answers (phrases_at room) (inner_at room).phrases name of number after rest)
-unfolding defined_part without_initializer
-defined_part_stops after rest room name of number leads later stands =
-    which_in (begins_initializer rest) (λ begins. leads_in (leads begins) later stands (initializer_stops room name of number after rest)) (λ none. calm_from later stands (
-    if_in (ends_declarator (kind_ahead rest)) (uninitialized_tells name (type_so_far after number of) after rest) (quiet_in later_is_quiet refl)))
-
-defined_later_stops : {part : Part} {state : CxxState} {ahead : Ahead} (between : CxxState) (rest : Ahead) (room : ℕ) (name : Lexeme) (of : CxxType) (number : ℕ) → ((defined : Unit {0} × CxxState) → define_declared name number between ≡ Ok defined → Leads part state ahead (an_initializer room name of number) defined.1 rest) → IsLater state between → EndsIn ahead.tokens rest.tokens
-    → Inside part state ahead (defined_later answers (phrases_at room) (inner_at room).phrases name of number between rest)
-unfolding defined_later
-defined_later_stops between rest room name of number leads later stands =
-    then_asked (λ defined. initializer_of room name of number) (define_declared name number) (define_later_tells name number between rest) later stands (λ defined is later. leads_in (leads defined is) later stands (initializer_stops room name of number defined.1 rest))
-
-extern_part_stops : {part : Part} {state : CxxState} {ahead : Ahead} (between : CxxState) (rest : Ahead) (room : ℕ) (name : Lexeme) (of : CxxType) (number : ℕ)
-    → (begins_initializer rest ≡ true → (defined : Unit {0} × CxxState) → define_declared name number between ≡ Ok defined → Leads part state ahead (an_initializer room name of number) defined.1 rest)
-    → IsLater state between → EndsIn ahead.tokens rest.tokens → Inside part state ahead (extern_part answers (phrases_at room) (inner_at room).phrases name of number between rest)
-unfolding extern_part
-extern_part_stops between rest room name of number leads later stands =
-    which_in (begins_initializer rest) (λ begins. defined_later_stops between rest room name of number (leads begins) later stands) (λ none. calm_from later stands (
-    if_in (ends_declarator (kind_ahead rest)) (same_in later_is_quiet [] between rest) (quiet_in later_is_quiet refl)))
+use Rattle.cxx_language_laws.proofs.TellsBodies.{IsInBlock, begun_body, body_later, body_reached, ended_body, enter_tells, in_list}
 
 -- ---- bodies (8.4)
-
-body_stops : (room : ℕ) (state : CxxState) (ahead : Ahead) → Stops (a_body room) state ahead (body_of room state ahead)
-body_stops room state ahead = innermost_stops tt (λ fault is. is) (body_tells_at room state ahead)
 
 -- behind a body
 abbrev behind_body : ℕ → List CxxTree → Reads CxxState (List CxxTree)
@@ -190,10 +147,6 @@ defined_object_stops room said so_far declarator from state between ahead rest n
     then_calm (defined_part_stops answer.1 rest room name of answer.0 (leads answer.0 answer.1 (by_definition answer no_extern is_defined)) later stands) (λ parts state ahead.
     then_in later_is_quiet (looked_in later_is_quiet state ahead) (λ to. give_in later_is_quiet (declarator_tree false name of answer.0 (declarator.parts ++ parts) from to))))
 
-which_reads : {A : Type 0} {part : Part} {state : CxxState} {ahead : Ahead} (b : Bool) (x y : Reads CxxState A) (after : CxxState) (rest : Ahead) → (b ≡ true → Inside part state ahead (x after rest)) → (b ≡ false → Inside part state ahead (y after rest)) → Inside part state ahead ((if b then x else y) after rest)
-which_reads true x y after rest one two = one refl
-which_reads false x y after rest one two = two refl
-
 declared_by_stops : (room : ℕ) (said : Said) (so_far : Listed) (from : Ahead) (declarator : Declarator) (state between : CxxState) (ahead rest : Ahead) → Gives (declarator_of room) state ahead declarator between rest → HaveBegun between declarator.layers → IsLater state between → EndsIn ahead.tokens rest.tokens
     → Inside (some_declarators room said so_far) state ahead (declared_by room said so_far.is_first from declarator between rest)
 declared_by_stops room said so_far from declarator state between ahead rest is begun later stands =
@@ -212,15 +165,6 @@ is_begun one (brings other later are) e = subst (λ (g : Got CxxState Declarator
     by : same (Ok other) (Ok one) → other ≡ one
     by e = cc
 is_begun one (brings_none why) e = absurd cc
-
--- what follows where a declarator fits
-fits_stops : {B : Type 0} {part : Part} {state : CxxState} {ahead : Ahead} (said : Said) (declarator : Declarator) (go : Unit {0} → Reads CxxState B) (after : CxxState) (rest : Ahead) → Inside part state ahead (go tt after rest) → Inside part state ahead (then_read (declared_fits said declarator after rest) go)
-unfolding declared_fits
-fits_stops {B = B} {part = part} {state = state} {ahead = ahead} said declarator go after rest stops = by (is_refused (refused_in declarator.layers said.of) || (not said.is_typedef && is_void (declared_type declarator.layers said.of)))
-  where
-    by : (b : Bool) → Inside part state ahead (then_read (if b then fault_at (name_of_declarator declarator).place says.OperandsDoNotFit after rest else got tt after rest) go)
-    by true = tells_stop _ tt
-    by false = stops
 
 init_declarator_stops : (room : ℕ) (said : Said) (so_far : Listed) (state : CxxState) (ahead : Ahead) → Inside (some_declarators room said so_far) state ahead (init_declarator_at room said so_far.is_first state ahead)
 unfolding init_declarator_at
@@ -252,7 +196,7 @@ declarators_of_stop room as_extern specifiers state ahead = if_in (is_punct punc
 simple_stops : (room : ℕ) (as_extern : Bool) (state : CxxState) (ahead : Ahead) → Stops (a_simple_declaration room as_extern) state ahead (simple_declaration_at room as_extern state ahead)
 unfolding simple_declaration_at
 simple_stops room as_extern state ahead =
-    whole_stops (λ fault is. is) (then_from _ (leads_here in_specifiers (specifiers_stop room state ahead)) (λ one is later stands.
+    whole_stops (λ fault is. is) (then_from _ (leads_here in_specifiers (specifiers_stop room where_.Declaration state ahead)) (λ one is later stands.
     then_calm (leads_in (to_declarators is) later stands (declarators_of_stop room as_extern one.value one.state one.rest)) (λ declarators state rest.
     then_in later_is_quiet (looked_in later_is_quiet state rest) (λ to. give_in later_is_quiet (declaration_tree (specifiers_tree one.value ahead one.rest) declarators ahead to)))))
 

@@ -31,6 +31,8 @@ pub mod Objects
 pub mod TellsBlocks
 pub mod TellsBodies
 pub mod Stopping
+pub mod DeclaratorsStop
+pub mod StatementsStop
 pub mod Declarations
 pub mod Whole
 mod Rows

@@ -192,6 +192,13 @@ pub record KindsTell {S : Type 0} (kept : S → S → Type 0) (told : S → Ahea
   -- 3.3.2: of a list of parameters in a scope of its own
   pub listed : (list : ℕ → Reads S ParameterTypes) → ((scope : ℕ) → Tells kept told (list scope)) → Tells kept told (ask asks.enter_parameters >>= λ scope. list scope >>= λ read. ask asks.leave_parameters >>= λ left. give read)
 
+-- what the tests of shapes ask: the kinds of names, and whether a bracket holds parameters
+pub record NamesTell {S : Type 0} (kept : S → S → Type 0) (told : S → Ahead → Stopped → Type 0) (asks : Kinds S) : Type 0 where
+  pub kind : (path : CxxPath) → Answers kept told (asks.kind path)
+
+pub record ListsTell {S : Type 0} (kept : S → S → Type 0) (told : S → Ahead → Stopped → Type 0) (inner : Readers S) : Type 0 where
+  pub holds_parameters : Tells kept told inner.holds_parameters
+
 pub record ReadersTell {S : Type 0} (kept : S → S → Type 0) (told : S → Ahead → Stopped → Type 0) (inner : Readers S) : Type 0 where
   pub pointed : (naming : Naming) → Tells kept told (inner.pointed naming)
   pub referred : (naming : Naming) → Tells kept told (inner.referred naming)
@@ -200,6 +207,12 @@ pub record ReadersTell {S : Type 0} (kept : S → S → Type 0) (told : S → Ah
   pub parameters : Tells kept told inner.parameters
   pub enumerators : (number : ℕ) → Tells kept told (inner.enumerators number)
   pub holds_parameters : Tells kept told inner.holds_parameters
+
+pub names_tell : {S : Type 0} {kept : S → S → Type 0} {told : S → Ahead → Stopped → Type 0} {asks : Kinds S} → KindsTell kept told asks → NamesTell kept told asks
+names_tell asks = record { kind = asks.kind }
+
+pub lists_tell : {S : Type 0} {kept : S → S → Type 0} {told : S → Ahead → Stopped → Type 0} {inner : Readers S} → ReadersTell kept told inner → ListsTell kept told inner
+lists_tell inner = record { holds_parameters = inner.holds_parameters }
 
 -- ---- single tokens
 

@@ -1,6 +1,6 @@
 -- What the statements of a body keep of the state, and what stops them.
 use Rattle.std.proofs.Common.{arith, ◌≡◌, ◌<◌, inr, refl}
-use Rattle.std.specs.Prelude.{ℕ, ◌+◌, ◌==◌, Bool, true, false, if◌then◌else◌, nat_eq, length, [], ◌∷◌, Option, Some, None, Ok, Err}
+use Rattle.std.specs.Prelude.{ℕ, zero, suc, ◌+◌, ◌==◌, Bool, true, false, if◌then◌else◌, nat_eq, length, [], ◌∷◌, Option, Some, None, Ok, Err}
 use Rattle.cxx_model.specs.declared.base.Base.{Base}
 use Rattle.cxx_model.specs.declared.facts.ScopeKind.TheVariants as scope_kind
 use Rattle.cxx_model.specs.declared.fault.FaultText.{FaultText}
@@ -9,40 +9,39 @@ use Rattle.cxx_model.specs.declared.stop.LimitKind.TheVariants.{Facts}
 use Rattle.cxx_model.specs.declared.token.TokenKind.{TokenKind}
 use Rattle.cxx_model.specs.declared.token.TokenKind.TheVariants.{Keyword}
 use Rattle.cxx_model.specs.declared.types.FactId.{FactId}
-use Rattle.cxx_model.specs.Stops.{Answer, Stopped, Limited, ◌>>=◌}
+use Rattle.cxx_model.specs.Stops.{Stopped, Limited, ◌>>=◌}
 use Rattle.cxx_model.specs.Types.Trees.{CxxType, fundamental}
 use Rattle.cxx_meaning.specs.Conversions.Arithmetic.{integer_of, integral_promoted}
 use Rattle.cxx_meaning.specs.Conversions.BuiltIn.{bool_type, is_condition, operand_kind}
 use Rattle.cxx_reading.specs.Declarators.{is_void}
-use Rattle.cxx_reading.specs.Declaring.{added, at_scope, block_scope, enter_block, entered_block, leave_block, most_facts, number_id, scope_count, with_fact, with_result, within_step}
+use Rattle.cxx_reading.specs.Declaring.{added, at_scope, block_scope, enter_block, entered_block, most_facts, number_id, scope_count, with_fact, with_result, within_step}
 use Rattle.cxx_reading.specs.Initializers.{operand_of}
-use Rattle.cxx_reading.specs.Reads.{Ahead, Reads, kind_ahead}
+use Rattle.cxx_reading.specs.Reads.{Ahead, kind_ahead}
 use Rattle.cxx_reading.specs.State.{CxxState}
 use Rattle.cxx_reading.specs.Trees.{CxxTree}
 use Rattle.cxx_heads.specs.declared.head.Head as heads
 use Rattle.cxx_heads.specs.declared.head.Head.TheVariants as heads_
 use Rattle.cxx_expr.specs.Operands.{is_of_class}
 use Rattle.cxx_statements.specs.declared.parts.Head.TheVariants as head
-use Rattle.cxx_statements.specs.declared.parts.Purpose.{Purpose}
-use Rattle.cxx_statements.specs.declared.parts.Purpose.TheVariants as purpose
-use Rattle.cxx_statements.specs.Statements.{CxxTarget, to_bool, to_promoted, to_type, to_result, body_at}
+use Rattle.cxx_statements.specs.Statements.{CxxTarget, to_bool, to_promoted, to_type, to_result}
 use Rattle.cxx_phrases.specs.Levels.{whole_at}
-use Rattle.cxx_language.specs.Asked.{answers, inner_at, phrases_at}
-use Rattle.cxx_language.specs.Statements.{left_out_word, left_out, head_as, begun_by, statement_head, set_in_step, step_at, condition_by, condition_at, expression_for, condition_place, tested, promoted_by, switched, labelled_by, labelled, returned_by, returned, become, parts_at}
+use Rattle.cxx_heads.specs.Heads.{is_declared_condition}
+use Rattle.cxx_knot.specs.Readers.{both}
+use Rattle.cxx_language.specs.Answers.{asking}
+use Rattle.cxx_language.specs.Asked.{answers, asked, inner_at, phrases_at}
+use Rattle.cxx_language.specs.Statements.{left_out_word, left_out, head_as, begun_by, statement_head, set_in_step, step_at, condition_place, tested, promoted_by, switched, labelled_by, labelled, returned_by, returned, become}
 use Rattle.cxx_language_laws.specs.Told.{IsGrown}
-use Rattle.cxx_language_laws.proofs.Asked.{constant_tells, kinds_tell, phrases_tell}
+use Rattle.cxx_language_laws.proofs.Asked.{phrases_tell}
 use Rattle.cxx_language_laws.proofs.Both.{both_tell}
-use Rattle.cxx_language_laws.proofs.Later.{IsLater, grown_by, grown_later, grown_same, same_calls, later_is_kept, later_is_quiet, later_same}
-use Rattle.cxx_language_laws.proofs.Lists.{entered_reached, left, left_later}
+use Rattle.cxx_language_laws.proofs.Later.{IsLater, kind_tells, grown_by, grown_later, grown_same, same_calls, later_is_kept, later_is_quiet, later_same}
 use Rattle.cxx_language_laws.proofs.QuestionsTell.{if_by, quiet_by, same_by}
-use Rattle.cxx_language_laws.proofs.Reached.{IsReached, count_more, Told, later_is_told, reached_by_later, reached_later, told_sooner}
+use Rattle.cxx_language_laws.proofs.Reached.{IsReached, count_more, Told, later_is_told}
 use Rattle.cxx_language_laws.proofs.Scopes.{entered, scope_is_there, scope_within, scopes_at, scopes_entered, scopes_same}
-use Rattle.cxx_language_laws.proofs.Tells.{IsQuiet, IsTold, Quietly, saying, nothing, ToldBy, tells_answer, tells_refusal, Tells, Answers, quiet_in, then_in, ask_in, give_in}
-use Rattle.cxx_language_laws.proofs.TellsBlocks.{declared_condition_at_tells, local_declaration_tells}
+use Rattle.cxx_language_laws.proofs.Tells.{IsTold, Quietly, saying, nothing, ToldBy, tells_answer, tells_refusal, Tells, Answers, quiet_in, then_in, ask_in, same_in, give_in, NamesTell, ListsTell}
 use Rattle.cxx_language_laws.proofs.TellsConversions.{convert_tells}
 use Rattle.cxx_language_laws.proofs.TellsHeads.{declared_condition_tells, head_tells}
-use Rattle.cxx_language_laws.proofs.TellsLevels.{conditional_tells, whole_tells}
-use Rattle.cxx_language_laws.proofs.TellsStatements.{IsEntering, PartsTell, body_tells}
+use Rattle.cxx_language_laws.proofs.TellsShapes.{parameters_shape_tells}
+use Rattle.cxx_language_laws.proofs.TellsLevels.{whole_tells}
 
 -- ---- how a statement begins
 
@@ -62,20 +61,33 @@ left_out_calm : (kind : TokenKind) → IsCalm (left_out kind)
 left_out_calm (Keyword n) = left_out_word_calm n
 left_out_calm _ = tt
 
-head_as_tells : (begins : heads.Head) → Tells IsLater Told (head_as begins)
-head_as_tells heads_.Declaration state ahead = give_in later_is_told head.Declaration state ahead
-head_as_tells heads_.Using state ahead = quiet_in later_is_told refl
-head_as_tells heads_.Namespace state ahead = quiet_in later_is_told refl
-head_as_tells heads_.Label state ahead = quiet_in later_is_told refl
-head_as_tells heads_.Expression state ahead = give_in later_is_told head.Expression state ahead
+head_as_tells : (begins : heads.Head) → Tells IsLater Quietly (head_as begins)
+head_as_tells heads_.Declaration state ahead = give_in later_is_quiet head.Declaration state ahead
+head_as_tells heads_.Using state ahead = quiet_in later_is_quiet refl
+head_as_tells heads_.Namespace state ahead = quiet_in later_is_quiet refl
+head_as_tells heads_.Label state ahead = quiet_in later_is_quiet refl
+head_as_tells heads_.Expression state ahead = give_in later_is_quiet head.Expression state ahead
 
-begun_by_tells : (room : ℕ) (text : Option FaultText) → IsCalm text → Tells IsLater Told (begun_by room text)
-begun_by_tells room None calm state ahead = then_in later_is_told (head_tells later_is_told (kinds_tell room) (both_tell room).types state ahead) head_as_tells
-begun_by_tells room (Some text) calm state ahead = quiet_in later_is_told calm
+-- the kinds of names, and whether a bracket holds parameters
+quiet_names : (room : ℕ) → NamesTell IsLater Quietly (asked room).kinds
+unfolding asking
+quiet_names room = record { kind = kind_tells }
 
-statement_head_tells : (room : ℕ) → Tells IsLater Told (statement_head room)
+quiet_lists : (room : ℕ) → ListsTell IsLater Quietly (inner_at room).types
+unfolding both
+quiet_lists zero = record { holds_parameters = λ state ahead. same_in later_is_quiet true state ahead }
+quiet_lists (suc room) = record { holds_parameters = parameters_shape_tells later_is_quiet (quiet_names room) (quiet_lists room) }
+
+begun_by_tells : (room : ℕ) (text : Option FaultText) → IsCalm text → Tells IsLater Quietly (begun_by room text)
+begun_by_tells room None calm state ahead = then_in later_is_quiet (head_tells later_is_quiet (quiet_names room) (quiet_lists room) state ahead) head_as_tells
+begun_by_tells room (Some text) calm state ahead = quiet_in later_is_quiet calm
+
+pub statement_head_tells : (room : ℕ) → Tells IsLater Quietly (statement_head room)
 unfolding statement_head
 statement_head_tells room state ahead = begun_by_tells room (left_out (kind_ahead ahead)) (left_out_calm (kind_ahead ahead)) state ahead
+
+pub is_declared_tells : (room : ℕ) → Tells IsLater Quietly (is_declared_condition (asked room).kinds (inner_at room).types)
+is_declared_tells room = declared_condition_tells later_is_quiet (quiet_names room) (quiet_lists room)
 
 -- ---- expressions
 
@@ -83,29 +95,15 @@ set_in_step_tells : (inside : Bool) → Answers IsLater Told (set_in_step inside
 unfolding set_in_step
 set_in_step_tells inside state ahead = tells_answer (tt, within_step inside state) (later_same state (within_step inside state) refl refl refl)
 
-expression_tells : (room : ℕ) → Tells IsLater Told (whole_at (phrases_at room) (inner_at room).phrases)
+pub expression_tells : (room : ℕ) → Tells IsLater Told (whole_at (phrases_at room) (inner_at room).phrases)
 expression_tells room = whole_tells later_is_told (phrases_tell room (both_tell room).types) (both_tell room).phrases
 
-step_tells : (room : ℕ) → Tells IsLater Told (step_at room)
+pub step_tells : (room : ℕ) → Tells IsLater Told (step_at room)
 unfolding step_at
 step_tells room state ahead =
     then_in later_is_told (ask_in ahead (set_in_step_tells true state ahead)) (λ begun state ahead.
     then_in later_is_told (expression_tells room state ahead) (λ tree state ahead.
     then_in later_is_told (ask_in ahead (set_in_step_tells false state ahead)) (λ ended. give_in later_is_told tree)))
-
-condition_by_tells : (room : ℕ) (declares : Bool) → Tells IsLater Told (condition_by room declares)
-condition_by_tells room true = declared_condition_at_tells room
-condition_by_tells room false = expression_tells room
-
-condition_tells : (room : ℕ) → Tells IsLater Told (condition_at room)
-unfolding condition_at
-condition_tells room state ahead = then_in later_is_told (declared_condition_tells later_is_told (kinds_tell room) (both_tell room).types state ahead) (condition_by_tells room)
-
-pub expression_for_tells : (room : ℕ) (purpose : Purpose) → Tells IsLater Told (expression_for room purpose)
-expression_for_tells room purpose.Whole = expression_tells room
-expression_for_tells room purpose.Constant = conditional_tells later_is_told (phrases_tell room (both_tell room).types) (both_tell room).phrases
-expression_for_tells room purpose.Condition = condition_tells room
-expression_for_tells room purpose.Step = step_tells room
 
 -- ---- what an expression becomes
 
@@ -157,39 +155,7 @@ enter_tells function state ahead = by (nat_eq (length state.graph.facts + length
     by true = tells_refusal (Limited Facts) refl
     by false = tells_answer (tt, entered (scope_kind.Block function) state) (later_is_kept.same (entered (scope_kind.Block function) state))
 
-enter_block_tells : (state : CxxState) (ahead : Ahead) → ToldBy (IsInBlock None) Told state ahead (enter_block None state)
-enter_block_tells state ahead = by (enter_tells None state ahead)
-  where
-    by : {r : Answer (Unit {0} × CxxState)} → ToldBy (IsInBlock None) Quietly state ahead r → ToldBy (IsInBlock None) Told state ahead r
-    by (tells_answer one first) = tells_answer one first
-    by (tells_refusal why quiet) = tells_refusal why (later_is_told.quiet state ahead why quiet)
-
-leave_block_tells : (s t : CxxState) (ahead : Ahead) → IsInBlock None s t → ToldBy IsLater Told s ahead (leave_block t)
-unfolding leave_block
-leave_block_tells s t ahead first = tells_answer (tt, left t) (left_later (scope_kind.Block None) s t first)
-
-block_is_entered : IsEntering IsLater (IsInBlock None) Told
-block_is_entered = record {
-  on = λ s t u first second. later_is_kept.later (entered (scope_kind.Block None) s) t u first second;
-  sooner = λ s t ahead rest why first stands told. told_sooner s t ahead rest why (reached_later s (entered (scope_kind.Block None) s) t (entered_reached (scope_kind.Block None) s) (reached_by_later (entered (scope_kind.Block None) s) t first)) stands told;
-}
-
 -- ---- bodies
-
-parts_tell : (room : ℕ) → PartsTell IsLater (IsInBlock None) Told (parts_at room)
-unfolding parts_at
-parts_tell room = record {
-  head = statement_head_tells room;
-  declaration = local_declaration_tells room;
-  expression = expression_for_tells room;
-  converted = become_tells later_is_told;
-  value = constant_tells;
-  enter_block = enter_block_tells;
-  leave_block = leave_block_tells;
-}
-
-pub body_tells_at : (room : ℕ) → Tells IsLater Told (body_at parts_at room)
-body_tells_at room = body_tells later_is_told block_is_entered parts_at parts_tell room
 
 -- a body begins in the scope of a list of parameters
 abbrev pub in_list : ℕ → CxxType → CxxState → CxxState

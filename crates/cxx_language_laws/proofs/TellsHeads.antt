@@ -1,16 +1,16 @@
 -- What the test of how a statement begins keeps of the state, and what stops it.
-use Rattle.std.specs.Prelude.{ℕ, suc, Bool, true, false, not, ◌&&◌, ◌||◌, ◌==◌, ◌-◌, Option, Some, None}
+use Rattle.std.specs.Prelude.{ℕ, suc, Bool, true, false, not, ◌&&◌, ◌==◌, ◌-◌, Option, Some, None}
 use Rattle.cxx_heads.specs.declared.head.Head.TheVariants as head
 use Rattle.cxx_heads.specs.declared.shape.Shape.{Shape}
-use Rattle.cxx_heads.specs.Heads.{is_cv_word, no_shape, name_step, give_no_name, name_passed, gone_past, listed_by, list_step, exceptions_step, suffix_step, give_unclosed, suffixes_passed, closing_step, closed_passed, goes_on, bound_step, bounds_passed, bounded_by, declared_by, declarator_begins, begins_list, specified_by, specifiers_begin, begins_declaration, is_declaration, head_of, head_at, is_no_type_word, type_word_step, give_true, types_alone, initialized_by, named_by, initializer_follows, typed_by, look_from, conditioned_by, condition_begins, is_declared_condition}
+use Rattle.cxx_heads.specs.Heads.{is_cv_word, no_shape, name_step, give_no_name, name_passed, gone_past, listed_by, list_step, exceptions_step, suffix_step, give_unclosed, suffixes_passed, closing_step, closed_passed, bound_step, bounds_passed, bounded_by, declared_by, declarator_begins, specified_by, specifiers_begin, begins_declaration, is_declaration, head_of, head_at, is_no_type_word, type_word_step, give_true, types_alone, initialized_by, named_by, initializer_follows, typed_by, look_from, conditioned_by, condition_begins, is_declared_condition}
 use Rattle.cxx_model.specs.declared.keyword.TheConstants as keyword
 use Rattle.cxx_model.specs.declared.punct.TheConstants as punct
 use Rattle.cxx_model.specs.Stops.{Answer, Stopped}
 use Rattle.cxx_reading.specs.Kinds.{Kinds, Readers}
-use Rattle.cxx_reading.specs.Reads.{Ahead, Got, Reads, More, Done, give, beside, tokens, kind_ahead, count_ahead, behind}
+use Rattle.cxx_reading.specs.Reads.{Ahead, Got, Reads, More, Done, beside, tokens, kind_ahead, count_ahead, behind}
 use Rattle.cxx_reading.specs.Shapes.{Run, no_type, a_type, surely, give_false, returned}
 use Rattle.cxx_reading.specs.Tokens.{is_punct, is_keyword, is_name, is_plain_name}
-use Rattle.cxx_language_laws.proofs.Tells.{IsTold, ToldIn, tells_read, tells_stop, Tells, Always, Quietly, KindsTell, ReadersTell, whole_stands, if_in, then_in, same_in, next_in, past_in, repeat_tells, give_in, tokens_in, unit_is_told, returned_in}
+use Rattle.cxx_language_laws.proofs.Tells.{IsTold, ToldIn, tells_read, tells_stop, Tells, Always, Quietly, NamesTell, ListsTell, whole_stands, if_in, then_in, same_in, next_in, past_in, repeat_tells, give_in, tokens_in, unit_is_told, returned_in}
 use Rattle.cxx_language_laws.proofs.TellsShapes.{brackets_tell, run_tells}
 
 -- ---- up to the name of a declarator
@@ -37,7 +37,7 @@ listed_by_tells : {S : Type 0} {kept : S → S → Type 0} {told : S → Ahead �
 listed_by_tells is shape true = gone_tells is true shape
 listed_by_tells is shape false = give_in is (Done false)
 
-list_step_tells : {S : Type 0} {kept : S → S → Type 0} {told : S → Ahead → Stopped → Type 0} → IsTold kept told → {inner : Readers S} → ReadersTell kept told inner → (shape : Shape) → Tells kept told (list_step inner shape)
+list_step_tells : {S : Type 0} {kept : S → S → Type 0} {told : S → Ahead → Stopped → Type 0} → IsTold kept told → {inner : Readers S} → ListsTell kept told inner → (shape : Shape) → Tells kept told (list_step inner shape)
 unfolding list_step
 list_step_tells is inner shape state ahead = then_in is (returned_in ahead (past_in is (inner.holds_parameters state (behind ahead)))) (listed_by_tells is shape)
 
@@ -45,7 +45,7 @@ exceptions_step_tells : {S : Type 0} {kept : S → S → Type 0} {told : S → A
 unfolding exceptions_step
 exceptions_step_tells is shape state ahead = if_in _ (gone_tells is false shape state ahead) (same_in is _ state ahead)
 
-suffix_step_tells : {S : Type 0} {kept : S → S → Type 0} {told : S → Ahead → Stopped → Type 0} → IsTold kept told → {inner : Readers S} → ReadersTell kept told inner → (shape : Shape) → Tells kept told (suffix_step inner shape)
+suffix_step_tells : {S : Type 0} {kept : S → S → Type 0} {told : S → Ahead → Stopped → Type 0} → IsTold kept told → {inner : Readers S} → ListsTell kept told inner → (shape : Shape) → Tells kept told (suffix_step inner shape)
 unfolding suffix_step
 suffix_step_tells is inner shape state ahead =
     if_in (is_punct punct.LEFT_PARENTHESIS (kind_ahead ahead)) (list_step_tells is inner shape state ahead) (
@@ -54,15 +54,15 @@ suffix_step_tells is inner shape state ahead =
     if_in (is_keyword keyword.THROW (kind_ahead ahead) && shape.takes_cv) (past_in is (exceptions_step_tells is shape state (behind ahead))) (
     if_in (is_punct punct.RIGHT_PARENTHESIS (kind_ahead ahead) && not (shape.brackets == 0)) (next_in is (More (record { brackets = shape.brackets - 1; takes_cv = false })) state ahead) (same_in is (Done (shape.brackets == 0)) state ahead)))))
 
-suffixes_tell : {S : Type 0} {kept : S → S → Type 0} {told : S → Ahead → Stopped → Type 0} → IsTold kept told → {inner : Readers S} → ReadersTell kept told inner → (shape : Shape) → Tells kept told (suffixes_passed inner shape)
+suffixes_tell : {S : Type 0} {kept : S → S → Type 0} {told : S → Ahead → Stopped → Type 0} → IsTold kept told → {inner : Readers S} → ListsTell kept told inner → (shape : Shape) → Tells kept told (suffixes_passed inner shape)
 unfolding suffixes_passed
 suffixes_tell is {inner = i} inner shape state ahead = repeat_tells is (suffix_step i) give_unclosed (suffix_step_tells is inner) (λ shape. give_in is false) (count_ahead ahead) shape state ahead
 
-closing_step_tells : {S : Type 0} {kept : S → S → Type 0} {told : S → Ahead → Stopped → Type 0} → IsTold kept told → {inner : Readers S} → ReadersTell kept told inner → (shape : Shape) → Tells kept told (closing_step inner shape)
+closing_step_tells : {S : Type 0} {kept : S → S → Type 0} {told : S → Ahead → Stopped → Type 0} → IsTold kept told → {inner : Readers S} → ListsTell kept told inner → (shape : Shape) → Tells kept told (closing_step inner shape)
 unfolding closing_step
 closing_step_tells is inner shape state ahead = if_in _ (same_in is _ state ahead) (suffix_step_tells is inner shape state ahead)
 
-closed_tells : {S : Type 0} {kept : S → S → Type 0} {told : S → Ahead → Stopped → Type 0} → IsTold kept told → {inner : Readers S} → ReadersTell kept told inner → (shape : Shape) → Tells kept told (closed_passed inner shape)
+closed_tells : {S : Type 0} {kept : S → S → Type 0} {told : S → Ahead → Stopped → Type 0} → IsTold kept told → {inner : Readers S} → ListsTell kept told inner → (shape : Shape) → Tells kept told (closed_passed inner shape)
 unfolding closed_passed
 closed_tells is {inner = i} inner shape state ahead = repeat_tells is (closing_step i) give_unclosed (closing_step_tells is inner) (λ shape. give_in is false) (count_ahead ahead) shape state ahead
 
@@ -80,26 +80,26 @@ bounded_tells : {S : Type 0} {kept : S → S → Type 0} {told : S → Ahead →
 bounded_tells is true = tokens_in is (bounds_tell unit_is_told)
 bounded_tells is false = give_in is false
 
-declared_by_tells : {S : Type 0} {kept : S → S → Type 0} {told : S → Ahead → Stopped → Type 0} → IsTold kept told → {inner : Readers S} → ReadersTell kept told inner → (name : Option Shape) → Tells kept told (declared_by inner name)
+declared_by_tells : {S : Type 0} {kept : S → S → Type 0} {told : S → Ahead → Stopped → Type 0} → IsTold kept told → {inner : Readers S} → ListsTell kept told inner → (name : Option Shape) → Tells kept told (declared_by inner name)
 declared_by_tells is inner None state ahead = give_in is false state ahead
 declared_by_tells is inner (Some shape) state ahead = then_in is (closed_tells is inner shape state ahead) (bounded_tells is)
 
-declarator_begins_tells : {S : Type 0} {kept : S → S → Type 0} {told : S → Ahead → Stopped → Type 0} → IsTold kept told → {inner : Readers S} → ReadersTell kept told inner → Tells kept told (declarator_begins inner)
+declarator_begins_tells : {S : Type 0} {kept : S → S → Type 0} {told : S → Ahead → Stopped → Type 0} → IsTold kept told → {inner : Readers S} → ListsTell kept told inner → Tells kept told (declarator_begins inner)
 unfolding declarator_begins
 declarator_begins_tells is inner state ahead = then_in is (tokens_in is (name_tells unit_is_told) state ahead) (declared_by_tells is inner)
 
 -- ---- statements
 
-specified_tells : {S : Type 0} {kept : S → S → Type 0} {told : S → Ahead → Stopped → Type 0} → IsTold kept told → {inner : Readers S} → ReadersTell kept told inner → (run : Run) → Tells kept told (specified_by inner run)
+specified_tells : {S : Type 0} {kept : S → S → Type 0} {told : S → Ahead → Stopped → Type 0} → IsTold kept told → {inner : Readers S} → ListsTell kept told inner → (run : Run) → Tells kept told (specified_by inner run)
 specified_tells is inner no_type state ahead = same_in is false state ahead
 specified_tells is inner a_type state ahead = declarator_begins_tells is inner state ahead
 specified_tells is inner surely state ahead = same_in is _ state ahead
 
-specifiers_begin_tells : {S : Type 0} {kept : S → S → Type 0} {told : S → Ahead → Stopped → Type 0} → IsTold kept told → {asks : Kinds S} → KindsTell kept told asks → {inner : Readers S} → ReadersTell kept told inner → Tells kept told (specifiers_begin asks inner)
+specifiers_begin_tells : {S : Type 0} {kept : S → S → Type 0} {told : S → Ahead → Stopped → Type 0} → IsTold kept told → {asks : Kinds S} → NamesTell kept told asks → {inner : Readers S} → ListsTell kept told inner → Tells kept told (specifiers_begin asks inner)
 unfolding specifiers_begin
 specifiers_begin_tells is asks inner state ahead = then_in is (run_tells is asks state ahead) (specified_tells is inner)
 
-is_declaration_tells : {S : Type 0} {kept : S → S → Type 0} {told : S → Ahead → Stopped → Type 0} → IsTold kept told → {asks : Kinds S} → KindsTell kept told asks → {inner : Readers S} → ReadersTell kept told inner → Tells kept told (is_declaration asks inner)
+is_declaration_tells : {S : Type 0} {kept : S → S → Type 0} {told : S → Ahead → Stopped → Type 0} → IsTold kept told → {asks : Kinds S} → NamesTell kept told asks → {inner : Readers S} → ListsTell kept told inner → Tells kept told (is_declaration asks inner)
 unfolding is_declaration
 is_declaration_tells is asks inner state ahead = if_in (begins_declaration (kind_ahead ahead)) (same_in is true state ahead) (returned_in ahead (specifiers_begin_tells is asks inner state ahead))
 
@@ -107,7 +107,7 @@ head_of_tells : {S : Type 0} {kept : S → S → Type 0} {told : S → Ahead →
 head_of_tells is true = give_in is head.Declaration
 head_of_tells is false = give_in is head.Expression
 
-pub head_tells : {S : Type 0} {kept : S → S → Type 0} {told : S → Ahead → Stopped → Type 0} → IsTold kept told → {asks : Kinds S} → KindsTell kept told asks → {inner : Readers S} → ReadersTell kept told inner → Tells kept told (head_at asks inner)
+pub head_tells : {S : Type 0} {kept : S → S → Type 0} {told : S → Ahead → Stopped → Type 0} → IsTold kept told → {asks : Kinds S} → NamesTell kept told asks → {inner : Readers S} → ListsTell kept told inner → Tells kept told (head_at asks inner)
 unfolding head_at
 head_tells is asks inner state ahead =
     if_in (is_keyword keyword.USING (kind_ahead ahead)) (same_in is head.Using state ahead) (
@@ -128,15 +128,15 @@ initialized_tells : {S : Type 0} {kept : S → S → Type 0} {told : S → Ahead
 initialized_tells is true state ahead = same_in is _ state ahead
 initialized_tells is false state ahead = same_in is false state ahead
 
-named_tells : {S : Type 0} {kept : S → S → Type 0} {told : S → Ahead → Stopped → Type 0} → IsTold kept told → {inner : Readers S} → ReadersTell kept told inner → (name : Option Shape) → Tells kept told (named_by inner name)
+named_tells : {S : Type 0} {kept : S → S → Type 0} {told : S → Ahead → Stopped → Type 0} → IsTold kept told → {inner : Readers S} → ListsTell kept told inner → (name : Option Shape) → Tells kept told (named_by inner name)
 named_tells is inner None state ahead = give_in is false state ahead
 named_tells is inner (Some shape) state ahead = then_in is (suffixes_tell is inner shape state ahead) (initialized_tells is)
 
-follows_tells : {S : Type 0} {kept : S → S → Type 0} {told : S → Ahead → Stopped → Type 0} → IsTold kept told → {inner : Readers S} → ReadersTell kept told inner → Tells kept told (initializer_follows inner)
+follows_tells : {S : Type 0} {kept : S → S → Type 0} {told : S → Ahead → Stopped → Type 0} → IsTold kept told → {inner : Readers S} → ListsTell kept told inner → Tells kept told (initializer_follows inner)
 unfolding initializer_follows
 follows_tells is inner state ahead = then_in is (tokens_in is (name_tells unit_is_told) state ahead) (named_tells is inner)
 
-typed_tells : {S : Type 0} {kept : S → S → Type 0} {told : S → Ahead → Stopped → Type 0} → IsTold kept told → {inner : Readers S} → ReadersTell kept told inner → (run : Run) (are_types : Bool) → Tells kept told (typed_by inner run are_types)
+typed_tells : {S : Type 0} {kept : S → S → Type 0} {told : S → Ahead → Stopped → Type 0} → IsTold kept told → {inner : Readers S} → ListsTell kept told inner → (run : Run) (are_types : Bool) → Tells kept told (typed_by inner run are_types)
 typed_tells is inner run false state ahead = same_in is false state ahead
 typed_tells is inner no_type true state ahead = same_in is false state ahead
 typed_tells is inner a_type true state ahead = follows_tells is inner state ahead
@@ -150,13 +150,13 @@ again_tells {S = S} {A = A} {kept = kept} {told = told} is tells from state ahea
     by (tells_read one keeps stands) = tells_read (record { value = one.value; state = state; rest = ahead }) (is.keeps.same state) (whole_stands ahead.tokens)
     by (tells_stop why quiet) = tells_stop why (is.quiet state ahead why quiet)
 
-conditioned_tells : {S : Type 0} {kept : S → S → Type 0} {told : S → Ahead → Stopped → Type 0} → IsTold kept told → {inner : Readers S} → ReadersTell kept told inner → (from : Ahead) (run : Run) → Tells kept told (conditioned_by inner from run)
+conditioned_tells : {S : Type 0} {kept : S → S → Type 0} {told : S → Ahead → Stopped → Type 0} → IsTold kept told → {inner : Readers S} → ListsTell kept told inner → (from : Ahead) (run : Run) → Tells kept told (conditioned_by inner from run)
 conditioned_tells is inner from run state ahead = then_in is (again_tells is (types_alone_tell unit_is_told (count_ahead from - count_ahead ahead)) from state ahead) (typed_tells is inner run)
 
-condition_begins_tells : {S : Type 0} {kept : S → S → Type 0} {told : S → Ahead → Stopped → Type 0} → IsTold kept told → {asks : Kinds S} → KindsTell kept told asks → {inner : Readers S} → ReadersTell kept told inner → Tells kept told (condition_begins asks inner)
+condition_begins_tells : {S : Type 0} {kept : S → S → Type 0} {told : S → Ahead → Stopped → Type 0} → IsTold kept told → {asks : Kinds S} → NamesTell kept told asks → {inner : Readers S} → ListsTell kept told inner → Tells kept told (condition_begins asks inner)
 unfolding condition_begins
 condition_begins_tells is asks inner state ahead = then_in is (run_tells is asks state ahead) (conditioned_tells is inner ahead)
 
-pub declared_condition_tells : {S : Type 0} {kept : S → S → Type 0} {told : S → Ahead → Stopped → Type 0} → IsTold kept told → {asks : Kinds S} → KindsTell kept told asks → {inner : Readers S} → ReadersTell kept told inner → Tells kept told (is_declared_condition asks inner)
+pub declared_condition_tells : {S : Type 0} {kept : S → S → Type 0} {told : S → Ahead → Stopped → Type 0} → IsTold kept told → {asks : Kinds S} → NamesTell kept told asks → {inner : Readers S} → ListsTell kept told inner → Tells kept told (is_declared_condition asks inner)
 unfolding is_declared_condition
 declared_condition_tells is asks inner state ahead = returned_in ahead (condition_begins_tells is asks inner state ahead)

@@ -16,7 +16,7 @@ use Rattle.cxx_reading.specs.Shapes.{Run, no_type, a_type, surely, Outline, Fits
 use Rattle.cxx_reading.specs.Syntax.{specified_type}
 use Rattle.cxx_reading.specs.Tokens.{is_punct}
 use Rattle.cxx_language_laws.proofs.PhrasesTell.{PhrasesTell, InnerTell}
-use Rattle.cxx_language_laws.proofs.Tells.{IsTold, Tells, quiet_in, KindsTell, ReadersTell, if_in, if_reads, then_in, same_in, next_in, give_in}
+use Rattle.cxx_language_laws.proofs.Tells.{IsTold, Tells, quiet_in, KindsTell, ReadersTell, if_in, if_reads, then_in, same_in, next_in, give_in, names_tell, lists_tell}
 use Rattle.cxx_language_laws.proofs.TellsInitializers.{expression_tells}
 use Rattle.cxx_language_laws.proofs.TellsOperands.{sized_tells}
 use Rattle.cxx_language_laws.proofs.TellsShapes.{run_tells, prefixes_tell, suffixes_by_tells}
@@ -45,16 +45,16 @@ closed_by_tells is fits_not state ahead = same_in is type_shape.NoType state ahe
 closed_by_tells is fits_surely state ahead = same_in is type_shape.Surely state ahead
 
 abstract_by_tells : {S : Type 0} {kept : S → S → Type 0} {told : S → Ahead → Stopped → Type 0} → IsTold kept told → {inner : Readers S} → ReadersTell kept told inner → (outline : Outline × Bool) → Tells kept told (abstract_by inner outline)
-abstract_by_tells is inner outline = if_reads outline.0.is_named (give_in is type_shape.NoType) (λ state ahead. then_in is (suffixes_by_tells is inner outline.0 outline.1 state ahead) (closed_by_tells is))
+abstract_by_tells is inner outline = if_reads outline.0.is_named (give_in is type_shape.NoType) (λ state ahead. then_in is (suffixes_by_tells is (lists_tell inner) outline.0 outline.1 state ahead) (closed_by_tells is))
 
 shape_by_tells : {S : Type 0} {kept : S → S → Type 0} {told : S → Ahead → Stopped → Type 0} → IsTold kept told → {asks : Kinds S} → KindsTell kept told asks → {inner : Readers S} → ReadersTell kept told inner → (run : Run) → Tells kept told (shape_by asks inner run)
 shape_by_tells is asks inner no_type state ahead = give_in is type_shape.NoType state ahead
-shape_by_tells is asks inner a_type state ahead = then_in is (prefixes_tell is asks state ahead) (abstract_by_tells is inner)
+shape_by_tells is asks inner a_type state ahead = then_in is (prefixes_tell is (names_tell asks) state ahead) (abstract_by_tells is inner)
 shape_by_tells is asks inner surely state ahead = give_in is type_shape.Surely state ahead
 
 pub type_passed_tells : {S : Type 0} {kept : S → S → Type 0} {told : S → Ahead → Stopped → Type 0} → IsTold kept told → {asks : Kinds S} → KindsTell kept told asks → {inner : Readers S} → ReadersTell kept told inner → Tells kept told (type_passed_at asks inner)
 unfolding type_passed_at
-type_passed_tells is asks inner state ahead = then_in is (run_tells is asks state ahead) (shape_by_tells is asks inner)
+type_passed_tells is asks inner state ahead = then_in is (run_tells is (names_tell asks) state ahead) (shape_by_tells is asks inner)
 
 -- ---- readers inside readers
 

@@ -12,7 +12,7 @@ use Rattle.cxx_model.specs.Stops.{Stopped}
 use Rattle.cxx_reading.specs.Kinds.{Kinds, Readers}
 use Rattle.cxx_reading.specs.Reads.{Ahead, More, give, kind_ahead}
 use Rattle.cxx_reading.specs.Shapes.{opens, closes, is_specifier, is_some_word, is_key, ends_default, bracket_step, give_nothing, brackets_passed, Run, no_type, a_type, surely, key_shape, kind_shape, name_shape, keyword_shape, run_by, run_step, give_ended, run_passed, is_type_kind, begins_by, begins_type, is_abstract_list, Outline, Fits, fits, fits_not, fits_surely, opened_by, prefix_step, give_unqualified, prefix_passed, passed_by, list_shape, suffix_step, give_closed, suffixes_by, declarator_passed, default_step, default_passed, separated, parameter_by, piece_by, piece_step, give_false, parameters_shape}
-use Rattle.cxx_language_laws.proofs.Tells.{IsTold, Tells, KindsTell, ReadersTell, if_in, if_reads, then_in, ask_in, same_in, next_in, past_in, repeat_tells, give_in, tokens_in, unit_is_told, returned_in}
+use Rattle.cxx_language_laws.proofs.Tells.{IsTold, Tells, NamesTell, ListsTell, if_in, if_reads, then_in, ask_in, same_in, next_in, past_in, repeat_tells, give_in, tokens_in, unit_is_told, returned_in}
 
 pub bracket_tells : {S : Type 0} {kept : S → S → Type 0} {told : S → Ahead → Stopped → Type 0} → IsTold kept told → (count : ℕ) → Tells kept told (bracket_step {S = S} count)
 unfolding bracket_step
@@ -33,7 +33,7 @@ kind_shape_tells is kind.OfBoth state ahead = same_in is _ state _
 kind_shape_tells is kind.Space state ahead = same_in is _ state _
 kind_shape_tells is kind.Value state ahead = same_in is _ state _
 
-pub name_shape_tells : {S : Type 0} {kept : S → S → Type 0} {told : S → Ahead → Stopped → Type 0} → IsTold kept told → {asks : Kinds S} → KindsTell kept told asks → (typed : Bool) → Tells kept told (name_shape asks typed)
+pub name_shape_tells : {S : Type 0} {kept : S → S → Type 0} {told : S → Ahead → Stopped → Type 0} → IsTold kept told → {asks : Kinds S} → NamesTell kept told asks → (typed : Bool) → Tells kept told (name_shape asks typed)
 unfolding name_shape
 name_shape_tells is asks true state ahead = same_in is _ state _
 name_shape_tells is asks false state ahead = if_in (is_qualified ahead) (same_in is _ state _) (then_in is (ask_in ahead (asks.kind _ state ahead)) (kind_shape_tells is))
@@ -42,7 +42,7 @@ pub keyword_shape_tells : {S : Type 0} {kept : S → S → Type 0} {told : S →
 unfolding keyword_shape
 keyword_shape_tells is n typed state ahead = if_in (is_specifier n) (next_in is _ state ahead) (if_in (is_some_word (type_word n)) (next_in is _ state ahead) (if_in (is_key n && not typed) (past_in is (key_shape_tells is state _)) (same_in is _ state _)))
 
-run_by_tells : {S : Type 0} {kept : S → S → Type 0} {told : S → Ahead → Stopped → Type 0} → IsTold kept told → {asks : Kinds S} → KindsTell kept told asks → (kind : TokenKind) (typed : Bool) → Tells kept told (run_by asks kind typed)
+run_by_tells : {S : Type 0} {kept : S → S → Type 0} {told : S → Ahead → Stopped → Type 0} → IsTold kept told → {asks : Kinds S} → NamesTell kept told asks → (kind : TokenKind) (typed : Bool) → Tells kept told (run_by asks kind typed)
 run_by_tells is asks (Keyword n) typed state ahead = keyword_shape_tells is n typed state ahead
 run_by_tells is asks Name typed state ahead = name_shape_tells is asks typed state ahead
 run_by_tells is asks (Punct n) typed state ahead = if_reads _ (name_shape_tells is asks typed) (λ state ahead. same_in is _ state _) state ahead
@@ -51,7 +51,7 @@ run_by_tells is asks Character typed state ahead = same_in is _ state _
 run_by_tells is asks Text typed state ahead = same_in is _ state _
 run_by_tells is asks End typed state ahead = same_in is _ state _
 
-pub run_tells : {S : Type 0} {kept : S → S → Type 0} {told : S → Ahead → Stopped → Type 0} → IsTold kept told → {asks : Kinds S} → KindsTell kept told asks → Tells kept told (run_passed asks)
+pub run_tells : {S : Type 0} {kept : S → S → Type 0} {told : S → Ahead → Stopped → Type 0} → IsTold kept told → {asks : Kinds S} → NamesTell kept told asks → Tells kept told (run_passed asks)
 unfolding run_passed run_step
 run_tells is {asks = a} asks state ahead = repeat_tells is (run_step a) give_ended (λ typed state ahead. run_by_tells is asks (kind_ahead ahead) typed state ahead) (λ so_far state ahead. same_in is _ state _) _ _ state ahead
 
@@ -62,7 +62,7 @@ is_type_tells is kind.OfBoth state ahead = same_in is _ state _
 is_type_tells is kind.Space state ahead = same_in is _ state _
 is_type_tells is kind.Value state ahead = same_in is _ state _
 
-begins_by_tells : {S : Type 0} {kept : S → S → Type 0} {told : S → Ahead → Stopped → Type 0} → IsTold kept told → {asks : Kinds S} → KindsTell kept told asks → (kind : TokenKind) → Tells kept told (begins_by asks kind)
+begins_by_tells : {S : Type 0} {kept : S → S → Type 0} {told : S → Ahead → Stopped → Type 0} → IsTold kept told → {asks : Kinds S} → NamesTell kept told asks → (kind : TokenKind) → Tells kept told (begins_by asks kind)
 begins_by_tells is asks (Keyword n) state ahead = same_in is _ state _
 begins_by_tells is asks (Punct n) state ahead = same_in is _ state _
 begins_by_tells is asks Name state ahead = if_in _ (same_in is _ state _) (then_in is (ask_in ahead (asks.kind _ state ahead)) (is_type_tells is))
@@ -71,11 +71,11 @@ begins_by_tells is asks Character state ahead = same_in is _ state _
 begins_by_tells is asks Text state ahead = same_in is _ state _
 begins_by_tells is asks End state ahead = same_in is _ state _
 
-pub begins_tells : {S : Type 0} {kept : S → S → Type 0} {told : S → Ahead → Stopped → Type 0} → IsTold kept told → {asks : Kinds S} → KindsTell kept told asks → Tells kept told (begins_type asks)
+pub begins_tells : {S : Type 0} {kept : S → S → Type 0} {told : S → Ahead → Stopped → Type 0} → IsTold kept told → {asks : Kinds S} → NamesTell kept told asks → Tells kept told (begins_type asks)
 unfolding begins_type
 begins_tells is asks state ahead = begins_by_tells is asks (kind_ahead ahead) state ahead
 
-pub abstract_tells : {S : Type 0} {kept : S → S → Type 0} {told : S → Ahead → Stopped → Type 0} → IsTold kept told → {asks : Kinds S} → KindsTell kept told asks → Tells kept told (is_abstract_list asks)
+pub abstract_tells : {S : Type 0} {kept : S → S → Type 0} {told : S → Ahead → Stopped → Type 0} → IsTold kept told → {asks : Kinds S} → NamesTell kept told asks → Tells kept told (is_abstract_list asks)
 unfolding is_abstract_list
 abstract_tells is asks state ahead = if_in _ (same_in is _ state _) (returned_in ahead (past_in is (begins_tells is asks state _)))
 
@@ -83,11 +83,11 @@ opened_by_tells : {S : Type 0} {kept : S → S → Type 0} {told : S → Ahead �
 opened_by_tells is true outline state ahead = same_in is _ state _
 opened_by_tells is false outline state ahead = next_in is _ state ahead
 
-pub prefix_tells : {S : Type 0} {kept : S → S → Type 0} {told : S → Ahead → Stopped → Type 0} → IsTold kept told → {asks : Kinds S} → KindsTell kept told asks → (outline : Outline) → Tells kept told (prefix_step asks outline)
+pub prefix_tells : {S : Type 0} {kept : S → S → Type 0} {told : S → Ahead → Stopped → Type 0} → IsTold kept told → {asks : Kinds S} → NamesTell kept told asks → (outline : Outline) → Tells kept told (prefix_step asks outline)
 unfolding prefix_step
 prefix_tells is asks outline state ahead = if_in (is_punct punct.STAR (kind_ahead ahead) || (is_punct punct.AMPERSAND (kind_ahead ahead) || (is_keyword keyword.CONST (kind_ahead ahead) || is_keyword keyword.VOLATILE (kind_ahead ahead)))) (next_in is _ state ahead) (if_in (is_punct punct.LEFT_PARENTHESIS (kind_ahead ahead)) (then_in is (abstract_tells is asks state ahead) (λ is_list. opened_by_tells is is_list outline)) (if_in (is_qualified ahead) (same_in is _ state _) (if_in (is_name (kind_ahead ahead)) (next_in is _ state ahead) (same_in is _ state _))))
 
-pub prefixes_tell : {S : Type 0} {kept : S → S → Type 0} {told : S → Ahead → Stopped → Type 0} → IsTold kept told → {asks : Kinds S} → KindsTell kept told asks → Tells kept told (prefix_passed asks)
+pub prefixes_tell : {S : Type 0} {kept : S → S → Type 0} {told : S → Ahead → Stopped → Type 0} → IsTold kept told → {asks : Kinds S} → NamesTell kept told asks → Tells kept told (prefix_passed asks)
 unfolding prefix_passed
 prefixes_tell is {asks = a} asks state ahead = repeat_tells is (prefix_step a) give_unqualified (prefix_tells is asks) (λ so_far state ahead. same_in is _ state _) _ _ state ahead
 
@@ -95,19 +95,19 @@ passed_by_tells : {S : Type 0} {kept : S → S → Type 0} {told : S → Ahead �
 passed_by_tells is true outline state ahead = then_in is (tokens_in is (brackets_tell unit_is_told) state ahead) (λ end. give_in is (More outline))
 passed_by_tells is false outline state ahead = same_in is _ state _
 
-pub list_shape_tells : {S : Type 0} {kept : S → S → Type 0} {told : S → Ahead → Stopped → Type 0} → IsTold kept told → {inner : Readers S} → ReadersTell kept told inner → (outline : Outline) → Tells kept told (list_shape inner outline)
+pub list_shape_tells : {S : Type 0} {kept : S → S → Type 0} {told : S → Ahead → Stopped → Type 0} → IsTold kept told → {inner : Readers S} → ListsTell kept told inner → (outline : Outline) → Tells kept told (list_shape inner outline)
 unfolding list_shape
 list_shape_tells is inner outline state ahead = if_in (outline.is_named) (passed_by_tells is true outline state ahead) (then_in is (returned_in ahead (past_in is (inner.holds_parameters state _))) (λ is_list. passed_by_tells is is_list outline))
 
-pub suffix_shape_tells : {S : Type 0} {kept : S → S → Type 0} {told : S → Ahead → Stopped → Type 0} → IsTold kept told → {inner : Readers S} → ReadersTell kept told inner → (outline : Outline) → Tells kept told (suffix_step inner outline)
+pub suffix_shape_tells : {S : Type 0} {kept : S → S → Type 0} {told : S → Ahead → Stopped → Type 0} → IsTold kept told → {inner : Readers S} → ListsTell kept told inner → (outline : Outline) → Tells kept told (suffix_step inner outline)
 unfolding suffix_step
 suffix_shape_tells is inner outline state ahead = if_in (is_punct punct.LEFT_PARENTHESIS (kind_ahead ahead)) (list_shape_tells is inner outline state ahead) (if_in (is_punct punct.LEFT_BRACKET (kind_ahead ahead)) (passed_by_tells is true outline state ahead) (if_in (is_keyword keyword.CONST (kind_ahead ahead) || (is_keyword keyword.VOLATILE (kind_ahead ahead) || is_keyword keyword.THROW (kind_ahead ahead))) (next_in is _ state ahead) (if_in (is_punct punct.RIGHT_PARENTHESIS (kind_ahead ahead) && not (outline.brackets == 0)) (next_in is _ state ahead) (same_in is _ state _))))
 
-pub suffixes_by_tells : {S : Type 0} {kept : S → S → Type 0} {told : S → Ahead → Stopped → Type 0} → IsTold kept told → {inner : Readers S} → ReadersTell kept told inner → (outline : Outline) (is_sure : Bool) → Tells kept told (suffixes_by inner outline is_sure)
+pub suffixes_by_tells : {S : Type 0} {kept : S → S → Type 0} {told : S → Ahead → Stopped → Type 0} → IsTold kept told → {inner : Readers S} → ListsTell kept told inner → (outline : Outline) (is_sure : Bool) → Tells kept told (suffixes_by inner outline is_sure)
 suffixes_by_tells is inner outline true state ahead = same_in is _ state _
 suffixes_by_tells is {inner = i} inner outline false state ahead = repeat_tells is (suffix_step i) give_closed (suffix_shape_tells is inner) (λ so_far state ahead. same_in is _ state _) _ _ state ahead
 
-pub declarator_shape_tells : {S : Type 0} {kept : S → S → Type 0} {told : S → Ahead → Stopped → Type 0} → IsTold kept told → {asks : Kinds S} → KindsTell kept told asks → {inner : Readers S} → ReadersTell kept told inner → Tells kept told (declarator_passed asks inner)
+pub declarator_shape_tells : {S : Type 0} {kept : S → S → Type 0} {told : S → Ahead → Stopped → Type 0} → IsTold kept told → {asks : Kinds S} → NamesTell kept told asks → {inner : Readers S} → ListsTell kept told inner → Tells kept told (declarator_passed asks inner)
 unfolding declarator_passed
 declarator_shape_tells is asks inner state ahead = then_in is (prefixes_tell is asks state ahead) (λ outline. suffixes_by_tells is inner outline.0 outline.1)
 
@@ -127,15 +127,15 @@ parameter_by_tells is fits state ahead = then_in is (tokens_in is (default_tells
 parameter_by_tells is fits_not state ahead = same_in is _ state _
 parameter_by_tells is fits_surely state ahead = same_in is _ state _
 
-piece_by_tells : {S : Type 0} {kept : S → S → Type 0} {told : S → Ahead → Stopped → Type 0} → IsTold kept told → {asks : Kinds S} → KindsTell kept told asks → {inner : Readers S} → ReadersTell kept told inner → (run : Run) → Tells kept told (piece_by asks inner run)
+piece_by_tells : {S : Type 0} {kept : S → S → Type 0} {told : S → Ahead → Stopped → Type 0} → IsTold kept told → {asks : Kinds S} → NamesTell kept told asks → {inner : Readers S} → ListsTell kept told inner → (run : Run) → Tells kept told (piece_by asks inner run)
 piece_by_tells is asks inner no_type state ahead = same_in is _ state _
 piece_by_tells is asks inner a_type state ahead = then_in is (declarator_shape_tells is asks inner state ahead) (parameter_by_tells is)
 piece_by_tells is asks inner surely state ahead = same_in is _ state _
 
-pub piece_tells : {S : Type 0} {kept : S → S → Type 0} {told : S → Ahead → Stopped → Type 0} → IsTold kept told → {asks : Kinds S} → KindsTell kept told asks → {inner : Readers S} → ReadersTell kept told inner → (so_far : Unit {0}) → Tells kept told (piece_step asks inner so_far)
+pub piece_tells : {S : Type 0} {kept : S → S → Type 0} {told : S → Ahead → Stopped → Type 0} → IsTold kept told → {asks : Kinds S} → NamesTell kept told asks → {inner : Readers S} → ListsTell kept told inner → (so_far : Unit {0}) → Tells kept told (piece_step asks inner so_far)
 unfolding piece_step
 piece_tells is asks inner so_far state ahead = if_in (is_punct punct.ELLIPSIS (kind_ahead ahead)) (same_in is _ state _) (then_in is (run_tells is asks state ahead) (piece_by_tells is asks inner))
 
-pub parameters_shape_tells : {S : Type 0} {kept : S → S → Type 0} {told : S → Ahead → Stopped → Type 0} → IsTold kept told → {asks : Kinds S} → KindsTell kept told asks → {inner : Readers S} → ReadersTell kept told inner → Tells kept told (parameters_shape asks inner)
+pub parameters_shape_tells : {S : Type 0} {kept : S → S → Type 0} {told : S → Ahead → Stopped → Type 0} → IsTold kept told → {asks : Kinds S} → NamesTell kept told asks → {inner : Readers S} → ListsTell kept told inner → Tells kept told (parameters_shape asks inner)
 unfolding parameters_shape
 parameters_shape_tells is {asks = a} asks {inner = i} inner state ahead = if_in (is_punct punct.RIGHT_PARENTHESIS (kind_ahead ahead)) (same_in is _ state _) (repeat_tells is (piece_step a i) give_false (piece_tells is asks inner) (λ so_far state ahead. same_in is _ state _) _ _ state ahead)

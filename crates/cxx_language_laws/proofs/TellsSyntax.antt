@@ -24,7 +24,7 @@ use Rattle.cxx_reading.specs.Syntax.{default_at, no_fallback, is_required, is_ne
 use Rattle.cxx_model.specs.Types.Trees.{CxxType}
 use Rattle.cxx_reading.specs.Kinds.{Fallback, Kinds, Readers}
 use Rattle.cxx_reading.specs.Reads.{Ahead, Turn, More, Done, give, kind_ahead, word_ahead, behind}
-use Rattle.cxx_language_laws.proofs.Tells.{IsTold, Tells, saying, nothing, quiet_in, KindsTell, ReadersTell, if_in, past_in, then_in, ask_in, same_in, next_in, repeat_tells, taken_in, looked_in, token_told, punct_in, give_in, tokens_in, unit_is_told, returned_in}
+use Rattle.cxx_language_laws.proofs.Tells.{IsTold, Tells, saying, nothing, quiet_in, KindsTell, ReadersTell, if_in, past_in, then_in, ask_in, same_in, next_in, repeat_tells, taken_in, looked_in, token_told, punct_in, give_in, tokens_in, unit_is_told, returned_in, names_tell, lists_tell}
 use Rattle.cxx_language_laws.proofs.TellsShapes.{begins_tells, abstract_tells, parameters_shape_tells}
 use Rattle.cxx_language_laws.proofs.TellsSpecifiers.{specifiers_tell}
 
@@ -127,7 +127,7 @@ grouped_by_tells is inner naming false state ahead = grouped_part_tells is inner
 
 pub bracket_part_tells : {S : Type 0} {kept : S → S → Type 0} {told : S → Ahead → Stopped → Type 0} → IsTold kept told → {asks : Kinds S} → KindsTell kept told asks → {inner : Readers S} → ReadersTell kept told inner → (naming : Naming) → Tells kept told (bracket_part asks inner naming)
 unfolding bracket_part
-bracket_part_tells is asks inner naming state ahead = if_in (is_required naming) (grouped_part_tells is inner naming state ahead) (then_in is (abstract_tells is asks state ahead) (grouped_by_tells is inner naming))
+bracket_part_tells is asks inner naming state ahead = if_in (is_required naming) (grouped_part_tells is inner naming state ahead) (then_in is (abstract_tells is (names_tell asks) state ahead) (grouped_by_tells is inner naming))
 
 pub star_tells : {S : Type 0} {kept : S → S → Type 0} {told : S → Ahead → Stopped → Type 0} → IsTold kept told → {inner : Readers S} → ReadersTell kept told inner → (naming : Naming) → Tells kept told (star_part inner naming)
 unfolding star_part
@@ -206,7 +206,7 @@ past_most_tells is false state ahead = quiet_in is refl
 
 pub parameters_over_tells : {S : Type 0} {kept : S → S → Type 0} {told : S → Ahead → Stopped → Type 0} → IsTold kept told → {asks : Kinds S} → KindsTell kept told asks → {A : Type 0} (so_far : ParameterTypes) → Tells kept told (parameters_over {A = A} asks so_far)
 unfolding parameters_over
-parameters_over_tells is asks so_far state ahead = if_in (is_keyword keyword.AUTO (kind_ahead ahead) || is_keyword keyword.REGISTER (kind_ahead ahead)) (past_most_tells is true state ahead) (then_in is (begins_tells is asks state ahead) (past_most_tells is))
+parameters_over_tells is asks so_far state ahead = if_in (is_keyword keyword.AUTO (kind_ahead ahead) || is_keyword keyword.REGISTER (kind_ahead ahead)) (past_most_tells is true state ahead) (then_in is (begins_tells is (names_tell asks) state ahead) (past_most_tells is))
 
 pub some_parameters_tell : {S : Type 0} {kept : S → S → Type 0} {told : S → Ahead → Stopped → Type 0} → IsTold kept told → {asks : Kinds S} → KindsTell kept told asks → {fallback : Fallback S} → FallbackTells kept told fallback → {inner : Readers S} → ReadersTell kept told inner → (scope : ℕ) → Tells kept told (some_parameters asks fallback inner scope)
 unfolding some_parameters
@@ -263,5 +263,5 @@ readers_tell is asks keep (suc room) = record {
   bound = bound_tells is (keep room);
   parameters = parameters_tell is (keep room) (no_fallback_tells is) (readers_tell is asks keep room);
   enumerators = enumerators_tell is (keep room);
-  holds_parameters = parameters_shape_tells is (keep room) (readers_tell is asks keep room);
+  holds_parameters = parameters_shape_tells is (names_tell (keep room)) (lists_tell (readers_tell is asks keep room));
 }

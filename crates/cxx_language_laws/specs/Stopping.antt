@@ -1,37 +1,48 @@
--- Where the reading of a declaration stops: in which of its parts, in which state, and with which tokens ahead. What stands
--- before is read whole, and the reading of each part round that place stops with the same fault.
-use Rattle.std.specs.Prelude.{◌≡◌, ℕ, suc, Bool, true, false, List, [], Some, Ok, Err}
+-- Where the reading of a declaration stops: in which of its parts, and of the statements in its body, in which state, and
+-- with which tokens ahead. What stands before is read whole, and the reading of each part round that place stops with the
+-- same fault.
+use Rattle.std.specs.Prelude.{◌≡◌, ℕ, suc, Bool, true, false, ◌||◌, List, [], Some, None, Ok, Err}
+use Rattle.cxx_model.specs.declared.keyword.TheConstants as keyword
 use Rattle.cxx_model.specs.declared.punct.TheConstants as punct
 use Rattle.cxx_model.specs.declared.stop.Fault.{Fault}
+use Rattle.cxx_model.specs.declared.token.TokenKind.{TokenKind}
 use Rattle.cxx_model.specs.Stops.{Faulty}
 use Rattle.cxx_model.specs.Text.Lexemes.{Lexeme}
 use Rattle.cxx_model.specs.Types.Trees.{CxxType}
 use Rattle.cxx_reading.specs.declared.specifier.Naming.TheVariants as naming
+use Rattle.cxx_reading.specs.declared.specifier.SpecifierPlace.{SpecifierPlace}
 use Rattle.cxx_reading.specs.declared.specifier.SpecifierPlace.TheVariants as where_
 use Rattle.cxx_reading.specs.Declarators.{Declarator, Specifiers, declared_type, is_function_type, own_parameters}
-use Rattle.cxx_reading.specs.Declaring.{begin_body, declare_object, define_declared, define_object}
+use Rattle.cxx_reading.specs.Declaring.{begin_body, declare_object, define_declared, define_object, enter_block}
+use Rattle.cxx_reading.specs.Initializers.{operand_of}
 use Rattle.cxx_reading.specs.Reads.{Ahead, Reads, Turn, More, behind, give, got, kind_ahead, repeat}
 use Rattle.cxx_reading.specs.Specifiers.{specifiers_at}
 use Rattle.cxx_reading.specs.State.{CxxState}
 use Rattle.cxx_reading.specs.Syntax.{declarator_at}
-use Rattle.cxx_reading.specs.Tokens.{is_punct}
+use Rattle.cxx_reading.specs.Tokens.{is_keyword, is_punct}
 use Rattle.cxx_reading.specs.Trees.{CxxTree}
 use Rattle.cxx_reading.specs.Units.{Said, Listed, give_trees, inside_step, linkages_passed, name_in, no_declarators, said_by}
+use Rattle.cxx_language.specs.Blocks.{condition_part, declared_condition_at, local_declaration_at, local_step}
 use Rattle.cxx_language.specs.Bodies.{result_of}
 use Rattle.cxx_language.specs.Objects.{begins_initializer, initialized_part}
 use Rattle.cxx_declare.specs.Functions.{declare_function}
-use Rattle.cxx_statements.specs.Statements.{body_at}
+use Rattle.cxx_heads.specs.Heads.{is_declared_condition}
+use Rattle.cxx_statements.specs.declared.parts.Head.{Head}
+use Rattle.cxx_statements.specs.declared.parts.Head.TheVariants as head
+use Rattle.cxx_statements.specs.declared.parts.Purpose.{Purpose}
+use Rattle.cxx_statements.specs.declared.parts.Purpose.TheVariants as purpose
+use Rattle.cxx_statements.specs.Statements.{Around, CxxTarget, begins_no_object, begins_statement, begun, body_at, first_part, in_a_loop, in_a_switch, label_step, labels_in, never_ended, nothing_around, plain_statement, second_part, statement_in, statement_step, sub_in, to_bool, to_promoted, unlabelled_in, within}
 use Rattle.cxx_language.specs.Asked.{answers, asked, inner_at, phrases_at}
-use Rattle.cxx_language.specs.Statements.{parts_at}
+use Rattle.cxx_language.specs.Statements.{expression_for, parts_at, statement_head}
 use Rattle.cxx_language.specs.Units.{declaration_at, declarator_step, simple_declaration_at}
 
 -- a reader reads a value from a state with these tokens ahead, to another
 abbrev pub Gives : {S A : Type 0} → Reads S A → S → Ahead → A → S → Ahead → Type 0
 Gives read state ahead value after rest = read state ahead ≡ got value after rest
 
--- 7.1: the specifiers of a declaration
-abbrev pub specifiers_of : ℕ → Reads CxxState Specifiers
-specifiers_of room = specifiers_at (asked room).kinds (inner_at room).types where_.Declaration
+-- 7.1: the specifiers of a declaration, or of one in a block or a condition
+abbrev pub specifiers_of : ℕ → SpecifierPlace → Reads CxxState Specifiers
+specifiers_of room place = specifiers_at (asked room).kinds (inner_at room).types place
 
 -- 8.3: a declarator with a name
 abbrev pub declarator_of : ℕ → Reads CxxState Declarator
@@ -41,9 +52,36 @@ declarator_of room = declarator_at (asked room).kinds (inner_at room).types nami
 abbrev pub initializer_of : ℕ → Lexeme → CxxType → ℕ → Reads CxxState (List CxxTree)
 initializer_of room name of number = initialized_part answers (phrases_at room) (inner_at room).phrases name of number
 
+-- 6.4: the initializer of an object that a condition declares
+abbrev pub condition_initializer_of : ℕ → Lexeme → CxxType → ℕ → Reads CxxState (List CxxTree)
+condition_initializer_of room name of number = condition_part answers (phrases_at room) (inner_at room).phrases name of number
+
 -- 8.4: the statements of a body
 abbrev pub body_of : ℕ → Reads CxxState (List CxxTree)
 body_of room = body_at parts_at room
+
+-- 6.8: whether a declaration or an expression begins
+abbrev pub beginning_of : ℕ → Reads CxxState Head
+beginning_of room = statement_head room
+
+-- 6.4: whether a condition declares an object
+abbrev pub is_declaration_of : ℕ → Reads CxxState Bool
+is_declaration_of room = is_declared_condition (asked room).kinds (inner_at room).types
+
+-- clause 6: statements up to the end of a block, one more
+abbrev pub statement_step_of : ℕ → List CxxTree × Around → Reads CxxState (Turn (List CxxTree × Around) (List CxxTree × Around))
+statement_step_of room so_far = statement_step (parts_at room) (within parts_at room) so_far
+
+abbrev pub statement_of : ℕ → Around → Reads CxxState (CxxTree × Around)
+statement_of room around = statement_in (parts_at room) (within parts_at room) around
+
+-- a statement behind its labels
+abbrev pub unlabelled_of : ℕ → Around → Reads CxxState (CxxTree × Around)
+unlabelled_of room around = unlabelled_in (parts_at room) (within parts_at room) around
+
+-- 6.4, 6.5: a statement in another one
+abbrev pub inner_statement_of : ℕ → Around → Reads CxxState (CxxTree × Around)
+inner_statement_of room around = sub_in (parts_at room) (within parts_at room) around
 
 -- What is read, with room for so many brackets, and of a list what was read of it so far.
 pub data Part : Type 0 where
@@ -56,20 +94,43 @@ pub data Part : Type 0 where
   -- clause 8: the declarators behind specifiers
   some_declarators : ℕ → Said → Listed → Part
   -- 7.1: specifiers, with the values of the enumerators in them
-  some_specifiers : ℕ → Part
+  some_specifiers : ℕ → SpecifierPlace → Part
   -- 8.3: a declarator, with bounds and parameters
   a_declarator : ℕ → Part
   -- 8.5: an initializer, from `=` or `(` on
   an_initializer : ℕ → Lexeme → CxxType → ℕ → Part
-  -- 8.4: the statements of the body of a function, behind its `{`
+  -- 8.4: the statements of the body of a function, behind its `{`, with its end
   a_body : ℕ → Part
+  -- 6.3: the statements up to the end of a block
+  some_statements : ℕ → List CxxTree × Around → Part
+  -- clause 6: a statement
+  a_statement : ℕ → Around → Part
+  -- 6.1: the labels before a statement
+  some_labels : ℕ → List CxxTree × Around → Part
+  -- a statement behind its labels
+  an_unlabelled_statement : ℕ → Around → Part
+  -- 6.4, 6.5: a statement in another one
+  an_inner_statement : ℕ → Around → Part
+  -- 6.2, 6.7: a statement that is an expression or a declaration
+  a_plain_statement : ℕ → Part
+  -- clause 5: an expression of a statement; a condition may be a declaration
+  an_expression : ℕ → Purpose → Part
+  -- 6.7: a declaration in a block
+  a_local_declaration : ℕ → Part
+  some_local_declarators : ℕ → Said → Listed → Part
+  -- 6.4: a declaration in a condition
+  a_declared_condition : ℕ → Part
+  a_condition_initializer : ℕ → Lexeme → CxxType → ℕ → Part
 
 -- it has no part in turn: expressions stand in it
 abbrev pub IsInnermost : Part → Type 0
-IsInnermost (some_specifiers room) = Unit {0}
+IsInnermost (some_specifiers room place) = Unit {0}
 IsInnermost (a_declarator room) = Unit {0}
 IsInnermost (an_initializer room name of number) = Unit {0}
-IsInnermost (a_body room) = Unit {0}
+IsInnermost (an_expression room purpose.Whole) = Unit {0}
+IsInnermost (an_expression room purpose.Constant) = Unit {0}
+IsInnermost (an_expression room purpose.Step) = Unit {0}
+IsInnermost (a_condition_initializer room name of number) = Unit {0}
 IsInnermost _ = ⊥
 
 -- for some number of turns
@@ -82,10 +143,21 @@ IsStopped (a_declaration room) state ahead fault = declaration_at room state ahe
 IsStopped (linked_declarations room so_far) state ahead fault = IsStoppedIn (inside_step (declaration_at room)) give so_far state ahead fault
 IsStopped (a_simple_declaration room as_extern) state ahead fault = simple_declaration_at room as_extern state ahead ≡ Err (Faulty fault)
 IsStopped (some_declarators room said so_far) state ahead fault = IsStoppedIn (declarator_step room said) give_trees so_far state ahead fault
-IsStopped (some_specifiers room) state ahead fault = specifiers_of room state ahead ≡ Err (Faulty fault)
+IsStopped (some_specifiers room place) state ahead fault = specifiers_of room place state ahead ≡ Err (Faulty fault)
 IsStopped (a_declarator room) state ahead fault = declarator_of room state ahead ≡ Err (Faulty fault)
 IsStopped (an_initializer room name of number) state ahead fault = initializer_of room name of number state ahead ≡ Err (Faulty fault)
 IsStopped (a_body room) state ahead fault = body_of room state ahead ≡ Err (Faulty fault)
+IsStopped (some_statements room so_far) state ahead fault = IsStoppedIn (statement_step_of room) never_ended so_far state ahead fault
+IsStopped (a_statement room around) state ahead fault = statement_of room around state ahead ≡ Err (Faulty fault)
+IsStopped (some_labels room so_far) state ahead fault = IsStoppedIn (label_step (parts_at room)) give so_far state ahead fault
+IsStopped (an_unlabelled_statement room around) state ahead fault = unlabelled_of room around state ahead ≡ Err (Faulty fault)
+IsStopped (an_inner_statement room around) state ahead fault = inner_statement_of room around state ahead ≡ Err (Faulty fault)
+IsStopped (a_plain_statement room) state ahead fault = plain_statement (parts_at room) state ahead ≡ Err (Faulty fault)
+IsStopped (an_expression room purpose) state ahead fault = expression_for room purpose state ahead ≡ Err (Faulty fault)
+IsStopped (a_local_declaration room) state ahead fault = local_declaration_at room state ahead ≡ Err (Faulty fault)
+IsStopped (some_local_declarators room said so_far) state ahead fault = IsStoppedIn (local_step room said) give_trees so_far state ahead fault
+IsStopped (a_declared_condition room) state ahead fault = declared_condition_at room state ahead ≡ Err (Faulty fault)
+IsStopped (a_condition_initializer room name of number) state ahead fault = condition_initializer_of room name of number state ahead ≡ Err (Faulty fault)
 
 -- 3.1, 3.2, 3.3.1: The name of a declarator is declared, with a number, before its initializer, which is ahead.
 pub data Initializes (said : Said) (declarator : Declarator) (before : CxxState) : ℕ → CxxState → Type 0 where
@@ -99,6 +171,37 @@ pub data BeginsBody (said : Said) (declarator : Declarator) (before : CxxState) 
   begins_body : (list : ℕ) (answer : ℕ × CxxState) (defined begun : Unit {0} × CxxState) → own_parameters declarator.layers ≡ Some list
       → declare_function (own_parameters declarator.layers) (name_in declarator) (declared_type declarator.layers said.of) before ≡ Ok answer → define_declared (name_in declarator) answer.0 answer.1 ≡ Ok defined
       → begin_body list answer.0 (result_of (declared_type declarator.layers said.of)) defined.1 ≡ Ok begun → BeginsBody said declarator before begun.1
+
+-- 6.4, 6.5: a keyword behind which a condition stands in brackets
+abbrev pub is_conditional : TokenKind → Bool
+is_conditional kind = is_keyword keyword.IF kind || (is_keyword keyword.SWITCH kind || is_keyword keyword.WHILE kind)
+
+-- 6.2, 6.3, 6.4, 6.5, 6.6: what begins a statement that is neither an expression nor a declaration, behind its labels
+abbrev pub begins_other : TokenKind → Bool
+begins_other kind =
+    is_punct punct.LEFT_BRACE kind || (is_punct punct.SEMICOLON kind || (is_keyword keyword.IF kind || (is_keyword keyword.SWITCH kind || (is_keyword keyword.WHILE kind || (is_keyword keyword.DO kind || (is_keyword keyword.FOR kind || (is_keyword keyword.BREAK kind || (is_keyword keyword.CONTINUE kind || is_keyword keyword.RETURN kind))))))))
+
+-- what stands behind the keyword ahead and a `(`
+abbrev pub in_bracket : Ahead → Ahead
+in_bracket ahead = behind (behind ahead)
+
+abbrev pub IsOpened : Ahead → Type 0
+IsOpened ahead = is_punct punct.LEFT_PARENTHESIS (kind_ahead (behind ahead)) ≡ true
+
+-- 3.3.2: a block is entered
+abbrev pub Enters : CxxState → Unit {0} × CxxState → Type 0
+Enters state entered = enter_block None state ≡ Ok entered
+
+-- 6.4, 6.5: behind the keyword ahead stands a whole condition in brackets, in a scope that is entered for it
+pub record HasCondition (room : ℕ) (target : CxxTarget) (state : CxxState) (ahead : Ahead) (condition : CxxTree) (after : CxxState) (rest : Ahead) : Type 0 where
+  pub opens : IsOpened ahead
+  pub gives : Gives ((within parts_at room).condition target) state (in_bracket ahead) condition after rest
+
+-- 6.5.3: a `for` stands ahead, and a scope is entered for it
+pub record BeginsFor (state : CxxState) (ahead : Ahead) (entered : Unit {0} × CxxState) : Type 0 where
+  pub word : is_keyword keyword.FOR (kind_ahead ahead) ≡ true
+  pub opens : IsOpened ahead
+  pub enters : Enters state entered
 
 -- From one part of a declaration, in a state with these tokens ahead, the reading comes to another, in a state with those
 -- tokens ahead.
@@ -114,8 +217,8 @@ pub data Leads : Part → CxxState → Ahead → Part → CxxState → Ahead →
       → Leads (linked_declarations room so_far) state ahead (linked_declarations room more) after rest
   in_declaration : {room : ℕ} {so_far : List CxxTree} {state : CxxState} {ahead : Ahead} → Leads (linked_declarations room so_far) state ahead (a_declaration room) state ahead
   -- clause 7: specifiers, then declarators
-  in_specifiers : {room : ℕ} {as_extern : Bool} {state : CxxState} {ahead : Ahead} → Leads (a_simple_declaration room as_extern) state ahead (some_specifiers room) state ahead
-  to_declarators : {room : ℕ} {as_extern : Bool} {specifiers : Specifiers} {state after : CxxState} {ahead rest : Ahead} → Gives (specifiers_of room) state ahead specifiers after rest
+  in_specifiers : {room : ℕ} {as_extern : Bool} {state : CxxState} {ahead : Ahead} → Leads (a_simple_declaration room as_extern) state ahead (some_specifiers room where_.Declaration) state ahead
+  to_declarators : {room : ℕ} {as_extern : Bool} {specifiers : Specifiers} {state after : CxxState} {ahead rest : Ahead} → Gives (specifiers_of room where_.Declaration) state ahead specifiers after rest
       → Leads (a_simple_declaration room as_extern) state ahead (some_declarators room (said_by as_extern specifiers) no_declarators) after rest
   next_declarator : {room : ℕ} {said : Said} {so_far more : Listed} {state after : CxxState} {ahead rest : Ahead} → Gives (declarator_step room said so_far) state ahead (More more) after rest
       → Leads (some_declarators room said so_far) state ahead (some_declarators room said more) after rest
@@ -128,6 +231,73 @@ pub data Leads : Part → CxxState → Ahead → Part → CxxState → Ahead →
   to_body : {room : ℕ} {said : Said} {so_far : Listed} {declarator : Declarator} {state between after : CxxState} {ahead rest : Ahead} → so_far.is_first ≡ true → Gives (declarator_of (suc room)) state ahead declarator between rest
       → said.is_typedef ≡ false → is_function_type (declared_type declarator.layers said.of) ≡ true → BeginsBody said declarator between after → is_punct punct.LEFT_BRACE (kind_ahead rest) ≡ true
       → Leads (some_declarators (suc room) said so_far) state ahead (a_body room) after (behind rest)
+  -- 6.3: statements, one after another
+  in_body : {room : ℕ} {state : CxxState} {ahead : Ahead} → Leads (a_body room) state ahead (some_statements room ([], nothing_around)) state ahead
+  next_statement : {room : ℕ} {so_far more : List CxxTree × Around} {state after : CxxState} {ahead rest : Ahead} → Gives (statement_step_of room so_far) state ahead (More more) after rest
+      → Leads (some_statements room so_far) state ahead (some_statements room more) after rest
+  in_statement : {room : ℕ} {so_far : List CxxTree × Around} {state : CxxState} {ahead : Ahead} → Leads (some_statements room so_far) state ahead (a_statement room so_far.1) state ahead
+  -- 6.1: labels, then what they label
+  in_labels : {room : ℕ} {around : Around} {state : CxxState} {ahead : Ahead} → Leads (a_statement room around) state ahead (some_labels room ([], around)) state ahead
+  behind_labels : {room : ℕ} {around : Around} {labels : List CxxTree × Around} {state after : CxxState} {ahead rest : Ahead} → Gives (labels_in (parts_at room) around) state ahead labels after rest
+      → Leads (a_statement room around) state ahead (an_unlabelled_statement room labels.1) after rest
+  next_label : {room : ℕ} {so_far more : List CxxTree × Around} {state after : CxxState} {ahead rest : Ahead} → Gives (label_step (parts_at room) so_far) state ahead (More more) after rest
+      → Leads (some_labels room so_far) state ahead (some_labels room more) after rest
+  in_label : {room : ℕ} {so_far : List CxxTree × Around} {state : CxxState} {ahead : Ahead} → is_keyword keyword.CASE (kind_ahead ahead) ≡ true → Leads (some_labels room so_far) state ahead (an_expression room purpose.Constant) state (behind ahead)
+  -- 6.3, 6.4, 6.5: a block, and a statement that is none in a scope of its own
+  to_block : {room : ℕ} {around : Around} {state : CxxState} {entered : Unit {0} × CxxState} {ahead : Ahead} → is_punct punct.LEFT_BRACE (kind_ahead ahead) ≡ true → Enters state entered
+      → Leads (an_unlabelled_statement (suc room) around) state ahead (some_statements room ([], around)) entered.1 (behind ahead)
+  to_inner_block : {room : ℕ} {around : Around} {state : CxxState} {entered : Unit {0} × CxxState} {ahead : Ahead} → is_punct punct.LEFT_BRACE (kind_ahead ahead) ≡ true → Enters state entered
+      → Leads (an_inner_statement (suc room) around) state ahead (some_statements room ([], around)) entered.1 (behind ahead)
+  to_statement : {room : ℕ} {around : Around} {begins : Unit {0}} {state after : CxxState} {entered : Unit {0} × CxxState} {ahead rest : Ahead} → is_punct punct.LEFT_BRACE (kind_ahead ahead) ≡ false → Gives (begun (parts_at (suc room))) state ahead begins after rest → Enters after entered
+      → Leads (an_inner_statement (suc room) around) state ahead (a_statement room around) entered.1 rest
+  -- 6.4, 6.5.1: a condition, and the statements behind it
+  to_condition : {room : ℕ} {around : Around} {state : CxxState} {entered : Unit {0} × CxxState} {ahead : Ahead} → is_conditional (kind_ahead ahead) ≡ true → IsOpened ahead → Enters state entered
+      → Leads (an_unlabelled_statement (suc room) around) state ahead (an_expression room purpose.Condition) entered.1 (in_bracket ahead)
+  behind_if : {room : ℕ} {around : Around} {condition : CxxTree} {state after : CxxState} {ahead rest : Ahead} → is_keyword keyword.IF (kind_ahead ahead) ≡ true → HasCondition room to_bool state ahead condition after rest
+      → Leads (an_unlabelled_statement room around) state ahead (an_inner_statement room around) after rest
+  behind_else : {room : ℕ} {around : Around} {condition : CxxTree} {one : CxxTree × Around} {state between after : CxxState} {ahead middle rest : Ahead} → is_keyword keyword.IF (kind_ahead ahead) ≡ true → HasCondition room to_bool state ahead condition between middle
+      → Gives (inner_statement_of room around) between middle one after rest → is_keyword keyword.ELSE (kind_ahead rest) ≡ true → Leads (an_unlabelled_statement room around) state ahead (an_inner_statement room one.1) after (behind rest)
+  behind_switch : {room : ℕ} {around : Around} {condition : CxxTree} {state after : CxxState} {ahead rest : Ahead} → is_keyword keyword.SWITCH (kind_ahead ahead) ≡ true → HasCondition room to_promoted state ahead condition after rest
+      → Leads (an_unlabelled_statement room around) state ahead (an_inner_statement room (in_a_switch (operand_of condition).of around)) after rest
+  behind_while : {room : ℕ} {around : Around} {condition : CxxTree} {state after : CxxState} {ahead rest : Ahead} → is_keyword keyword.WHILE (kind_ahead ahead) ≡ true → HasCondition room to_bool state ahead condition after rest
+      → Leads (an_unlabelled_statement room around) state ahead (an_inner_statement room (in_a_loop around)) after rest
+  -- 6.5.2
+  behind_do : {room : ℕ} {around : Around} {state : CxxState} {ahead : Ahead} → is_keyword keyword.DO (kind_ahead ahead) ≡ true → Leads (an_unlabelled_statement room around) state ahead (an_inner_statement room (in_a_loop around)) state (behind ahead)
+  to_last_condition : {room : ℕ} {around : Around} {body : CxxTree × Around} {state after : CxxState} {ahead rest : Ahead} → is_keyword keyword.DO (kind_ahead ahead) ≡ true → Gives (inner_statement_of (suc room) (in_a_loop around)) state (behind ahead) body after rest → is_keyword keyword.WHILE (kind_ahead rest) ≡ true → IsOpened rest
+      → Leads (an_unlabelled_statement (suc room) around) state ahead (an_expression room purpose.Whole) after (in_bracket rest)
+  -- 6.5.3
+  to_first_part : {room : ℕ} {around : Around} {state : CxxState} {entered : Unit {0} × CxxState} {ahead : Ahead} → BeginsFor state ahead entered → is_punct punct.SEMICOLON (kind_ahead (in_bracket ahead)) ≡ false → (begins_statement (kind_ahead (in_bracket ahead)) || begins_no_object (kind_ahead (in_bracket ahead))) ≡ false
+      → Leads (an_unlabelled_statement (suc room) around) state ahead (a_plain_statement room) entered.1 (in_bracket ahead)
+  to_second_part : {room : ℕ} {around : Around} {first : CxxTree} {state after : CxxState} {entered : Unit {0} × CxxState} {ahead rest : Ahead} → BeginsFor state ahead entered → Gives (first_part (parts_at room)) entered.1 (in_bracket ahead) first after rest → is_punct punct.SEMICOLON (kind_ahead rest) ≡ false
+      → Leads (an_unlabelled_statement (suc room) around) state ahead (an_expression room purpose.Condition) after rest
+  to_third_part : {room : ℕ} {around : Around} {first second : CxxTree} {state between after : CxxState} {entered : Unit {0} × CxxState} {ahead middle rest : Ahead} → BeginsFor state ahead entered → Gives (first_part (parts_at room)) entered.1 (in_bracket ahead) first between middle → Gives (second_part (parts_at room)) between middle second after rest → is_punct punct.RIGHT_PARENTHESIS (kind_ahead rest) ≡ false
+      → Leads (an_unlabelled_statement (suc room) around) state ahead (an_expression room purpose.Step) after rest
+  behind_for : {room : ℕ} {around : Around} {all : List CxxTree} {state after : CxxState} {ahead rest : Ahead} → is_keyword keyword.FOR (kind_ahead ahead) ≡ true → IsOpened ahead → Gives (within parts_at room).loop_parts state (in_bracket ahead) all after rest
+      → Leads (an_unlabelled_statement room around) state ahead (an_inner_statement room (in_a_loop around)) after rest
+  -- 6.6.3
+  to_answer : {room : ℕ} {around : Around} {state : CxxState} {ahead : Ahead} → is_keyword keyword.RETURN (kind_ahead ahead) ≡ true → is_punct punct.SEMICOLON (kind_ahead (behind ahead)) ≡ false → Leads (an_unlabelled_statement room around) state ahead (an_expression room purpose.Whole) state (behind ahead)
+  -- 6.2, 6.7
+  to_plain_statement : {room : ℕ} {around : Around} {state : CxxState} {ahead : Ahead} → begins_other (kind_ahead ahead) ≡ false → Leads (an_unlabelled_statement room around) state ahead (a_plain_statement room) state ahead
+  to_expression : {room : ℕ} {state after : CxxState} {ahead rest : Ahead} → Gives (beginning_of room) state ahead head.Expression after rest → Leads (a_plain_statement room) state ahead (an_expression room purpose.Whole) after rest
+  to_local_declaration : {room : ℕ} {state after : CxxState} {ahead rest : Ahead} → Gives (beginning_of room) state ahead head.Declaration after rest → Leads (a_plain_statement room) state ahead (a_local_declaration room) after rest
+  -- 6.7: specifiers, then declarators
+  in_local_specifiers : {room : ℕ} {state : CxxState} {ahead : Ahead} → Leads (a_local_declaration room) state ahead (some_specifiers room where_.Block) state ahead
+  to_local_declarators : {room : ℕ} {specifiers : Specifiers} {state after : CxxState} {ahead rest : Ahead} → Gives (specifiers_of room where_.Block) state ahead specifiers after rest
+      → Leads (a_local_declaration room) state ahead (some_local_declarators room (said_by false specifiers) no_declarators) after rest
+  next_local_declarator : {room : ℕ} {said : Said} {so_far more : Listed} {state after : CxxState} {ahead rest : Ahead} → Gives (local_step room said so_far) state ahead (More more) after rest
+      → Leads (some_local_declarators room said so_far) state ahead (some_local_declarators room said more) after rest
+  in_local_declarator : {room : ℕ} {said : Said} {so_far : Listed} {state : CxxState} {ahead : Ahead} → Leads (some_local_declarators room said so_far) state ahead (a_declarator room) state ahead
+  to_local_initializer : {room : ℕ} {said : Said} {so_far : Listed} {declarator : Declarator} {state between : CxxState} {answer : ℕ × CxxState} {ahead rest : Ahead} → Gives (declarator_of room) state ahead declarator between rest → said.is_typedef ≡ false
+      → (is_function_type (declared_type declarator.layers said.of) || said.is_extern) ≡ false → define_object (name_in declarator) (declared_type declarator.layers said.of) between ≡ Ok answer → begins_initializer rest ≡ true
+      → Leads (some_local_declarators room said so_far) state ahead (an_initializer room (name_in declarator) (declared_type declarator.layers said.of) answer.0) answer.1 rest
+  -- 6.4: a condition is an expression, or declares an object
+  in_condition : {room : ℕ} {state after : CxxState} {ahead rest : Ahead} → Gives (is_declaration_of room) state ahead false after rest → Leads (an_expression room purpose.Condition) state ahead (an_expression room purpose.Whole) after rest
+  to_declared_condition : {room : ℕ} {state after : CxxState} {ahead rest : Ahead} → Gives (is_declaration_of room) state ahead true after rest → Leads (an_expression room purpose.Condition) state ahead (a_declared_condition room) after rest
+  in_condition_specifiers : {room : ℕ} {state : CxxState} {ahead : Ahead} → Leads (a_declared_condition room) state ahead (some_specifiers room where_.TypeId) state ahead
+  to_condition_declarator : {room : ℕ} {specifiers : Specifiers} {state after : CxxState} {ahead rest : Ahead} → Gives (specifiers_of room where_.TypeId) state ahead specifiers after rest → Leads (a_declared_condition room) state ahead (a_declarator room) after rest
+  to_condition_initializer : {room : ℕ} {specifiers : Specifiers} {declarator : Declarator} {state between after : CxxState} {answer : ℕ × CxxState} {ahead middle rest : Ahead} → Gives (specifiers_of room where_.TypeId) state ahead specifiers between middle → Gives (declarator_of room) between middle declarator after rest
+      → is_function_type (declared_type declarator.layers (said_by false specifiers).of) ≡ false → define_object (name_in declarator) (declared_type declarator.layers (said_by false specifiers).of) after ≡ Ok answer
+      → Leads (a_declared_condition room) state ahead (a_condition_initializer room (name_in declarator) (declared_type declarator.layers (said_by false specifiers).of) answer.0) answer.1 rest
 
 -- The reading of a part, from a state with these tokens ahead, stops with a fault, and so does that of each part to which it
 -- comes there, to the last one, in a state with those tokens ahead.

@@ -143,7 +143,7 @@ pub record IsGrown (before at : CxxState) : Type 0 where
   pub own : List CxxFact
   pub declared : at.graph ≡ record before.graph { facts = before.graph.facts ++ own }
 
--- 3.3.2: a state stands in the same scope as another, or in one of parameters or a block that begins later
+-- 3.3.2: a state stands in the same scope as another, or in one of parameters that begins later
 abbrev pub IsScopeSince : CxxState → CxxState → Type 0
 IsScopeSince before at = (at.here.scope ≡ before.here.scope) ⊎ (scope_count before.graph ≤ at.here.scope)
 

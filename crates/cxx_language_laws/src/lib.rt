@@ -19,21 +19,22 @@ pub fn each_call_is_best()
     ensures { (options : Options) (tokens : List Lexeme) (reading : CxxReading) → unit_reading options tokens ≡ Ok reading → EachCallIsBest reading }
 {}
 
-/// Where the choice of a function stops a reading (13.3), whole declarations were read before, and the reading of the next
-/// stops, part in part, in its specifiers, a declarator or an initializer. From there on a state is reached that keeps what
-/// was declared, in the same scope or in one of parameters that begins later, and a call stands there with its name where
-/// the fault is. Once its arguments are read, none of the functions of that name is viable for them, or none is the best.
-/// The evidence has exactly a line for each candidate with its reason, or for each viable function with the first other
-/// one that it is not better than.
+/// Where the choice of a function stops a reading (13.3), whole declarations were read before, and the reading of the
+/// next stops, part in part, in specifiers, a declarator, an initializer or an expression of a statement. From there on
+/// a state is reached that keeps what was declared, in the same scope or in one of parameters that begins later, and a
+/// call stands there with its name where the fault is. Once its arguments are read, none of the functions of that name
+/// is viable for them, or none is the best. The evidence has exactly a line for each candidate with its reason, or for
+/// each viable function with the first other one that it is not better than.
 pub fn choice_faults_are_told()
     ensures { (options : Options) (tokens : List Lexeme) (fault : Fault) → unit_reading options tokens ≡ Err (Faulty fault) → IsChoiceText fault.text → IsToldFault tokens fault }
 {}
 
 /// Where a name stops a reading as undeclared (3.4.1), whole declarations were read before, and the reading of the next
-/// stops, part in part, in its specifiers, a declarator or an initializer. From there on a state is reached that keeps what
-/// was declared, in the same scope or in one of parameters that begins later, and that name stands there where the fault
-/// is. It means nothing, of a called name once its arguments are read, and the scope of the unit (3.3.5) does not declare
-/// it; behind `enum` it means no type, and that scope declares none of that name (3.4.4).
+/// stops, part in part, in specifiers, a declarator, an initializer or an expression of a statement. From there on a
+/// state is reached that keeps what was declared, in the same scope or in one of parameters that begins later, and that
+/// name stands there where the fault is. It means nothing, of a called name once its arguments are read, and the scope
+/// of the unit (3.3.5) does not declare it; behind `enum` it means no type, and that scope declares none of that name
+/// (3.4.4).
 pub fn undeclared_names_are_told()
     ensures { (options : Options) (tokens : List Lexeme) (fault : Fault) (word : List ℕ) → unit_reading options tokens ≡ Err (Faulty fault) → fault.text ≡ says.UndeclaredName word → IsUndeclaredFault tokens fault word }
 {}
