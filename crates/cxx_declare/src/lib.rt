@@ -2,6 +2,7 @@
 #![tactic(auto)]
 
 mod asks;
+mod bodies;
 mod conflict;
 mod enumerations;
 mod facts;
@@ -11,6 +12,7 @@ mod parts;
 mod values;
 
 pub use asks::{elaborated, kind, type_named};
+pub use bodies::{begin_body, end_body};
 pub use enumerations::{declare_enumeration, declare_enumerator, end_enumeration};
 pub use functions::declare_function;
 pub use objects::{
