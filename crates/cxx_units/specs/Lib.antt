@@ -1,4 +1,3 @@
-pub mod Bodies
 pub mod Made
 pub mod Read
 pub mod Said

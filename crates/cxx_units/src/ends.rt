@@ -7,7 +7,6 @@ ghost use Rattle.cxx_reading.specs.Declarators.{own_parameters as own_parameters
 ghost use Rattle.cxx_reading.specs.Reads.{kind_ahead, place_ahead};
 ghost use Rattle.cxx_reading.specs.Tokens as token;
 ghost use Rattle.cxx_reading.specs.Units as definition;
-ghost use Rattle.cxx_units.specs.Bodies.{body_ahead as body_ahead_at, function_end};
 ghost use Rattle.cxx_syntax.specs.Asking.{AnyKnown, itself};
 ghost use Rattle.cxx_syntax.specs.Reading.{IsRead};
 ghost use Rattle.cxx_syntax.specs.Views.{AreTreesHeld, layers_in, name_at, specifiers_of, trees_held};
@@ -20,7 +19,7 @@ use cxx_model::{
     Fault, FaultText, LeftOut, Listed, ScopeId, Stop, TokenKind, TreeIdList, TypeId, keyword, punct,
 };
 use cxx_reading::StorageWord;
-use cxx_syntax::{Cursor, Layer, LayerList, NameToken, Specifiers, is_keyword, is_punct};
+use cxx_syntax::{Cursor, Layer, LayerList, NameToken, Specifiers, is_punct};
 use cxx_tree::State;
 use std::alloc::AllocError;
 
@@ -52,48 +51,6 @@ pub fn own_parameters(state: &State, layers: &LayerList) -> Option<ScopeId>
         [Layer::Function { scope, .. }, ..] => Some(*scope),
         _ => None,
     }
-}
-
-// Whether the declarator itself declares a function (8.3.5).
-fn has_own_parameters(state: &State, layers: &LayerList) -> bool
-    ensures { result ≡ definition.is_some_scope (own_parameters_of (layers_in (state.now).types layers.now)) }
-{
-    own_parameters(state, layers).is_some()
-}
-
-// Behind the first declarator with its own list of parameters a body may stand, which is not read yet (8.4).
-#[tactic(auto, using(cxx_syntax::proofs::Kept::later_refl))]
-fn body_ahead(state: &State, cursor: &Cursor<'_>) -> Result<(), Stop>
-    ensures { IsRead itself AnyKnown state.now state.now cursor.now result (body_ahead_at (meaning state.now) cursor.now) }
-{
-    let _ = state;
-    if is_punct(punct::LEFT_BRACE, cursor.kind()) || is_punct(punct::COLON, cursor.kind()) {
-        return Err(Stop::Fault(cursor.not_built()?));
-    }
-    if is_keyword(keyword::TRY, cursor.kind()) {
-        let form = FaultText::LeftOut(LeftOut::Exception);
-        return Err(Stop::Fault(cursor.faulty(form)?));
-    }
-    Err(Stop::Fault(cursor.refused()?))
-}
-
-/// Behind the declarator of a function.
-#[tactic(auto, using(cxx_syntax::proofs::Kept::later_refl))]
-pub fn function_ended(
-    state: &State,
-    cursor: &Cursor<'_>,
-    is_first: bool,
-    layers: &LayerList,
-) -> Result<(), Stop>
-    ensures { IsRead itself AnyKnown state.now state.now cursor.now result (function_end is_first (layers_in (state.now).types layers.now) (meaning state.now) cursor.now) }
-{
-    if ends_declarator(cursor.kind()) {
-        return Ok(());
-    }
-    if is_first && has_own_parameters(state, layers) {
-        return body_ahead(state, cursor);
-    }
-    Err(Stop::Fault(cursor.refused()?))
 }
 
 /// An object without an initializer that has to have one (8.5).

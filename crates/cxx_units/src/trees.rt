@@ -164,9 +164,9 @@ fn specifiers_node(
     push(state, node)
 }
 
-// The specifiers of a declaration (7.1), spelled by their storage word.
+/// The specifiers of a declaration (7.1), spelled by their storage word.
 #[tactic(auto, using(cxx_syntax::proofs::Kept::trees_kept, cxx_syntax::proofs::Kept::trees_later, cxx_syntax::proofs::Kept::later_trans, cxx_syntax::proofs::Kept::later_refl))]
-fn specifiers_tree(
+pub fn specifiers_tree(
     state: &mut State,
     specifiers: Specifiers,
     from: &Cursor<'_>,
@@ -179,9 +179,10 @@ fn specifiers_tree(
     specifiers_node(state, specifiers, of, from, to)
 }
 
-// A declaration of declarators (clause 7).
-fn simple_tree(
+/// Specifiers with what they declare (clause 7), by the number of the production.
+pub fn listed_tree(
     state: &mut State,
+    number: u8,
     specifiers: TreeId,
     declarators: TreeIdList,
     from: &Cursor<'_>,
@@ -189,17 +190,11 @@ fn simple_tree(
 ) -> Result<TreeId, Stop>
     requires specifiers { specifiers.0 < length (trees state.old) }
     requires declarators { AreTreesHeld state.old declarators }
-    ensures { GrowsTree state.old state.new result (definition.simple_tree (tree state.old specifiers) (trees_held state.old declarators) from.now to.now) }
+    ensures { GrowsTree state.old state.new result (tree_of (label_from number [] from.now to.now) (tree state.old specifiers ∷ trees_held state.old declarators)) }
 {
     let mut all = declarators;
     all.push_front(specifiers)?;
-    let node = node_from(
-        production::SIMPLE_DECLARATION,
-        Listed::new(from.alloc()),
-        from,
-        to,
-        all,
-    );
+    let node = node_from(number, Listed::new(from.alloc()), from, to, all);
     push(state, node)
 }
 
@@ -218,5 +213,12 @@ pub fn declaration_tree(
     ensures { GrowsTree state.old state.new result (definition.simple_tree (definition.specifiers_tree (specifiers_of state.old specifiers) from.now between.now) (trees_held state.old declarators) from.now to.now) }
 {
     let first = specifiers_tree(state, specifiers, from, between)?;
-    simple_tree(state, first, declarators, from, to)
+    listed_tree(
+        state,
+        production::SIMPLE_DECLARATION,
+        first,
+        declarators,
+        from,
+        to,
+    )
 }
