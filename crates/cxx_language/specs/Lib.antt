@@ -11,3 +11,4 @@ pub mod Blocks
 pub mod Statements
 pub mod Bodies
 pub mod Units
+pub mod Views

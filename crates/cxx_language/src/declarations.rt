@@ -1,23 +1,87 @@
 //! Declarations (clause 7), with those in the braces of a linkage (7.5).
 
-ghost use Rattle.std.specs.Prelude.{◌≡◌, ◌<◌, ◌∷◌, [], length, true};
+ghost use Rattle.std.specs.Prelude.{◌≡◌, ◌<◌, ◌∷◌, [], if◌then◌else◌, length, nat_eq, true};
 ghost use Rattle.cxx_language.specs.Units as units;
+ghost use Rattle.cxx_reading.specs.Productions as of_reading;
 ghost use Rattle.cxx_reading.specs.Units as definition;
+ghost use Rattle.cxx_statements.specs.Productions as statement;
 ghost use Rattle.cxx_syntax.specs.Asking.{IsTreeKnown};
+ghost use Rattle.cxx_syntax.specs.Making.{GrowsTree};
 ghost use Rattle.cxx_syntax.specs.Reading.{IsRead};
-ghost use Rattle.cxx_syntax.specs.Views.{AreTreesHeld, IsTreesTurn, trees_held, trees_turn};
-ghost use Rattle.cxx_tree.specs.Held.{meaning, tree};
+ghost use Rattle.cxx_syntax.specs.Views.{AreSpecifiers, AreTreesHeld, IsTreesTurn, specifiers_of, trees_held, trees_turn};
+ghost use Rattle.cxx_tree.specs.Held.{meaning, tree, trees};
 
-use crate::declares::{Declares, Reader};
+use crate::declares::{Defines, Reader};
 use cxx_model::{LimitKind, Listed, Stop, TreeId, TreeIdList, punct};
-use cxx_syntax::{Cursor, Turn, is_punct};
+use cxx_reading::SpecifierPlace;
+use cxx_syntax::{Cursor, Specifiers, Turn, is_punct};
 use cxx_tree::State;
-use cxx_units::declaration_tree;
 use cxx_units::ends::{another_ahead, no_declaration};
 use cxx_units::linkage::linkages_passed;
-use cxx_units::trees::{empty_tree, linkage_tree, one_tree, with_tree};
+use cxx_units::trees::{
+    empty_tree, linkage_tree, listed_tree, one_tree, specifiers_tree, with_tree,
+};
 
-impl<D: Declares> Reader<'_, D> {
+/// The numbers of the productions.
+mod production {
+    pub const SIMPLE_DECLARATION: u8 = 8;
+
+    pub const FUNCTION_DEFINITION: u8 = 15;
+
+    pub const BLOCK: u8 = 23;
+}
+
+// A declaration with a body is the definition of a function (8.4).
+fn has_body(state: &State, declarators: &[TreeId]) -> bool
+    requires { AreTreesHeld state.now declarators.now }
+    ensures { result ≡ units.has_body (trees_held state.now declarators.now) }
+{
+    for one in declarators {
+        if is_body(state, *one) {
+            return true;
+        }
+    }
+    false
+}
+
+fn is_body(state: &State, number: TreeId) -> bool
+    requires { number.0 < length (trees state.now) }
+    ensures { result ≡ nat_eq (tree state.now number).label.production statement.block }
+{
+    state.node(number).production == production::BLOCK
+}
+
+fn production_of(state: &State, declarators: &[TreeId]) -> u8
+    requires { AreTreesHeld state.now declarators.now }
+    ensures { result ≡ (if units.has_body (trees_held state.now declarators.now) then of_reading.function_definition else of_reading.simple_declaration) }
+{
+    if has_body(state, declarators) {
+        production::FUNCTION_DEFINITION
+    } else {
+        production::SIMPLE_DECLARATION
+    }
+}
+
+// The tree of a declaration, with that of its specifiers.
+#[tactic(auto, using(cxx_syntax::proofs::Kept::trees_kept, cxx_syntax::proofs::Kept::trees_later, cxx_syntax::proofs::Kept::later_refl, cxx_syntax::proofs::Kept::later_trans))]
+fn declaration_tree(
+    state: &mut State,
+    specifiers: Specifiers,
+    declarators: TreeIdList,
+    from: &Cursor<'_>,
+    between: &Cursor<'_>,
+    to: &Cursor<'_>,
+) -> Result<TreeId, Stop>
+    requires specifiers { AreSpecifiers state.old specifiers }
+    requires declarators { AreTreesHeld state.old declarators }
+    ensures { GrowsTree state.old state.new result (units.declaration_tree (definition.specifiers_tree (specifiers_of state.old specifiers) from.now between.now) (trees_held state.old declarators) from.now to.now) }
+{
+    let number = production_of(state, declarators.as_slice());
+    let first = specifiers_tree(state, specifiers, from, between)?;
+    listed_tree(state, number, first, declarators, from, to)
+}
+
+impl<D: Defines> Reader<'_, D> {
     // A declaration of declarators (clause 7).
     #[tactic(auto, using(cxx_syntax::proofs::Kept::named_kept, cxx_syntax::proofs::Kept::named_later, cxx_syntax::proofs::Kept::trees_kept, cxx_syntax::proofs::Kept::trees_later, cxx_syntax::proofs::Kept::later_refl, cxx_syntax::proofs::Kept::later_trans), unfolding(crate::specs::Units::simple_declaration_at))]
     fn simple_declaration_at(
@@ -29,7 +93,9 @@ impl<D: Declares> Reader<'_, D> {
         ensures { IsRead tree IsTreeKnown state.old state.new cursor.new result (units.simple_declaration_at self.now.room counts_as_extern (meaning state.old) cursor.old) }
     {
         let from = cursor.mark();
-        let specifiers = self.declares.specifiers(state, cursor, self.room)?;
+        let specifiers = self
+            .declares
+            .specifiers(state, cursor, SpecifierPlace::Declaration, self.room)?;
         let between = cursor.mark();
         let declarators = self.declarators_of(state, cursor, counts_as_extern, &specifiers)?;
         declaration_tree(state, specifiers, declarators, &from, &between, cursor)

@@ -2,21 +2,22 @@
 
 ghost use Rattle.std.specs.Prelude.{◌≡◌, ◌<◌, length};
 ghost use Rattle.cxx_language.specs.Units as units;
-ghost use Rattle.cxx_syntax.specs.Asking.{IsTreeKnown};
+ghost use Rattle.cxx_language.specs.Views.{IsDeclaredKnown, declares_of};
 ghost use Rattle.cxx_syntax.specs.Reading.{IsRead};
 ghost use Rattle.cxx_syntax.specs.Views.{AreSpecifiers, AreTreesHeld, IsDeclarator, declarator_of, specifiers_of, trees_held};
-ghost use Rattle.cxx_tree.specs.Held.{meaning, tree};
+ghost use Rattle.cxx_tree.specs.Held.{meaning};
 ghost use Rattle.cxx_units.specs.Said.{IsListed, IsListedTurn, IsSaid, listed_of, listed_turn, said_of};
 
-use crate::declares::{Declares, Reader};
-use cxx_model::{Stop, TreeId, TreeIdList, punct};
+use crate::bodies::{Declared, ended_by};
+use crate::declares::{Defines, Reader};
+use cxx_model::{Stop, TreeIdList, punct};
 use cxx_syntax::{Cursor, Declarator, Specifiers, Turn, declared, is_punct};
 use cxx_tree::State;
 use cxx_units::ends::nothing_declared;
 use cxx_units::said::{Listed as ListedTrees, Said, said_by};
-use cxx_units::{declarator_ended, declared_fits, no_declarators};
+use cxx_units::{declared_fits, no_declarators};
 
-impl<D: Declares> Reader<'_, D> {
+impl<D: Defines> Reader<'_, D> {
     // A declarator that fits, with the type that it declares.
     #[tactic(auto, using(cxx_syntax::proofs::Kept::layers_kept, cxx_syntax::proofs::Kept::layers_later, cxx_syntax::proofs::Kept::trees_kept, cxx_syntax::proofs::Kept::trees_later, cxx_syntax::proofs::Kept::type_kept, cxx_syntax::proofs::Kept::type_later, cxx_syntax::proofs::Kept::later_refl, cxx_syntax::proofs::Kept::later_trans))]
     fn declared_as(
@@ -27,10 +28,10 @@ impl<D: Declares> Reader<'_, D> {
         is_first: bool,
         from: &Cursor<'_>,
         declarator: Declarator,
-    ) -> Result<TreeId, Stop>
+    ) -> Result<Declared, Stop>
         requires said { IsSaid state.old said }
         requires declarator { IsDeclarator state.old declarator }
-        ensures { IsRead tree IsTreeKnown state.old state.new cursor.new result (units.declared_by self.now.room (said_of state.old said) is_first from.now (declarator_of state.old declarator) (meaning state.old) cursor.old) }
+        ensures { IsRead declares_of IsDeclaredKnown state.old state.new cursor.new result (units.declared_by self.now.room (said_of state.old said) is_first from.now (declarator_of state.old declarator) (meaning state.old) cursor.old) }
     {
         match declared(state, declarator.layers.as_slice(), said.of) {
             Ok(of) => self.declared_by(state, cursor, said, is_first, from, declarator, of),
@@ -45,9 +46,9 @@ impl<D: Declares> Reader<'_, D> {
         cursor: &mut Cursor<'_>,
         said: Said,
         is_first: bool,
-    ) -> Result<TreeId, Stop>
+    ) -> Result<Declared, Stop>
         requires { IsSaid state.old said }
-        ensures { IsRead tree IsTreeKnown state.old state.new cursor.new result (units.init_declarator_at self.now.room (said_of state.old said) is_first (meaning state.old) cursor.old) }
+        ensures { IsRead declares_of IsDeclaredKnown state.old state.new cursor.new result (units.init_declarator_at self.now.room (said_of state.old said) is_first (meaning state.old) cursor.old) }
     {
         let from = cursor.mark();
         let declarator = self.declares.declarator(state, cursor, self.room)?;
@@ -68,8 +69,8 @@ impl<D: Declares> Reader<'_, D> {
         requires listed { IsListed state.old so_far }
         ensures { IsRead listed_turn IsListedTurn state.old state.new cursor.new result (units.declarator_step self.now.room (said_of state.old said) (listed_of state.old so_far) (meaning state.old) cursor.old) }
     {
-        let number = self.init_declarator_at(state, cursor, said, so_far.is_first)?;
-        declarator_ended(state, cursor, so_far, number)
+        let one = self.init_declarator_at(state, cursor, said, so_far.is_first)?;
+        ended_by(state, cursor, so_far, one)
     }
 
     // All declarators, with the end of their declaration.

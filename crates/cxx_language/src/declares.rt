@@ -6,14 +6,15 @@ ghost use Rattle.cxx_declare.specs.Functions.{declare_function};
 ghost use Rattle.cxx_expr.specs.Initializing.{initialize};
 ghost use Rattle.cxx_expr.specs.Nodes.{IsNodeHeld, node_tree};
 ghost use Rattle.cxx_language.specs.Known.{value_of};
-ghost use Rattle.cxx_language.specs.Units.{answers, asked, inner_at, phrases_at};
+ghost use Rattle.cxx_language.specs.Asked.{answers, asked, inner_at, phrases_at};
+ghost use Rattle.cxx_language.specs.Blocks as blocks;
+ghost use Rattle.cxx_language.specs.Bodies.{function_body};
 ghost use Rattle.cxx_phrases.specs.Initializers.{initializer_at};
 ghost use Rattle.cxx_phrases.specs.Views.{IsInitializer, initializer_of};
 ghost use Rattle.cxx_reading.specs.Declaring as definition;
 ghost use Rattle.cxx_reading.specs.Specifiers.{specifiers_at};
 ghost use Rattle.cxx_reading.specs.Syntax.{declarator_at};
 ghost use Rattle.cxx_reading.specs.declared.specifier.Naming.TheVariants as naming;
-ghost use Rattle.cxx_reading.specs.declared.specifier.SpecifierPlace.TheVariants as specifier_place;
 ghost use Rattle.cxx_syntax.specs.Asking.{AnyKnown, IsAsked, IsTreeKnown, itself};
 ghost use Rattle.cxx_syntax.specs.Reading.{IsRead};
 ghost use Rattle.cxx_syntax.specs.Views.{AreSpecifiers, IsDeclarator, declarator_of, name_at, specifiers_of};
@@ -22,20 +23,22 @@ ghost use Rattle.cxx_tree.specs.Held.{meaning, tree, trees, type_of};
 
 use cxx_model::{FactId, Node, OutOfMemory, ScopeId, Stop, TreeId, TypeId};
 use cxx_phrases::Initializer;
+use cxx_reading::SpecifierPlace;
 use cxx_syntax::{Cursor, Declarator, NameToken, Specifiers};
 use cxx_tree::State;
 
 /// Who reads specifiers, declarators and initializers, declares names, and says what expressions mean and what their values
 /// are. What a reader takes is room for so many brackets inside one another.
 pub trait Declares {
-    /// The specifiers of a declaration (7.1).
+    /// The specifiers of a declaration (7.1), by where it stands.
     fn specifiers(
         &self,
         state: &mut State,
         cursor: &mut Cursor<'_>,
+        place: SpecifierPlace,
         room: u32,
     ) -> Result<Specifiers, Stop>
-        ensures { IsRead specifiers_of AreSpecifiers state.old state.new cursor.new result (specifiers_at (asked room).kinds (inner_at room).types specifier_place.Declaration (meaning state.old) cursor.old) };
+        ensures { IsRead specifiers_of AreSpecifiers state.old state.new cursor.new result (specifiers_at (asked room).kinds (inner_at room).types place (meaning state.old) cursor.old) };
 
     /// A declarator, which has a name (8).
     fn declarator(
@@ -54,6 +57,15 @@ pub trait Declares {
         room: u32,
     ) -> Result<Initializer, Stop>
         ensures { IsRead initializer_of IsInitializer state.old state.new cursor.new result (initializer_at (phrases_at room) (inner_at room).phrases (meaning state.old) cursor.old) };
+
+    /// The value of the object that a condition declares, from its `=` on (6.4).
+    fn condition_value(
+        &self,
+        state: &mut State,
+        cursor: &mut Cursor<'_>,
+        room: u32,
+    ) -> Result<Initializer, Stop>
+        ensures { IsRead initializer_of IsInitializer state.old state.new cursor.new result (blocks.condition_value (phrases_at room) (inner_at room).phrases (meaning state.old) cursor.old) };
 
     /// How an object of a type is initialized, by the node of its initializer as it was read (8.5).
     fn initialize(&self, state: &mut State, of: TypeId, node: Node) -> Result<TreeId, Stop>
@@ -102,7 +114,7 @@ pub trait Declares {
         requires { of.0 < length (state.old).types }
         ensures { IsAsked fact_number AnyKnown state.old state.new result (definition.define_object (name_at name.now) (type_of state.old of) (meaning state.old)) };
 
-    /// An object that was declared is defined by the initializer that follows (3.1).
+    /// What was declared is defined by the initializer or the body that follows (3.1).
     fn define_declared(
         &self,
         state: &mut State,
@@ -110,6 +122,23 @@ pub trait Declares {
         number: FactId,
     ) -> Result<(), Stop>
         ensures { IsAsked itself AnyKnown state.old state.new result (definition.define_declared (name_at name.now) number.0 (meaning state.old)) };
+}
+
+/// Who reads the bodies of functions too.
+pub trait Defines: Declares {
+    /// The body of the function with a declaration, whose list of parameters has a scope, from its `{` on (8.4).
+    fn body(
+        &self,
+        state: &mut State,
+        cursor: &mut Cursor<'_>,
+        name: &NameToken,
+        of: TypeId,
+        number: FactId,
+        list: ScopeId,
+        room: u32,
+    ) -> Result<TreeId, Stop>
+        requires { of.0 < length (state.old).types }
+        ensures { IsRead tree IsTreeKnown state.old state.new cursor.new result (function_body room (name_at name.now) (type_of state.old of) number.0 list.0 (meaning state.old) cursor.old) };
 }
 
 /// A reader with room for so many more brackets and braces.

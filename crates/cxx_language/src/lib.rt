@@ -6,6 +6,9 @@
 //! declarators and initializers as they say.
 #![tactic(auto)]
 
+mod blocks;
+mod bodies;
+mod conditions;
 mod declarations;
 mod declarators;
 mod declares;
@@ -15,6 +18,8 @@ mod known;
 mod objects;
 mod unit;
 
-pub use declares::Declares;
+pub use blocks::read_local_declaration;
+pub use conditions::read_declared_condition;
+pub use declares::{Declares, Defines};
 pub use known::constant_value;
 pub use unit::read_unit;

@@ -1,10 +1,10 @@
 //! Objects, with what initializes them (8.5).
 
 ghost use Rattle.std.specs.Prelude.{◌≡◌, ◌<◌, length, true, false};
+ghost use Rattle.cxx_language.specs.Asked.{answers, inner_at, phrases_at};
+ghost use Rattle.cxx_language.specs.Made as made;
 ghost use Rattle.cxx_language.specs.Objects as definition;
 ghost use Rattle.cxx_language.specs.Parts.{initialized_by as initialized_by_one};
-ghost use Rattle.cxx_language.specs.Units as units;
-ghost use Rattle.cxx_language.specs.Units.{answers, inner_at, phrases_at};
 ghost use Rattle.cxx_syntax.specs.Asking.{IsTreeKnown};
 ghost use Rattle.cxx_syntax.specs.Reading.{IsRead};
 ghost use Rattle.cxx_syntax.specs.Views.{AreTreesHeld, declarator_of, name_at, trees_held};
@@ -38,9 +38,9 @@ fn without_initializer(
 }
 
 impl<D: Declares> Reader<'_, D> {
-    // What the initializer of an object says, once it is known how it initializes it.
+    /// What the initializer of an object says, once it is known how it initializes it.
     #[tactic(auto, using(cxx_syntax::proofs::Kept::trees_kept, cxx_syntax::proofs::Kept::trees_later, cxx_syntax::proofs::Kept::type_kept, cxx_syntax::proofs::Kept::type_later, cxx_syntax::proofs::Kept::later_refl, cxx_syntax::proofs::Kept::later_trans))]
-    fn initialized_by(
+    pub(crate) fn initialized_by(
         &self,
         state: &mut State,
         cursor: &Cursor<'_>,
@@ -140,7 +140,7 @@ impl<D: Declares> Reader<'_, D> {
     }
 
     /// An object that is declared with `extern`.
-    #[tactic(auto, using(cxx_syntax::proofs::Kept::trees_kept, cxx_syntax::proofs::Kept::trees_later, cxx_syntax::proofs::Kept::trees_append, cxx_syntax::proofs::Kept::trees_below_append, cxx_syntax::proofs::Kept::type_kept, cxx_syntax::proofs::Kept::type_later, cxx_syntax::proofs::Kept::later_refl, cxx_syntax::proofs::Kept::later_trans), unfolding(crate::specs::Units::extern_object))]
+    #[tactic(auto, using(cxx_syntax::proofs::Kept::trees_kept, cxx_syntax::proofs::Kept::trees_later, cxx_syntax::proofs::Kept::trees_append, cxx_syntax::proofs::Kept::trees_below_append, cxx_syntax::proofs::Kept::type_kept, cxx_syntax::proofs::Kept::type_later, cxx_syntax::proofs::Kept::later_refl, cxx_syntax::proofs::Kept::later_trans), unfolding(crate::specs::Made::extern_object))]
     pub(crate) fn extern_object(
         &self,
         state: &mut State,
@@ -151,7 +151,7 @@ impl<D: Declares> Reader<'_, D> {
         of: TypeId,
     ) -> Result<TreeId, Stop>
         requires { IsDeclared state.old said declarator of }
-        ensures { IsRead tree IsTreeKnown state.old state.new cursor.new result (units.extern_object self.now.room (said_of state.old said) (declarator_of state.old declarator) from.now (meaning state.old) cursor.old) }
+        ensures { IsRead tree IsTreeKnown state.old state.new cursor.new result (made.extern_object self.now.room (said_of state.old said) (declarator_of state.old declarator) from.now (meaning state.old) cursor.old) }
     {
         let name = token_or(cursor.alloc(), declarator.name);
         let number = self.declares.declare_object(state, &name, of)?;
@@ -161,7 +161,7 @@ impl<D: Declares> Reader<'_, D> {
     }
 
     /// An object that is defined.
-    #[tactic(auto, using(cxx_syntax::proofs::Kept::trees_kept, cxx_syntax::proofs::Kept::trees_later, cxx_syntax::proofs::Kept::trees_append, cxx_syntax::proofs::Kept::trees_below_append, cxx_syntax::proofs::Kept::type_kept, cxx_syntax::proofs::Kept::type_later, cxx_syntax::proofs::Kept::later_refl, cxx_syntax::proofs::Kept::later_trans), unfolding(crate::specs::Units::defined_object))]
+    #[tactic(auto, using(cxx_syntax::proofs::Kept::trees_kept, cxx_syntax::proofs::Kept::trees_later, cxx_syntax::proofs::Kept::trees_append, cxx_syntax::proofs::Kept::trees_below_append, cxx_syntax::proofs::Kept::type_kept, cxx_syntax::proofs::Kept::type_later, cxx_syntax::proofs::Kept::later_refl, cxx_syntax::proofs::Kept::later_trans), unfolding(crate::specs::Made::defined_object))]
     pub(crate) fn defined_object(
         &self,
         state: &mut State,
@@ -172,7 +172,7 @@ impl<D: Declares> Reader<'_, D> {
         of: TypeId,
     ) -> Result<TreeId, Stop>
         requires { IsDeclared state.old said declarator of }
-        ensures { IsRead tree IsTreeKnown state.old state.new cursor.new result (units.defined_object self.now.room (said_of state.old said) (declarator_of state.old declarator) from.now (meaning state.old) cursor.old) }
+        ensures { IsRead tree IsTreeKnown state.old state.new cursor.new result (made.defined_object self.now.room (said_of state.old said) (declarator_of state.old declarator) from.now (meaning state.old) cursor.old) }
     {
         let name = token_or(cursor.alloc(), declarator.name);
         let number = self.declares.define_object(state, &name, of)?;

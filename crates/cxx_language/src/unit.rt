@@ -10,7 +10,7 @@ ghost use Rattle.cxx_syntax.specs.Reading.{IsRead};
 ghost use Rattle.cxx_tree.specs.Held.{meaning};
 ghost use Rattle.cxx_units.specs.Read.{nothing_turn, reading_of};
 
-use crate::declares::{Declares, Reader};
+use crate::declares::{Defines, Reader};
 use cxx_model::limits::MOST_NESTING;
 use cxx_model::{Options, Stop, Token};
 use cxx_syntax::{Cursor, Turn, is_end};
@@ -20,7 +20,7 @@ use std::alloc::Global;
 
 // A declaration of the unit, or its end.
 #[tactic(auto, using(cxx_syntax::proofs::Kept::later_refl, cxx_syntax::proofs::Kept::later_trans), unfolding(crate::specs::Units::unit_step))]
-fn unit_step<D: Declares>(
+fn unit_step<D: Defines>(
     declares: &D,
     state: &mut State,
     cursor: &mut Cursor<'_>,
@@ -41,7 +41,7 @@ fn unit_step<D: Declares>(
 
 // All declarations up to the end of the unit.
 #[tactic(auto, using(cxx_syntax::proofs::Loops::turn, cxx_syntax::proofs::Loops::no_turn, cxx_syntax::proofs::Kept::later_refl, cxx_syntax::proofs::Kept::later_trans))]
-fn unit_steps<D: Declares>(
+fn unit_steps<D: Defines>(
     declares: &D,
     state: &mut State,
     cursor: &mut Cursor<'_>,
@@ -60,7 +60,7 @@ fn unit_steps<D: Declares>(
 /// Reads a unit whose initializers, bounds and enumerators are expressions (2.1, 3.5): its reading, the first fault, or the
 /// limit that is passed first, of the tokens with the bytes that spell them.
 #[tactic(auto, unfolding(crate::specs::Units::unit_reading))]
-pub fn read_unit<D: Declares>(
+pub fn read_unit<D: Defines>(
     alloc: Global,
     declares: &D,
     bytes: &[u8],
