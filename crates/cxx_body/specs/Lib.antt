@@ -1,0 +1,2 @@
+-- The bodies of functions, in the code.
+pub mod Opened
