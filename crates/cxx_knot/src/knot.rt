@@ -1,23 +1,26 @@
 //! The readers tied together: what stands behind a bracket is read by the same readers, with one room less.
 
 ghost use Rattle.std.specs.Prelude.{◌≡◌};
+ghost use Rattle.cxx_heads.specs.Heads as heads;
 ghost use Rattle.cxx_knot.specs.Knot.{Follows, Nests, asking_by};
 ghost use Rattle.cxx_knot.specs.Readers.{both, both_by, here, too_deep as too_deep_readers};
-ghost use Rattle.cxx_phrases.specs.Initializers.{initializer_at};
+ghost use Rattle.cxx_phrases.specs.Initializers.{expression_at, initializer_at};
 ghost use Rattle.cxx_phrases.specs.Views.{IsInitializer, initializer_of};
 ghost use Rattle.cxx_reading.specs.Specifiers.{specifiers_at};
 ghost use Rattle.cxx_reading.specs.Syntax.{declarator_at};
+ghost use Rattle.cxx_syntax.specs.Asking.{AnyKnown, IsTreeKnown, itself};
 ghost use Rattle.cxx_syntax.specs.Reading.{IsRead};
 ghost use Rattle.cxx_syntax.specs.Views.{AreSpecifiers, IsDeclarator, declarator_of, specifiers_of};
-ghost use Rattle.cxx_tree.specs.Held.{meaning};
+ghost use Rattle.cxx_tree.specs.Held.{meaning, tree};
 
 use crate::asking::Asking;
 use crate::behind::{Behind, Entrance, Found};
 use crate::values::Values;
-use cxx_model::{LimitKind, Stop};
+use cxx_heads::{Head, head_at, is_declared_condition};
+use cxx_model::{LimitKind, Stop, TreeId};
 use cxx_phrases::{
-    Initializer, TypeShape, read_expression, read_initializer as initializer_behind, read_sized,
-    type_id_at, type_passed_at,
+    Initializer, Level, TypeShape, read_expression, read_initializer as initializer_behind,
+    read_sized, type_id_at, type_passed_at,
 };
 use cxx_reading::{Naming, SpecifierPlace};
 use cxx_syntax::{Cursor, Declarator, Reader, Specifiers};
@@ -192,4 +195,72 @@ pub fn read_initializer<K: Asking>(
         read: read::<K>,
     };
     initializer_behind(&behind, state, cursor)
+}
+
+/// An expression of a level (5), with room for so many brackets and operators inside one another. A limit is that of nesting,
+/// that of parameters or that of arguments, or one of the user's.
+pub fn read_phrase<K: Asking>(
+    kinds: &K,
+    state: &mut State,
+    cursor: &mut Cursor<'_>,
+    level: Level,
+    room: u32,
+) -> Result<TreeId, Stop>
+    requires { K.is_ready kinds.now }
+    ensures { IsRead tree IsTreeKnown state.old state.new cursor.new result (expression_at (here (asking_by K.asks K.wholes K.offers kinds.now room) (both (asking_by K.asks K.wholes K.offers kinds.now) room) room) (both (asking_by K.asks K.wholes K.offers kinds.now) room).phrases level (meaning state.old) cursor.old) }
+{
+    let behind = Behind {
+        kinds,
+        room,
+        read: read::<K>,
+    };
+    read_expression(&behind, state, cursor, level)
+}
+
+/// What stands ahead where a statement begins with none of its keywords (6), with room for so many brackets and operators
+/// inside one another. No token is taken. A limit is that of nesting, or one of the user's.
+pub fn head_ahead<K: Asking>(
+    kinds: &K,
+    state: &mut State,
+    cursor: &Cursor<'_>,
+    room: u32,
+) -> Result<Head, Stop>
+    requires { K.is_ready kinds.now }
+    ensures { IsRead itself AnyKnown state.old state.new cursor.now result (heads.head_at (K.asks kinds.now room) (both (asking_by K.asks K.wholes K.offers kinds.now) room).types (meaning state.old) cursor.now) }
+{
+    let behind = Behind {
+        kinds,
+        room,
+        read: read::<K>,
+    };
+    let reader = Reader {
+        kinds,
+        room,
+        nested: &behind,
+    };
+    head_at(&reader, state, cursor)
+}
+
+/// Whether a declaration of an object with `=` stands ahead in a condition (6.4), with room for so many brackets and
+/// operators inside one another. No token is taken. A limit is that of nesting, or one of the user's.
+pub fn condition_ahead<K: Asking>(
+    kinds: &K,
+    state: &mut State,
+    cursor: &Cursor<'_>,
+    room: u32,
+) -> Result<bool, Stop>
+    requires { K.is_ready kinds.now }
+    ensures { IsRead itself AnyKnown state.old state.new cursor.now result (heads.is_declared_condition (K.asks kinds.now room) (both (asking_by K.asks K.wholes K.offers kinds.now) room).types (meaning state.old) cursor.now) }
+{
+    let behind = Behind {
+        kinds,
+        room,
+        read: read::<K>,
+    };
+    let reader = Reader {
+        kinds,
+        room,
+        nested: &behind,
+    };
+    is_declared_condition(&reader, state, cursor)
 }
