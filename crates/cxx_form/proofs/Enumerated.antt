@@ -14,11 +14,9 @@ use Rattle.cxx_model.specs.Facts.Declarations.{CxxFact, CxxName, Declares, fact_
 use Rattle.cxx_meaning.specs.Lookups.Gathered.{before, gathered}
 use Rattle.cxx_reading.specs.Plain.{number_of_enumeration}
 use Rattle.cxx_reading.specs.TextOrder.{enumerators_of, is_enumerator_of}
-use Rattle.cxx_form.specs.Giving.{declared_or, enumerator_given, given_at, holder_by, if_held, named_by, named_or, AreDeclared, AreEnumerators, HasDeclared, HasEnumerator, HasGiven, HasNamed}
+use Rattle.cxx_form.specs.Giving.{declared_or, enumerator_given, holder_by, if_held, named_by, named_or, AreDeclared, HasDeclared, HasNamed}
 use Rattle.cxx_form.specs.Lines.{number_in, numbers_in}
-use Rattle.cxx_form.specs.Rows.{row_at, IsRowMore}
 use Rattle.cxx_form.specs.Slots.{slot_at, IsSlotSet}
-use Rattle.cxx_form.proofs.Gathering.{gathered_all, given_more}
 
 apart : (k n : ℕ) → (k ≡ n → ⊥) → eqb k n ≡ false
 apart k n other = by (eqb k n) refl
@@ -98,30 +96,6 @@ all_named types all number slots past are n =
     ap (declared_or (slot_at slots n)) (length_facts types all ∙ past ∙ sym (at_drop_all (λ fs. number_of_enumeration n number (facts_at types fs)) all number (omega arith))) ∙ are n
 
 -- ---- enumerators
-
-pub none_held : (rows : List (List FactId)) (number : ℕ) → HasEnumerator rows rows number None
-none_held rows number n = sym (append-nil (row_at rows n))
-
-pub one_held : (old new : List (List FactId)) (number m : ℕ) → IsRowMore old new m (record { 0 = number }) → HasEnumerator old new number (Some m)
-one_held old new number m more n = by (eqb m n) refl
-  where
-    by : (t : Bool) → eqb m n ≡ t → row_at new n ≡ row_at old n ++ before (if_held n number (Some m)) []
-    by true e =
-        let same : n ≡ m = sym (eqb-true m n e) in
-        rw e (ap (row_at new) same ∙ more.here ∙ ap (λ k. row_at old k ++ record { 0 = number } ∷ []) (sym same))
-    by false e =
-        let other : n ≡ m → ⊥ = λ same. (let wrong : true ≡ false = sym (eq-eqb m n (sym same)) ∙ e in cc) in
-        rw e (more.others n other ∙ sym (append-nil (row_at old n)))
-
-pub held_at : (types : List CxxType) (all : List CxxFact) (number : ℕ) (fact : Fact) (old new : List (List FactId)) (holder : Option ℕ) → slice_get all number ≡ Some (fact_at types fact) → holder ≡ holder_by (fact_at types fact).what → HasEnumerator old new number holder → HasGiven old new number (slice_get all number)
-held_at types all number fact old new holder at is has n =
-    has n ∙ ap (λ o. row_at old n ++ before (if_held n number o) []) is ∙ ap (λ (o : Option CxxFact). row_at old n ++ given_at (enumerator_given n) number o) (sym at)
-
-pub held_more : (types : List CxxType) (all : List Fact) (number : ℕ) (old new : List (List FactId)) → HasGiven old new number (slice_get (facts_at types all) number) → ((n : ℕ) → row_at old n ++ gathered (enumerator_given n) number (facts_at types (drop number all)) ≡ gathered (enumerator_given n) 0 (facts_at types all)) → (n : ℕ) → row_at new n ++ gathered (enumerator_given n) (number + 1) (facts_at types (drop (number + 1) all)) ≡ gathered (enumerator_given n) 0 (facts_at types all)
-held_more types all number old new has are n = sym (given_more (enumerator_given n) types all number (row_at old n) (row_at new n) (has n)) ∙ are n
-
-pub all_held : (types : List CxxType) (all : List Fact) (number : ℕ) (rows : List (List FactId)) → length all ≤ number → ((n : ℕ) → row_at rows n ++ gathered (enumerator_given n) number (facts_at types (drop number all)) ≡ gathered (enumerator_given n) 0 (facts_at types all)) → AreEnumerators (facts_at types all) rows
-all_held types all number rows past are n = sym (gathered_all (enumerator_given n) types all number (row_at rows n) past) ∙ are n
 
 if_same : (t : Bool) (x : FactId) → cond t (x ∷ []) [] ≡ before (cond t (Some x) None) []
 if_same true x = refl

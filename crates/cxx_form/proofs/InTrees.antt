@@ -1,66 +1,51 @@
--- The declarators in a tree, one child after another.
-use Rattle.std.proofs.Common.{◌≡◌, ℕ, zero, suc, ◌+◌, ◌<◌, ◌≤◌, Bool, true, false, eqb, List, [], ◌∷◌, ◌++◌, length, drop, get_or, map, refl, ap, sym, subst, ◌∙◌, append-nil, append_assoc, arith}
+-- The trees of a production that are found in others, one part after another.
+use Rattle.std.proofs.Common.{◌≡◌, ℕ, zero, suc, ◌+◌, ◌<◌, ◌≤◌, Bool, true, false, cond, eqb, List, [], ◌∷◌, ◌++◌, length, drop, get_or, map, refl, ap, sym, subst, ◌∙◌, append-nil, append_assoc, arith}
 use Rattle.std.specs.Prelude.{nat_eq, if◌then◌else◌}
-use Rattle.std.proofs.lemmas.Bool.{eqb-true}
+use Rattle.std.proofs.lemmas.Bool.{eqb-true, eq-eqb}
 use Rattle.std.proofs.lemmas.List.{at_drop_more, at_drop_all}
 use Rattle.cxx_model.specs.declared.tree.Node.{Node}
 use Rattle.cxx_model.specs.declared.types.TreeId.{TreeId}
 use Rattle.cxx_model.specs.Types.Trees.{CxxType}
-use Rattle.cxx_reading.specs.Productions as production
 use Rattle.cxx_reading.specs.TextOrder.{part_tree}
-use Rattle.cxx_form.specs.Order.{declarators_in, declarators_of}
-use Rattle.cxx_reading.specs.Trees.{CxxTree, CxxTrees, Label, in_turn, tree_of}
+use Rattle.cxx_form.specs.Order.{found_in, found_of}
+use Rattle.cxx_reading.specs.Trees.{CxxTree, CxxTrees, Label, in_turn, no_trees, tree_then}
 use Rattle.cxx_tree.specs.Arena.{label_at, tree_in, tree_over, trees_in, AreTreesBelow}
 use Rattle.cxx_tree.specs.declared.kept.Piece.{Piece}
 use Rattle.cxx_tree.specs.Held.{pieces_at, ArePiecesBelow}
 use Rattle.cxx_tree.proofs.Arenas.{below_append, trees_append}
-use Rattle.cxx_form.specs.Found.{each_declarators, AddsTrees}
+use Rattle.cxx_form.specs.Found.{each_found, AddsTrees, AreTrees}
 
-first_of : (t : Bool) (label : Label) (children rest : CxxTrees) → (if t then record { label = label; children = children } ∷ declarators_in rest else declarators_in children ++ declarators_in rest) ≡ (if t then record { label = label; children = children } ∷ [] else declarators_in children ++ []) ++ declarators_in rest
-first_of true label children rest = refl
-first_of false label children rest = ap (λ (ts : List CxxTree). ts ++ declarators_in rest) (sym (append-nil (declarators_in children)))
+-- ---- a tree
 
-pub in_each : (trees : List CxxTree) → declarators_in (in_turn trees) ≡ each_declarators trees
-in_each [] = refl
-in_each (tree ∷ others) = first_of (nat_eq tree.label.production production.declarator) tree.label tree.children (in_turn others) ∙ ap (λ (ts : List CxxTree). declarators_of tree ++ ts) (in_each others)
+-- what is found in a tree, and what is found behind it
+abbrev by_tests : ℕ → ℕ → Bool → Bool → Label → CxxTrees → List CxxTree → List CxxTree
+by_tests wanted passed true skipped label children rest = record { label = label; children = children } ∷ rest
+by_tests wanted passed false true label children rest = rest
+by_tests wanted passed false false label children rest = found_in wanted passed children ++ rest
 
--- a declarator is one itself
-pub of_declarator : (label : Label) (children : List CxxTree) → eqb label.production production.declarator ≡ true → declarators_of (tree_of label children) ≡ tree_of label children ∷ []
-of_declarator label children e = rw e refl
+by_tests_is : (wanted passed : ℕ) (label : Label) (children rest : CxxTrees) (t u : Bool) → (if t then record { label = label; children = children } ∷ found_in wanted passed rest else (if u then found_in wanted passed rest else found_in wanted passed children ++ found_in wanted passed rest)) ≡ by_tests wanted passed t u label children (found_in wanted passed rest)
+by_tests_is wanted passed label children rest true u = refl
+by_tests_is wanted passed label children rest false true = refl
+by_tests_is wanted passed label children rest false false = refl
 
--- another tree has those of its children
-pub of_another : (label : Label) (children : List CxxTree) → eqb label.production production.declarator ≡ false → declarators_of (tree_of label children) ≡ each_declarators children
-of_another label children e = rw e (append-nil (declarators_in (in_turn children)) ∙ in_each children)
+by_tests_cut : (wanted passed : ℕ) (label : Label) (children : CxxTrees) (rest : List CxxTree) (t u : Bool) → by_tests wanted passed t u label children rest ≡ by_tests wanted passed t u label children [] ++ rest
+by_tests_cut wanted passed label children rest true u = refl
+by_tests_cut wanted passed label children rest false true = refl
+by_tests_cut wanted passed label children rest false false = ap (λ (ts : List CxxTree). ts ++ rest) (sym (append-nil (found_in wanted passed children)))
 
-pub one_added : (trees : List CxxTree) (number : TreeId) (old new : List TreeId) → new ≡ old ++ number ∷ [] → number.0 < length trees → AddsTrees trees old new (tree_in trees number.0 ∷ [])
-one_added trees number old new is within = record {
-  is = ap (trees_in trees) is ∙ trees_append trees old (number ∷ []);
-  below = λ all. subst (λ (ns : List TreeId). AreTreesBelow (length trees) ns) (sym is) (below_append (length trees) old (number ∷ []) all (within, tt));
-}
+tests : (wanted passed : ℕ) (label : Label) (children rest : CxxTrees) → found_in wanted passed (tree_then label children rest) ≡ by_tests wanted passed (nat_eq label.production wanted) (nat_eq label.production passed) label children (found_in wanted passed rest)
+tests wanted passed label children rest = by_tests_is wanted passed label children rest (nat_eq label.production wanted) (nat_eq label.production passed)
 
-pub declarator_added : (types : List CxxType) (trees : List CxxTree) (node : Node) (tree : CxxTree) (old new : List TreeId) → tree ≡ tree_over types trees node → node.production ≡ 20 → AddsTrees trees old new (tree ∷ []) → AddsTrees trees old new (declarators_of tree)
-declarator_added types trees node tree old new is it added =
-    let same : declarators_of tree ≡ tree ∷ [] = ap declarators_of is ∙ of_declarator (label_at types node) (trees_in trees node.children) (ap (λ n. eqb n 20) it) ∙ ap (λ (t : CxxTree). t ∷ []) (sym is) in
-    subst (λ (ts : List CxxTree). AddsTrees trees old new ts) (sym same) added
+of_tests : (wanted passed : ℕ) (tree : CxxTree) → found_of wanted passed tree ≡ by_tests wanted passed (nat_eq tree.label.production wanted) (nat_eq tree.label.production passed) tree.label tree.children []
+of_tests wanted passed tree = tests wanted passed tree.label tree.children no_trees
 
--- ---- the children of a tree
-
--- Those before an index were looked at, from the first list of trees on.
-pub record SoFar (trees : List CxxTree) (first now : List TreeId) (left all : List CxxTree) : Type 0 where
-  pub is : trees_in trees now ++ each_declarators left ≡ trees_in trees first ++ each_declarators all
-  pub below : AreTreesBelow (length trees) first → AreTreesBelow (length trees) now
-
-pub at_first : (trees : List CxxTree) (first : List TreeId) (all : List CxxTree) → SoFar trees first first all all
-at_first trees first all = record { is = refl; below = λ below. below }
-
-pub child_more : (trees : List CxxTree) (first now new : List TreeId) (children : List TreeId) (i : ℕ) (d : TreeId) (all : List CxxTree) → i < length children → SoFar trees first now (trees_in trees (drop i children)) all → AddsTrees trees now new (declarators_of (tree_in trees (get_or children i d).0)) → SoFar trees first new (trees_in trees (drop (i + 1) children)) all
-child_more trees first now new children i d all within so added =
-    let left : List CxxTree = each_declarators (trees_in trees (drop (i + 1) children)) in
-    let next : List CxxTree = declarators_of (tree_in trees (get_or children i d).0) in
-    record {
-      is = ap (λ (ts : List CxxTree). ts ++ left) added.is ∙ append_assoc (trees_in trees now) next left ∙ ap (λ (ts : List CxxTree). trees_in trees now ++ ts) (sym (at_drop_more (λ (ns : List TreeId). each_declarators (trees_in trees ns)) children i d within)) ∙ so.is;
-      below = λ below. added.below (so.below below);
-    }
+pub in_each : (wanted passed : ℕ) (trees : List CxxTree) → found_in wanted passed (in_turn trees) ≡ each_found wanted passed trees
+in_each wanted passed [] = refl
+in_each wanted passed (tree ∷ others) =
+    tests wanted passed tree.label tree.children (in_turn others)
+    ∙ by_tests_cut wanted passed tree.label tree.children (found_in wanted passed (in_turn others)) (nat_eq tree.label.production wanted) (nat_eq tree.label.production passed)
+    ∙ ap (λ (ts : List CxxTree). ts ++ found_in wanted passed (in_turn others)) (sym (of_tests wanted passed tree))
+    ∙ ap (λ (ts : List CxxTree). found_of wanted passed tree ++ ts) (in_each wanted passed others)
 
 pub not_it : (n m : ℕ) → (n ≡ m → ⊥) → eqb n m ≡ false
 not_it n m other = by (eqb n m) refl
@@ -69,32 +54,103 @@ not_it n m other = by (eqb n m) refl
     by true e = absurd (other (eqb-true n m e))
     by false e = e
 
-pub children_added : (types : List CxxType) (trees : List CxxTree) (node : Node) (tree : CxxTree) (first now children : List TreeId) (i : ℕ) → children ≡ node.children → tree ≡ tree_over types trees node → (node.production ≡ 20 → ⊥) → length children ≤ i → SoFar trees first now (trees_in trees (drop i children)) (trees_in trees children) → AddsTrees trees first now (declarators_of tree)
-children_added types trees node tree first now children i are is other past so =
-    let same : declarators_of tree ≡ each_declarators (trees_in trees children) = ap declarators_of is ∙ of_another (label_at types node) (trees_in trees node.children) (not_it node.production 20 other) ∙ ap (λ (ns : List TreeId). each_declarators (trees_in trees ns)) (sym are) in
-    subst (λ (ts : List CxxTree). AddsTrees trees first now ts) (sym same) (record {
-      is = sym (append-nil (trees_in trees now)) ∙ ap (λ (ts : List CxxTree). trees_in trees now ++ each_declarators ts) (sym (at_drop_all (trees_in trees) children i past)) ∙ so.is;
-      below = so.below;
-    })
+it : (n m : ℕ) → n ≡ m → eqb n m ≡ true
+it n m same = eq-eqb n m same
+
+module _ (types : List CxxType) (trees : List CxxTree) (node : Node) (tree : CxxTree) (is : tree ≡ tree_over types trees node) (wanted passed : ℕ) where
+  production_is : tree.label.production ≡ node.production
+  production_is = ap (λ (t : CxxTree). t.label.production) is
+
+  -- what is wanted is found itself
+  wanted_is : node.production ≡ wanted → found_of wanted passed tree ≡ tree ∷ []
+  wanted_is same = of_tests wanted passed tree ∙ ap (λ t. by_tests wanted passed t (nat_eq tree.label.production passed) tree.label tree.children []) (it tree.label.production wanted (production_is ∙ same))
+
+  -- in what is passed there is none
+  passed_is : (node.production ≡ wanted → ⊥) → node.production ≡ passed → found_of wanted passed tree ≡ []
+  passed_is other same =
+      of_tests wanted passed tree
+      ∙ ap (λ t. by_tests wanted passed t (nat_eq tree.label.production passed) tree.label tree.children []) (not_it tree.label.production wanted (λ e. other (sym production_is ∙ e)))
+      ∙ ap (λ t. by_tests wanted passed false t tree.label tree.children []) (it tree.label.production passed (production_is ∙ same))
+
+  -- in another one are those of its parts
+  pub parts_are : (node.production ≡ wanted → ⊥) → (node.production ≡ passed → ⊥) → found_of wanted passed tree ≡ each_found wanted passed (trees_in trees node.children)
+  parts_are other another =
+      of_tests wanted passed tree
+      ∙ ap (λ t. by_tests wanted passed t (nat_eq tree.label.production passed) tree.label tree.children []) (not_it tree.label.production wanted (λ e. other (sym production_is ∙ e)))
+      ∙ ap (λ t. by_tests wanted passed false t tree.label tree.children []) (not_it tree.label.production passed (λ e. another (sym production_is ∙ e)))
+      ∙ append-nil (found_in wanted passed tree.children)
+      ∙ ap (λ (t : CxxTree). found_in wanted passed t.children) is
+      ∙ in_each wanted passed (trees_in trees node.children)
+
+  pub wanted_added : (old new : List TreeId) → node.production ≡ wanted → AddsTrees trees old new (tree ∷ []) → AddsTrees trees old new (found_of wanted passed tree)
+  wanted_added old new same added = subst (λ (ts : List CxxTree). AddsTrees trees old new ts) (sym (wanted_is same)) added
+
+  pub none_added : (old : List TreeId) → (node.production ≡ wanted → ⊥) → node.production ≡ passed → AddsTrees trees old old (found_of wanted passed tree)
+  none_added old other same = subst (λ (ts : List CxxTree). AddsTrees trees old old ts) (sym (passed_is other same)) (record { is = sym (append-nil (trees_in trees old)); below = λ all. all })
+
+  pub within_parts : (children numbers : List TreeId) → children ≡ node.children → AreTrees trees numbers (each_found wanted passed (trees_in trees children)) → AreTrees trees numbers (found_in wanted passed tree.children)
+  within_parts children numbers same are =
+      subst (λ (ts : List CxxTree). AreTrees trees numbers ts)
+      (ap (λ (ns : List TreeId). each_found wanted passed (trees_in trees ns)) same ∙ sym (ap (λ (t : CxxTree). found_in wanted passed t.children) is ∙ in_each wanted passed (trees_in trees node.children))) are
+
+pub one_added : (trees : List CxxTree) (number : TreeId) (old new : List TreeId) → new ≡ old ++ number ∷ [] → number.0 < length trees → AddsTrees trees old new (tree_in trees number.0 ∷ [])
+one_added trees number old new is within = record {
+  is = ap (trees_in trees) is ∙ trees_append trees old (number ∷ []);
+  below = λ all. subst (λ (ns : List TreeId). AreTreesBelow (length trees) ns) (sym is) (below_append (length trees) old (number ∷ []) all (within, tt));
+}
+
+-- all that were added to an empty list
+pub all_added : (trees : List CxxTree) (none numbers : List TreeId) (wanted : List CxxTree) → none ≡ [] → AddsTrees trees none numbers wanted → AreTrees trees numbers wanted
+all_added trees none numbers wanted empty added = record {
+  is = added.is ∙ ap (λ (ns : List TreeId). trees_in trees ns ++ wanted) empty;
+  below = added.below (subst (λ (ns : List TreeId). AreTreesBelow (length trees) ns) (sym empty) tt);
+}
+
+-- ---- the parts of a tree
+
+-- Those before an index were looked at, from the first list of trees on.
+pub record SoFar (trees : List CxxTree) (first now : List TreeId) (left all : List CxxTree) : Type 0 where
+  pub is : trees_in trees now ++ left ≡ trees_in trees first ++ all
+  pub below : AreTreesBelow (length trees) first → AreTreesBelow (length trees) now
+
+pub at_first : (trees : List CxxTree) (first : List TreeId) (all : List CxxTree) → SoFar trees first first all all
+at_first trees first all = record { is = refl; below = λ below. below }
+
+goes_on : (trees : List CxxTree) (first now new : List TreeId) (one rest left all : List CxxTree) → left ≡ one ++ rest → SoFar trees first now left all → AddsTrees trees now new one → SoFar trees first new rest all
+goes_on trees first now new one rest left all cut so added = record {
+  is = ap (λ (ts : List CxxTree). ts ++ rest) added.is ∙ append_assoc (trees_in trees now) one rest ∙ ap (λ (ts : List CxxTree). trees_in trees now ++ ts) (sym cut) ∙ so.is;
+  below = λ below. added.below (so.below below);
+}
+
+at_last : (trees : List CxxTree) (first now : List TreeId) (left all : List CxxTree) → left ≡ [] → SoFar trees first now left all → AddsTrees trees first now all
+at_last trees first now left all none so = record {
+  is = sym (append-nil (trees_in trees now)) ∙ ap (λ (ts : List CxxTree). trees_in trees now ++ ts) (sym none) ∙ so.is;
+  below = so.below;
+}
+
+pub part_more : (wanted passed : ℕ) (trees : List CxxTree) (first now new parts : List TreeId) (i : ℕ) (d : TreeId) (all : List CxxTree) → i < length parts → SoFar trees first now (each_found wanted passed (trees_in trees (drop i parts))) all → AddsTrees trees now new (found_of wanted passed (tree_in trees (get_or parts i d).0)) → SoFar trees first new (each_found wanted passed (trees_in trees (drop (i + 1) parts))) all
+part_more wanted passed trees first now new parts i d all within so added =
+    goes_on trees first now new (found_of wanted passed (tree_in trees (get_or parts i d).0)) (each_found wanted passed (trees_in trees (drop (i + 1) parts))) (each_found wanted passed (trees_in trees (drop i parts))) all
+    (at_drop_more (λ (ns : List TreeId). each_found wanted passed (trees_in trees ns)) parts i d within) so added
+
+pub parts_all : (wanted passed : ℕ) (trees : List CxxTree) (first now parts : List TreeId) (i : ℕ) (all : List CxxTree) → length parts ≤ i → SoFar trees first now (each_found wanted passed (trees_in trees (drop i parts))) all → AddsTrees trees first now all
+parts_all wanted passed trees first now parts i all past so =
+    at_last trees first now (each_found wanted passed (trees_in trees (drop i parts))) all (at_drop_all (λ (ns : List TreeId). each_found wanted passed (trees_in trees ns)) parts i past) so
 
 pub child_below : (count : ℕ) (children : List TreeId) (i : ℕ) (d : TreeId) → AreTreesBelow count children → i < length children → (get_or children i d).0 < count
 child_below count [] i d all within = absurd (omega arith)
 child_below count (n ∷ children) zero d all within = all.0
 child_below count (n ∷ children) (suc i) d all within = child_below count children i d all.1 (omega arith)
 
-pub child_within : (count : ℕ) (children : List TreeId) (i : ℕ) (child : TreeId) → child ≡ get_or children i child → AreTreesBelow count children → i < length children → child.0 < count
-child_within count children i child is all within = subst (λ (n : TreeId). n.0 < count) (sym is) (child_below count children i child all within)
-
 -- ---- the pieces of a unit
 
-pub piece_more : (trees : List CxxTree) (first now new : List TreeId) (pieces : List Piece) (i : ℕ) (d : Piece) (all : List CxxTree) → d ≡ get_or pieces i d → i < length pieces → SoFar trees first now (map part_tree (pieces_at trees (drop i pieces))) all → AddsTrees trees now new (declarators_of (tree_in trees d.tree.0)) → SoFar trees first new (map part_tree (pieces_at trees (drop (i + 1) pieces))) all
-piece_more trees first now new pieces i d all same within so added =
-    let left : List CxxTree = each_declarators (map part_tree (pieces_at trees (drop (i + 1) pieces))) in
-    let next : List CxxTree = declarators_of (tree_in trees d.tree.0) in
-    record {
-      is = ap (λ (ts : List CxxTree). ts ++ left) added.is ∙ append_assoc (trees_in trees now) next left ∙ ap (λ (ts : List CxxTree). trees_in trees now ++ ts) (ap (λ (p : Piece). declarators_of (tree_in trees p.tree.0) ++ left) same ∙ sym (at_drop_more (λ (ps : List Piece). each_declarators (map part_tree (pieces_at trees ps))) pieces i d within)) ∙ so.is;
-      below = λ below. added.below (so.below below);
-    }
+abbrev pub of_pieces : ℕ → ℕ → List CxxTree → List Piece → List CxxTree
+of_pieces wanted passed trees pieces = each_found wanted passed (map part_tree (pieces_at trees pieces))
+
+pub piece_more : (wanted passed : ℕ) (trees : List CxxTree) (first now new : List TreeId) (pieces : List Piece) (i : ℕ) (d : Piece) (all : List CxxTree) → d ≡ get_or pieces i d → i < length pieces → SoFar trees first now (of_pieces wanted passed trees (drop i pieces)) all → AddsTrees trees now new (found_of wanted passed (tree_in trees d.tree.0)) → SoFar trees first new (of_pieces wanted passed trees (drop (i + 1) pieces)) all
+piece_more wanted passed trees first now new pieces i d all same within so added =
+    goes_on trees first now new (found_of wanted passed (tree_in trees d.tree.0)) (of_pieces wanted passed trees (drop (i + 1) pieces)) (of_pieces wanted passed trees (drop i pieces)) all
+    (at_drop_more (λ (ps : List Piece). of_pieces wanted passed trees ps) pieces i d within ∙ ap (λ (p : Piece). found_of wanted passed (tree_in trees p.tree.0) ++ of_pieces wanted passed trees (drop (i + 1) pieces)) (sym same)) so added
 
 piece_below : (count : ℕ) (pieces : List Piece) (i : ℕ) (d : Piece) → ArePiecesBelow count pieces → i < length pieces → (get_or pieces i d).tree.0 < count
 piece_below count [] i d all within = absurd (omega arith)
@@ -104,8 +160,6 @@ piece_below count (p ∷ pieces) (suc i) d all within = piece_below count pieces
 pub piece_within : (count : ℕ) (pieces : List Piece) (i : ℕ) (piece : Piece) → piece ≡ get_or pieces i piece → ArePiecesBelow count pieces → i < length pieces → piece.tree.0 < count
 piece_within count pieces i piece is all within = subst (λ (p : Piece). p.tree.0 < count) (sym is) (piece_below count pieces i piece all within)
 
-pub pieces_added : (trees : List CxxTree) (now : List TreeId) (pieces : List Piece) (i : ℕ) (all : List CxxTree) → length pieces ≤ i → SoFar trees [] now (map part_tree (pieces_at trees (drop i pieces))) all → (trees_in trees now ≡ each_declarators all) × AreTreesBelow (length trees) now
-pieces_added trees now pieces i all past so = (
-  sym (append-nil (trees_in trees now)) ∙ ap (λ (ts : List CxxTree). trees_in trees now ++ each_declarators ts) (sym (at_drop_all (λ (ps : List Piece). map part_tree (pieces_at trees ps)) pieces i past)) ∙ so.is,
-  so.below tt,
-)
+pub pieces_all : (wanted passed : ℕ) (trees : List CxxTree) (now : List TreeId) (pieces : List Piece) (i : ℕ) (all : List CxxTree) → length pieces ≤ i → SoFar trees [] now (of_pieces wanted passed trees (drop i pieces)) all → AreTrees trees now all
+pieces_all wanted passed trees now pieces i all past so =
+    all_added trees [] now all refl (at_last trees [] now (of_pieces wanted passed trees (drop i pieces)) all (at_drop_all (λ (ps : List Piece). of_pieces wanted passed trees ps) pieces i past) so)

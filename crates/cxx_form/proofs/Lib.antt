@@ -1,8 +1,11 @@
 pub mod Calling
 pub mod CallLines
+pub mod Defining
 pub mod InTrees
 pub mod Enumerated
 pub mod Gathering
+pub mod Heading
+pub mod Holding
 pub mod Initial
 pub mod Lined
 pub mod Lining

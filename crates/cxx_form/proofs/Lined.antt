@@ -1,29 +1,30 @@
 -- The lines of a plain form, one declaration after another.
 use Rattle.std.proofs.Common.{◌≡◌, ℕ, suc, ◌+◌, ◌<◌, ◌≤◌, List, [], ◌∷◌, ◌++◌, length, drop, get_or, map, Option, Some, None, option_map, refl, ap, sym, subst, ◌∙◌, append-nil, append_assoc, add-one}
+use Rattle.std.specs.Prelude.{flat_map}
 use Rattle.std.specs.List.{slice_get}
 use Rattle.std.proofs.lemmas.List.{at_drop_more, at_drop_all, map-append}
 use Rattle.cxx_model.specs.declared.facts.Access.{Access}
 use Rattle.cxx_model.specs.declared.facts.Fact.{Fact}
 use Rattle.cxx_model.specs.declared.place.Place.{Place}
-use Rattle.cxx_model.specs.declared.tree.Node.{Node}
-use Rattle.cxx_model.specs.declared.types.FactId.{FactId}
 use Rattle.cxx_model.specs.declared.types.TreeId.{TreeId}
 use Rattle.cxx_model.specs.Types.Trees.{CxxType}
 use Rattle.cxx_model.specs.Facts.Declarations as facts
-use Rattle.cxx_model.specs.Facts.Declarations.{CxxFact, CxxName, Declares, declares_at, fact_at, facts_at}
+use Rattle.cxx_model.specs.Facts.Declarations.{CxxFact, CxxName, Declares, fact_at, facts_at}
 use Rattle.cxx_meaning.specs.Lookups.Gathered.{before, gathered}
 use Rattle.cxx_form.specs.Order as text
 use Rattle.cxx_reading.specs.TextOrder.{part_tree}
-use Rattle.cxx_form.specs.Order.{enumeration_of, enumeration_lines, function_of_fact, function_lines, lines, object_by, object_lines, object_of_fact}
+use Rattle.cxx_statement_text.specs.Objects.{first_by, first_found, first_in, first_of_fact}
+use Rattle.cxx_form.specs.Order.{declarators_of, definitions_of, enumeration_of, enumeration_lines, function_of_fact, function_lines, lines, object_by, object_lines, object_of_fact}
 use Rattle.cxx_reading.specs.Trees.{CxxTree}
-use Rattle.cxx_tree.specs.Arena.{number_of_option, tree_in, tree_over, trees_in}
+use Rattle.cxx_tree.specs.Arena.{tree_in, trees_in, AreTreesBelow}
 use Rattle.cxx_tree.specs.Held.{meaning, pieces_at, trees, Held}
 use Rattle.cxx_form.specs.declared.lines.Line.{Line}
-use Rattle.cxx_form.specs.Found.{each_declarators}
+use Rattle.cxx_form.specs.declared.lines.Line.TheVariants as line
 use Rattle.cxx_form.specs.Giving.{enumeration_by, enumeration_given, function_by, function_given, given_at}
-use Rattle.cxx_form.specs.Lines.{line_at, lines_at, object_first_by, object_line_by, AddsLines, AreLinesBelow, IsLineBelow}
+use Rattle.cxx_form.specs.Lines.{line_at, lines_at, object_line_by, AddsLines, AreLinesBelow, IsLineBelow}
 use Rattle.cxx_form.specs.Views.{facts_in}
-use Rattle.cxx_form.proofs.Gathering.{fact_is, given_cut}
+use Rattle.cxx_form.proofs.Gathering.{given_cut}
+use Rattle.cxx_form.proofs.InTrees.{child_below}
 
 -- ---- a line that is added
 
@@ -77,7 +78,7 @@ given_all give types trees facts number first now all wanted past same so =
 
 -- ---- the lines of objects
 
-object_read : (tree : CxxTree) (number : ℕ) (place : Place) (scope : ℕ) (name : CxxName) (rights : Access) (what : Declares) → object_of_fact tree number (Some (record { place = place; scope = scope; name = name; access = rights; what = what })) ≡ object_line_by tree (object_first_by number what)
+object_read : (tree : CxxTree) (number : ℕ) (place : Place) (scope : ℕ) (name : CxxName) (rights : Access) (what : Declares) → object_of_fact tree number (Some (record { place = place; scope = scope; name = name; access = rights; what = what })) ≡ object_line_by tree (first_by number what)
 object_read tree number place scope name rights (facts.scope parent kind) = refl
 object_read tree number place scope name rights (facts.object of member is_mutable value first) = refl
 object_read tree number place scope name rights (facts.template template member defaults is_explicit first) = refl
@@ -96,22 +97,22 @@ object_read tree number place scope name rights (facts.enumeration n) = refl
 object_read tree number place scope name rights (facts.enumerator n value) = refl
 object_read tree number place scope name rights (facts.function of member flags defaults first) = refl
 
-object_of : (tree : CxxTree) (number : ℕ) (fact : CxxFact) → object_of_fact tree number (Some fact) ≡ object_line_by tree (object_first_by number fact.what)
+object_of : (tree : CxxTree) (number : ℕ) (fact : CxxFact) → object_of_fact tree number (Some fact) ≡ object_line_by tree (first_by number fact.what)
 object_of tree number fact = object_read tree number fact.place fact.scope fact.name fact.access fact.what
 
-target_is : (types : List CxxType) (trees : List CxxTree) (node : Node) (tree : CxxTree) → tree ≡ tree_over types trees node → tree.label.target ≡ number_of_option node.target
-target_is types trees node tree is = ap (λ (t : CxxTree). t.label.target) is
+object_found : (tree : CxxTree) (number : ℕ) (one : Option CxxFact) → object_line_by tree (first_of_fact number one) ≡ object_of_fact tree number one
+object_found tree number None = refl
+object_found tree number (Some fact) = sym (object_of tree number fact)
 
-pub no_target : (types : List CxxType) (trees : List CxxTree) (all : List CxxFact) (node : Node) (tree : CxxTree) → tree ≡ tree_over types trees node → node.target ≡ None → [] ≡ object_by all tree tree.label.target
-no_target types trees all node tree is none = sym (ap (object_by all tree) (target_is types trees node tree is ∙ ap number_of_option none))
+object_is : (all : List CxxFact) (tree : CxxTree) → object_line_by tree (first_in all tree) ≡ object_by all tree tree.label.target
+object_is all tree = by tree.label.target
+  where
+    by : (target : Option ℕ) → object_line_by tree (first_found all target) ≡ object_by all tree target
+    by None = refl
+    by (Some number) = object_found tree number (slice_get all number)
 
-pub no_fact : (types : List CxxType) (trees : List CxxTree) (facts : List Fact) (node : Node) (tree : CxxTree) (number : FactId) → tree ≡ tree_over types trees node → node.target ≡ Some number → slice_get facts number.0 ≡ None → [] ≡ object_by (facts_at types facts) tree tree.label.target
-no_fact types trees facts node tree number is target none =
-    sym (ap (object_by (facts_at types facts) tree) (target_is types trees node tree is ∙ ap number_of_option target) ∙ ap (object_of_fact tree number.0) (fact_is types facts number.0 ∙ ap (option_map (fact_at types)) none))
-
-pub an_object : (types : List CxxType) (trees : List CxxTree) (facts : List Fact) (node : Node) (tree : CxxTree) (number : FactId) (fact : Fact) (o : Option ℕ) → tree ≡ tree_over types trees node → node.target ≡ Some number → slice_get facts number.0 ≡ Some fact → o ≡ object_first_by number.0 (declares_at types fact.what) → object_line_by tree o ≡ object_by (facts_at types facts) tree tree.label.target
-an_object types trees facts node tree number fact o is target found first =
-    ap (object_line_by tree) first ∙ sym (object_of tree number.0 (fact_at types fact)) ∙ sym (ap (object_by (facts_at types facts) tree) (target_is types trees node tree is ∙ ap number_of_option target) ∙ ap (object_of_fact tree number.0) (fact_is types facts number.0 ∙ ap (option_map (fact_at types)) found))
+pub object_by_first : (all : List CxxFact) (tree : CxxTree) (first : Option ℕ) → first ≡ first_in all tree → object_line_by tree first ≡ object_by all tree tree.label.target
+object_by_first all tree first is = ap (object_line_by tree) is ∙ object_is all tree
 
 pub object_on : (trees : List CxxTree) (facts : List CxxFact) (declarators : List TreeId) (i : ℕ) (d : TreeId) (first now new : List Line) (all : List text.Line) → i < length declarators → SoFar trees first now (object_lines facts (trees_in trees (drop i declarators))) all → AddsLines trees now new (object_by facts (tree_in trees (get_or declarators i d).0) (tree_in trees (get_or declarators i d).0).label.target) → SoFar trees first new (object_lines facts (trees_in trees (drop (i + 1) declarators))) all
 object_on trees facts declarators i d first now new all within so added =
@@ -121,17 +122,37 @@ object_on trees facts declarators i d first now new all within so added =
 pub objects_all : (trees : List CxxTree) (facts : List CxxFact) (declarators : List TreeId) (i : ℕ) (first now : List Line) (all : List text.Line) → length declarators ≤ i → SoFar trees first now (object_lines facts (trees_in trees (drop i declarators))) all → AddsLines trees first now all
 objects_all trees facts declarators i first now all past so = at_last trees first now (object_lines facts (trees_in trees (drop i declarators))) all (at_drop_all (λ (ns : List TreeId). object_lines facts (trees_in trees ns)) declarators i past) so
 
+-- ---- definitions of functions
+
+pub definition_on : (trees : List CxxTree) (definitions : List TreeId) (i : ℕ) (d : TreeId) (first now new : List Line) (all : List text.Line) → AreTreesBelow (length trees) definitions → i < length definitions → SoFar trees first now (map text.definition_lines (trees_in trees (drop i definitions))) all → new ≡ now ++ line.Definition (get_or definitions i d) ∷ [] → SoFar trees first new (map text.definition_lines (trees_in trees (drop (i + 1) definitions))) all
+definition_on trees definitions i d first now new all below within so more =
+    goes_on trees first now new (text.definition_lines (tree_in trees (get_or definitions i d).0) ∷ []) (map text.definition_lines (trees_in trees (drop (i + 1) definitions))) (map text.definition_lines (trees_in trees (drop i definitions))) all
+    (at_drop_more (λ (ns : List TreeId). map text.definition_lines (trees_in trees ns)) definitions i d within) so
+    (line_added trees now new (line.Definition (get_or definitions i d)) more (child_below (length trees) definitions i d below within))
+
+pub definitions_all : (trees : List CxxTree) (definitions : List TreeId) (i : ℕ) (first now : List Line) (all : List text.Line) → length definitions ≤ i → SoFar trees first now (map text.definition_lines (trees_in trees (drop i definitions))) all → AddsLines trees first now all
+definitions_all trees definitions i first now all past so = at_last trees first now (map text.definition_lines (trees_in trees (drop i definitions))) all (at_drop_all (λ (ns : List TreeId). map text.definition_lines (trees_in trees ns)) definitions i past) so
+
 -- ---- all lines
 
-pub all_lines : (trees : List CxxTree) (found : List TreeId) (facts : List CxxFact) (declarators : List CxxTree) (none one two three : List Line) → none ≡ [] → trees_in trees found ≡ declarators → AddsLines trees none one (enumeration_lines 0 facts) → AddsLines trees one two (function_lines 0 facts) → AddsLines trees two three (object_lines facts (trees_in trees found)) → (lines_at trees three ≡ enumeration_lines 0 facts ++ (function_lines 0 facts ++ object_lines facts declarators)) × AreLinesBelow (length trees) three
-all_lines trees found facts declarators none one two three empty are first second third = (
-  third.is ∙ ap (λ (xs : List text.Line). xs ++ object_lines facts (trees_in trees found)) (second.is ∙ ap (λ (xs : List text.Line). xs ++ function_lines 0 facts) (first.is ∙ ap (λ (xs : List Line). lines_at trees xs ++ enumeration_lines 0 facts) empty))
-      ∙ append_assoc (enumeration_lines 0 facts) (function_lines 0 facts) (object_lines facts (trees_in trees found))
-      ∙ ap (λ (ts : List CxxTree). enumeration_lines 0 facts ++ (function_lines 0 facts ++ object_lines facts ts)) are,
-  third.below (second.below (first.below (subst (λ (xs : List Line). AreLinesBelow (length trees) xs) (sym empty) tt))),
-)
+four : {A : Type 0} (ones twos threes fours : List A) → ((ones ++ twos) ++ threes) ++ fours ≡ ones ++ (twos ++ (threes ++ fours))
+four ones twos threes fours = append_assoc (ones ++ twos) threes fours ∙ append_assoc ones twos (threes ++ fours)
 
-pub lines_are : (held : Held) (found : List Line) → lines_at (trees held) found ≡ enumeration_lines 0 (facts_in held) ++ (function_lines 0 (facts_in held) ++ object_lines (facts_in held) (each_declarators (map part_tree (pieces_at (trees held) held.pieces)))) → lines_at (trees held) found ≡ lines (meaning held)
+pub all_lines : (trees : List CxxTree) (facts : List CxxFact) (found defined : List TreeId) (declarators definitions : List CxxTree) (none one two three last : List Line) → none ≡ [] → trees_in trees found ≡ declarators → trees_in trees defined ≡ definitions
+    → AddsLines trees none one (enumeration_lines 0 facts) → AddsLines trees one two (function_lines 0 facts) → AddsLines trees two three (object_lines facts (trees_in trees found)) → AddsLines trees three last (map text.definition_lines (trees_in trees defined))
+    → (lines_at trees last ≡ enumeration_lines 0 facts ++ (function_lines 0 facts ++ (object_lines facts declarators ++ map text.definition_lines definitions))) × AreLinesBelow (length trees) last
+all_lines trees facts found defined declarators definitions none one two three last empty are so first second third fourth =
+    let objects : List text.Line = object_lines facts (trees_in trees found) in
+    let bodies : List text.Line = map text.definition_lines (trees_in trees defined) in (
+      fourth.is
+          ∙ ap (λ (xs : List text.Line). xs ++ bodies) (third.is ∙ ap (λ (xs : List text.Line). xs ++ objects) (second.is ∙ ap (λ (xs : List text.Line). xs ++ function_lines 0 facts) (first.is ∙ ap (λ (xs : List Line). lines_at trees xs ++ enumeration_lines 0 facts) empty)))
+          ∙ four (enumeration_lines 0 facts) (function_lines 0 facts) objects bodies
+          ∙ ap (λ (ts : List CxxTree). enumeration_lines 0 facts ++ (function_lines 0 facts ++ (object_lines facts ts ++ bodies))) are
+          ∙ ap (λ (ts : List CxxTree). enumeration_lines 0 facts ++ (function_lines 0 facts ++ (object_lines facts declarators ++ map text.definition_lines ts))) so,
+      fourth.below (third.below (second.below (first.below (subst (λ (xs : List Line). AreLinesBelow (length trees) xs) (sym empty) tt)))),
+    )
+
+pub lines_are : (held : Held) (found : List Line) → lines_at (trees held) found ≡ enumeration_lines 0 (facts_in held) ++ (function_lines 0 (facts_in held) ++ (object_lines (facts_in held) (flat_map declarators_of (map part_tree (pieces_at (trees held) held.pieces))) ++ map text.definition_lines (flat_map definitions_of (map part_tree (pieces_at (trees held) held.pieces))))) → lines_at (trees held) found ≡ lines (meaning held)
 unfolding meaning lines
 lines_are held found is = is
 

@@ -1,20 +1,35 @@
 -- Lines that are written one after another.
-use Rattle.std.proofs.Common.{◌≡◌, ◌<◌, ◌≤◌, ◌+◌, ℕ, List, length, drop, get_or, map, Option, Some, None, sym, ap, ◌∙◌}
-use Rattle.std.proofs.lemmas.List.{at_drop_more, at_drop_all}
+use Rattle.std.proofs.Common.{◌≡◌, List, [], ◌∷◌, ◌++◌, true, false, Option, Some, None, refl, sym, ap, ◌∙◌, append_assoc}
 use Rattle.cxx_page.specs.Sheets.{and_then, put_line, put_lines, Sheet}
+use Rattle.cxx_page.specs.Sides.{comma_unless}
 use Rattle.cxx_reading.specs.Words.{Word}
+use Rattle.cxx_statement_text.specs.Statements.{Lines}
+use Rattle.cxx_phrase_text.specs.Listed.{listed_words}
+use Rattle.cxx_form.specs.Parts.{is_none}
 
-module _ {A : Type 0} (words : A → List Word) where
-  line_cut : (xs : List A) (i : ℕ) (d : A) (page : Sheet) → i < length xs → put_lines (map words (drop i xs)) page ≡ and_then (put_line (words (get_or xs i d)) page) (put_lines (map words (drop (i + 1) xs)))
-  unfolding put_lines
-  line_cut xs i d page within = at_drop_more (λ (rest : List A). put_lines (map words rest) page) xs i d within
+then_some : (one : Option Sheet) → and_then one (put_lines []) ≡ one
+unfolding put_lines
+then_some None = refl
+then_some (Some sheet) = refl
 
-  pub line_on : (xs : List A) (i : ℕ) (d : A) (page new : Sheet) (whole : Option Sheet) → i < length xs → put_lines (map words (drop i xs)) page ≡ whole → put_line (words (get_or xs i d)) page ≡ Some new → put_lines (map words (drop (i + 1) xs)) new ≡ whole
-  line_on xs i d page new whole within so written = sym (ap (λ one. and_then one (put_lines (map words (drop (i + 1) xs)))) written) ∙ (sym (line_cut xs i d page within) ∙ so)
+pub one_line : (words : List Word) (sheet : Sheet) → put_lines (words ∷ []) sheet ≡ put_line words sheet
+unfolding put_lines
+one_line words sheet = then_some (put_line words sheet)
 
-  pub no_line : (xs : List A) (i : ℕ) (d : A) (page : Sheet) (whole : Option Sheet) → i < length xs → put_lines (map words (drop i xs)) page ≡ whole → put_line (words (get_or xs i d)) page ≡ None → whole ≡ None
-  no_line xs i d page whole within so written = sym so ∙ (line_cut xs i d page within ∙ ap (λ one. and_then one (put_lines (map words (drop (i + 1) xs)))) written)
+pub line_then : (words : List Word) (others : Lines) (sheet : Sheet) → put_lines (words ∷ others) sheet ≡ and_then (put_line words sheet) (put_lines others)
+unfolding put_lines
+line_then words others sheet = refl
 
-  pub lines_end : (xs : List A) (i : ℕ) (page : Sheet) (whole : Option Sheet) → length xs ≤ i → put_lines (map words (drop i xs)) page ≡ whole → whole ≡ Some page
-  unfolding put_lines
-  lines_end xs i page whole past so = sym so ∙ at_drop_all (λ (rest : List A). put_lines (map words rest) page) xs i past
+pub no_lines : (sheet : Sheet) → put_lines [] sheet ≡ Some sheet
+unfolding put_lines
+no_lines sheet = refl
+
+-- ---- lists with commas
+
+later_listed : (ones twos : List (List Word)) → listed_words false (ones ++ twos) ≡ listed_words false ones ++ listed_words false twos
+later_listed [] twos = refl
+later_listed (one ∷ ones) twos = ap (λ (ws : List Word). (comma_unless false ++ one) ++ ws) (later_listed ones twos) ∙ sym (append_assoc (comma_unless false ++ one) (listed_words false ones) (listed_words false twos))
+
+pub both_listed : (ones twos : List (List Word)) → listed_words true (ones ++ twos) ≡ listed_words true ones ++ listed_words (is_none ones) twos
+both_listed [] twos = refl
+both_listed (one ∷ ones) twos = ap (λ (ws : List Word). one ++ ws) (later_listed ones twos) ∙ sym (append_assoc one (listed_words false ones) (listed_words false twos))

@@ -33,7 +33,7 @@ in_range : (book : Book) (of : Option TypeId) → IsBook book → IsTypeNumberBe
 in_range book None is below = tt
 in_range book (Some of) is below = is.fitted.names of.0 below
 
-declared_as : (book : Book) (of : Option TypeId) (inner : List Word) → IsBook book → IsTypeNumberBelow (length book.state.now.types) of → declared (names_of book).tags no_cv (type_for book of) inner ≡ front (tags_of book.tags.now) no_cv (type_for book of) ++ (inner ++ back (tags_of book.tags.now) (type_for book of))
+pub declared_as : (book : Book) (of : Option TypeId) (inner : List Word) → IsBook book → IsTypeNumberBelow (length book.state.now.types) of → declared (names_of book).tags no_cv (type_for book of) inner ≡ front (tags_of book.tags.now) no_cv (type_for book of) ++ (inner ++ back (tags_of book.tags.now) (type_for book of))
 declared_as book of inner is below =
     sym (same_declared (tags_of book.tags.now) (names_of book).tags book.state.now.graph (same_tags book is) no_cv (type_for book of) inner (in_range book of is below))
     ∙ split (tags_of book.tags.now) no_cv (type_for book of) inner

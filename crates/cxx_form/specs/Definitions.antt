@@ -1,5 +1,5 @@
 -- The lines of the definition of a function (8.4).
-use Rattle.std.specs.Prelude.{ℕ, zero, suc, ℤ, pos, Bool, true, false, if◌then◌else◌, List, [], ◌∷◌, ◌++◌, map, Option, Some, None, Ok, Err, codes}
+use Rattle.std.specs.Prelude.{ℕ, zero, ℤ, pos, Bool, true, false, if◌then◌else◌, List, [], ◌∷◌, ◌++◌, map, Option, Some, None, Ok, Err, codes}
 use Rattle.std.specs.List.{slice_get}
 use Rattle.cxx_model.specs.declared.base.Base.TheVariants.{Void}
 use Rattle.cxx_model.specs.Facts.Declarations as facts
@@ -10,7 +10,7 @@ use Rattle.cxx_constant.specs.Constants.{CxxValue, constant}
 use Rattle.cxx_reading.specs.Declarators.{no_cv}
 use Rattle.cxx_reading.specs.Plain.{NamesOfText, type_or_void}
 use Rattle.cxx_reading.specs.Trees.{CxxTree}
-use Rattle.cxx_reading.specs.Words.{Word, keyword_word, name_word, open_word, close_word, one_word, separated, declared}
+use Rattle.cxx_reading.specs.Words.{Word, name_word, open_word, close_word, one_word, separated, declared}
 use Rattle.cxx_phrase_text.specs.Calls.{CallOfText}
 use Rattle.cxx_statement_text.specs.Calls.{statement_calls}
 use Rattle.cxx_statement_text.specs.Objects.{Scene}

@@ -1,9 +1,10 @@
 -- What each declaration gives to the plain form.
-use Rattle.std.specs.Prelude.{ℕ, zero, suc, ◌+◌, ◌≡◌, List, [], ◌++◌, length, Option, Some, None, nat_eq, if◌then◌else◌}
+use Rattle.std.specs.Prelude.{ℕ, Bool, true, false, zero, suc, ◌+◌, ◌≡◌, List, [], ◌++◌, length, Option, Some, None, nat_eq, if◌then◌else◌}
 use Rattle.cxx_model.specs.declared.types.FactId.{FactId}
 use Rattle.cxx_model.specs.Facts.Declarations as facts
 use Rattle.cxx_model.specs.Facts.Declarations.{CxxFact, Declares, fact_at, facts_at}
 use Rattle.cxx_meaning.specs.Lookups.Gathered.{before, gathered}
+use Rattle.cxx_reading.specs.Declaring.{is_object}
 use Rattle.cxx_reading.specs.Plain.{number_of_enumeration}
 use Rattle.cxx_form.specs.Order.{Line, enumeration_line, function_line}
 use Rattle.cxx_form.specs.Rows.{row_at}
@@ -46,21 +47,46 @@ abbrev pub if_held : ℕ → ℕ → Option ℕ → Option FactId
 if_held n number None = None
 if_held n number (Some m) = if nat_eq m n then Some (record { 0 = number }) else None
 
--- the enumerators of an enumeration, by their declarations
-abbrev pub enumerator_given : ℕ → ℕ → CxxFact → Option FactId
-enumerator_given n number fact = if_held n number (holder_by fact.what)
+-- ---- declarations that are held under numbers
 
--- rows that hold the enumerators of each enumeration
-abbrev pub AreEnumerators : List CxxFact → List (List FactId) → Type 0
-AreEnumerators all rows = (n : ℕ) → row_at rows n ≡ gathered (enumerator_given n) 0 all
+-- those under a number, where each is held under one or under none
+abbrev pub held_given : (CxxFact → Option ℕ) → ℕ → ℕ → CxxFact → Option FactId
+held_given holder n number fact = if_held n number (holder fact)
 
--- rows with one enumerator more, where there is one
-abbrev pub HasEnumerator : List (List FactId) → List (List FactId) → ℕ → Option ℕ → Type 0
-HasEnumerator old new number holder = (n : ℕ) → row_at new n ≡ row_at old n ++ before (if_held n number holder) []
+-- rows that hold each under its number
+abbrev pub AreHeld : (CxxFact → Option ℕ) → List CxxFact → List (List FactId) → Type 0
+AreHeld holder all rows = (n : ℕ) → row_at rows n ≡ gathered (held_given holder n) 0 all
+
+-- rows with one more, where it is held
+abbrev pub HasHeld : List (List FactId) → List (List FactId) → ℕ → Option ℕ → Type 0
+HasHeld old new number holder = (n : ℕ) → row_at new n ≡ row_at old n ++ before (if_held n number holder) []
 
 -- rows with what the declaration with a number gives
-abbrev pub HasGiven : List (List FactId) → List (List FactId) → ℕ → Option CxxFact → Type 0
-HasGiven old new number fact = (n : ℕ) → row_at new n ≡ row_at old n ++ given_at (enumerator_given n) number fact
+abbrev pub HasGiven : (CxxFact → Option ℕ) → List (List FactId) → List (List FactId) → ℕ → Option CxxFact → Type 0
+HasGiven holder old new number fact = (n : ℕ) → row_at new n ≡ row_at old n ++ given_at (held_given holder n) number fact
+
+-- an enumerator is held under its enumeration
+abbrev pub enumeration_of_fact : CxxFact → Option ℕ
+enumeration_of_fact fact = holder_by fact.what
+
+abbrev pub AreEnumerators : List CxxFact → List (List FactId) → Type 0
+AreEnumerators all rows = AreHeld enumeration_of_fact all rows
+
+abbrev pub enumerator_given : ℕ → ℕ → CxxFact → Option FactId
+enumerator_given n number fact = held_given enumeration_of_fact n number fact
+
+-- an object is held under its scope
+abbrev pub scope_if : ℕ → Bool → Option ℕ
+scope_if scope true = Some scope
+scope_if scope false = None
+
+abbrev pub scope_of_object : CxxFact → Option ℕ
+scope_of_object fact = scope_if fact.scope (is_object fact.what)
+
+abbrev pub AreObjects : List CxxFact → List (List FactId) → Type 0
+AreObjects all rows = AreHeld scope_of_object all rows
+
+-- ---- where enumerations are declared
 
 -- a number that was set to one more than where an enumeration is declared, or else what follows
 abbrev pub declared_or : ℕ → ℕ → ℕ

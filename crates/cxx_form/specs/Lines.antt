@@ -1,8 +1,5 @@
 -- The lines of a plain form, as the code names them.
 use Rattle.std.specs.Prelude.{ℕ, ◌≡◌, ◌<◌, List, [], ◌∷◌, ◌++◌, length, map, Option, Some, None}
-use Rattle.cxx_model.specs.Facts.Declarations as facts
-use Rattle.cxx_model.specs.Facts.Declarations.{Declares}
-use Rattle.cxx_model.specs.Facts.Entities.{first_or}
 use Rattle.cxx_model.specs.declared.types.EnumId.{EnumId}
 use Rattle.cxx_model.specs.declared.types.FactId.{FactId}
 use Rattle.cxx_form.specs.Order as text
@@ -15,6 +12,7 @@ abbrev pub line_at : List CxxTree → Line → text.Line
 line_at trees (line.Enumeration n number) = text.enumeration_line n.0 number.0
 line_at trees (line.Function number) = text.function_line number.0
 line_at trees (line.Object tree number) = text.object_line (tree_in trees tree.0) number.0
+line_at trees (line.Definition tree) = text.definition_lines (tree_in trees tree.0)
 
 abbrev pub lines_at : List CxxTree → List Line → List text.Line
 lines_at trees lines = map (line_at trees) lines
@@ -32,6 +30,7 @@ enumeration_in n = n.0
 
 abbrev pub IsLineBelow : ℕ → Line → Type 0
 IsLineBelow count (line.Object tree number) = tree.0 < count
+IsLineBelow count (line.Definition tree) = tree.0 < count
 IsLineBelow count _ = Unit {0}
 
 abbrev pub IsGivenBelow : ℕ → Option Line → Type 0
@@ -48,10 +47,6 @@ pub record AddsLines (trees : List CxxTree) (old new : List Line) (added : List 
   pub below : AreLinesBelow (length trees) old → AreLinesBelow (length trees) new
 
 -- ---- the lines of objects
-
-abbrev pub object_first_by : ℕ → Declares → Option ℕ
-object_first_by number (facts.object of member is_mutable value first) = Some (first_or number first)
-object_first_by number _ = None
 
 abbrev pub object_line_by : CxxTree → Option ℕ → List text.Line
 object_line_by tree None = []

@@ -3,7 +3,7 @@
 -- Enumerations stand first, by the end of their lists, then functions, by their first declarations, then objects of
 -- namespaces, each declaration of one in its place, then definitions of functions in the order of reading. A name has its
 -- number by where it stands first in the text.
-use Rattle.std.specs.Prelude.{ℕ, zero, suc, Bool, true, false, ◌&&◌, nat_eq, if◌then◌else◌, List, [], ◌∷◌, ◌++◌, map, flat_map, Option, Some, None}
+use Rattle.std.specs.Prelude.{ℕ, zero, suc, Bool, false, ◌&&◌, nat_eq, if◌then◌else◌, List, [], ◌∷◌, ◌++◌, flat_map, map, Option, Some, None}
 use Rattle.std.specs.List.{slice_get}
 use Rattle.cxx_model.specs.Facts.Conflicts.{has_name}
 use Rattle.cxx_model.specs.Facts.Declarations as facts
@@ -45,16 +45,20 @@ abbrev pub function_lines : ℕ → List CxxFact → List Line
 function_lines number [] = []
 function_lines number (fact ∷ others) = function_of_fact number fact.what ++ function_lines (suc number) others
 
--- the declarators of declarations among trees, in order, but for those in definitions of functions
-abbrev pub declarators_in : CxxTrees → List CxxTree
-declarators_in no_trees = []
-declarators_in (tree_then label children next) =
-    if nat_eq label.production production.declarator then record { label = label; children = children } ∷ declarators_in next else (
-    if nat_eq label.production production.function_definition then declarators_in next else
-    declarators_in children ++ declarators_in next)
+-- those of a production among trees, in order; none in another one, and none in one of them
+abbrev pub found_in : ℕ → ℕ → CxxTrees → List CxxTree
+found_in wanted passed no_trees = []
+found_in wanted passed (tree_then label children next) =
+    if nat_eq label.production wanted then record { label = label; children = children } ∷ found_in wanted passed next else (
+    if nat_eq label.production passed then found_in wanted passed next else
+    found_in wanted passed children ++ found_in wanted passed next)
 
+abbrev pub found_of : ℕ → ℕ → CxxTree → List CxxTree
+found_of wanted passed tree = found_in wanted passed (tree_then tree.label tree.children no_trees)
+
+-- the declarators of declarations, but for those in definitions of functions
 abbrev pub declarators_of : CxxTree → List CxxTree
-declarators_of tree = declarators_in (tree_then tree.label tree.children no_trees)
+declarators_of tree = found_of production.declarator production.function_definition tree
 
 abbrev pub object_of_fact : CxxTree → ℕ → Option CxxFact → List Line
 object_of_fact tree number None = []
@@ -72,16 +76,9 @@ abbrev pub object_lines : List CxxFact → List CxxTree → List Line
 object_lines all [] = []
 object_lines all (tree ∷ others) = object_by all tree tree.label.target ++ object_lines all others
 
--- the definitions of functions among trees, in order
-abbrev pub definitions_in : CxxTrees → List CxxTree
-definitions_in no_trees = []
-definitions_in (tree_then label children next) =
-    if nat_eq label.production production.function_definition then record { label = label; children = children } ∷ definitions_in next else (
-    if nat_eq label.production production.declarator then definitions_in next else
-    definitions_in children ++ definitions_in next)
-
+-- the definitions of functions
 abbrev pub definitions_of : CxxTree → List CxxTree
-definitions_of tree = definitions_in (tree_then tree.label tree.children no_trees)
+definitions_of tree = found_of production.function_definition production.declarator tree
 
 -- the lines of the plain form, in order
 unfoldable pub lines : CxxState → List Line
@@ -142,18 +139,23 @@ abbrev pub is_named : Option CxxFact → Bool
 is_named None = false
 is_named (Some fact) = has_name fact.name
 
+abbrev pub if_named : List CxxFact → ℕ → List ℕ
+if_named all number = if is_named (slice_get all number) then number ∷ [] else []
+
 abbrev pub named_among : List CxxFact → List ℕ → List ℕ
-named_among all [] = []
-named_among all (number ∷ others) = if is_named (slice_get all number) then number ∷ named_among all others else named_among all others
+named_among all numbers = flat_map (if_named all) numbers
 
 abbrev pub first_number : Option ℕ → List ℕ
 first_number None = []
 first_number (Some number) = number ∷ []
 
 -- the objects of blocks that are written, by their first declarations
+abbrev pub declared_by : List CxxFact → CxxTree → List ℕ
+declared_by all tree = first_number (first_in all tree)
+
 abbrev pub locals_in : List CxxFact → Option CxxTree → List ℕ
 locals_in all None = []
-locals_in all (Some body) = flat_map (λ tree. first_number (first_in all tree)) (printed_in all body.children)
+locals_in all (Some body) = flat_map (declared_by all) (printed_in all body.children)
 
 -- what lines declare, by first declarations
 abbrev pub declared_on : List CxxFact → Line → List ℕ

@@ -1,5 +1,5 @@
 -- The lines of a plain form, part by part, as they are written.
-use Rattle.std.specs.Prelude.{ℕ, zero, ℤ, pos, true, if◌then◌else◌, List, [], ◌∷◌, ◌++◌, map, codes, Option, Some, None}
+use Rattle.std.specs.Prelude.{ℕ, zero, ℤ, pos, Bool, true, false, if◌then◌else◌, List, [], ◌∷◌, ◌++◌, map, codes, Option, Some, None}
 use Rattle.std.specs.List.{slice_get}
 use Rattle.cxx_model.specs.declared.tree.Node.{Node}
 use Rattle.cxx_model.specs.declared.types.FactId.{FactId}
@@ -9,14 +9,17 @@ use Rattle.cxx_model.specs.Facts.Declarations.{CxxFact, Declares}
 use Rattle.cxx_reading.specs.Declarators.{no_cv}
 use Rattle.cxx_reading.specs.Plain.{enumerator_words, is_empty, NamesOfText}
 use Rattle.cxx_reading.specs.Trees.{in_turn, CxxTree}
-use Rattle.cxx_reading.specs.Words.{declared, keyword_word, name_word, semicolon_word, Word}
+use Rattle.cxx_reading.specs.Words.{close_word, declared, keyword_word, name_word, open_word, semicolon_word, Word}
+use Rattle.cxx_model.specs.Types.Trees.{CxxType}
 use Rattle.cxx_phrase_text.specs.Listed.{listed_words}
+use Rattle.cxx_statement_text.specs.Statements.{close_brace, open_brace, Lines}
 use Rattle.cxx_tree.specs.Arena.{trees_in}
 use Rattle.cxx_form.specs.declared.book.Book.{Book}
-use Rattle.cxx_form.specs.Books.{facts_of, names_of, trees_of, type_for}
+use Rattle.cxx_form.specs.Books.{facts_of, graph_of, names_of, trees_of, type_for}
 use Rattle.cxx_form.specs.declared.lines.Line.{Line}
 use Rattle.cxx_form.specs.Lines.{line_at}
-use Rattle.cxx_form.specs.Text.{initializer_words, initializers_in, line_words}
+use Rattle.cxx_form.specs.Definitions.{ellipsis_words, first_of_declarator, has_ellipsis, inner_lines, parameter_words, result_of, type_of_declarator}
+use Rattle.cxx_form.specs.Text.{initializer_words, initializers_in, words_on}
 
 -- ---- enumerations (7.2)
 
@@ -44,10 +47,6 @@ enumeration_parts book row number = enumeration_front (names_of book) number ++ 
 
 -- ---- objects (8.5)
 
-abbrev pub first_tree : List CxxTree → Option CxxTree
-first_tree [] = None
-first_tree (tree ∷ others) = Some tree
-
 abbrev pub extern_words : List ℕ → List Word
 extern_words spelling = if is_empty spelling then [] else keyword_word (codes "extern") ∷ []
 
@@ -59,8 +58,51 @@ unfoldable pub object_parts : Book → Node → ℕ → List Word
 object_parts book node number =
     extern_words node.spelling ++ (declared (names_of book).tags no_cv (type_for book node.of) (name_word ((names_of book).name_of number) ∷ []) ++ (initializer_among book node.children ++ semicolon_word ∷ []))
 
+-- ---- definitions of functions (8.4)
+
+-- a parameter, by its declaration
+unfoldable pub parameter_at : Book → FactId → List Word
+parameter_at book number = parameter_words (names_of book) (facts_of book) number.0
+
+abbrev pub name_if : Book → FactId → Bool → List Word
+name_if book number true = name_word ((names_of book).name_of number.0) ∷ []
+name_if book number false = []
+
+abbrev pub is_none : {A : Type 0} → List A → Bool
+is_none [] = true
+is_none (x ∷ xs) = false
+
+-- an ellipsis behind parameters
+unfoldable pub dots_behind : Bool → Bool → List Word
+dots_behind is_first ellipsis = listed_words is_first (ellipsis_words ellipsis)
+
+-- the parameters, with the brackets round them
+unfoldable pub list_at : Book → List FactId → Bool → List Word
+list_at book row ellipsis = open_word ∷ (listed_words true (map (parameter_at book) row) ++ (dots_behind (is_none row) ellipsis ++ close_word ∷ []))
+
+-- the name of a function, with its parameters
+unfoldable pub named_list : Book → FactId → List FactId → Bool → List Word
+named_list book number row ellipsis = name_word ((names_of book).name_of number.0) ∷ list_at book row ellipsis
+
+unfoldable pub head_at : Book → CxxType → FactId → List FactId → Bool → List Word
+head_at book result number row ellipsis = declared (names_of book).tags no_cv result (named_list book number row ellipsis) ++ open_brace ∷ []
+
+abbrev pub head_by : Book → CxxType → ℕ → List FactId → List Word
+head_by book of number row = head_at book (result_of of) (record { 0 = number }) row (has_ellipsis of)
+
+-- the head of a definition, by its declarator and its parameters
+abbrev pub head_of : Book → Option CxxTree → List FactId → List Word
+head_of book declarator row = head_by book (type_of_declarator declarator) (first_of_declarator (facts_of book) declarator) row
+
+-- what stands in the braces of a body, where there is one
+abbrev pub inner_at : Book → Option CxxTree → Lines
+inner_at book body = inner_lines (names_of book) (graph_of book) body
+
+unfoldable pub definition_parts : Book → List Word → Option CxxTree → Lines
+definition_parts book head body = head ∷ (inner_at book body ++ (close_brace ∷ []) ∷ [])
+
 -- ---- lines
 
--- the words of a line
-unfoldable pub line_written : Book → Line → List Word
-line_written book one = line_words (names_of book) (facts_of book) (line_at (trees_of book) one)
+-- the lines of a line
+unfoldable pub lines_written : Book → Line → Lines
+lines_written book one = words_on (names_of book) (graph_of book) (line_at (trees_of book) one)

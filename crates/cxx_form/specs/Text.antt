@@ -1,23 +1,21 @@
 -- The plain form of a reading with expressions.
-use Rattle.std.specs.Prelude.{ℕ, nat_eq, if◌then◌else◌, List, [], ◌∷◌, ◌++◌, flat_map, map, codes}
+use Rattle.std.specs.Prelude.{ℕ, if◌then◌else◌, List, [], ◌∷◌, ◌++◌, flat_map, map, codes}
 use Rattle.cxx_model.specs.Facts.Declarations.{CxxFact, CxxGraph}
 use Rattle.cxx_reading.specs.Declarators.{no_cv}
 use Rattle.cxx_reading.specs.Plain.{NamesOfText, NamedFunction, named_function, type_or_void, is_empty, enumeration_words, function_words}
 use Rattle.cxx_reading.specs.Productions as production
 use Rattle.cxx_reading.specs.State.{CxxState}
-use Rattle.cxx_reading.specs.Trees.{CxxTree, CxxTrees, no_trees, tree_then}
+use Rattle.cxx_reading.specs.Trees.{CxxTree, CxxTrees}
 use Rattle.cxx_reading.specs.Units.{CxxReading}
 use Rattle.cxx_reading.specs.Words.{Word, keyword_word, name_word, semicolon_word, declared, line_text}
 use Rattle.cxx_phrase_text.specs.Calls.{CallOfText, calls_of}
 use Rattle.cxx_phrase_text.specs.Phrases as phrases
 use Rattle.cxx_form.specs.Definitions.{definition_calls, definition_words}
-use Rattle.cxx_form.specs.Order.{Line, enumeration_line, function_line, object_line, definition_lines, lines, names_of_text}
+use Rattle.cxx_form.specs.Order.{Line, enumeration_line, function_line, object_line, definition_lines, lines, names_of_text, parts_of_production}
 
 -- the initializers among the parts of a declarator
 abbrev pub initializers_in : CxxTrees → List CxxTree
-initializers_in no_trees = []
-initializers_in (tree_then label children next) =
-    if nat_eq label.production production.initializer then record { label = label; children = children } ∷ initializers_in next else initializers_in next
+initializers_in trees = parts_of_production production.initializer trees
 
 abbrev pub initializer_words : NamesOfText → List CxxTree → List Word
 initializer_words names [] = []

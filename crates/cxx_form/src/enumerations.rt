@@ -3,12 +3,13 @@ ghost use Rattle.std.specs.Prelude.{◌≡◌, ◌<◌, ◌+◌, List, length, o
 ghost use Rattle.std.specs.List.{slice_get};
 ghost use Rattle.cxx_model.specs.Facts.Declarations.{declares_at};
 ghost use Rattle.cxx_model.specs.Types.Trees.{CxxType};
-ghost use Rattle.cxx_form.specs.Giving.{declared_or, holder_by, named_by, AreDeclared, AreEnumerators, HasDeclared, HasEnumerator, HasGiven, HasNamed};
+ghost use Rattle.cxx_form.specs.Giving.{declared_or, enumeration_of_fact, holder_by, named_by, AreDeclared, AreEnumerators, HasDeclared, HasGiven, HasNamed};
 ghost use Rattle.cxx_form.specs.Lines.{enumeration_in};
 ghost use Rattle.cxx_form.specs.Slots.{slot_at};
 ghost use Rattle.cxx_form.specs.Views.{facts_from, facts_in};
 
 use crate::facts::fact;
+use crate::held::hold;
 use crate::rows::Rows;
 use crate::slots::Slots;
 use cxx_model::{Entity, EnumId, FactId};
@@ -26,11 +27,11 @@ fn named(what: Entity) -> Option<EnumId>
 }
 
 // The enumeration of which an enumerator is declared.
-fn holder(what: Entity) -> Option<EnumId>
-    ensures { (types : List CxxType) → option_map enumeration_in result ≡ holder_by (declares_at types what) }
+fn holder(what: Entity) -> Option<u32>
+    ensures { (types : List CxxType) → result ≡ holder_by (declares_at types what) }
 {
     match what {
-        Entity::Enumerator { number, .. } => Some(number),
+        Entity::Enumerator { number, .. } => Some(number.0),
         _ => None,
     }
 }
@@ -50,17 +51,6 @@ fn note(slots: &mut Slots, number: u32, named: Option<EnumId>) -> Result<(), All
     Ok(())
 }
 
-// Adds an enumerator to those of its enumeration.
-fn hold(rows: &mut Rows, number: u32, holder: Option<EnumId>) -> Result<(), AllocError>
-    ensures { OnOk result (HasEnumerator rows.old rows.new number (option_map enumeration_in holder)) }
-{
-    let Some(holder) = holder else {
-        return Ok(());
-    };
-    rows.push(holder.0, FactId(number))?;
-    Ok(())
-}
-
 fn note_at(state: &State, slots: &mut Slots, number: u32) -> Result<(), AllocError>
     requires there { number < length (state.now).graph.facts }
     requires bounded { number < 4294967295 }
@@ -73,7 +63,7 @@ fn note_at(state: &State, slots: &mut Slots, number: u32) -> Result<(), AllocErr
 
 fn hold_at(state: &State, rows: &mut Rows, number: u32) -> Result<(), AllocError>
     requires { number < length (state.now).graph.facts }
-    ensures { OnOk result (HasGiven rows.old rows.new number (slice_get (facts_in state.now) number)) }
+    ensures { OnOk result (HasGiven enumeration_of_fact rows.old rows.new number (slice_get (facts_in state.now) number)) }
 {
     let fact = fact(state, FactId(number));
     hold(rows, number, holder(fact.what))?;

@@ -18,6 +18,7 @@ use crate::enumerations::{declared, enumerators};
 use crate::lines::{Line, plain_lines};
 use crate::names::tags;
 use crate::order::numbering;
+use crate::scoped::objects;
 use crate::text::write_lines;
 use cxx_model::Listed;
 use cxx_page::{Page, PlainFault, Tags};
@@ -51,7 +52,7 @@ fn text_of(alloc: Global, book: &Book<'_>, lines: &[Line]) -> Result<Vec<u8>, Pl
     ensures full { (options : Options) → result ≡ Err PlainFault.Limit → MOST_OUTPUT < length (plain_text (record { options = options; state = meaning book.now.state.now })) }
 {
     let mut page = Page::new(alloc);
-    write_lines(book, &mut page, lines)?;
+    write_lines(alloc, book, &mut page, lines)?;
     Ok(page.into_bytes())
 }
 
@@ -70,7 +71,8 @@ fn printed_by(alloc: Global, book: &Book<'_>, lines: &[Line]) -> Result<Printed,
 }
 
 /// Prints the reading whose state this is. Its plain form has a line for each enumeration, each function and each
-/// declaration of an object, each name with a number and each conversion as a cast.
+/// declaration of an object, and the lines of each definition of a function, each name with a number and each conversion
+/// as a cast.
 pub fn print_reading(alloc: Global, state: &State) -> Result<Printed, PlainFault>
     ensures is { (options : Options) → IfOk result (IsPrinted (record { options = options; state = meaning state.now })) }
     ensures full { (options : Options) → result ≡ Err PlainFault.Limit → is_past_output (record { options = options; state = meaning state.now }) ≡ true }
@@ -78,7 +80,8 @@ pub fn print_reading(alloc: Global, state: &State) -> Result<Printed, PlainFault
     let found = plain_lines(state, alloc)?;
     let rows = enumerators(state, alloc)?;
     let places = declared(state, alloc)?;
-    let numbers = numbering(state, &rows, found.as_slice(), alloc)?;
+    let scoped = objects(state, alloc)?;
+    let numbers = numbering(state, &rows, &scoped, found.as_slice(), alloc)?;
     let names = Tags {
         classes: Listed::new(alloc),
         enumerations: tags(state, &places, &numbers, alloc)?,
@@ -88,6 +91,7 @@ pub fn print_reading(alloc: Global, state: &State) -> Result<Printed, PlainFault
         numbering: &numbers,
         tags: &names,
         enumerators: &rows,
+        objects: &scoped,
     };
     fitted(state);
     printed_by(alloc, &book, found.as_slice())

@@ -1,26 +1,34 @@
 //! The plain form of a reading, from the state that the reading leaves.
 //!
-//! Its lines are listed once: enumerations, then functions, then objects. What they declare, in their order, gives each
-//! name its number. Tables hold the number of each declaration, where each enumeration is declared, its enumerators and
-//! its printed name; each is made in one pass, so the time is that of the declarations, the trees and the text.
+//! Its lines are listed once: enumerations, then functions, then objects, then definitions of functions. What they
+//! declare, in their order, gives each name its number. Tables hold the number of each declaration, where each enumeration
+//! is declared, its enumerators and its printed name, and the objects of each scope; each is made in one pass, so the time
+//! is that of the declarations, the trees and the text.
 #![tactic(auto)]
 
 mod book;
 mod called;
 mod calls;
-mod declarators;
+mod constants;
+mod defined;
+mod definitions;
 mod enumerations;
 mod enumerators;
 mod facts;
 mod form;
+mod found;
+mod heads;
+mod held;
 mod initializers;
 mod lines;
 mod names;
 mod numbering;
 mod objects;
 mod order;
+mod parts;
 mod production;
 mod rows;
+mod scoped;
 mod slots;
 mod text;
 mod words;

@@ -1,19 +1,20 @@
 //! The lines of a plain form, in order.
-ghost use Rattle.std.specs.Prelude.{◌≡◌, ◌<◌, [], ℕ, List, length, option_map, IfOk, OnOk};
+ghost use Rattle.std.specs.Prelude.{◌≡◌, ◌<◌, [], ℕ, List, length, map, option_map, IfOk, OnOk};
 ghost use Rattle.std.specs.List.{slice_get};
 ghost use Rattle.cxx_model.specs.Facts.Declarations.{declares_at};
 ghost use Rattle.cxx_model.specs.Types.Trees.{CxxType};
 ghost use Rattle.cxx_meaning.specs.Lookups.Gathered.{before};
-ghost use Rattle.cxx_form.specs.Order.{enumeration_lines, function_lines, lines as lines_of, object_by, object_lines};
+ghost use Rattle.cxx_form.specs.Order.{definition_lines, enumeration_lines, function_lines, lines as lines_of, object_by, object_lines};
 ghost use Rattle.cxx_reading.specs.Trees.{CxxTree};
 ghost use Rattle.cxx_tree.specs.Arena.{tree_in, trees_in, AreTreesBelow};
 ghost use Rattle.cxx_tree.specs.Held.{meaning, trees};
 ghost use Rattle.cxx_form.specs.Giving.{enumeration_by, enumeration_given, function_by, function_given, given_at};
-ghost use Rattle.cxx_form.specs.Lines.{line_at, lines_at, number_in, object_first_by, AddsLines, AreLinesBelow, IsGivenBelow};
+ghost use Rattle.cxx_form.specs.Lines.{line_at, lines_at, AddsLines, AreLinesBelow, IsGivenBelow};
 ghost use Rattle.cxx_form.specs.Views.{facts_in};
 
-use crate::declarators::declarators;
-use crate::facts::{fact, find};
+use crate::defined::first_in;
+use crate::facts::fact;
+use crate::found::{declarators, definitions};
 use cxx_model::{Entity, EnumId, FactId, TreeId};
 use cxx_tree::State;
 use std::alloc::{AllocError, Global};
@@ -27,6 +28,8 @@ pub enum Line {
     Function(FactId),
     /// The tree of a declarator of an object, and the object's first declaration.
     Object(TreeId, FactId),
+    /// The tree of a definition of a function (8.4), which has lines of its own.
+    Definition(TreeId),
 }
 
 fn enumeration_line(number: FactId, what: Entity) -> Option<Line>
@@ -100,33 +103,13 @@ fn add_functions(state: &State, lines: &mut Vec<Line>) -> Result<(), AllocError>
     Ok(())
 }
 
-// The first declaration of the object that is declared.
-fn object_first(number: FactId, what: Entity) -> Option<FactId>
-    ensures { (types : List CxxType) → option_map number_in result ≡ object_first_by number.0 (declares_at types what) }
-{
-    match what {
-        Entity::Object {
-            first: Some(first),
-            ..
-        } => Some(first),
-        Entity::Object { first: None, .. } => Some(number),
-        _ => None,
-    }
-}
-
 // The line of a declarator, where it declares an object.
 fn object_line(state: &State, tree: TreeId) -> Option<Line>
     requires { tree.0 < length (trees state.now) }
     ensures is { before (option_map (line_at (trees state.now)) result) [] ≡ object_by (facts_in state.now) (tree_in (trees state.now) tree.0) (tree_in (trees state.now) tree.0).label.target }
     ensures below { IsGivenBelow (length (trees state.now)) result }
 {
-    let Some(number) = state.node(tree).target else {
-        return None;
-    };
-    let Some(fact) = find(state, number) else {
-        return None;
-    };
-    let Some(first) = object_first(number, fact.what) else {
+    let Some(first) = first_in(state, tree) else {
         return None;
     };
     Some(Line::Object(tree, first))
@@ -147,6 +130,21 @@ fn add_objects(
     Ok(())
 }
 
+// Adds each definition of a function.
+fn add_definitions(
+    state: &State,
+    definitions: &[TreeId],
+    lines: &mut Vec<Line>,
+) -> Result<(), AllocError>
+    requires { AreTreesBelow (length (trees state.now)) definitions.now }
+    ensures { OnOk result (AddsLines (trees state.now) lines.old.items lines.new.items (map definition_lines (trees_in (trees state.now) definitions.now))) }
+{
+    for tree in definitions {
+        lines.push(Line::Definition(*tree))?;
+    }
+    Ok(())
+}
+
 /// The lines of the plain form, in order.
 pub fn plain_lines(state: &State, alloc: Global) -> Result<Vec<Line>, AllocError>
     ensures is { IfOk result (λ found. lines_at (trees state.now) found.items ≡ lines_of (meaning state.now)) }
@@ -154,8 +152,10 @@ pub fn plain_lines(state: &State, alloc: Global) -> Result<Vec<Line>, AllocError
 {
     let mut found = Vec::new(alloc);
     let declarators = declarators(state, alloc)?;
+    let definitions = definitions(state, alloc)?;
     add_enumerations(state, &mut found)?;
     add_functions(state, &mut found)?;
     add_objects(state, declarators.as_slice(), &mut found)?;
+    add_definitions(state, definitions.as_slice(), &mut found)?;
     Ok(found)
 }

@@ -1,12 +1,13 @@
 //! Printed names.
 ghost use Rattle.std.specs.Prelude.{◌≡◌, List, ℕ, length, IfOk};
 ghost use Rattle.std.specs.List.{slice_get};
+ghost use Rattle.cxx_model.specs.Facts.Conflicts.{has_name as has_name_of};
 ghost use Rattle.cxx_model.specs.Facts.Declarations.{name_at};
 ghost use Rattle.cxx_model.specs.Facts.Graph.{enumerations, is_enumeration as is_enumeration_of};
 ghost use Rattle.cxx_model.specs.Printing.Names.{printed_name};
 ghost use Rattle.cxx_model.specs.Types.Trees.{CxxType};
 ghost use Rattle.cxx_reading.specs.TextOrder.{name_stem as name_stem_of, stem_of_fact};
-ghost use Rattle.cxx_form.specs.Order.{text_order};
+ghost use Rattle.cxx_form.specs.Order.{is_named as is_named_of, text_order};
 ghost use Rattle.cxx_tree.specs.Held.{meaning};
 ghost use Rattle.cxx_form.specs.Giving.{AreDeclared};
 ghost use Rattle.cxx_form.specs.Names.{names_in, AreTags};
@@ -43,6 +44,25 @@ pub(crate) fn stem_at(state: &State, number: FactId) -> &[u8]
     match find(state, number) {
         Some(fact) => name_stem(&fact.name),
         None => b"",
+    }
+}
+
+fn has_name(name: &Name) -> bool
+    ensures { (types : List CxxType) → result ≡ has_name_of (name_at types name.now) }
+{
+    match name {
+        Name::Unnamed => false,
+        _ => true,
+    }
+}
+
+/// Whether a declaration has a name.
+pub(crate) fn is_named(state: &State, number: FactId) -> bool
+    ensures { result ≡ is_named_of (slice_get (facts_in state.now) number.0) }
+{
+    match find(state, number) {
+        Some(fact) => has_name(&fact.name),
+        None => false,
     }
 }
 

@@ -1,13 +1,14 @@
 //! The order in which names stand in the text.
-ghost use Rattle.std.specs.Prelude.{◌≡◌, ◌++◌, [], flat_map, IfOk, OnOk};
+ghost use Rattle.std.specs.Prelude.{◌≡◌, ◌++◌, [], flat_map, length, IfOk, OnOk};
 ghost use Rattle.cxx_reading.specs.TextOrder.{with_each_new};
 ghost use Rattle.cxx_form.specs.Order.{declared_on, lines as lines_of, text_order};
 ghost use Rattle.cxx_tree.specs.Held.{meaning, trees};
-ghost use Rattle.cxx_form.specs.Giving.{AreEnumerators};
-ghost use Rattle.cxx_form.specs.Lines.{line_at, lines_at, numbers_in};
+ghost use Rattle.cxx_form.specs.Giving.{AreEnumerators, AreObjects};
+ghost use Rattle.cxx_form.specs.Lines.{line_at, lines_at, numbers_in, AreLinesBelow, IsLineBelow};
 ghost use Rattle.cxx_form.specs.Numbered.{IsNumbering};
 ghost use Rattle.cxx_form.specs.Views.{facts_in};
 
+use crate::defined::add_defined;
 use crate::lines::Line;
 use crate::numbering::Numbering;
 use crate::rows::Rows;
@@ -19,14 +20,17 @@ use std::alloc::{AllocError, Global};
 #[tactic(auto, using(crate::proofs::Ordered::one_declared, crate::proofs::Ordered::enumeration_declared))]
 fn add_declared(
     state: &State,
+    alloc: Global,
     rows: &Rows,
+    objects: &Rows,
     line: Line,
     found: &mut Vec<FactId>,
 ) -> Result<(), AllocError>
-    requires { AreEnumerators (facts_in state.now) rows.now }
+    requires rows { AreEnumerators (facts_in state.now) rows.now }
+    requires objects { AreObjects (facts_in state.now) objects.now }
+    requires below { IsLineBelow (length (trees state.now)) line }
     ensures { OnOk result (numbers_in found.new.items ≡ numbers_in found.old.items ++ declared_on (facts_in state.now) (line_at (trees state.now) line)) }
 {
-    let _ = state;
     match line {
         Line::Enumeration(n, number) => {
             found.push(number)?;
@@ -37,6 +41,7 @@ fn add_declared(
             found.push(number)?;
             Ok(())
         }
+        Line::Definition(tree) => add_defined(state, alloc, objects, tree, found),
     }
 }
 
@@ -45,15 +50,18 @@ fn add_declared(
 fn declared(
     state: &State,
     rows: &Rows,
+    objects: &Rows,
     lines: &[Line],
     alloc: Global,
 ) -> Result<Vec<FactId>, AllocError>
-    requires { AreEnumerators (facts_in state.now) rows.now }
+    requires rows { AreEnumerators (facts_in state.now) rows.now }
+    requires objects { AreObjects (facts_in state.now) objects.now }
+    requires below { AreLinesBelow (length (trees state.now)) lines.now }
     ensures { IfOk result (λ found. numbers_in found.items ≡ flat_map (declared_on (facts_in state.now)) (lines_at (trees state.now) lines.now)) }
 {
     let mut found = Vec::new(alloc);
     for line in lines {
-        add_declared(state, rows, *line, &mut found)?;
+        add_declared(state, alloc, rows, objects, *line, &mut found)?;
     }
     Ok(found)
 }
@@ -73,14 +81,17 @@ fn numbered(numbers: &[FactId], alloc: Global) -> Result<Numbering, AllocError>
 pub(crate) fn numbering(
     state: &State,
     rows: &Rows,
+    objects: &Rows,
     lines: &[Line],
     alloc: Global,
 ) -> Result<Numbering, AllocError>
     requires rows { AreEnumerators (facts_in state.now) rows.now }
+    requires objects { AreObjects (facts_in state.now) objects.now }
+    requires below { AreLinesBelow (length (trees state.now)) lines.now }
     requires lines { lines_at (trees state.now) lines.now ≡ lines_of (meaning state.now) }
     ensures { IfOk result (λ numbering. IsNumbering (text_order (meaning state.now)) numbering.count numbering.slots) }
 {
-    let numbers = declared(state, rows, lines, alloc)?;
+    let numbers = declared(state, rows, objects, lines, alloc)?;
     let numbering = numbered(numbers.as_slice(), alloc)?;
     Ok(numbering)
 }

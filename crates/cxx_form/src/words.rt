@@ -52,8 +52,12 @@ pub(crate) fn write_name(book: &Book<'_>, page: &mut Page, number: FactId) -> Re
     )
 }
 
-// Writes what stands before the name of what has a type; without one it is `void`.
-fn write_front(book: &Book<'_>, page: &mut Page, of: Option<TypeId>) -> Result<(), PlainFault>
+/// Writes what stands before the name of what has a type; without one it is `void`.
+pub(crate) fn write_front(
+    book: &Book<'_>,
+    page: &mut Page,
+    of: Option<TypeId>,
+) -> Result<(), PlainFault>
     requires { IsTypeNumberBelow (length (book.now.state.now).types) of }
     ensures { Writes result page.new (put (front (tags_of book.now.tags.now) no_cv_of (type_for book.now of)) page.old) }
 {
@@ -63,9 +67,13 @@ fn write_front(book: &Book<'_>, page: &mut Page, of: Option<TypeId>) -> Result<(
     }
 }
 
-// Writes what stands behind that name.
+/// Writes what stands behind that name.
 #[tactic(auto, using(cxx_page::proofs::Put::put_none))]
-fn write_back(book: &Book<'_>, page: &mut Page, of: Option<TypeId>) -> Result<(), PlainFault>
+pub(crate) fn write_back(
+    book: &Book<'_>,
+    page: &mut Page,
+    of: Option<TypeId>,
+) -> Result<(), PlainFault>
     requires { IsTypeNumberBelow (length (book.now.state.now).types) of }
     ensures { Writes result page.new (put (back (tags_of book.now.tags.now) (type_for book.now of)) page.old) }
 {
@@ -107,9 +115,13 @@ pub(crate) fn write_declared(
     write_named(book, page, of, number)
 }
 
-// Writes a type that stands alone; without one it is `void` (8.1).
+/// Writes a type that stands alone; without one it is `void` (8.1).
 #[tactic(auto, using(cxx_page::proofs::Put::put_append, crate::proofs::Typed::declared_alone))]
-fn write_alone(book: &Book<'_>, page: &mut Page, of: Option<TypeId>) -> Result<(), PlainFault>
+pub(crate) fn write_alone(
+    book: &Book<'_>,
+    page: &mut Page,
+    of: Option<TypeId>,
+) -> Result<(), PlainFault>
     requires book { IsBook book.now }
     requires below { IsTypeNumberBelow (length (book.now.state.now).types) of }
     ensures { Writes result page.new (put (declared (names_of book.now).tags no_cv_of (type_for book.now of) []) page.old) }
