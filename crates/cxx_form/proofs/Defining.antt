@@ -1,8 +1,8 @@
 -- What a definition of a function declares.
-use Rattle.std.proofs.Common.{◌≡◌, ℕ, ◌+◌, ◌<◌, ◌≤◌, Bool, true, false, eqb, List, [], ◌∷◌, ◌++◌, length, drop, get_or, map, Option, Some, None, option_map, refl, ap, sym, ◌∙◌, append-nil, append_assoc}
+use Rattle.std.proofs.Common.{◌≡◌, ℕ, ◌+◌, ◌<◌, ◌≤◌, Bool, true, false, List, [], ◌∷◌, ◌++◌, length, drop, get_or, Option, Some, None, option_map, refl, ap, sym, ◌∙◌, append-nil, append_assoc}
 use Rattle.std.specs.Prelude.{flat_map, nat_eq, if◌then◌else◌}
 use Rattle.std.specs.List.{slice_get}
-use Rattle.std.proofs.lemmas.List.{at_drop_more, at_drop_all, map-append}
+use Rattle.std.proofs.lemmas.List.{at_drop_more, at_drop_all}
 use Rattle.cxx_model.specs.declared.facts.Fact.{Fact}
 use Rattle.cxx_model.specs.declared.tree.Node.{Node}
 use Rattle.cxx_model.specs.declared.types.FactId.{FactId}
@@ -11,9 +11,9 @@ use Rattle.cxx_model.specs.Facts.Conflicts.{has_name}
 use Rattle.cxx_model.specs.Facts.Declarations.{CxxFact, declares_at, fact_at, name_at}
 use Rattle.cxx_reading.specs.Plain.{is_empty}
 use Rattle.cxx_reading.specs.Productions as production
-use Rattle.cxx_reading.specs.Trees.{CxxTree, CxxTrees, Label, no_trees, tree_then}
+use Rattle.cxx_reading.specs.Trees.{CxxTree, CxxTrees, no_trees, tree_then}
 use Rattle.cxx_statement_text.specs.Objects.{first_by, first_found, first_in, first_of_fact, if_printed, is_found, printed_in}
-use Rattle.cxx_tree.specs.Arena.{number_of_option, tree_in, tree_over, trees_in}
+use Rattle.cxx_tree.specs.Arena.{number_of_option, tree_over, trees_in}
 use Rattle.cxx_tree.specs.Held.{Held, tree, trees}
 use Rattle.cxx_form.specs.Lines.{number_in, numbers_in}
 use Rattle.cxx_form.specs.Order.{body_of, declared_by, declared_on, definition_lines, first_number, found_in, if_named, is_named, list_by, list_of_body, locals_in, named_among, parameters_in, scope_of_fact}

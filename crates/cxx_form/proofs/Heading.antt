@@ -7,7 +7,7 @@ use Rattle.cxx_model.specs.declared.facts.Fact.{Fact}
 use Rattle.cxx_model.specs.declared.tree.Node.{Node}
 use Rattle.cxx_model.specs.declared.types.FactId.{FactId}
 use Rattle.cxx_model.specs.declared.types.TreeId.{TreeId}
-use Rattle.cxx_model.specs.Facts.Declarations.{CxxFact, declares_at, fact_at, type_of_option}
+use Rattle.cxx_model.specs.Facts.Declarations.{declares_at, type_of_option}
 use Rattle.cxx_model.specs.Types.Trees.{CxxType, fundamental}
 use Rattle.cxx_phrase_text.specs.Listed.{listed_words}
 use Rattle.cxx_phrase_text.proofs.Listing.{all_listed}
@@ -19,8 +19,8 @@ use Rattle.cxx_statement_text.specs.Statements.{open_brace}
 use Rattle.cxx_tree.specs.Arena.{number_of_option, tree_over}
 use Rattle.cxx_tree.specs.Held.{Held, tree, trees}
 use Rattle.cxx_form.specs.declared.book.Book.{Book}
-use Rattle.cxx_form.specs.Books.{facts_of, graph_of, names_of, type_for}
-use Rattle.cxx_form.specs.Definitions.{definition_words, ellipsis_words, first_by, first_of_declarator, function_first, function_first_by, has_ellipsis, head_words, list_words, object_type, object_type_by, parameter_words, result_of, type_of_declarator}
+use Rattle.cxx_form.specs.Books.{facts_of, graph_of, names_of}
+use Rattle.cxx_form.specs.Definitions.{definition_words, ellipsis_words, first_by, first_of_declarator, function_first, function_first_by, has_ellipsis, head_words, object_type, object_type_by, parameter_words, result_of, type_of_declarator}
 use Rattle.cxx_form.specs.Lines.{numbers_in}
 use Rattle.cxx_form.specs.Order.{body_of, declarator_of, is_named, parameters_of}
 use Rattle.cxx_form.specs.Parts.{definition_parts, dots_behind, head_at, head_of, is_none, list_at, name_if, named_list, parameter_at}

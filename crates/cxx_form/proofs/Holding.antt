@@ -10,7 +10,7 @@ use Rattle.cxx_model.specs.Facts.Declarations.{CxxFact, fact_at, facts_at}
 use Rattle.cxx_meaning.specs.Lookups.Gathered.{before, gathered}
 use Rattle.cxx_reading.specs.Declaring.{is_object}
 use Rattle.cxx_form.specs.Giving.{given_at, held_given, if_held, scope_if, scope_of_object, AreHeld, AreObjects, HasGiven, HasHeld}
-use Rattle.cxx_form.specs.Lines.{number_in, numbers_in}
+use Rattle.cxx_form.specs.Lines.{numbers_in}
 use Rattle.cxx_form.specs.Order.{parameters_in}
 use Rattle.cxx_form.specs.Rows.{row_at, IsRowMore}
 use Rattle.cxx_form.proofs.Gathering.{gathered_all, given_more}

@@ -1,5 +1,5 @@
 -- The trees of a production that are found in others, one part after another.
-use Rattle.std.proofs.Common.{◌≡◌, ℕ, zero, suc, ◌+◌, ◌<◌, ◌≤◌, Bool, true, false, cond, eqb, List, [], ◌∷◌, ◌++◌, length, drop, get_or, map, refl, ap, sym, subst, ◌∙◌, append-nil, append_assoc, arith}
+use Rattle.std.proofs.Common.{◌≡◌, ℕ, zero, suc, ◌+◌, ◌<◌, ◌≤◌, Bool, true, false, eqb, List, [], ◌∷◌, ◌++◌, length, drop, get_or, map, refl, ap, sym, subst, ◌∙◌, append-nil, append_assoc, arith}
 use Rattle.std.specs.Prelude.{nat_eq, if◌then◌else◌}
 use Rattle.std.proofs.lemmas.Bool.{eqb-true, eq-eqb}
 use Rattle.std.proofs.lemmas.List.{at_drop_more, at_drop_all}
@@ -9,7 +9,7 @@ use Rattle.cxx_model.specs.Types.Trees.{CxxType}
 use Rattle.cxx_reading.specs.TextOrder.{part_tree}
 use Rattle.cxx_form.specs.Order.{found_in, found_of}
 use Rattle.cxx_reading.specs.Trees.{CxxTree, CxxTrees, Label, in_turn, no_trees, tree_then}
-use Rattle.cxx_tree.specs.Arena.{label_at, tree_in, tree_over, trees_in, AreTreesBelow}
+use Rattle.cxx_tree.specs.Arena.{tree_in, tree_over, trees_in, AreTreesBelow}
 use Rattle.cxx_tree.specs.declared.kept.Piece.{Piece}
 use Rattle.cxx_tree.specs.Held.{pieces_at, ArePiecesBelow}
 use Rattle.cxx_tree.proofs.Arenas.{below_append, trees_append}

@@ -18,3 +18,4 @@ pub mod Tagged
 pub mod Typed
 pub mod Valued
 pub mod Whole
+mod Worked

@@ -1,7 +1,8 @@
 -- The calls of a reading that are listed, in the order of its plain form.
 --
--- Those of an object stand where its line stands, and the arguments of a call stand before it. What the plain form does
--- not write is not listed: what a size measures (5.3.3), bounds of arrays and values of enumerators.
+-- Those of an object stand where its line stands, and those of a body where its lines stand; the arguments of a call
+-- stand before it. What the plain form does not write is not listed: what a size measures (5.3.3), bounds of arrays and
+-- values of enumerators.
 use Rattle.std.specs.Prelude.{List, [], ◌∷◌}
 use Rattle.std.specs.List.{slice_get}
 use Rattle.cxx_form.specs.Text.{printed_calls}

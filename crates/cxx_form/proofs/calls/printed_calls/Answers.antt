@@ -1,4 +1,4 @@
-use Rattle.std.proofs.Common.{ap, map, ◌∙◌}
+use Rattle.std.proofs.Common.{ap, ◌∙◌}
 use Rattle.cxx_tree.specs.Held.{trees}
 use Rattle.cxx_form.specs.Lines.{lines_at}
 use Rattle.cxx_form.proofs.Calling.{all_calls}

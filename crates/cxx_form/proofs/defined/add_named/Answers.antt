@@ -1,4 +1,4 @@
-use Rattle.std.proofs.Common.{◌≡◌, ◌++◌, ◌∙◌, ap, List, ℕ}
+use Rattle.std.proofs.Common.{◌++◌, ◌∙◌, ap, List, ℕ}
 use Rattle.std.specs.Prelude.{flat_map}
 use Rattle.cxx_form.specs.Lines.{numbers_in}
 use Rattle.cxx_form.specs.Views.{facts_in}

@@ -1,5 +1,4 @@
-use Rattle.std.proofs.Common.{◌≡◌, ◌∙◌, ap}
-use Rattle.cxx_form.specs.Lines.{numbers_in}
+use Rattle.std.proofs.Common.{◌∙◌, ap}
 use Rattle.cxx_form.specs.Order.{parameters_in}
 use Rattle.cxx_form.specs.Views.{facts_in}
 use Rattle.cxx_form.proofs.Holding.{row_of_list}

@@ -1,4 +1,4 @@
-use Rattle.std.proofs.Common.{length, List}
+use Rattle.std.proofs.Common.{List}
 use Rattle.cxx_reading.specs.Trees.{CxxTree}
 use Rattle.cxx_tree.specs.Arena.{trees_in}
 use Rattle.cxx_tree.specs.Held.{tree, trees}

@@ -1,4 +1,4 @@
-use Rattle.std.proofs.Common.{None, Some, sym}
+use Rattle.std.proofs.Common.{None, Some}
 use Rattle.cxx_tree.specs.Held.{tree}
 use Rattle.cxx_form.specs.Views.{facts_in}
 use Rattle.cxx_form.proofs.Lined.{object_by_first}

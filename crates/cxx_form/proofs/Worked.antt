@@ -1,0 +1,165 @@
+-- Worked readings with definitions of functions: their texts.
+use Rattle.std.specs.Prelude.{ℕ, ◌≡◌, refl, true, false, List, [], ◌∷◌, Some, None, codes}
+use Rattle.std.specs.Fmt.{digits}
+use Rattle.cxx_model.specs.declared.base.Base.TheVariants as base
+use Rattle.cxx_model.specs.declared.facts.Access.TheVariants as access
+use Rattle.cxx_model.specs.declared.facts.FunctionFlags.{FunctionFlags}
+use Rattle.cxx_model.specs.declared.facts.MemberKind.TheVariants as member
+use Rattle.cxx_model.specs.declared.facts.ScopeKind.TheVariants as kind
+use Rattle.cxx_model.specs.Facts.Declarations as facts
+use Rattle.cxx_model.specs.Facts.Declarations.{CxxFact, CxxName, Declares, spelled, unnamed}
+use Rattle.cxx_model.specs.Printing.Names.{printed_name, stem}
+use Rattle.cxx_model.specs.Text.Lexemes.{nowhere}
+use Rattle.cxx_model.specs.Types.Trees.{CxxType, CxxTypes, fundamental, function_of, pointer_to, no_types, type_then}
+use Rattle.cxx_reading.specs.Declarators.{no_cv}
+use Rattle.cxx_reading.specs.State.{CxxPart, CxxState, first_state, unit_scope}
+use Rattle.cxx_reading.specs.TextOrder.{text_name}
+use Rattle.cxx_reading.specs.Trees.{CxxTree, Label, tree_of}
+use Rattle.cxx_statement_text.specs.Calls.{statement_calls}
+use Rattle.cxx_statement_text.specs.Statements.{body_lines}
+use Rattle.cxx_form.specs.Definitions.{definition_words}
+use Rattle.cxx_form.specs.Order.{lines, names_of_text, text_order}
+use Rattle.cxx_form.specs.Text.{printed_calls, text_by}
+
+-- ---- declarations
+
+abbrev int : CxxType
+int = fundamental base.Int
+
+abbrev char : CxxType
+char = fundamental base.Char
+
+abbrev function_type : CxxType → CxxTypes → CxxType
+function_type result parameters = function_of result parameters false no_cv
+
+abbrev flags : FunctionFlags
+flags = record { is_virtual = false; is_pure = false; is_explicit = false; is_implicit = false }
+
+abbrev fact : ℕ → CxxName → Declares → CxxFact
+fact scope name what = record { place = nowhere; scope = scope; name = name; access = access.Public; what = what }
+
+abbrev function : List ℕ → CxxType → CxxFact
+function name of = fact 0 (spelled name) (facts.function of member.Free flags 0 None)
+
+-- another declaration of the function with a number
+abbrev function_again : List ℕ → CxxType → ℕ → CxxFact
+function_again name of first = fact 0 (spelled name) (facts.function of member.Free flags 0 (Some (record { 0 = first })))
+
+abbrev list_in : ℕ → CxxFact
+list_in scope = fact scope unnamed (facts.scope (Some (record { 0 = scope })) kind.Parameters)
+
+abbrev body_in : ℕ → ℕ → CxxFact
+body_in scope function = fact scope unnamed (facts.scope (Some (record { 0 = scope })) (kind.Block (Some (record { 0 = function }))))
+
+abbrev block_in : ℕ → CxxFact
+block_in scope = fact scope unnamed (facts.scope (Some (record { 0 = scope })) (kind.Block None))
+
+abbrev object_in : ℕ → CxxName → CxxType → CxxFact
+object_in scope name of = fact scope name (facts.object of member.Free false None None)
+
+-- ---- trees
+
+abbrev label : ℕ → List ℕ → Label
+label production spelling = record { production = production; spelling = spelling; first = 0; last = 0; start = nowhere; place = nowhere; path = None; operand = None; of = None; target = None; call = None }
+
+abbrev literal : CxxTree
+literal = tree_of (label 34 (codes "0")) []
+
+abbrev named : ℕ → CxxTree
+named n = tree_of (record (label 36 []) { target = Some n }) []
+
+abbrev call : ℕ → ℕ → List CxxTree → CxxTree
+call number target arguments = tree_of (record (label 40 []) { target = Some target; call = Some number }) arguments
+
+abbrev declarator : ℕ → CxxType → List CxxTree → CxxTree
+declarator n of parts = tree_of (record (label 20 []) { target = Some n; of = Some of }) parts
+
+abbrev object : ℕ → CxxTree → CxxTree
+object n tree = declarator n int (tree_of (record (label 22 (codes "=")) { of = Some int }) (tree ∷ []) ∷ [])
+
+abbrev specifiers : CxxTree
+specifiers = tree_of (label 53 []) []
+
+abbrev simple : List CxxTree → CxxTree
+simple declarators = tree_of (label 8 []) (specifiers ∷ declarators)
+
+abbrev declares : List CxxTree → CxxTree
+declares declarators = tree_of (label 24 []) (simple declarators ∷ [])
+
+abbrev block : List CxxTree → CxxTree
+block parts = tree_of (label 23 []) parts
+
+abbrev expression : CxxTree → CxxTree
+expression tree = tree_of (label 25 []) (tree ∷ [])
+
+abbrev for_ : CxxTree → CxxTree → CxxTree → CxxTree → CxxTree
+for_ first condition step one = tree_of (label 31 []) (first ∷ condition ∷ step ∷ one ∷ [])
+
+abbrev returns : CxxTree → CxxTree
+returns tree = tree_of (label 33 []) (tree ∷ [])
+
+-- a definition with a declaration and a type, whose body begins a scope with a declaration
+abbrev definition : ℕ → CxxType → ℕ → List CxxTree → CxxTree
+definition n of scope statements = tree_of (label 15 []) (specifiers ∷ declarator n of [] ∷ tree_of (record (label 23 []) { target = Some scope }) statements ∷ [])
+
+abbrev reading : List CxxFact → List CxxTree → CxxState
+reading all trees = record first_state {
+  graph = record { facts = unit_scope ∷ all; classes = []; patterns = [] };
+  parts = parts_of trees;
+}
+  where
+    parts_of : List CxxTree → List CxxPart
+    parts_of [] = []
+    parts_of (tree ∷ others) = record { tree = tree; scope = 0; uses = [] } ∷ parts_of others
+
+abbrev text : CxxState → List ℕ
+text state = text_by (names_of_text state) state
+
+-- ---- rows
+
+-- int f(int a, char) { return a; }
+abbrev one_named : CxxState
+one_named =
+    let of : CxxType = function_type int (type_then int (type_then char no_types)) in
+    reading (list_in 0 ∷ object_in 1 (spelled (codes "a")) int ∷ object_in 1 unnamed char ∷ function (codes "f") of ∷ body_in 1 4 ∷ []) (definition 4 of 5 (returns (named 2) ∷ []) ∷ [])
+
+names_of_parameters : text one_named ≡ codes "int f__1(int, char);\nint f__1(int a__2, char) {\n  return a__2;\n}\n"
+unfolding names_of_text text_order lines text_name printed_name stem definition_words body_lines digits
+names_of_parameters = refl
+
+-- int h() { for (int i = 0; i; i) { int j = i; } return h(); }
+abbrev with_locals : CxxState
+with_locals =
+    let of : CxxType = function_type int no_types in
+    reading (list_in 0 ∷ function (codes "h") of ∷ body_in 1 2 ∷ block_in 2 ∷ object_in 3 (spelled (codes "i")) int ∷ block_in 3 ∷ object_in 4 (spelled (codes "j")) int ∷ [])
+    (definition 2 of 3 (for_ (declares (object 5 literal ∷ [])) (named 5) (named 5) (block (declares (object 7 (named 5) ∷ []) ∷ [])) ∷ returns (call 0 2 []) ∷ []) ∷ [])
+
+locals_of_a_for : text with_locals ≡ codes "int h__1();\nint h__1() {\n  for (int i__2 = 0; i__2; i__2) {\n    int j__3 = i__2;\n  }\n  return h__1();\n}\n"
+unfolding names_of_text text_order lines text_name printed_name stem definition_words body_lines digits
+locals_of_a_for = refl
+
+calls_of_a_body : printed_calls with_locals ≡ record { number = 0; target = 2 } ∷ []
+unfolding printed_calls lines statement_calls
+calls_of_a_body = refl
+
+-- void p(...); void q() { } int x = 0; void p(...) { q(); }
+abbrev in_order : CxxState
+in_order =
+    let p : CxxType = function_of (fundamental base.Void) no_types true no_cv in
+    let q : CxxType = function_type (fundamental base.Void) no_types in
+    reading (list_in 0 ∷ function (codes "p") p ∷ list_in 0 ∷ function (codes "q") q ∷ body_in 2 4 ∷ object_in 0 (spelled (codes "x")) int ∷ list_in 0 ∷ function_again (codes "p") p 2 ∷ body_in 4 8 ∷ [])
+    (simple (declarator 2 p [] ∷ []) ∷ definition 4 q 5 [] ∷ simple (object 6 literal ∷ []) ∷ definition 8 p 9 (expression (call 0 4 []) ∷ []) ∷ [])
+
+definitions_in_order : text in_order ≡ codes "void p__1(...);\nvoid q__2();\nint x__3 = 0;\nvoid q__2() {\n}\nvoid p__1(...) {\n  q__2();\n}\n"
+unfolding names_of_text text_order lines text_name printed_name stem definition_words body_lines digits
+definitions_in_order = refl
+
+-- int (*r(int a))(char) { return 0; }
+abbrev returns_a_pointer : CxxState
+returns_a_pointer =
+    let of : CxxType = function_type (pointer_to (function_type int (type_then char no_types))) (type_then int no_types) in
+    reading (list_in 0 ∷ object_in 1 (spelled (codes "a")) int ∷ function (codes "r") of ∷ body_in 1 3 ∷ []) (definition 3 of 4 (returns literal ∷ []) ∷ [])
+
+result_round_the_list : text returns_a_pointer ≡ codes "int (*r__1(int))(char);\nint (*r__1(int a__2))(char) {\n  return 0;\n}\n"
+unfolding names_of_text text_order lines text_name printed_name stem definition_words body_lines digits
+result_round_the_list = refl
