@@ -3,6 +3,7 @@ ghost use Rattle.std.specs.List.{slice_get};
 ghost use Rattle.cxx_defined.specs.Defined.{IsOwn};
 
 use crate::declaring::Declaring;
+use crate::phrases::condition_value;
 use cxx_answers::Answering;
 use cxx_declare as declare;
 use cxx_graph::Graph;
@@ -34,9 +35,10 @@ impl Declares for Declaring {
         &self,
         state: &mut State,
         cursor: &mut Cursor<'_>,
+        place: SpecifierPlace,
         room: u32,
     ) -> Result<Specifiers, Stop> {
-        read_specifiers(self, state, cursor, SpecifierPlace::Declaration, room)
+        read_specifiers(self, state, cursor, place, room)
     }
 
     #[tactic(auto, unfolding(cxx_language::specs::Answers::asking))]
@@ -57,6 +59,15 @@ impl Declares for Declaring {
         room: u32,
     ) -> Result<Initializer, Stop> {
         read_initializer(self, state, cursor, room)
+    }
+
+    fn condition_value(
+        &self,
+        state: &mut State,
+        cursor: &mut Cursor<'_>,
+        room: u32,
+    ) -> Result<Initializer, Stop> {
+        condition_value(self, state, cursor, room)
     }
 
     #[tactic(auto, using(crate::proofs::Answering::asked))]

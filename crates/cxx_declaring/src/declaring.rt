@@ -51,7 +51,7 @@ fn begun(state: &mut State, number: EnumId) -> Result<(EnumId, TypeId), Stop>
 }
 
 impl Kinds for Declaring {
-    ghost use Rattle.cxx_language.specs.Units.{asked};
+    ghost use Rattle.cxx_language.specs.Asked.{asked};
 
     ghost asks = { λ self room. (asked room).kinds };
 
@@ -137,7 +137,7 @@ impl Kinds for Declaring {
 }
 
 impl Asking for Declaring {
-    ghost use Rattle.cxx_language.specs.Units.{asked};
+    ghost use Rattle.cxx_language.specs.Asked.{asked};
 
     ghost wholes = { λ self room. (asked room).whole };
 

@@ -3,5 +3,6 @@
 
 mod declares;
 mod declaring;
+mod phrases;
 
 pub use declaring::Declaring;

@@ -1,0 +1,110 @@
+//! The expressions and the bodies that declarations hold.
+
+ghost use Rattle.cxx_language.specs.Asked.{inner_at, phrases_at};
+ghost use Rattle.cxx_language.specs.Blocks as blocks;
+ghost use Rattle.cxx_phrases.specs.Initializers.{copy_at, expression_at};
+ghost use Rattle.cxx_phrases.specs.Views.{IsInitializer, initializer_of};
+ghost use Rattle.cxx_syntax.specs.Asking.{IsTreeKnown};
+ghost use Rattle.cxx_syntax.specs.Reading.{IsRead};
+ghost use Rattle.cxx_tree.specs.Held.{meaning, tree};
+
+use crate::declaring::Declaring;
+use cxx_body::{Phrasing, read_function_body};
+use cxx_heads::Head;
+use cxx_knot::{condition_ahead, head_ahead, read_phrase};
+use cxx_language::Defines;
+use cxx_model::{FactId, Form, Listed, ScopeId, Stop, TreeId, TypeId, punct};
+use cxx_phrases::{Initializer, Level};
+use cxx_syntax::{Cursor, NameToken, is_punct};
+use cxx_tree::State;
+
+#[tactic(auto, unfolding(cxx_language::specs::Answers::asking))]
+fn phrase(
+    declaring: &Declaring,
+    state: &mut State,
+    cursor: &mut Cursor<'_>,
+    level: Level,
+    room: u32,
+) -> Result<TreeId, Stop>
+    ensures { IsRead tree IsTreeKnown state.old state.new cursor.new result (expression_at (phrases_at room) (inner_at room).phrases level (meaning state.old) cursor.old) }
+{
+    read_phrase(declaring, state, cursor, level, room)
+}
+
+// The value of an object, behind `=` (8.5).
+#[tactic(auto, using(cxx_syntax::proofs::Kept::later_refl), unfolding(cxx_phrases::specs::Initializers::copy_at))]
+fn value_behind(
+    declaring: &Declaring,
+    state: &mut State,
+    cursor: &mut Cursor<'_>,
+    room: u32,
+) -> Result<Initializer, Stop>
+    ensures { IsRead initializer_of IsInitializer state.old state.new cursor.new result (copy_at (phrases_at room) (inner_at room).phrases (meaning state.old) cursor.old) }
+{
+    let number = phrase(declaring, state, cursor, Level::Assignment, room)?;
+    let mut parts = Listed::new(cursor.alloc());
+    parts.push(number)?;
+    Ok(Initializer {
+        form: Form::Copy,
+        parts,
+    })
+}
+
+/// The value of the object that a condition declares, from its `=` on (6.4).
+#[tactic(auto, using(cxx_syntax::proofs::Kept::later_refl), unfolding(cxx_language::specs::Blocks::condition_value))]
+pub(crate) fn condition_value(
+    declaring: &Declaring,
+    state: &mut State,
+    cursor: &mut Cursor<'_>,
+    room: u32,
+) -> Result<Initializer, Stop>
+    ensures { IsRead initializer_of IsInitializer state.old state.new cursor.new result (blocks.condition_value (phrases_at room) (inner_at room).phrases (meaning state.old) cursor.old) }
+{
+    if is_punct(punct::EQUALS, cursor.kind()) {
+        cursor.advance();
+        return value_behind(declaring, state, cursor, room);
+    }
+    Err(Stop::Fault(cursor.refused()?))
+}
+
+impl Phrasing for Declaring {
+    #[tactic(auto, unfolding(cxx_language::specs::Answers::asking))]
+    fn head(&self, state: &mut State, cursor: &Cursor<'_>, room: u32) -> Result<Head, Stop> {
+        head_ahead(self, state, cursor, room)
+    }
+
+    #[tactic(auto, unfolding(cxx_language::specs::Answers::asking))]
+    fn is_condition(
+        &self,
+        state: &mut State,
+        cursor: &Cursor<'_>,
+        room: u32,
+    ) -> Result<bool, Stop> {
+        condition_ahead(self, state, cursor, room)
+    }
+
+    fn phrase(
+        &self,
+        state: &mut State,
+        cursor: &mut Cursor<'_>,
+        level: Level,
+        room: u32,
+    ) -> Result<TreeId, Stop> {
+        phrase(self, state, cursor, level, room)
+    }
+}
+
+impl Defines for Declaring {
+    fn body(
+        &self,
+        state: &mut State,
+        cursor: &mut Cursor<'_>,
+        name: &NameToken,
+        of: TypeId,
+        number: FactId,
+        list: ScopeId,
+        room: u32,
+    ) -> Result<TreeId, Stop> {
+        read_function_body(self, state, cursor, name, of, number, list, room)
+    }
+}
