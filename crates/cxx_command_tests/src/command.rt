@@ -49,13 +49,24 @@ fn reports_a_fault(rt: HostRuntime) -> Result<(), Fail> {
 }
 
 #[test]
+fn writes_a_body(rt: HostRuntime) -> Result<(), Fail> {
+    let end = End {
+        status: 0,
+        out: b"int f__1(int);\nint f__1(int x__2) {\n  return f__1(x__2);\n}\n",
+        err: b"",
+    };
+    assert!(rt; ends(rt.alloc(), b"int f(int x) { return f(x); }", &[], &end)?);
+    Ok(())
+}
+
+#[test]
 fn reports_what_is_not_built(rt: HostRuntime) -> Result<(), Fail> {
     let end = End {
         status: 1,
         out: b"",
-        err: b"1:12: not built\n",
+        err: b"1:16: not built\n",
     };
-    assert!(rt; ends(rt.alloc(), b"int f(int) { }", &[], &end)?);
+    assert!(rt; ends(rt.alloc(), b"void f() { int g(int); }", &[], &end)?);
     Ok(())
 }
 
@@ -102,7 +113,7 @@ fn a_report_that_cannot_be_written_leaves_a_part(rt: HostRuntime) -> Result<(), 
 }
 
 fn leaves_a_part_of_a_report(alloc: Global) -> Result<bool, Fail> {
-    let mut source = MemorySource::new(alloc, b"int f(int) { }", ROOM, &[])?;
+    let mut source = MemorySource::new(alloc, b"void f() { int g(int); }", ROOM, &[])?;
     let mut out = MemorySink::new(alloc, ROOM, ROOM, &[])?;
     let mut err = MemorySink::new(alloc, 3, ROOM, &[])?;
     let status = run(alloc, &[], &mut source, &mut out, &mut err);
