@@ -1,8 +1,7 @@
 -- Declarations in blocks (6.7) and in conditions (6.4).
-use Rattle.std.specs.Prelude.{ℕ, Bool, true, false, ◌||◌, if◌then◌else◌, List, [], ◌∷◌, ◌++◌, Option, Some, Ok}
+use Rattle.std.specs.Prelude.{ℕ, false, ◌||◌, if◌then◌else◌, List, [], ◌∷◌, ◌++◌, Option, Some, Ok}
 use Rattle.cxx_model.specs.declared.fault.FaultText.TheVariants as says
 use Rattle.cxx_model.specs.declared.punct.TheConstants as punct
-use Rattle.cxx_model.specs.declared.tree.Form.TheVariants as form
 use Rattle.cxx_model.specs.Text.Lexemes.{Lexeme}
 use Rattle.cxx_meaning.specs.Conversions.Sizes.{referred}
 use Rattle.cxx_model.specs.Types.Trees.{CxxType}

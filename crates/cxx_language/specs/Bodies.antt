@@ -1,5 +1,5 @@
 -- The bodies of functions (8.4).
-use Rattle.std.specs.Prelude.{ℕ, zero, suc, List, [], length, Option, Some}
+use Rattle.std.specs.Prelude.{ℕ, zero, suc, List, [], length, Some}
 use Rattle.cxx_model.specs.declared.base.Base.TheVariants.{Void}
 use Rattle.cxx_model.specs.declared.stop.LimitKind.TheVariants.{Nesting}
 use Rattle.cxx_model.specs.Text.Lexemes.{Lexeme}
