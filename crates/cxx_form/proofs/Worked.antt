@@ -99,8 +99,8 @@ abbrev returns : CxxTree → CxxTree
 returns tree = tree_of (label 33 []) (tree ∷ [])
 
 -- a definition with a declaration and a type, whose body begins a scope with a declaration
-abbrev definition : ℕ → CxxType → ℕ → List CxxTree → CxxTree
-definition n of scope statements = tree_of (label 15 []) (specifiers ∷ declarator n of [] ∷ tree_of (record (label 23 []) { target = Some scope }) statements ∷ [])
+abbrev defined_as : ℕ → CxxType → ℕ → List CxxTree → CxxTree
+defined_as n of scope statements = tree_of (label 15 []) (specifiers ∷ declarator n of [] ∷ tree_of (record (label 23 []) { target = Some scope }) statements ∷ [])
 
 abbrev reading : List CxxFact → List CxxTree → CxxState
 reading all trees = record first_state {
@@ -121,7 +121,7 @@ text state = text_by (names_of_text state) state
 abbrev one_named : CxxState
 one_named =
     let of : CxxType = function_type int (type_then int (type_then char no_types)) in
-    reading (list_in 0 ∷ object_in 1 (spelled (codes "a")) int ∷ object_in 1 unnamed char ∷ function (codes "f") of ∷ body_in 1 4 ∷ []) (definition 4 of 5 (returns (named 2) ∷ []) ∷ [])
+    reading (list_in 0 ∷ object_in 1 (spelled (codes "a")) int ∷ object_in 1 unnamed char ∷ function (codes "f") of ∷ body_in 1 4 ∷ []) (defined_as 4 of 5 (returns (named 2) ∷ []) ∷ [])
 
 names_of_parameters : text one_named ≡ codes "int f__1(int, char);\nint f__1(int a__2, char) {\n  return a__2;\n}\n"
 unfolding names_of_text text_order lines text_name printed_name stem definition_words body_lines digits
@@ -132,7 +132,7 @@ abbrev with_locals : CxxState
 with_locals =
     let of : CxxType = function_type int no_types in
     reading (list_in 0 ∷ function (codes "h") of ∷ body_in 1 2 ∷ block_in 2 ∷ object_in 3 (spelled (codes "i")) int ∷ block_in 3 ∷ object_in 4 (spelled (codes "j")) int ∷ [])
-    (definition 2 of 3 (for_ (declares (object 5 literal ∷ [])) (named 5) (named 5) (block (declares (object 7 (named 5) ∷ []) ∷ [])) ∷ returns (call 0 2 []) ∷ []) ∷ [])
+    (defined_as 2 of 3 (for_ (declares (object 5 literal ∷ [])) (named 5) (named 5) (block (declares (object 7 (named 5) ∷ []) ∷ [])) ∷ returns (call 0 2 []) ∷ []) ∷ [])
 
 locals_of_a_for : text with_locals ≡ codes "int h__1();\nint h__1() {\n  for (int i__2 = 0; i__2; i__2) {\n    int j__3 = i__2;\n  }\n  return h__1();\n}\n"
 unfolding names_of_text text_order lines text_name printed_name stem definition_words body_lines digits
@@ -148,7 +148,7 @@ in_order =
     let p : CxxType = function_of (fundamental base.Void) no_types true no_cv in
     let q : CxxType = function_type (fundamental base.Void) no_types in
     reading (list_in 0 ∷ function (codes "p") p ∷ list_in 0 ∷ function (codes "q") q ∷ body_in 2 4 ∷ object_in 0 (spelled (codes "x")) int ∷ list_in 0 ∷ function_again (codes "p") p 2 ∷ body_in 4 8 ∷ [])
-    (simple (declarator 2 p [] ∷ []) ∷ definition 4 q 5 [] ∷ simple (object 6 literal ∷ []) ∷ definition 8 p 9 (expression (call 0 4 []) ∷ []) ∷ [])
+    (simple (declarator 2 p [] ∷ []) ∷ defined_as 4 q 5 [] ∷ simple (object 6 literal ∷ []) ∷ defined_as 8 p 9 (expression (call 0 4 []) ∷ []) ∷ [])
 
 definitions_in_order : text in_order ≡ codes "void p__1(...);\nvoid q__2();\nint x__3 = 0;\nvoid q__2() {\n}\nvoid p__1(...) {\n  q__2();\n}\n"
 unfolding names_of_text text_order lines text_name printed_name stem definition_words body_lines digits
@@ -158,7 +158,7 @@ definitions_in_order = refl
 abbrev returns_a_pointer : CxxState
 returns_a_pointer =
     let of : CxxType = function_type (pointer_to (function_type int (type_then char no_types))) (type_then int no_types) in
-    reading (list_in 0 ∷ object_in 1 (spelled (codes "a")) int ∷ function (codes "r") of ∷ body_in 1 3 ∷ []) (definition 3 of 4 (returns literal ∷ []) ∷ [])
+    reading (list_in 0 ∷ object_in 1 (spelled (codes "a")) int ∷ function (codes "r") of ∷ body_in 1 3 ∷ []) (defined_as 3 of 4 (returns literal ∷ []) ∷ [])
 
 result_round_the_list : text returns_a_pointer ≡ codes "int (*r__1(int))(char);\nint (*r__1(int a__2))(char) {\n  return 0;\n}\n"
 unfolding names_of_text text_order lines text_name printed_name stem definition_words body_lines digits
