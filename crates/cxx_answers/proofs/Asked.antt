@@ -1,6 +1,14 @@
 -- The question of a call, asked of the decision.
-use Rattle.std.specs.Prelude.{ℕ, suc, ◌≡◌, nat_lt, Bool, true, false, List, [], ◌∷◌, length, Option, Some, None, Result, Ok, Err, refl}
-use Rattle.std.proofs.Common.{ap, sym, subst, ◌∙◌}
+use Rattle.std.specs.Prelude.{ℕ, zero, suc, ◌≡◌, ◌<◌, ◌≤◌, nat_lt, Bool, true, false, List, [], ◌∷◌, ◌++◌, length, Option, Some, None, Result, Ok, Err, refl}
+use Rattle.std.proofs.Common.{◌+◌, ap, sym, subst, ◌∙◌, append_assoc, arith, get_or, drop}
+use Rattle.std.proofs.lemmas.List.{append-nil, at_drop_more, at_drop_all}
+use Rattle.std.specs.Option.{option_map}
+use Rattle.cxx_adl.specs.Views.{given}
+use Rattle.cxx_model.specs.declared.facts.Fact.{Fact}
+use Rattle.cxx_model.specs.declared.types.TypeId.{TypeId}
+use Rattle.cxx_model.specs.Types.Numbers.{AreTypesBelow, type_at}
+use Rattle.cxx_expr.specs.Calls.{bare_word}
+use Rattle.cxx_answers.proofs.Told.{fact_seen, there_at}
 use Rattle.std.specs.List.{slice_get}
 use Rattle.cxx_model.specs.declared.limits.TheConstants as limits
 use Rattle.cxx_model.specs.declared.place.Place.{Place}
@@ -9,8 +17,8 @@ use Rattle.cxx_model.specs.declared.stop.LimitKind.TheVariants.{Arguments}
 use Rattle.cxx_model.specs.declared.stop.Stop.{Stop}
 use Rattle.cxx_model.specs.declared.stop.Stop.TheVariants as stop
 use Rattle.cxx_model.specs.declared.types.FactId.{FactId}
-use Rattle.cxx_model.specs.Facts.Declarations.{CxxFact, CxxGraph, graph_at}
-use Rattle.cxx_model.specs.Stops.{Answer, Gives, Limited, Stops}
+use Rattle.cxx_model.specs.Facts.Declarations.{CxxFact, CxxGraph, fact_at, graph_at}
+use Rattle.cxx_model.specs.Stops.{Answer, Gives, Limited, Stops, undeclared_at}
 use Rattle.cxx_model.specs.Types.Trees.{CxxType}
 use Rattle.cxx_meaning.specs.Conversions.Standard.{CxxOperand}
 use Rattle.cxx_reading.specs.Seen.{Numbered}
@@ -21,9 +29,9 @@ use Rattle.cxx_overload.specs.Views as overload
 use Rattle.cxx_tree.specs.Answered.{IsAnswered}
 use Rattle.cxx_tree.specs.Held.{Held, meaning}
 use Rattle.cxx_expr.specs.declared.questions.Chosen.{Chosen}
-use Rattle.cxx_expr.specs.Questions.{CxxChosen}
-use Rattle.cxx_expr.specs.Views.{AreOperandsBelow, IsChosen, chosen_of, numbered, numbered_in, operands_in, question_of, with_fact}
-use Rattle.cxx_answers.specs.Answers.{call_here, called_as}
+use Rattle.cxx_expr.specs.Questions.{CxxChosen, CxxQuestion}
+use Rattle.cxx_expr.specs.Views.{AreFactsKnown, AreOperandsBelow, IsChosen, chosen_of, numbered, numbered_in, operands_in, question_of, with_fact}
+use Rattle.cxx_answers.specs.Answers.{call_here, called_as, decided_among, functions_of_call, types_of_operands, word_or_none}
 use Rattle.cxx_answers.specs.declared.calls.Ruling.{Ruling}
 use Rattle.cxx_answers.specs.Ruled.{CxxRuling, made_by, ruled_by, ruling_at}
 
@@ -97,6 +105,73 @@ pub too_many : (held : Held) (place : Place) (brackets word : List ℕ) (functio
 unfolding call_here
 too_many held place brackets word functions operands seen test same counts is = rw (count_is held.types operands seen test true same counts is) refl
 
-pub few_enough : (old new : Held) (result : Result Chosen Stop) (place : Place) (brackets word : List ℕ) (functions : List FactId) (operands seen : List Operand) (test : Bool) → seen ≡ operands → test ≡ nat_lt limits.MOST_ARGUMENTS (length seen) → test ≡ false → IsAnswered chosen_of IsChosen old new result (called_as (meaning old) (decided place (operands_in old.types operands) (meaning old).graph (numbered old functions))) → IsAnswered chosen_of IsChosen old new result (call_here (question_of old place brackets word functions operands) (meaning old))
+pub few_enough : (old new : Held) (result : Result Chosen Stop) (place : Place) (brackets word : List ℕ) (functions : List FactId) (operands seen : List Operand) (test : Bool) → seen ≡ operands → test ≡ nat_lt limits.MOST_ARGUMENTS (length seen) → test ≡ false
+    → IsAnswered chosen_of IsChosen old new result (called_as (meaning old) (decided_among (question_of old place brackets word functions operands) (meaning old) (functions_of_call (meaning old).graph (meaning old).here.scope (question_of old place brackets word functions operands))))
+    → IsAnswered chosen_of IsChosen old new result (call_here (question_of old place brackets word functions operands) (meaning old))
 unfolding call_here
 few_enough old new result place brackets word functions operands seen test same counts is called = rw (count_is old.types operands seen test false same counts is) called
+
+-- ---- among which functions it is decided
+
+-- none
+pub ruled_none : (held : Held) (place : Place) (brackets word : List ℕ) (functions all : List FactId) (operands : List Operand) → length all ≡ 0 → Err (undeclared_at place (word_or_none (bare_word brackets word))) ≡ ruled_by (decided_among (question_of held place brackets word functions operands) (meaning held) (numbered held all))
+ruled_none held place brackets word functions [] operands none = refl
+ruled_none held place brackets word functions (one ∷ all) operands none = absurd (omega (arith, none))
+
+known_there : (held : Held) (number : FactId) → number.0 < length held.graph.facts → (fact : CxxFact) × (slice_get (meaning held).graph.facts number.0 ≡ Some fact)
+unfolding meaning
+known_there held number less =
+    let at : (fact : Fact) × (slice_get held.graph.facts number.0 ≡ Some fact) = there_at held.graph.facts number.0 less in
+    (fact_at held.types at.0, fact_seen held.types held.graph.facts number.0 ∙ ap (option_map (fact_at held.types)) at.1)
+
+some_decided : (held : Held) (place : Place) (brackets word : List ℕ) (functions all : List FactId) (operands : List Operand) → AreFactsKnown held all → 0 < length all → decided place (operands_in held.types operands) (meaning held).graph (numbered held all) ≡ decided_among (question_of held place brackets word functions operands) (meaning held) (numbered held all)
+some_decided held place brackets word functions [] operands known some = absurd (omega (arith, some))
+some_decided held place brackets word functions (one ∷ all) operands known some =
+    let there : (fact : CxxFact) × (slice_get (meaning held).graph.facts one.0 ≡ Some fact) = known_there held one known.0 in
+    ap (λ o. decided place (operands_in held.types operands) (meaning held).graph (with_fact one.0 o (numbered held all))) there.1
+    ∙ sym (ap (λ o. decided_among (question_of held place brackets word functions operands) (meaning held) (with_fact one.0 o (numbered held all))) there.1)
+
+-- some
+pub ruled_some : (held : Held) (place : Place) (brackets word : List ℕ) (functions all : List FactId) (operands : List Operand) (result : Result Ruling Stop) → AreFactsKnown held all → 0 < length all → Gives (ruling_at held.types) result (ruled_by (decided place (operands_in held.types operands) (meaning held).graph (numbered held all))) → Gives (ruling_at held.types) result (ruled_by (decided_among (question_of held place brackets word functions operands) (meaning held) (numbered held all)))
+ruled_some held place brackets word functions all operands result known some gives =
+    subst (λ (answer : Answer CxxDecision). Gives (ruling_at held.types) result (ruled_by answer)) (some_decided held place brackets word functions all operands known some) gives
+
+-- the functions are those that the call may mean
+pub called_same : (old new : Held) (result : Result Chosen Stop) (question : CxxQuestion) (all : List FactId) (meant : List Numbered) → numbered old all ≡ meant → IsAnswered chosen_of IsChosen old new result (called_as (meaning old) (decided_among question (meaning old) (numbered old all))) → IsAnswered chosen_of IsChosen old new result (called_as (meaning old) (decided_among question (meaning old) meant))
+called_same old new result question all meant is called =
+    subst (λ (ones : List Numbered). IsAnswered chosen_of IsChosen old new result (called_as (meaning old) (decided_among question (meaning old) ones))) is called
+
+-- ---- the types of arguments
+
+given_more : (types : List CxxType) (of : List TypeId) (one : TypeId) → given types (of ++ one ∷ []) ≡ given types of ++ type_at types one.0 ∷ []
+given_more types [] one = refl
+given_more types (first ∷ of) one = ap (λ ts. type_at types first.0 ∷ ts) (given_more types of one)
+
+pub types_step : (types : List CxxType) (of after : List TypeId) (operands : List Operand) (i : ℕ) (operand d : Operand) (whole : List CxxType) → i < length operands → operand ≡ get_or operands i d → after ≡ of ++ operand.of ∷ [] → given types of ++ types_of_operands (operands_in types (drop i operands)) ≡ whole → given types after ++ types_of_operands (operands_in types (drop (i + 1) operands)) ≡ whole
+types_step types of after operands i operand d whole less is added same =
+    let rest : List CxxType = types_of_operands (operands_in types (drop (i + 1) operands)) in
+    ap (λ ns. given types ns ++ rest) added
+    ∙ ap (λ ts. ts ++ rest) (given_more types of operand.of)
+    ∙ append_assoc (given types of) (type_at types operand.of.0 ∷ []) rest
+    ∙ ap (λ (o : Operand). given types of ++ types_of_operands (operands_in types (o ∷ drop (i + 1) operands))) is
+    ∙ sym (at_drop_more (λ os. given types of ++ types_of_operands (operands_in types os)) operands i d less)
+    ∙ same
+
+pub types_end : (types : List CxxType) (of : List TypeId) (operands : List Operand) (i : ℕ) (whole : List CxxType) → length operands ≤ i → given types of ++ types_of_operands (operands_in types (drop i operands)) ≡ whole → given types of ≡ whole
+types_end types of operands i whole past same =
+    sym (append-nil (given types of))
+    ∙ sym (at_drop_all (λ os. given types of ++ types_of_operands (operands_in types os)) operands i past)
+    ∙ same
+
+operand_below : (count : ℕ) (operands : List Operand) (i : ℕ) (operand d : Operand) → AreOperandsBelow count operands → i < length operands → operand ≡ get_or operands i d → operand.of.0 < count
+operand_below count [] i operand d below less is = absurd (omega (arith, less))
+operand_below count (one ∷ operands) zero operand d below less is = subst (λ (o : Operand). o.of.0 < count) (sym is) below.0
+operand_below count (one ∷ operands) (suc i) operand d below less is = operand_below count operands i operand d below.1 (omega (arith, less)) is
+
+types_more : (count : ℕ) (of : List TypeId) (one : TypeId) → AreTypesBelow count of → one.0 < count → AreTypesBelow count (of ++ one ∷ [])
+types_more count [] one below last = (last, tt)
+types_more count (first ∷ of) one below last = (below.0, types_more count of one below.1 last)
+
+pub types_below : (count : ℕ) (of after : List TypeId) (operands : List Operand) (i : ℕ) (operand d : Operand) → AreTypesBelow count of → AreOperandsBelow count operands → i < length operands → operand ≡ get_or operands i d → after ≡ of ++ operand.of ∷ [] → AreTypesBelow count after
+types_below count of after operands i operand d below all less is added =
+    subst (AreTypesBelow count) (sym added) (types_more count of operand.of below (operand_below count operands i operand d all less is))

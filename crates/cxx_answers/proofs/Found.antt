@@ -1,23 +1,31 @@
--- The declarations that the index of names finds are those that a name means.
-use Rattle.std.specs.Prelude.{ℕ, ◌≡◌, ◌<◌, ◌≤◌, suc, Bool, true, false, ◌||◌, List, [], ◌∷◌, length, Option, Some, None, refl}
+-- What a name means and what a call may mean, by the numbers of declarations.
+use Rattle.std.specs.Prelude.{ℕ, ◌≡◌, ◌<◌, Bool, true, false, ◌||◌, List, [], ◌∷◌, ◌++◌, length, Option, Some, None, refl}
 use Rattle.std.proofs.Common.{ap, sym, subst, ◌∙◌, arith}
-use Rattle.std.proofs.lemmas.List.{length-map}
-use Rattle.std.proofs.lemmas.Option.{slice_get_within}
 use Rattle.std.specs.List.{slice_get}
 use Rattle.std.specs.Option.{option_map}
 use Rattle.cxx_model.specs.declared.facts.Fact.{Fact}
+use Rattle.cxx_model.specs.declared.lookup.Found.{Found as Sought}
 use Rattle.cxx_model.specs.declared.types.FactId.{FactId}
 use Rattle.cxx_model.specs.declared.types.ScopeId.{ScopeId}
-use Rattle.cxx_model.specs.Facts.Declarations.{CxxFact, CxxGraph, CxxName, fact_at, facts_at, graph_at}
+use Rattle.cxx_model.specs.Facts.Declarations.{CxxFact, CxxGraph, CxxName, fact_at, graph_at}
 use Rattle.cxx_model.specs.Facts.Graph.{Graph}
+use Rattle.cxx_model.specs.Text.Lexemes.{nowhere}
 use Rattle.cxx_model.specs.Types.Trees.{CxxType}
-use Rattle.cxx_names.specs.Index.{number_of, numbers_in}
+use Rattle.cxx_meaning.specs.Conversions.Standard.{CxxOperand}
+use Rattle.cxx_meaning.specs.Lookups.Associated.{associated}
+use Rattle.cxx_meaning.specs.Lookups.Wanted.{any_name}
 use Rattle.cxx_names.specs.Looked.{looked_up, seen_by}
-use Rattle.cxx_overload.proofs.Gathering.{fact_seen}
-use Rattle.cxx_reading.specs.Seen.{Numbered, found}
+use Rattle.cxx_reading.specs.Declaring.{place_in, place_of_fact}
+use Rattle.cxx_reading.specs.Givers.{giver, with_givers}
+use Rattle.cxx_reading.specs.Seen.{Numbered, fact_numbers, numbered_at, sought_from}
 use Rattle.cxx_tree.specs.Held.{Held, fact_of_option, meaning}
-use Rattle.cxx_answers.specs.Answers.{is_parameter, is_tested, names_parameter, names_tested}
+use Rattle.cxx_expr.specs.Calls.{bare_word}
 use Rattle.cxx_expr.specs.Views.{AreFactsBelow, AreFactsKnown, numbered, numbered_in, with_fact}
+use Rattle.cxx_answers.specs.Answers.{found_in_sets, fresh_among, is_local, is_tested, names_local, names_tested, scope_of_giver, types_of_operands}
+use Rattle.cxx_answers.specs.Besides.{besides_in}
+use Rattle.cxx_answers.specs.Told.{AreNumbersBelow, IsScopeOf}
+use Rattle.cxx_answers.proofs.Fresh.{numbered_is}
+use Rattle.cxx_answers.proofs.Told.{fact_seen}
 
 seen_same : (types : List CxxType) (n : FactId) (others : List Numbered) (o : Option Fact) → with_fact n.0 (option_map (fact_at types) o) others ≡ seen_by types n others o
 seen_same types n others None = refl
@@ -31,41 +39,112 @@ looked_same types graph (n ∷ numbers) =
     ∙ seen_same types n (numbered_in (graph_at types graph) numbers) (slice_get graph.facts n.0)
     ∙ ap (λ others. seen_by types n others (slice_get graph.facts n.0)) (looked_same types graph numbers)
 
--- what was found by the index is what a name means
-pub found_is : (held : Held) (seen : Graph) (said : ScopeId) (word : CxxName) (numbers : List FactId) → seen ≡ held.graph → said ≡ held.scope → looked_up held.types seen.facts numbers ≡ found (graph_at held.types seen) said.0 word → numbered held numbers ≡ found (meaning held).graph (meaning held).here.scope word
+-- ---- what a name means
+
+-- what was looked up is what a name means where the reader stands
+pub sought_here : (held : Held) (seen : Graph) (types : List CxxType) (said : ScopeId) (word : CxxName) (one : Sought) → seen ≡ held.graph → types ≡ held.types → said ≡ held.scope → one ≡ sought_from (graph_at types seen) any_name said.0 word → one ≡ sought_from (meaning held).graph any_name (meaning held).here.scope word
 unfolding meaning
-found_is held seen said word numbers same there is =
-    subst (λ (n : ScopeId). numbered_in (graph_at held.types held.graph) numbers ≡ found (graph_at held.types held.graph) n.0 word) there
-    (subst (λ (g : Graph). numbered_in (graph_at held.types g) numbers ≡ found (graph_at held.types g) said.0 word) same (looked_same held.types seen numbers ∙ is))
+sought_here held seen types said word one same named there is =
+    subst (λ (n : ScopeId). one ≡ sought_from (graph_at held.types held.graph) any_name n.0 word) there
+    (subst (λ (ts : List CxxType). one ≡ sought_from (graph_at ts held.graph) any_name said.0 word) named
+    (subst (λ (g : Graph). one ≡ sought_from (graph_at types g) any_name said.0 word) same is))
 
--- ---- and each number is that of a declaration
+-- the functions that it means, with those that tell their default arguments
+pub givers_here : (held : Held) (seen : Graph) (types : List CxxType) (said : ScopeId) (numbers all : List FactId) → seen ≡ held.graph → types ≡ held.types → said ≡ held.scope → looked_up types seen.facts all ≡ with_givers (graph_at types seen) said.0 (looked_up types seen.facts numbers) → numbered held all ≡ with_givers (meaning held).graph (meaning held).here.scope (numbered_at (meaning held).graph (fact_numbers numbers))
+unfolding meaning
+givers_here held seen types said numbers all same named there is =
+    let own : numbered_in (graph_at types seen) all ≡ with_givers (graph_at types seen) said.0 (numbered_at (graph_at types seen) (fact_numbers numbers)) =
+    looked_same types seen all ∙ is ∙ ap (with_givers (graph_at types seen) said.0) (sym (numbered_is types seen numbers)) in
+    subst (λ (n : ScopeId). numbered_in (graph_at held.types held.graph) all ≡ with_givers (graph_at held.types held.graph) n.0 (numbered_at (graph_at held.types held.graph) (fact_numbers numbers))) there
+    (subst (λ (ts : List CxxType). numbered_in (graph_at ts held.graph) all ≡ with_givers (graph_at ts held.graph) said.0 (numbered_at (graph_at ts held.graph) (fact_numbers numbers))) named
+    (subst (λ (g : Graph). numbered_in (graph_at types g) all ≡ with_givers (graph_at types g) said.0 (numbered_at (graph_at types g) (fact_numbers numbers))) same own))
 
-no_more : (graph : CxxGraph) (numbers : List FactId) → length (numbered_in graph numbers) ≤ length numbers
-no_more graph [] = omega arith
-no_more graph (n ∷ numbers) = by (slice_get graph.facts n.0) (no_more graph numbers)
-  where
-    by : (o : Option CxxFact) → length (numbered_in graph numbers) ≤ length numbers → length (with_fact n.0 o (numbered_in graph numbers)) ≤ suc (length numbers)
-    by None rest = omega (arith, rest)
-    by (Some fact) rest = omega (arith, rest)
+-- ---- each number is that of a declaration
 
-all_below : (graph : CxxGraph) (numbers : List FactId) → length (numbered_in graph numbers) ≡ length numbers → AreFactsBelow (length graph.facts) numbers
-all_below graph [] counted = tt
-all_below graph (n ∷ numbers) counted = by (slice_get graph.facts n.0) refl counted (no_more graph numbers) (all_below graph numbers)
-  where
-    by : (o : Option CxxFact) → slice_get graph.facts n.0 ≡ o → length (with_fact n.0 o (numbered_in graph numbers)) ≡ suc (length numbers) → length (numbered_in graph numbers) ≤ length numbers → (length (numbered_in graph numbers) ≡ length numbers → AreFactsBelow (length graph.facts) numbers) → (n.0 < length graph.facts) × AreFactsBelow (length graph.facts) numbers
-    by None is same rest others = absurd (omega (arith, same, rest))
-    by (Some fact) is same rest others = (slice_get_within graph.facts n.0 fact is, others (omega (arith, same)))
+known_all : (count : ℕ) (numbers : List FactId) → AreNumbersBelow count numbers → AreFactsBelow count numbers
+known_all count [] below = tt
+known_all count (n ∷ numbers) below = (below.0, known_all count numbers below.1)
 
-facts_counted : (types : List CxxType) (facts : List Fact) → length (facts_at types facts) ≡ length facts
-facts_counted types [] = refl
-facts_counted types (fact ∷ facts) = ap suc (facts_counted types facts)
+below_all : (count : ℕ) (numbers : List FactId) → AreFactsBelow count numbers → AreNumbersBelow count numbers
+below_all count [] below = tt
+below_all count (n ∷ numbers) below = (below.0, below_all count numbers below.1)
 
-pub all_found : (held : Held) (seen : Graph) (said : ScopeId) (word : CxxName) (numbers : List FactId) → seen ≡ held.graph → looked_up held.types seen.facts numbers ≡ found (graph_at held.types seen) said.0 word → numbers ≡ numbers_in (found (graph_at held.types seen) said.0 word) → AreFactsKnown held numbers
-all_found held seen said word numbers same is counted =
-    let many : length (numbered_in (graph_at held.types held.graph) numbers) ≡ length numbers =
-    subst (λ (g : Graph). length (numbered_in (graph_at held.types g) numbers) ≡ length numbers) same
-    (ap length (looked_same held.types seen numbers ∙ is) ∙ (let all : List Numbered = found (graph_at held.types seen) said.0 word in sym (ap length counted ∙ length-map all number_of))) in
-    subst (λ n. AreFactsBelow n numbers) (facts_counted held.types held.graph.facts) (all_below (graph_at held.types held.graph) numbers many)
+pub all_known : (held : Held) (seen : Graph) (numbers : List FactId) → seen ≡ held.graph → AreNumbersBelow (length seen.facts) numbers → AreFactsKnown held numbers
+all_known held seen numbers same below = known_all (length held.graph.facts) numbers (subst (λ (g : Graph). AreNumbersBelow (length g.facts) numbers) same below)
+
+pub all_below : (held : Held) (seen : Graph) (numbers : List FactId) → seen ≡ held.graph → AreFactsKnown held numbers → AreNumbersBelow (length seen.facts) numbers
+all_below held seen numbers same known = subst (λ (g : Graph). AreNumbersBelow (length g.facts) numbers) (sym same) (below_all (length held.graph.facts) numbers known)
+
+-- ---- one declaration
+
+pub place_there : (types : List CxxType) (graph : Graph) (n : ℕ) (fact : Fact) → slice_get graph.facts n ≡ Some fact → fact.place ≡ place_of_fact (graph_at types graph) n
+place_there types graph n fact at = sym (ap place_in (fact_seen types graph.facts n ∙ ap (option_map (fact_at types)) at))
+
+pub place_none : (types : List CxxType) (graph : Graph) (n : ℕ) → slice_get graph.facts n ≡ None → nowhere ≡ place_of_fact (graph_at types graph) n
+place_none types graph n at = sym (ap place_in (fact_seen types graph.facts n ∙ ap (option_map (fact_at types)) at))
+
+-- ---- the scope that tells default arguments
+
+scope_by : (o : Option Numbered) (scope : ScopeId) → IsScopeOf o scope → scope.0 ≡ scope_of_giver o
+scope_by None scope is = elim is [ ]
+scope_by (Some one) scope is = is
+
+pub scope_there : (held : Held) (seen : Graph) (types : List CxxType) (said scope : ScopeId) (function : ℕ) (one : Option Numbered) → seen ≡ held.graph → types ≡ held.types → said ≡ held.scope → one ≡ giver (graph_at types seen) said.0 function → IsScopeOf one scope → scope.0 ≡ scope_of_giver (giver (meaning held).graph (meaning held).here.scope function)
+unfolding meaning
+scope_there held seen types said scope function one same named there is known =
+    subst (λ (n : ScopeId). scope.0 ≡ scope_of_giver (giver (graph_at held.types held.graph) n.0 function)) there
+    (subst (λ (ts : List CxxType). scope.0 ≡ scope_of_giver (giver (graph_at ts held.graph) said.0 function)) named
+    (subst (λ (g : Graph). scope.0 ≡ scope_of_giver (giver (graph_at types g) said.0 function)) same (scope_by one scope known ∙ ap scope_of_giver is)))
+
+pub scope_none : (held : Held) (seen : Graph) (types : List CxxType) (said : ScopeId) (function : ℕ) → seen ≡ held.graph → types ≡ held.types → said ≡ held.scope → None ≡ giver (graph_at types seen) said.0 function → 0 ≡ scope_of_giver (giver (meaning held).graph (meaning held).here.scope function)
+unfolding meaning
+scope_none held seen types said function same named there is =
+    subst (λ (n : ScopeId). 0 ≡ scope_of_giver (giver (graph_at held.types held.graph) n.0 function)) there
+    (subst (λ (ts : List CxxType). 0 ≡ scope_of_giver (giver (graph_at ts held.graph) said.0 function)) named
+    (subst (λ (g : Graph). 0 ≡ scope_of_giver (giver (graph_at types g) said.0 function)) same (ap scope_of_giver is)))
+
+-- ---- what the types of arguments find besides
+
+pub besides_are : (held : Held) (seen : Graph) (types : List CxxType) (said : ScopeId) (functions more : List FactId) (word : List ℕ) (of : List CxxType) (operands : List CxxOperand) → seen ≡ held.graph → types ≡ held.types → said ≡ held.scope → of ≡ types_of_operands operands
+    → looked_up types seen.facts more ≡ with_givers (graph_at types seen) said.0 (numbered_at (graph_at types seen) (fresh_among (looked_up types seen.facts functions) (found_in_sets (graph_at types seen) word (associated (graph_at types seen) of))))
+    → numbered held more ≡ besides_in (meaning held) (numbered held functions) (Some word) operands
+unfolding meaning
+besides_are held seen types said functions more word of operands same named there typed is =
+    let found : CxxGraph → List Numbered → List CxxType → ℕ → List Numbered = λ g fs ts s. with_givers g s (numbered_at g (fresh_among fs (found_in_sets g word (associated g ts)))) in
+    let own : numbered_in (graph_at types seen) more ≡ found (graph_at types seen) (numbered_in (graph_at types seen) functions) (types_of_operands operands) said.0 =
+    looked_same types seen more
+    ∙ is
+    ∙ ap (λ fs. found (graph_at types seen) fs of said.0) (sym (looked_same types seen functions))
+    ∙ ap (λ ts. found (graph_at types seen) (numbered_in (graph_at types seen) functions) ts said.0) typed in
+    subst (λ (n : ScopeId). numbered_in (graph_at held.types held.graph) more ≡ found (graph_at held.types held.graph) (numbered_in (graph_at held.types held.graph) functions) (types_of_operands operands) n.0) there
+    (subst (λ (ts : List CxxType). numbered_in (graph_at ts held.graph) more ≡ found (graph_at ts held.graph) (numbered_in (graph_at ts held.graph) functions) (types_of_operands operands) said.0) named
+    (subst (λ (g : Graph). numbered_in (graph_at types g) more ≡ found (graph_at types g) (numbered_in (graph_at types g) functions) (types_of_operands operands) said.0) same own))
+
+-- a name in brackets
+pub no_besides : (held : Held) (functions : List Numbered) (brackets word : List ℕ) (operands : List CxxOperand) → 0 < length brackets → numbered held [] ≡ besides_in (meaning held) functions (bare_word brackets word) operands
+unfolding with_givers
+no_besides held functions [] word operands some = absurd (omega (arith, some))
+no_besides held functions (b ∷ brackets) word operands some = refl
+
+-- ---- declarations behind others
+
+with_more : (number : ℕ) (o : Option CxxFact) (one two : List Numbered) → with_fact number o (one ++ two) ≡ with_fact number o one ++ two
+with_more number None one two = refl
+with_more number (Some fact) one two = refl
+
+facts_more : (graph : CxxGraph) (one two : List FactId) → numbered_in graph (one ++ two) ≡ numbered_in graph one ++ numbered_in graph two
+facts_more graph [] two = refl
+facts_more graph (n ∷ one) two = ap (with_fact n.0 (slice_get graph.facts n.0)) (facts_more graph one two) ∙ with_more n.0 (slice_get graph.facts n.0) (numbered_in graph one) (numbered_in graph two)
+
+pub numbered_more : (held : Held) (all one two : List FactId) → all ≡ one ++ two → numbered held all ≡ numbered held one ++ numbered held two
+numbered_more held all one two is = ap (numbered held) is ∙ facts_more (meaning held).graph one two
+
+below_both : (count : ℕ) (one two : List FactId) → AreFactsBelow count one → AreFactsBelow count two → AreFactsBelow count (one ++ two)
+below_both count [] two below more = more
+below_both count (n ∷ one) two below more = (below.0, below_both count one two below.1 more)
+
+pub known_more : (held : Held) (all one two : List FactId) → all ≡ one ++ two → AreFactsKnown held one → AreFactsKnown held two → AreFactsKnown held all
+known_more held all one two is below more = subst (AreFactsKnown held) (sym is) (below_both (length held.graph.facts) one two below more)
 
 -- ---- parameters of functions
 
@@ -73,19 +152,19 @@ or_again : (a b : Bool) → (a || b) ≡ ((a || false) || b)
 or_again true b = refl
 or_again false b = refl
 
-pub parameter_more : (graph : CxxGraph) (types : List CxxType) (facts : List Fact) (number : FactId) (numbers : List FactId)
-    → names_parameter graph (looked_up types facts (number ∷ numbers)) ≡ (names_parameter graph (looked_up types facts (number ∷ [])) || names_parameter graph (looked_up types facts numbers))
-parameter_more graph types facts number numbers = by (slice_get facts number.0)
+pub local_more : (graph : CxxGraph) (types : List CxxType) (facts : List Fact) (number : FactId) (numbers : List FactId)
+    → names_local graph (looked_up types facts (number ∷ numbers)) ≡ (names_local graph (looked_up types facts (number ∷ [])) || names_local graph (looked_up types facts numbers))
+local_more graph types facts number numbers = by (slice_get facts number.0)
   where
-    by : (o : Option Fact) → names_parameter graph (seen_by types number (looked_up types facts numbers) o) ≡ (names_parameter graph (seen_by types number [] o) || names_parameter graph (looked_up types facts numbers))
+    by : (o : Option Fact) → names_local graph (seen_by types number (looked_up types facts numbers) o) ≡ (names_local graph (seen_by types number [] o) || names_local graph (looked_up types facts numbers))
     by None = refl
-    by (Some fact) = or_again (is_parameter graph (record { number = number.0; fact = fact_at types fact })) (names_parameter graph (looked_up types facts numbers))
+    by (Some fact) = or_again (is_local graph (record { number = number.0; fact = fact_at types fact })) (names_local graph (looked_up types facts numbers))
 
-pub parameter_meant : (held : Held) (seen : Graph) (numbers : List FactId) (answer : Bool) → seen ≡ held.graph → ((types : List CxxType) → answer ≡ names_parameter (graph_at types seen) (looked_up types seen.facts numbers)) → answer ≡ names_parameter (meaning held).graph (numbered held numbers)
+pub local_meant : (held : Held) (seen : Graph) (numbers : List FactId) (answer : Bool) → seen ≡ held.graph → ((types : List CxxType) → answer ≡ names_local (graph_at types seen) (looked_up types seen.facts numbers)) → answer ≡ names_local (meaning held).graph (numbered held numbers)
 unfolding meaning
-parameter_meant held seen numbers answer same is =
-    subst (λ (g : Graph). answer ≡ names_parameter (graph_at held.types g) (numbered_in (graph_at held.types g) numbers)) same
-    (is held.types ∙ ap (names_parameter (graph_at held.types seen)) (sym (looked_same held.types seen numbers)))
+local_meant held seen numbers answer same is =
+    subst (λ (g : Graph). answer ≡ names_local (graph_at held.types g) (numbered_in (graph_at held.types g) numbers)) same
+    (is held.types ∙ ap (names_local (graph_at held.types seen)) (sym (looked_same held.types seen numbers)))
 
 -- ---- the object that a condition declares
 

@@ -1,7 +1,10 @@
 pub mod Asked
 pub mod Built
 pub mod Found
+pub mod Fresh
+pub mod Nowhere
 pub mod Opened
 pub mod Path
 pub mod Records
+pub mod Told
 pub mod Typing

@@ -1,28 +1,35 @@
 -- What is asked to find what an expression means, answered by the declarations so far (3.4, 5.3.3, 5.19, 13.3).
-use Rattle.std.specs.Prelude.{ℕ, zero, ◌^◌, nat_eq, nat_lt, ℤ, pos, negsuc, Bool, true, false, ◌&&◌, ◌||◌, if◌then◌else◌, List, [], ◌∷◌, length, Option, Some, None, Result, Ok, Err}
-use Rattle.std.specs.List.{slice_get}
+use Rattle.std.specs.Prelude.{ℕ, zero, ◌^◌, nat_eq, nat_lt, ℤ, pos, negsuc, Bool, true, false, not, ◌&&◌, ◌||◌, if◌then◌else◌, List, [], ◌∷◌, ◌++◌, length, Option, Some, None, Result, Ok, Err}
 use Rattle.cxx_model.specs.declared.fault.FaultText.TheVariants as says
 use Rattle.cxx_model.specs.declared.fault.LeftOut.TheVariants as form
 use Rattle.cxx_model.specs.declared.limits.TheConstants as limits
+use Rattle.cxx_model.specs.declared.lookup.Associated.{Associated}
+use Rattle.cxx_model.specs.declared.lookup.Found.{Found as Sought}
+use Rattle.cxx_model.specs.declared.lookup.Found.TheVariants as sought
 use Rattle.cxx_model.specs.declared.place.Place.{Place}
 use Rattle.cxx_model.specs.declared.stop.LimitKind.TheVariants.{Arguments}
-use Rattle.cxx_model.specs.Facts.Conflicts.{are_parameters}
-use Rattle.cxx_model.specs.Facts.Declarations.{CxxGraph}
-use Rattle.cxx_model.specs.Facts.Entities.{scope_kinds}
-use Rattle.cxx_model.specs.Stops.{Answer, Stopped, Limited, fault, not_built_at}
+use Rattle.cxx_model.specs.declared.types.ClassId.{ClassId}
+use Rattle.cxx_model.specs.declared.types.FactId.{FactId}
+use Rattle.cxx_model.specs.Facts.Declarations.{CxxGraph, spelled}
+use Rattle.cxx_model.specs.Stops.{Answer, Stopped, Limited, ◌>>=◌, fault, not_built_at, undeclared_at}
 use Rattle.cxx_model.specs.Text.Lexemes.{nowhere}
 use Rattle.cxx_model.specs.Types.Trees.{CxxType}
 use Rattle.cxx_meaning.specs.declared.size.SizeReason.{SizeReason}
 use Rattle.cxx_meaning.specs.declared.size.SizeReason.TheVariants as reason
 use Rattle.cxx_meaning.specs.Conversions.Asking.{Asked}
 use Rattle.cxx_meaning.specs.Conversions.Sizes as sizes
+use Rattle.cxx_meaning.specs.Conversions.Standard.{CxxOperand}
+use Rattle.cxx_meaning.specs.Lookups.Associated.{adl, associated}
+use Rattle.cxx_meaning.specs.Lookups.Wanted.{any_name}
 use Rattle.cxx_constant.specs.Constants.{CxxFault, CxxValue, not_constant, overflow, divide_by_zero, constant}
-use Rattle.cxx_reading.specs.Declaring.{is_object, last_part, name_in}
+use Rattle.cxx_reading.specs.Declaring.{ambiguous_at, is_object, last_part, name_in}
+use Rattle.cxx_reading.specs.Givers.{giver, with_givers}
 use Rattle.cxx_reading.specs.Initializers.{with_call}
+use Rattle.cxx_reading.specs.Linked.{is_space_at}
 use Rattle.cxx_reading.specs.Reads.{Asks}
-use Rattle.cxx_reading.specs.Seen.{Numbered, found}
+use Rattle.cxx_reading.specs.Seen.{Numbered, found, numbered_at, sought_from}
 use Rattle.cxx_reading.specs.State.{CxxGiven, CxxState}
-use Rattle.cxx_reading.specs.Trees.{CxxTree, CxxPath}
+use Rattle.cxx_reading.specs.Trees.{CxxTree, CxxPath, CxxPathPart}
 use Rattle.cxx_overload.specs.Calls.{CxxDecision, decided}
 use Rattle.cxx_tree.specs.Defaults.{first_given}
 use Rattle.cxx_tree.specs.Uses.{with_use}
@@ -30,16 +37,22 @@ use Rattle.cxx_expr.specs.Questions.{Questions, CxxQuestion, CxxChosen}
 
 -- ---- names (3.4.1)
 
--- the parameters of functions (8.3.5)
-abbrev pub is_parameter : CxxGraph → Numbered → Bool
-is_parameter graph one = is_object one.fact.what && are_parameters (slice_get (scope_kinds graph.facts) one.fact.scope)
+-- 8.3.6: an object whose first declaration stands in a block or among parameters
+abbrev pub is_local : CxxGraph → Numbered → Bool
+is_local graph one = is_object one.fact.what && not (is_space_at graph one.fact.scope)
 
-abbrev pub names_parameter : CxxGraph → List Numbered → Bool
-names_parameter graph [] = false
-names_parameter graph (one ∷ others) = is_parameter graph one || names_parameter graph others
+abbrev pub names_local : CxxGraph → List Numbered → Bool
+names_local graph [] = false
+names_local graph (one ∷ others) = is_local graph one || names_local graph others
 
+-- what a name means where the reader stands, where it is not ambiguous: its entities by their first declarations, and
+-- behind them the declarations of functions that tell their default arguments there (8.3.6)
 abbrev pub meant_here : CxxPath → CxxState → List Numbered
-meant_here path state = found state.graph state.here.scope (name_in path)
+meant_here path state = with_givers state.graph state.here.scope (found state.graph state.here.scope (name_in path))
+
+abbrev pub unambiguous : CxxGraph → CxxPathPart → Sought → Answer (Unit {0})
+unambiguous graph part (sought.Ambiguous one two) = Err (ambiguous_at graph part one two)
+unambiguous graph part other = Ok tt
 
 -- whether a declaration is that of the object which the last condition declares, in a scope
 abbrev pub is_tested : Option ℕ → ℕ → Numbered → Bool
@@ -50,13 +63,17 @@ abbrev pub names_tested : Option ℕ → ℕ → List Numbered → Bool
 names_tested tested scope [] = false
 names_tested tested scope (one ∷ others) = is_tested tested scope one || names_tested tested scope others
 
--- 8.3.6: a default argument means no parameter. 6.5.3: What a `for` does behind each turn does not name the object that its
+-- 8.3.6: a default argument means no local object. 6.5.3: What a `for` does behind each turn does not name the object that its
 -- condition declares, which stands in the scope of the `for` itself.
-unfoldable pub name_here : CxxPath → Asks CxxState (List Numbered)
-name_here path state =
-    if state.in_default && names_parameter state.graph (meant_here path state) then Err (fault (last_part path.parts).place says.OperandsDoNotFit) else (
+abbrev pub name_meant : CxxPath → Asks CxxState (List Numbered)
+name_meant path state =
+    if state.in_default && names_local state.graph (meant_here path state) then Err (fault (last_part path.parts).place says.OperandsDoNotFit) else (
     if state.in_step && names_tested state.tested state.here.scope (meant_here path state) then Err (fault (last_part path.parts).place (says.LeftOut form.ConditionNameInStep)) else
     Ok (meant_here path state, state))
+
+-- 3.4: what it may mean is told apart
+unfoldable pub name_here : CxxPath → Asks CxxState (List Numbered)
+name_here path state = unambiguous state.graph (last_part path.parts) (sought_from state.graph any_name state.here.scope (name_in path)) >>= λ is_one. name_meant path state
 
 unfoldable pub bound_here : Place → ℕ → Asks CxxState (Unit {0})
 bound_here place target state = Ok (tt, with_use place target state)
@@ -70,11 +87,46 @@ abbrev pub called_as : CxxState → Answer CxxDecision → Answer (CxxChosen × 
 called_as state (Ok one) = Ok (chosen_as (length state.calls) one, with_call one.call state)
 called_as state (Err why) = Err why
 
+abbrev pub types_of_operands : List CxxOperand → List CxxType
+types_of_operands [] = []
+types_of_operands (operand ∷ others) = operand.of ∷ types_of_operands others
+
+-- what is found in the namespaces of some types; a unit without classes asks for none
+abbrev pub found_in_sets : CxxGraph → List ℕ → Result Associated ClassId → List FactId
+found_in_sets graph word (Ok sets) = adl graph sets (spelled word) (length graph.facts)
+found_in_sets graph word (Err class) = []
+
+-- 3.4.2: the functions of a name that the types of arguments find, by their first declarations
+abbrev pub associated_functions : CxxGraph → Option (List ℕ) → List CxxOperand → List FactId
+associated_functions graph None operands = []
+associated_functions graph (Some word) operands = found_in_sets graph word (associated graph (types_of_operands operands))
+
+abbrev pub has_number : ℕ → List Numbered → Bool
+has_number number [] = false
+has_number number (one ∷ others) = nat_eq one.number number || has_number number others
+
+-- those that are not there yet
+abbrev pub fresh_among : List Numbered → List FactId → List ℕ
+fresh_among functions [] = []
+fresh_among functions (one ∷ others) = if has_number one.0 functions then fresh_among functions others else one.0 ∷ fresh_among functions others
+
+-- what a call may mean: what its name means where it stands, and what the types of its arguments find besides
+unfoldable pub functions_of_call : CxxGraph → ℕ → CxxQuestion → List Numbered
+functions_of_call graph scope question = question.functions ++ with_givers graph scope (numbered_at graph (fresh_among question.functions (associated_functions graph question.word question.operands)))
+
+abbrev pub word_or_none : Option (List ℕ) → List ℕ
+word_or_none None = []
+word_or_none (Some word) = word
+
+abbrev pub decided_among : CxxQuestion → CxxState → List Numbered → Answer CxxDecision
+decided_among question state [] = Err (undeclared_at question.place (word_or_none question.word))
+decided_among question state (one ∷ others) = decided question.place question.operands state.graph (one ∷ others)
+
 -- there is a limit on how many arguments a call has
 unfoldable pub call_here : CxxQuestion → Asks CxxState CxxChosen
 call_here question state =
     if nat_lt limits.MOST_ARGUMENTS (length question.operands) then Err (Limited Arguments) else
-    called_as state (decided question.place question.operands state.graph question.functions)
+    called_as state (decided_among question state (functions_of_call state.graph state.here.scope question))
 
 -- ---- sizes (5.3.3)
 
@@ -119,9 +171,13 @@ abbrev pub fallback_by : CxxState → Option CxxGiven → Answer (CxxTree × Cxx
 fallback_by state None = Err (not_built_at nowhere)
 fallback_by state (Some given) = Ok (given.tree, state)
 
--- that of the parameter with an index, as a declaration gave it
+abbrev pub scope_of_giver : Option Numbered → ℕ
+scope_of_giver None = zero
+scope_of_giver (Some one) = one.fact.scope
+
+-- that of the parameter with an index, as a declaration gave it in the scope that tells the default arguments here
 unfoldable pub fallback_here : ℕ → ℕ → Asks CxxState CxxTree
-fallback_here function index state = fallback_by state (first_given state.graph.facts function index state.given)
+fallback_here function index state = fallback_by state (first_given state.graph.facts (scope_of_giver (giver state.graph state.here.scope function)) function index state.given)
 
 -- ---- all questions
 

@@ -1,6 +1,9 @@
 -- The questions of expressions, answered by the declarations so far.
 pub mod Answers
 pub mod Bare
+pub mod Besides
 pub mod Defaults
+pub mod Nowhere
 pub mod Ruled
+pub mod Told
 pub mod Typed

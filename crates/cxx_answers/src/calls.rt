@@ -1,14 +1,19 @@
 //! Which function a call means (13.3).
 
-ghost use Rattle.std.specs.Prelude.{◌≡◌, ◌≤◌, nat_lt, length, IfOk};
+ghost use Rattle.std.specs.Prelude.{◌≡◌, ◌≤◌, ◌++◌, nat_lt, length, List, Some, IfOk};
+ghost use Rattle.cxx_adl.specs.Views.{given};
 ghost use Rattle.cxx_answers.specs.Answers as definition;
 ghost use Rattle.cxx_answers.specs.Answers.{called_as};
+ghost use Rattle.cxx_answers.specs.Besides.{besides_in};
 ghost use Rattle.cxx_answers.specs.Ruled.{IsCallBelow, IsRulingBelow, KeepsCall, made_by, ruled as ruled_of, ruled_by, ruling_at};
+ghost use Rattle.cxx_expr.specs.Calls.{bare_word};
 ghost use Rattle.cxx_expr.specs.Views.{AreFactsKnown, AreOperandsBelow, IsChosen, chosen_of, numbered, operands_in, question_of};
 ghost use Rattle.cxx_model.specs.declared.limits.TheConstants as limits;
 ghost use Rattle.cxx_model.specs.Facts.Declarations.{graph_at};
 ghost use Rattle.cxx_model.specs.Facts.Fitted.{Fitted};
-ghost use Rattle.cxx_model.specs.Stops.{Gives};
+ghost use Rattle.cxx_model.specs.declared.types.FactId.{FactId as FactNumber};
+ghost use Rattle.cxx_model.specs.Stops.{Faulty, Gives, undeclared_at};
+ghost use Rattle.cxx_model.specs.Types.Numbers.{AreTypesBelow};
 ghost use Rattle.cxx_overload.specs.Calls.{decided as decided_of};
 ghost use Rattle.cxx_overload.specs.Decisions.{IsDecisionBelow, decision_at};
 ghost use Rattle.cxx_overload.specs.Views.{AreOperandsBelow as AreBelow, numbered_in, operands_at};
@@ -16,10 +21,15 @@ ghost use Rattle.cxx_tree.specs.Answered.{IsAnswered};
 ghost use Rattle.cxx_tree.specs.Held.{call_at, meaning};
 
 use crate::record::decided;
+use crate::seen::telling_of;
 use cxx_expr::Chosen;
+use cxx_expr::faults::fault;
 use cxx_graph::Graph;
 use cxx_model::limits::MOST_ARGUMENTS;
-use cxx_model::{FactId, LimitKind, Operand, OperandList, Place, Stop, TypeId, TypeIdList};
+use cxx_model::{
+    FactId, FactList, Fault, FaultText, LimitKind, Listed, Operand, OperandList, OutOfMemory,
+    Place, Stop, TypeId, TypeIdList, Word,
+};
 use cxx_overload::{Decision, decide};
 use cxx_tree::{Decided, State};
 use cxx_types::TypeTable;
@@ -103,6 +113,52 @@ fn rule_here(
     )
 }
 
+// The word of a call, where no brackets stand round it.
+fn word_of<'w>(brackets: &[u8], word: &'w [u8]) -> &'w [u8]
+    ensures { result.now ≡ definition.word_or_none (bare_word brackets.now word.now) }
+{
+    match brackets {
+        [] => word,
+        _ => &[],
+    }
+}
+
+// A name that means nothing where it stands, and is found by no argument.
+fn undeclared(
+    alloc: Global,
+    place: Place,
+    brackets: &[u8],
+    word: &[u8],
+) -> Result<Box<Fault>, AllocError>
+    ensures { IfOk result (λ at. Faulty at.value ≡ undeclared_at place (definition.word_or_none (bare_word brackets.now word.now))) }
+{
+    let word = Word::from_slice(alloc, word_of(brackets, word))?;
+    fault(alloc, place, FaultText::UndeclaredName(word))
+}
+
+// The same of a call that may mean no function.
+#[tactic(auto, using(crate::proofs::Asked::ruled_none, crate::proofs::Asked::ruled_some))]
+fn rule_among(
+    alloc: Global,
+    state: &State,
+    place: Place,
+    brackets: &[u8],
+    word: &[u8],
+    all: &[FactId],
+    operands: OperandList,
+) -> Result<Ruling, Stop>
+    requires few { length operands ≤ limits.MOST_ARGUMENTS }
+    requires all { AreFactsKnown state.now all.now }
+    requires operands { AreOperandsBelow (length (state.now).types) operands }
+    ensures is { (functions : List FactNumber) → Gives (ruling_at (state.now).types) result (ruled_by (definition.decided_among (question_of state.now place brackets.now word.now functions operands) (meaning state.now) (numbered state.now all.now))) }
+    ensures below { IfOk result (IsRulingBelow (length (state.now).types)) }
+{
+    match all {
+        [] => Err(Stop::Fault(undeclared(alloc, place, brackets, word)?)),
+        _ => rule_here(alloc, state, place, all, operands),
+    }
+}
+
 // Keeps a call, and answers its number.
 fn keep(state: &mut State, call: Decided) -> Result<u32, Stop>
     requires { IsCallBelow (length (state.old).types) call }
@@ -142,15 +198,17 @@ fn called(
     alloc: Global,
     state: &mut State,
     place: Place,
-    functions: &[FactId],
+    brackets: &[u8],
+    word: &[u8],
+    all: &[FactId],
     operands: OperandList,
 ) -> Result<Chosen, Stop>
     requires few { length operands ≤ limits.MOST_ARGUMENTS }
-    requires functions { AreFactsKnown state.old functions.now }
+    requires all { AreFactsKnown state.old all.now }
     requires operands { AreOperandsBelow (length (state.old).types) operands }
-    ensures { IsAnswered chosen_of IsChosen state.old state.new result (called_as (meaning state.old) (decided_of place (operands_in (state.old).types operands) (meaning state.old).graph (numbered state.old functions.now))) }
+    ensures { (functions : List FactNumber) → IsAnswered chosen_of IsChosen state.old state.new result (called_as (meaning state.old) (definition.decided_among (question_of state.old place brackets.now word.now functions operands) (meaning state.old) (numbered state.old all.now))) }
 {
-    let ruling = rule_here(alloc, state, place, functions, operands)?;
+    let ruling = rule_among(alloc, state, place, brackets, word, all, operands)?;
     made(state, ruling)
 }
 
@@ -161,9 +219,151 @@ fn are_too_many(operands: &[Operand]) -> bool
     operands.len() > MOST_ARGUMENTS as usize
 }
 
+// ---- what a call may mean
+
+// The types of some operands.
+#[tactic(auto, using(crate::proofs::Asked::types_end))]
+fn types_of(
+    alloc: Global,
+    types: &TypeTable,
+    operands: &[Operand],
+) -> Result<TypeIdList, AllocError>
+    requires { AreOperandsBelow (length types.now) operands.now }
+    ensures is { IfOk result (λ of. given types.now of ≡ definition.types_of_operands (operands_in types.now operands.now)) }
+    ensures below { IfOk result (AreTypesBelow (length types.now)) }
+{
+    let _ = types;
+    let mut of = Listed::new(alloc);
+    for operand in operands {
+        of.push(operand.of)?;
+    }
+    Ok(of)
+}
+
+// The functions of a name that the types of operands find besides others, with the declarations that tell their default
+// arguments.
+#[tactic(auto, using(crate::proofs::Found::besides_are, crate::proofs::Found::all_known, crate::proofs::Found::all_below))]
+fn found_besides(
+    alloc: Global,
+    state: &State,
+    word: &[u8],
+    functions: &[FactId],
+    operands: &[Operand],
+) -> Result<FactList, OutOfMemory>
+    requires functions { AreFactsKnown state.now functions.now }
+    requires operands { AreOperandsBelow (length (state.now).types) operands.now }
+    ensures is { IfOk result (λ more. numbered state.now more ≡ besides_in (meaning state.now) (numbered state.now functions.now) (Some word.now) (operands_in (state.now).types operands.now)) }
+    ensures known { IfOk result (AreFactsKnown state.now) }
+{
+    let of = types_of(alloc, state.types(), operands)?;
+    let telling = telling_of(state);
+    telling.besides(alloc, state.scope(), word, functions, &of)
+}
+
+// The same of a name that may stand in brackets, for which nothing is found.
+#[tactic(auto, using(crate::proofs::Found::no_besides))]
+fn besides(
+    alloc: Global,
+    state: &State,
+    brackets: &[u8],
+    word: &[u8],
+    functions: &[FactId],
+    operands: &[Operand],
+) -> Result<FactList, OutOfMemory>
+    requires functions { AreFactsKnown state.now functions.now }
+    requires operands { AreOperandsBelow (length (state.now).types) operands.now }
+    ensures is { IfOk result (λ more. numbered state.now more ≡ besides_in (meaning state.now) (numbered state.now functions.now) (bare_word brackets.now word.now) (operands_in (state.now).types operands.now)) }
+    ensures known { IfOk result (AreFactsKnown state.now) }
+{
+    match brackets {
+        [] => found_besides(alloc, state, word, functions, operands),
+        _ => Ok(Listed::new(alloc)),
+    }
+}
+
+// Some declarations, and others behind them.
+#[tactic(auto, using(crate::proofs::Found::numbered_more, crate::proofs::Found::known_more))]
+fn both(
+    alloc: Global,
+    state: &State,
+    functions: &[FactId],
+    more: &[FactId],
+) -> Result<FactList, AllocError>
+    requires functions { AreFactsKnown state.now functions.now }
+    requires more { AreFactsKnown state.now more.now }
+    ensures is { IfOk result (λ all. numbered state.now all ≡ numbered state.now functions.now ++ numbered state.now more.now) }
+    ensures known { IfOk result (AreFactsKnown state.now) }
+{
+    let _ = state;
+    let mut all = Vec::from_slice(alloc, functions)?;
+    all.extend_from_slice(more)?;
+    Ok(FactList::from_vec(all))
+}
+
+// What a call may mean: what its name means where it stands, and what the types of its arguments find besides (3.4.2).
+#[tactic(auto, unfolding(crate::specs::Answers::functions_of_call))]
+fn functions_of_call(
+    alloc: Global,
+    state: &State,
+    place: Place,
+    brackets: &[u8],
+    word: &[u8],
+    functions: &[FactId],
+    operands: &[Operand],
+) -> Result<FactList, OutOfMemory>
+    requires functions { AreFactsKnown state.now functions.now }
+    requires operands { AreOperandsBelow (length (state.now).types) operands.now }
+    ensures is { IfOk result (λ all. numbered state.now all ≡ definition.functions_of_call (meaning state.now).graph (meaning state.now).here.scope (question_of state.now place brackets.now word.now functions.now operands.now)) }
+    ensures known { IfOk result (AreFactsKnown state.now) }
+{
+    let _ = place;
+    let more = besides(alloc, state, brackets, word, functions, operands)?;
+    Ok(both(alloc, state, functions, more.as_slice())?)
+}
+
+// Which function a call means whose arguments are not too many.
+#[tactic(auto, using(crate::proofs::Asked::called_same, cxx_expr::proofs::Kept::later_refl))]
+fn called_here(
+    alloc: Global,
+    state: &mut State,
+    place: Place,
+    brackets: &[u8],
+    word: &[u8],
+    functions: &[FactId],
+    operands: OperandList,
+) -> Result<Chosen, Stop>
+    requires few { length operands ≤ limits.MOST_ARGUMENTS }
+    requires functions { AreFactsKnown state.old functions.now }
+    requires operands { AreOperandsBelow (length (state.old).types) operands }
+    ensures { IsAnswered chosen_of IsChosen state.old state.new result (called_as (meaning state.old) (definition.decided_among (question_of state.old place brackets.now word.now functions.now operands) (meaning state.old) (definition.functions_of_call (meaning state.old).graph (meaning state.old).here.scope (question_of state.old place brackets.now word.now functions.now operands)))) }
+{
+    let all = match functions_of_call(
+        alloc,
+        state,
+        place,
+        brackets,
+        word,
+        functions,
+        operands.as_slice(),
+    ) {
+        Ok(all) => all,
+        Err(_) => return Err(Stop::OutOfMemory),
+    };
+    called(
+        alloc,
+        state,
+        place,
+        brackets,
+        word,
+        all.as_slice(),
+        operands,
+    )
+}
+
 /// Which function a call at a place means, given the name that is called, with the brackets round it, the functions that
-/// the name means, and what the arguments give (13.3). The call is kept. It stops at more arguments than a call may have,
-/// where no function is viable, where none is best, at too many candidates, and at what needs a class.
+/// the name means, and what the arguments give (13.3). A name without brackets means besides what the types of the arguments
+/// find (3.4.2). The call is kept. It stops at more arguments than a call may have, where there is no function, where none is
+/// viable, where none is best, at too many candidates, and at what needs a class.
 #[tactic(auto, using(cxx_expr::proofs::Kept::later_refl), unfolding(crate::specs::Answers::call_here))]
 pub fn call_here(
     alloc: Global,
@@ -178,10 +378,8 @@ pub fn call_here(
     requires operands { AreOperandsBelow (length (state.old).types) operands }
     ensures { IsAnswered chosen_of IsChosen state.old state.new result (definition.call_here (question_of state.old place brackets.now word.now functions.now operands) (meaning state.old)) }
 {
-    let _ = brackets;
-    let _ = word;
     if are_too_many(operands.as_slice()) {
         return Err(Stop::Limit(LimitKind::Arguments));
     }
-    called(alloc, state, place, functions, operands)
+    called_here(alloc, state, place, brackets, word, functions, operands)
 }

@@ -11,6 +11,7 @@ ghost use Rattle.cxx_tree.specs.Defaults.{with_offer};
 ghost use Rattle.cxx_tree.specs.Held.{meaning, tree, trees, type_of};
 
 use crate::answering::Answering;
+use crate::seen::scope_of_giver;
 use cxx_expr::convert;
 use cxx_expr::faults::not_built_at;
 use cxx_model::{FactId, Fault, Place, Stop, TreeId, TypeId};
@@ -24,7 +25,8 @@ fn no_fallback(alloc: Global) -> Result<Box<Fault>, AllocError>
     not_built_at(alloc, Place { line: 0, column: 0 })
 }
 
-/// The default argument of the parameter with an index, by the first declaration of its function, as it is converted.
+/// The default argument of the parameter with an index, by the first declaration of its function, as it is converted: that
+/// which a declaration gave in the scope that tells the default arguments where the reader stands.
 #[tactic(auto, using(cxx_expr::proofs::Kept::later_refl), unfolding(crate::specs::Answers::fallback_here))]
 pub fn fallback_here(state: &mut State, target: FactId, index: usize) -> Result<TreeId, Stop>
     ensures { IsAnswered tree IsTreeKnown state.old state.new result (definition.fallback_here target.0 index (meaning state.old)) }
@@ -32,7 +34,8 @@ pub fn fallback_here(state: &mut State, target: FactId, index: usize) -> Result<
     let Ok(index) = u32::try_from(index) else {
         return Err(Stop::OutOfMemory);
     };
-    match state.first_given(target, index) {
+    let scope = scope_of_giver(state, target);
+    match state.first_given(scope, target, index) {
         Some(given) => Ok(given.tree),
         None => Err(Stop::Fault(no_fallback(state.alloc())?)),
     }

@@ -2,13 +2,17 @@
 #![tactic(auto)]
 
 mod answering;
+mod associated;
+mod besides;
 mod calls;
 mod constants;
 mod defaults;
+mod givers;
 mod making;
 mod measured;
 mod names;
 mod record;
+mod seen;
 mod sizes;
 pub mod typed;
 

@@ -3,21 +3,26 @@
 ghost use Rattle.std.specs.Prelude.{◌≡◌, ◌&&◌, List, [], ◌∷◌, IfOk};
 ghost use Rattle.cxx_answers.specs.Answers as definition;
 ghost use Rattle.cxx_expr.specs.Views.{AreFactsKnown, numbered};
-ghost use Rattle.cxx_model.specs.Facts.Declarations.{declares_at, graph_at, spelled};
+ghost use Rattle.cxx_meaning.specs.Lookups.Wanted.{any_name};
+ghost use Rattle.cxx_model.specs.Facts.Declarations.{CxxGraph, declares_at, graph_at, spelled};
+ghost use Rattle.cxx_model.specs.Stops.{Faulty};
 ghost use Rattle.cxx_model.specs.Types.Trees.{CxxType};
 ghost use Rattle.cxx_names.specs.Index.{Notes};
 ghost use Rattle.cxx_names.specs.Looked.{looked_up};
-ghost use Rattle.cxx_reading.specs.Declaring.{is_object as is_an_object, last_part, name_in};
-ghost use Rattle.cxx_reading.specs.Seen.{found as found_by};
+ghost use Rattle.cxx_reading.specs.Declaring.{ambiguous_at, is_object as is_an_object, last_part, name_in};
+ghost use Rattle.cxx_reading.specs.Seen.{fact_numbers, numbered_at, set_in as set_in_of, sought_from};
 ghost use Rattle.cxx_tree.specs.Answered.{AnyKnown, IsAnswered, itself};
 ghost use Rattle.cxx_tree.specs.Arena.{path_at, path_parts_at};
 ghost use Rattle.cxx_tree.specs.Held.{fact_of_option, meaning};
 
+use crate::seen::{place_of, with_givers};
 use crate::typed::fact_of;
 use cxx_expr::faults::fault;
+use cxx_found::{Found, Wanted, sought};
 use cxx_graph::Graph;
 use cxx_model::{
-    Entity, FactId, FactList, FaultText, LeftOut, Path, PathPart, Place, ScopeId, Stop,
+    Entity, Evidence, FactId, FactList, Fault, FaultText, LeftOut, Listed, OutOfMemory, Path,
+    PathPart, Place, ScopeId, Stop, Word,
 };
 use cxx_names::Names;
 use cxx_tree::State;
@@ -47,20 +52,55 @@ fn last_place(parts: &[PathPart]) -> Place
     parts[count - 1].place
 }
 
-// The declarations of a name, by the index of names.
-fn declarations<'s>(state: &'s State, word: &[u8]) -> &'s [FactId]
-    ensures is { numbered state.now result.now ≡ found_by (meaning state.now).graph (meaning state.now).here.scope (spelled word.now) }
-    ensures known { AreFactsKnown state.now result.now }
+// What the last name of a path means where the reader stands, as it is looked up.
+#[tactic(auto, using(crate::proofs::Found::sought_here))]
+fn seek(alloc: Global, state: &State, word: &[u8]) -> Result<Found, OutOfMemory>
+    ensures { IfOk result (λ one. one ≡ sought_from (meaning state.now).graph any_name (meaning state.now).here.scope (spelled word.now)) }
 {
-    state.names().found(state.graph(), state.scope(), word)
+    sought(
+        alloc,
+        state.names(),
+        state.graph(),
+        state.types(),
+        Wanted::Any,
+        state.scope(),
+        word,
+    )
 }
 
-fn found(alloc: Global, state: &State, path: &Path) -> Result<FactList, AllocError>
-    ensures is { IfOk result (λ all. numbered state.now all ≡ found_by (meaning state.now).graph (meaning state.now).here.scope (name_in (path_at path.now))) }
-    ensures known { IfOk result (AreFactsKnown state.now) }
+// The entities of a set, by their first declarations.
+fn set_in(found: &Found) -> &[FactId]
+    ensures { (graph : CxxGraph) → numbered_at graph (fact_numbers result.now) ≡ set_in_of graph found.now }
 {
-    let word = last_word(path.parts.as_slice());
-    FactList::from_slice(alloc, declarations(state, word))
+    match found {
+        Found::Set(facts) => facts.as_slice(),
+        _ => &[],
+    }
+}
+
+// Two declarations of which none hides the other.
+#[tactic(auto, unfolding(cxx_tree::specs::Held::meaning))]
+fn ambiguous(
+    alloc: Global,
+    state: &State,
+    parts: &[PathPart],
+    one: FactId,
+    two: FactId,
+) -> Result<Box<Fault>, AllocError>
+    ensures { IfOk result (λ at. Faulty at.value ≡ ambiguous_at (meaning state.now).graph (last_part (path_parts_at parts.now)) one two) }
+{
+    let word = Word::from_slice(alloc, last_word(parts))?;
+    let mut evidence = Listed::new(alloc);
+    evidence.push(Evidence::Found(place_of(state.graph(), one)))?;
+    evidence.push(Evidence::Found(place_of(state.graph(), two)))?;
+    Ok(Box::new(
+        alloc,
+        Fault {
+            place: last_place(parts),
+            text: FaultText::AmbiguousName(word),
+            evidence,
+        },
+    )?)
 }
 
 fn is_object(what: Entity) -> bool
@@ -72,24 +112,24 @@ fn is_object(what: Entity) -> bool
     }
 }
 
-// Whether a declaration is that of a parameter of a function (8.3.5).
-fn is_parameter(graph: &Graph, names: &Names, number: FactId) -> bool
+// Whether a declaration is that of an object of a block or of a parameter (8.3.6).
+fn is_local(graph: &Graph, names: &Names, number: FactId) -> bool
     requires { Notes names.now graph.now.facts }
-    ensures { (types : List CxxType) → result ≡ definition.names_parameter (graph_at types graph.now) (looked_up types graph.now.facts (number ∷ [])) }
+    ensures { (types : List CxxType) → result ≡ definition.names_local (graph_at types graph.now) (looked_up types graph.now.facts (number ∷ [])) }
 {
     match fact_of(graph, number) {
-        Some(fact) => is_object(fact.what) && names.is_parameters(graph, fact.scope),
+        Some(fact) => is_object(fact.what) && !names.is_space(graph, fact.scope),
         None => false,
     }
 }
 
-// Whether one of some declarations is that of a parameter of a function.
-fn names_parameter(graph: &Graph, names: &Names, numbers: &[FactId]) -> bool
+// Whether one of some declarations is that of such an object.
+fn names_local(graph: &Graph, names: &Names, numbers: &[FactId]) -> bool
     requires { Notes names.now graph.now.facts }
-    ensures { (types : List CxxType) → result ≡ definition.names_parameter (graph_at types graph.now) (looked_up types graph.now.facts numbers.now) }
+    ensures { (types : List CxxType) → result ≡ definition.names_local (graph_at types graph.now) (looked_up types graph.now.facts numbers.now) }
 {
     for number in numbers {
-        if is_parameter(graph, names, *number) {
+        if is_local(graph, names, *number) {
             return true;
         }
     }
@@ -97,18 +137,18 @@ fn names_parameter(graph: &Graph, names: &Names, numbers: &[FactId]) -> bool
 }
 
 // The same of the state.
-fn means_parameter(state: &State, numbers: &[FactId]) -> bool
-    ensures { result ≡ definition.names_parameter (meaning state.now).graph (numbered state.now numbers.now) }
+fn means_local(state: &State, numbers: &[FactId]) -> bool
+    ensures { result ≡ definition.names_local (meaning state.now).graph (numbered state.now numbers.now) }
 {
-    names_parameter(state.graph(), state.names(), numbers)
+    names_local(state.graph(), state.names(), numbers)
 }
 
-// A default argument means no parameter (8.3.6).
+// A default argument means no local object (8.3.6).
 #[tactic(auto, unfolding(cxx_tree::specs::Held::meaning))]
 fn is_refused(state: &State, numbers: &[FactId]) -> bool
-    ensures { result ≡ (meaning state.now).in_default && definition.names_parameter (meaning state.now).graph (numbered state.now numbers.now) }
+    ensures { result ≡ (meaning state.now).in_default && definition.names_local (meaning state.now).graph (numbered state.now numbers.now) }
 {
-    state.in_default() && means_parameter(state, numbers)
+    state.in_default() && means_local(state, numbers)
 }
 
 // Whether a declaration is that of the object which the last condition declares, in a scope (6.4).
@@ -151,13 +191,18 @@ fn is_left_out(state: &State, numbers: &[FactId]) -> bool
     state.in_step() && means_tested(state, numbers)
 }
 
-/// All declarations that a name means where the reader stands (3.4.1). It stops at a parameter in a default argument (8.3.6),
-/// and at the object that the condition of a `for` declares in what that does behind each turn (6.5.3).
-#[tactic(auto, using(cxx_expr::proofs::Kept::later_refl), unfolding(crate::specs::Answers::name_here))]
-pub fn name_here(alloc: Global, state: &mut State, path: &Path) -> Result<FactList, Stop>
-    ensures { IsAnswered numbered AreFactsKnown state.old state.new result (definition.name_here (path_at path.now) (meaning state.old)) }
+// What a name means that has these declarations, where it may mean them.
+#[tactic(auto, using(cxx_expr::proofs::Kept::later_refl))]
+fn name_meant(
+    alloc: Global,
+    state: &mut State,
+    path: &Path,
+    all: FactList,
+) -> Result<FactList, Stop>
+    requires is { numbered state.old all ≡ definition.meant_here (path_at path.now) (meaning state.old) }
+    requires known { AreFactsKnown state.old all }
+    ensures { IsAnswered numbered AreFactsKnown state.old state.new result (definition.name_meant (path_at path.now) (meaning state.old)) }
 {
-    let all = found(alloc, state, path)?;
     if is_refused(state, all.as_slice()) {
         let place = last_place(path.parts.as_slice());
         return Err(Stop::Fault(fault(alloc, place, FaultText::OperandsDoNotFit)?));
@@ -168,6 +213,40 @@ pub fn name_here(alloc: Global, state: &mut State, path: &Path) -> Result<FactLi
         return Err(Stop::Fault(fault(alloc, place, text)?));
     }
     Ok(all)
+}
+
+// What a name means by what was found, where that is not ambiguous.
+#[tactic(auto, using(cxx_expr::proofs::Kept::later_refl), unfolding(cxx_reading::specs::Seen::found))]
+fn name_found(
+    alloc: Global,
+    state: &mut State,
+    path: &Path,
+    found: &Found,
+) -> Result<FactList, Stop>
+    requires { found.now ≡ sought_from (meaning state.old).graph any_name (meaning state.old).here.scope (name_in (path_at path.now)) }
+    ensures { IsAnswered numbered AreFactsKnown state.old state.new result (definition.name_meant (path_at path.now) (meaning state.old)) }
+{
+    let all = with_givers(alloc, state, set_in(found))?;
+    name_meant(alloc, state, path, all)
+}
+
+/// All declarations that a name means where the reader stands (3.4.1): its entities by their first declarations, and behind
+/// them the declarations of functions that tell their default arguments there (8.3.6). It stops where the name is ambiguous
+/// (3.4), at a local object in a default argument (8.3.6), and at the object that the condition of a `for` declares in what
+/// that does behind each turn (6.5.3).
+#[tactic(auto, using(cxx_expr::proofs::Kept::later_refl), unfolding(crate::specs::Answers::name_here))]
+pub fn name_here(alloc: Global, state: &mut State, path: &Path) -> Result<FactList, Stop>
+    ensures { IsAnswered numbered AreFactsKnown state.old state.new result (definition.name_here (path_at path.now) (meaning state.old)) }
+{
+    let found = match seek(alloc, state, last_word(path.parts.as_slice())) {
+        Ok(found) => found,
+        Err(_) => return Err(Stop::OutOfMemory),
+    };
+    if let Found::Ambiguous(one, two) = &found {
+        let parts = path.parts.as_slice();
+        return Err(Stop::Fault(ambiguous(alloc, state, parts, *one, *two)?));
+    }
+    name_found(alloc, state, path, &found)
 }
 
 /// A name, by its place, means the entity with this first declaration, which is kept (3.4).

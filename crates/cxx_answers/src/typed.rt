@@ -17,7 +17,8 @@ use cxx_model::{Bound, Entity, Fact, FactId, TypeId, TypeNode};
 use cxx_tree::State;
 use cxx_types::TypeTable;
 
-fn first_or(number: FactId, first: Option<FactId>) -> FactId
+/// The first declaration of an entity.
+pub(crate) fn first_or(number: FactId, first: Option<FactId>) -> FactId
     ensures { result.0 ≡ first_number_or number.0 first }
 {
     match first {

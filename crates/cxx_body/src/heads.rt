@@ -38,7 +38,7 @@ fn left_out(kind: TokenKind) -> Option<FaultText>
     }
 }
 
-// Labels that are names, which `goto` alone uses (6.1), and what is not read in a block yet (7.3).
+// A label that is a name is left out, which `goto` alone uses (6.1).
 #[tactic(auto, using(cxx_syntax::proofs::Kept::later_refl))]
 fn head_as(state: &State, cursor: &Cursor<'_>, found: heads::Head) -> Result<Head, Stop>
     ensures { IsRead itself AnyKnown state.now state.now cursor.now result (definition.head_as found (meaning state.now) cursor.now) }
@@ -46,8 +46,8 @@ fn head_as(state: &State, cursor: &Cursor<'_>, found: heads::Head) -> Result<Hea
     let _ = state;
     match found {
         heads::Head::Declaration => Ok(Head::Declaration),
-        heads::Head::Using => Err(Stop::Fault(cursor.not_built()?)),
-        heads::Head::Namespace => Err(Stop::Fault(cursor.not_built()?)),
+        heads::Head::Using => Ok(Head::Declaration),
+        heads::Head::Namespace => Ok(Head::Declaration),
         heads::Head::Label => {
             let form = FaultText::LeftOut(LeftOut::Label);
             Err(Stop::Fault(cursor.faulty(form)?))

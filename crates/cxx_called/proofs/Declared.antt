@@ -14,17 +14,22 @@ use Rattle.cxx_model.specs.Facts.Graph.{EachMayFollow, Graph, InRange, IsEntityI
 use Rattle.cxx_model.specs.Types.Trees.{CxxType}
 use Rattle.cxx_meaning.specs.Lookups.Wanted.{hides_types, is_function}
 use Rattle.cxx_reading.specs.Seen.{Numbered, kept}
-use Rattle.cxx_reading.specs.Trees.{CxxPathPart, CxxTree}
+use Rattle.cxx_reading.specs.Trees.{CxxPathPart, CxxTree, Label}
 use Rattle.cxx_names.proofs.Clashing.{fact_below}
 use Rattle.cxx_tree.proofs.Graphs.{enumerations_append}
 use Rattle.cxx_tree.specs.Held.{Held, meaning}
-use Rattle.cxx_expr.specs.Calls.{called_first, function_call, value_call}
+use Rattle.cxx_expr.specs.Calls.{called_first, function_call, is_asked_for, is_none_left, value_call}
 use Rattle.cxx_expr.specs.Names.{are_one_function, is_function_with, means_first, means_value, no_value_at, type_by_fact, type_declared, values_among, wrong_kind_at}
 use Rattle.cxx_expr.specs.Questions.{Questions}
-use Rattle.cxx_expr.specs.Views.{AreFactsBelow, numbered, numbered_in, with_fact}
+use Rattle.cxx_expr.specs.Views.{AreFactsBelow, AreFactsKnown, numbered, numbered_in, with_fact}
 use Rattle.cxx_called.specs.Views.{IsOfThere}
 
 -- ---- one declaration
+
+past_end : {A : Type 0} (xs : List A) (n : ℕ) → slice_get xs n ≡ None → length xs ≤ n
+past_end [] n at = omega arith
+past_end (x ∷ xs) zero at = absurd cc
+past_end (x ∷ xs) (suc n) at = let past = past_end xs n at in omega (arith, past)
 
 seen : (types : List CxxType) (facts : List Fact) (n : ℕ) → slice_get (facts_at types facts) n ≡ option_map (fact_at types) (slice_get facts n)
 seen types [] n = refl
@@ -203,3 +208,22 @@ called_function held q tree all arguments number numbers fact at is = called_by 
 
 pub called_value : (held : Held) (q : Questions) (tree : CxxTree) (all : List Numbered) (arguments : List CxxTree) (number : FactId) (numbers : List FactId) (fact : CxxFact) → slice_get (meaning held).graph.facts number.0 ≡ Some fact → is_function (meaning held).graph fact.what ≡ false → called_first q tree all arguments (numbered held (number ∷ numbers)) (meaning held) ≡ value_call q tree all arguments (meaning held)
 called_value held q tree all arguments number numbers fact at is = called_by held q tree all arguments number numbers fact false at is
+
+-- ---- what means nothing where it stands
+
+known_there : (held : Held) (number : FactId) → number.0 < length held.graph.facts → (fact : CxxFact) × (slice_get (meaning held).graph.facts number.0 ≡ Some fact)
+known_there held number less = by (slice_get held.graph.facts number.0) refl
+  where
+    by : (o : Option Fact) → slice_get held.graph.facts number.0 ≡ o → (fact : CxxFact) × (slice_get (meaning held).graph.facts number.0 ≡ Some fact)
+    by None at = let past = past_end held.graph.facts number.0 at in absurd (omega (arith, less, past))
+    by (Some fact) at = (fact_at held.types fact, fact_is held number.0 fact at)
+
+pub asked_none : (held : Held) (label : Label) (all : List FactId) → length all ≡ 0 → is_none_left label.spelling ≡ is_asked_for label (numbered held all)
+asked_none held label [] none = refl
+asked_none held label (one ∷ all) none = absurd (omega (arith, none))
+
+pub asked_some : (held : Held) (label : Label) (all : List FactId) → AreFactsKnown held all → 0 < length all → false ≡ is_asked_for label (numbered held all)
+asked_some held label [] known some = absurd (omega (arith, some))
+asked_some held label (one ∷ all) known some =
+    let there : (fact : CxxFact) × (slice_get (meaning held).graph.facts one.0 ≡ Some fact) = known_there held one known.0 in
+    sym (ap (λ o. is_asked_for label (with_fact one.0 o (numbered held all))) there.1)

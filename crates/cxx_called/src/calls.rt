@@ -468,6 +468,50 @@ fn is_called(state: &State, what: Entity) -> bool
     is_function(state.graph(), what)
 }
 
+fn is_none_left(spelling: &[u8]) -> bool
+    ensures { result ≡ definition.is_none_left spelling.now }
+{
+    match spelling {
+        [] => true,
+        _ => false,
+    }
+}
+
+// Whether a name without brackets round it means nothing where it stands (3.4.2).
+#[tactic(auto, using(crate::proofs::Declared::asked_none, crate::proofs::Declared::asked_some))]
+fn is_asked_for(state: &State, node: &Node, all: &[FactId]) -> bool
+    requires { AreFactsKnown state.now all.now }
+    ensures { result ≡ definition.is_asked_for (label_at (state.now).types node.now) (numbered state.now all.now) }
+{
+    let _ = state;
+    match all {
+        [] => is_none_left(node.spelling.as_slice()),
+        _ => false,
+    }
+}
+
+// Where nothing hides the types of its scope: a name that means nothing is looked for by the arguments.
+fn called_none<Q: Questions>(
+    alloc: Global,
+    questions: &Q,
+    state: &mut State,
+    node: Node,
+    all: &[FactId],
+    arguments: &[TreeId],
+) -> Result<TreeId, Stop>
+    requires ready { Q.is_ready questions.now }
+    requires node { IsNodeHeld state.old node }
+    requires all { AreFactsKnown state.old all.now }
+    requires arguments { AreTreesHeld state.old arguments.now }
+    ensures { IsAnswered tree IsTreeKnown state.old state.new result (definition.called_first (Q.asks questions.now) (node_tree state.old node) (numbered state.old all.now) (trees_held state.old arguments.now) [] (meaning state.old)) }
+{
+    if is_asked_for(state, &node, all) {
+        function_call(alloc, questions, state, node, &[], arguments)
+    } else {
+        value_call(alloc, questions, state, node, all, arguments)
+    }
+}
+
 #[tactic(auto, using(crate::proofs::Declared::called_value, crate::proofs::Declared::called_function))]
 fn called_first<Q: Questions>(
     alloc: Global,
@@ -486,7 +530,7 @@ fn called_first<Q: Questions>(
     ensures { IsAnswered tree IsTreeKnown state.old state.new result (definition.called_first (Q.asks questions.now) (node_tree state.old node) (numbered state.old all.now) (trees_held state.old arguments.now) (numbered state.old values.now) (meaning state.old)) }
 {
     match values {
-        [] => value_call(alloc, questions, state, node, all, arguments),
+        [] => called_none(alloc, questions, state, node, all, arguments),
         [one, ..] => {
             if is_called(state, fact_at(state, *one).what) {
                 function_call(alloc, questions, state, node, values, arguments)

@@ -13,11 +13,11 @@ ghost use Rattle.cxx_command.specs.Outcome.{outcome_of, read_outcome, stopped_ou
 ghost use Rattle.cxx_command.specs.Outcomes.{IsOutcome};
 
 use cxx_declaring::Declaring;
-use cxx_language::read_unit;
 use cxx_model::limits::MOST_BYTES;
 use cxx_model::{
     EvidenceList, Fault, FaultText, LimitKind, Options, Place, Stop, Token, TokenReason,
 };
+use cxx_space::read_unit;
 use cxx_tokens::{TokenFault, tokens};
 use cxx_tree::State;
 use std::alloc::{AllocError, Global};

@@ -10,18 +10,17 @@ use Rattle.cxx_model.specs.declared.token.TokenKind.{TokenKind}
 use Rattle.cxx_model.specs.declared.types.FactId.{FactId}
 use Rattle.cxx_model.specs.declared.types.ScopeId.{ScopeId}
 use Rattle.cxx_model.specs.declared.types.TypeId.{TypeId}
-use Rattle.cxx_model.specs.Facts.Declarations.{CxxFact, CxxGraph, fact_at, graph_at, spelled}
-use Rattle.cxx_model.specs.Facts.Graph.{Graph}
+use Rattle.cxx_model.specs.Facts.Declarations.{CxxFact, CxxGraph, fact_at, spelled}
 use Rattle.cxx_model.specs.Stops.{Answer, ◌>>=◌}
-use Rattle.cxx_model.specs.Types.Numbers.{type_at, types_at}
+use Rattle.cxx_model.specs.Text.Lexemes.{Lexeme}
+use Rattle.cxx_model.specs.Types.Numbers.{types_at}
 use Rattle.cxx_model.specs.Types.Trees.{CxxType}
 use Rattle.cxx_reading.specs.Choosing.{each_type}
-use Rattle.cxx_reading.specs.Declaring.{added, declared_here, first_function, free}
-use Rattle.cxx_reading.specs.Seen.{declared_in}
+use Rattle.cxx_reading.specs.Declaring.{added, first_member_function, home_here}
 use Rattle.cxx_reading.specs.State.{CxxOffered, CxxState}
 use Rattle.cxx_reading.specs.Trees.{CxxTree}
-use Rattle.cxx_declare.specs.Functions.{declare_function, declare_with, function_by, given_as, last_run, not_given, offered_by, offered_in, with_all_given}
-use Rattle.cxx_declare.specs.Given.{added_giving, declared_giving, read_by, read_in}
+use Rattle.cxx_declare.specs.Functions.{declare_function, declare_with, free_if, function_by, given_as, is_linked_here, last_run, linked_if, not_given, offered_by, offered_in, with_all_given}
+use Rattle.cxx_declare.specs.Given.{added_giving, added_linking, declared_giving, read_by, read_in}
 use Rattle.cxx_declare.specs.Made.{token, word_in}
 use Rattle.cxx_declare.proofs.Defining.{assoc}
 use Rattle.cxx_tree.specs.Answered.{IsAnswered, IsFactKnown, fact_number, scope_of_option}
@@ -85,16 +84,6 @@ run_more has count run less e same =
     let rest : last_run has (count - (run + 1)) ≡ last_run has (count - 1 - run) = ap (last_run has) there in
     omega (arith, step, rest, same)
 
--- ---- the declaration
-
-pub first_is : (held : Held) (word : List ℕ) (of : TypeId) (graph : Graph) (types : List CxxType) (scope : ScopeId) (r : Option FactId) → graph ≡ held.graph → types ≡ held.types → scope ≡ held.scope → r ≡ first_function (type_at types of.0) (declared_in (graph_at types graph) scope.0 (spelled word)) → r ≡ first_function (type_at held.types of.0) (declared_here (meaning held) (spelled word))
-unfolding meaning
-first_is held word of graph types scope r one two three is =
-    is
-    ∙ ap (λ (g : Graph). first_function (type_at types of.0) (declared_in (graph_at types g) scope.0 (spelled word))) one
-    ∙ ap (λ ts. first_function (type_at ts of.0) (declared_in (graph_at ts held.graph) scope.0 (spelled word))) two
-    ∙ ap (λ (s : ScopeId). first_function (type_at held.types of.0) (declared_in (graph_at held.types held.graph) s.0 (spelled word))) three
-
 -- ---- what is given
 
 pub offer_there : (count : ℕ) (offers : List Offer) (i : ℕ) (one d : Offer) → AreOffersBelow count offers → i < length offers → one ≡ get_or offers i d → one.tree.0 < count
@@ -137,16 +126,33 @@ given_now old middle later new fact number offers answered one given two cleared
       later = Later_trans old middle new answered.later (Later_trans middle later new one two);
     }
 
-pub function_declared : (old new : Held) (kind : TokenKind) (place : Place) (word : List ℕ) (of : CxxType) (first : Option FactId) (offers : List CxxOffered) (fact : Fact) (r : Result FactId Stop) → fact_at old.types fact ≡ function_by (meaning old) (token kind place word) of first offers → fact.name ≡ name.Spelled word
-    → IsAnswered fact_number IsFactKnown old new r (declared_giving (fact_at old.types fact) (word_in fact.name) first offers (meaning old)) → IsAnswered fact_number IsFactKnown old new r (declare_with (token kind place word) of first offers (meaning old))
-function_declared old new kind place word of first offers fact r is named answered =
+with_linking : (linked : Bool) (fact : CxxFact) (offers : List CxxOffered) (state : CxxState) → added_linking linked fact offers state ≡ (added fact state >>= λ answer. Ok (linked_if linked (given_as offers answer)))
+with_linking linked fact offers state = assoc (added fact state) (λ answer. Ok (given_as offers answer)) (λ answer. Ok (linked_if linked answer))
+
+pub function_declared : (old new : Held) (linked : Bool) (kind : TokenKind) (place : Place) (word : List ℕ) (of : CxxType) (first : Option FactId) (offers : List CxxOffered) (fact : Fact) (r : Result FactId Stop) → fact_at old.types fact ≡ function_by (meaning old) (token kind place word) of first offers → fact.name ≡ name.Spelled word
+    → IsAnswered fact_number IsFactKnown old new r (declared_giving linked (fact_at old.types fact) (word_in fact.name) first offers (meaning old)) → IsAnswered fact_number IsFactKnown old new r (declare_with linked (token kind place word) of first offers (meaning old))
+function_declared old new linked kind place word of first offers fact r is named answered =
     let whole : CxxFact = function_by (meaning old) (token kind place word) of first offers in
     subst (λ reply. IsAnswered fact_number IsFactKnown old new r reply)
-    (assoc (free (meaning old) whole word) (λ unit. not_given (meaning old) place word first offers) (λ unit. added_giving whole offers (meaning old)))
-    (subst (λ (w : CxxFact). IsAnswered fact_number IsFactKnown old new r (declared_giving w word first offers (meaning old))) is
-    (subst (λ n. IsAnswered fact_number IsFactKnown old new r (declared_giving (fact_at old.types fact) (word_in n) first offers (meaning old))) named answered))
+    (assoc (free_if linked (meaning old) whole word) (λ unit. not_given (meaning old) place word first offers) (λ unit. added_linking linked whole offers (meaning old))
+    ∙ ap (λ (a : Answer (ℕ × CxxState)). free_if linked (meaning old) whole word >>= λ unit. not_given (meaning old) place word first offers >>= λ other. a) (with_linking linked whole offers (meaning old)))
+    (subst (λ (w : CxxFact). IsAnswered fact_number IsFactKnown old new r (declared_giving linked w word first offers (meaning old))) is
+    (subst (λ n. IsAnswered fact_number IsFactKnown old new r (declared_giving linked (fact_at old.types fact) (word_in n) first offers (meaning old))) named answered))
+
+-- with the first declaration and the linkage that are found where the reader stands
+abbrev declared_for : CxxState → Lexeme → CxxType → Bool → Option FactId → List CxxOffered → Answer (ℕ × CxxState)
+declared_for state name of linked first offers = declare_with linked name of first offers state
+
+pub found_first : (old new : Held) (kind : TokenKind) (place : Place) (word : List ℕ) (of : CxxType) (linked l : Bool) (first f : Option FactId) (offers : List CxxOffered) (r : Result FactId Stop) → linked ≡ l → first ≡ f
+    → IsAnswered fact_number IsFactKnown old new r (declare_with linked (token kind place word) of first offers (meaning old)) → IsAnswered fact_number IsFactKnown old new r (declare_with l (token kind place word) of f offers (meaning old))
+found_first old new kind place word of linked l first f offers r one two answered =
+    subst (λ o. IsAnswered fact_number IsFactKnown old new r (declared_for (meaning old) (token kind place word) of l o offers)) two
+    (subst (λ b. IsAnswered fact_number IsFactKnown old new r (declared_for (meaning old) (token kind place word) of b first offers)) one answered)
+
+abbrev first_here : Held → List ℕ → CxxType → Option FactId
+first_here held word of = first_member_function (meaning held) (home_here (meaning held)) (spelled word) of
 
 pub from_list : (old new : Held) (list : Option ScopeId) (kind : TokenKind) (place : Place) (word : List ℕ) (of : CxxType) (offers : List CxxOffered) (r : Result FactId Stop) → offers ≡ offered_by (scope_of_option list) (meaning old).offered
-    → IsAnswered fact_number IsFactKnown old new r (declare_with (token kind place word) of (first_function of (declared_here (meaning old) (spelled word))) offers (meaning old)) → IsAnswered fact_number IsFactKnown old new r (declare_function (scope_of_option list) (token kind place word) of (meaning old))
+    → IsAnswered fact_number IsFactKnown old new r (declare_with (is_linked_here (meaning old)) (token kind place word) of (first_here old word of) offers (meaning old)) → IsAnswered fact_number IsFactKnown old new r (declare_function (scope_of_option list) (token kind place word) of (meaning old))
 unfolding declare_function
-from_list old new list kind place word of offers r is answered = subst (λ os. IsAnswered fact_number IsFactKnown old new r (declare_with (token kind place word) of (first_function of (declared_here (meaning old) (spelled word))) os (meaning old))) is answered
+from_list old new list kind place word of offers r is answered = subst (λ os. IsAnswered fact_number IsFactKnown old new r (declare_with (is_linked_here (meaning old)) (token kind place word) of (first_here old word of) os (meaning old))) is answered

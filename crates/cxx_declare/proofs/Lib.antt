@@ -1,6 +1,10 @@
 pub mod Asking
+pub mod Clashing
 pub mod Defining
 pub mod Giving
 pub mod Holding
+pub mod Linkage
 pub mod Listing
 pub mod Making
+pub mod Firsts
+pub mod Spacing

@@ -12,9 +12,8 @@ use Rattle.cxx_model.specs.declared.token.TokenKind.{TokenKind}
 use Rattle.cxx_model.specs.declared.types.EnumId.{EnumId}
 use Rattle.cxx_model.specs.declared.types.FactId.{FactId}
 use Rattle.cxx_model.specs.declared.types.ScopeId.{ScopeId}
-use Rattle.cxx_model.specs.declared.types.TypeId.{TypeId}
 use Rattle.cxx_model.specs.Facts.Declarations as facts
-use Rattle.cxx_model.specs.Facts.Declarations.{CxxFact, declares_at, fact_at, facts_at, graph_at, name_at, spelled}
+use Rattle.cxx_model.specs.Facts.Declarations.{CxxFact, declares_at, fact_at, facts_at, name_at, spelled}
 use Rattle.cxx_model.specs.Facts.Graph.{appended, enumerations, scopes, values_of}
 use Rattle.cxx_model.specs.Stops.{Answer, Stops, ◌>>=◌}
 use Rattle.cxx_model.specs.Text.Lexemes.{Lexeme}
@@ -22,27 +21,16 @@ use Rattle.cxx_model.specs.Types.Integral.{one_holds}
 use Rattle.cxx_model.specs.Types.Trees.{CxxType}
 use Rattle.cxx_meaning.specs.Conversions.Enumerations.{values_in}
 use Rattle.cxx_reading.specs.Declaring as declaring
-use Rattle.cxx_reading.specs.Declaring.{added, begun_as, declare, declare_enumeration, declare_enumerator, declare_value, end_enumeration, enumeration_count, enumerator_value, fact_here, free, in_enumeration, name_of, type_here, word_of}
-use Rattle.cxx_reading.specs.Seen.{found, type_in}
-use Rattle.cxx_reading.specs.Specifiers.{path_of}
+use Rattle.cxx_reading.specs.Declaring.{added, begun_as, declare, declare_enumeration, declare_enumerator, declare_value, end_enumeration, enumeration_count, enumerator_value, fact_here, free, in_enumeration, name_of, word_of}
 use Rattle.cxx_reading.specs.State.{CxxState}
-use Rattle.cxx_declare.specs.Made.{IsEnumerationThere, IsNameOf, IsReady, IsTypeThere, enumeration_number, made, token, told_added, value_checked, word_in}
+use Rattle.cxx_declare.specs.Made.{IsEnumerationThere, IsNameOf, IsReady, enumeration_number, made, token, told_added, value_checked, word_in}
 use Rattle.cxx_declare.proofs.Making.{stopped_on, word_is}
 use Rattle.cxx_tree.specs.Answered.{AnyKnown, IsAnswered, IsFactKnown, fact_number, itself}
-use Rattle.cxx_tree.specs.Held.{Held, meaning, type_of}
-use Rattle.cxx_tree.specs.Later.{Later, MakesType}
+use Rattle.cxx_tree.specs.Held.{Held, meaning}
+use Rattle.cxx_tree.specs.Later.{Later}
 use Rattle.cxx_tree.proofs.Graphs.{enumeration_next}
 use Rattle.cxx_tree.proofs.Steps.{Later_refl, Later_trans}
 use Rattle.cxx_tree.proofs.Wholes.{may_follow}
-
--- ---- types
-
-pub type_answered : (old new : Held) (kind : TokenKind) (place : Place) (word : List ℕ) (number : TypeId) → MakesType old new (Ok number) (type_in (found (meaning old).graph old.scope.0 (spelled word))) → IsAnswered type_of IsTypeThere old new (Ok number) (type_here (path_of (token kind place word)) (meaning old))
-unfolding type_here meaning
-type_answered old new kind place word number makes = record {
-  is = (ap (λ (t : CxxType). Ok (t, meaning old)) (sym makes.made.1) ∙ ap (λ (s : CxxState). Ok (type_of new number, s)) (sym makes.same), makes.made.0);
-  later = makes.later;
-}
 
 -- ---- an enumeration
 

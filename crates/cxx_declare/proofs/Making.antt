@@ -1,8 +1,7 @@
 -- What declarations are made of.
-use Rattle.std.specs.Prelude.{ℕ, zero, suc, ◌≡◌, ◌<◌, ◌+◌, ◌++◌, IfOk, OnOk, Bool, true, false, if◌then◌else◌, ◌&&◌, nat_eq, List, [], ◌∷◌, length, Option, Some, None, Result, Ok, Err, refl}
+use Rattle.std.specs.Prelude.{ℕ, zero, suc, ◌≡◌, ◌<◌, ◌+◌, ◌++◌, IfOk, OnOk, Bool, true, false, if◌then◌else◌, nat_eq, List, [], ◌∷◌, length, Option, Some, None, Result, Ok, Err, refl}
 use Rattle.std.specs.List.{slice_get}
-use Rattle.std.proofs.Common.{ap, sym, subst, ◌∙◌, arith}
-use Rattle.std.proofs.lemmas.Slice.Eq.{bytes_eq-Decides}
+use Rattle.std.proofs.Common.{ap, sym, subst, ◌∙◌}
 use Rattle.cxx_model.specs.declared.facts.Entity.{Entity}
 use Rattle.cxx_model.specs.declared.facts.Entity.TheVariants as entity
 use Rattle.cxx_model.specs.declared.facts.Fact.{Fact}
@@ -15,23 +14,23 @@ use Rattle.cxx_model.specs.declared.stop.Stop.TheVariants as stop
 use Rattle.cxx_model.specs.declared.types.FactId.{FactId}
 use Rattle.cxx_model.specs.declared.types.ScopeId.{ScopeId}
 use Rattle.cxx_model.specs.declared.types.TypeId.{TypeId}
-use Rattle.cxx_model.specs.Facts.Conflicts.{declares_name, has_name, same_name}
-use Rattle.cxx_model.specs.Facts.Declarations.{CxxFact, classes_at, declares_at, fact_at, facts_at, graph_at, name_at, spelled}
+use Rattle.cxx_model.specs.Facts.Declarations as facts
+use Rattle.cxx_model.specs.Facts.Declarations.{CxxFact, classes_at, fact_at, facts_at, graph_at, spelled}
 use Rattle.cxx_defined.specs.Defined.{IsOwn, IsOwnEntity}
 use Rattle.cxx_model.specs.declared.stop.LimitKind.TheVariants.{Facts}
 use Rattle.cxx_model.specs.declared.token.TokenKind.{TokenKind}
 use Rattle.cxx_model.specs.Text.Lexemes.{Lexeme}
 use Rattle.cxx_model.specs.Facts.Fitted.{IsNameBelow}
-use Rattle.cxx_model.specs.Facts.Graph.{Graph, IsEntityInRange, MayFollow, appended, scopes}
+use Rattle.cxx_model.specs.Facts.Graph.{Graph, appended, scopes}
 use Rattle.cxx_model.specs.Stops.{Answer, Limited, Stops, ◌>>=◌}
 use Rattle.cxx_model.specs.Types.Trees.{CxxType}
 use Rattle.cxx_model.specs.Types.Numbers.{type_at}
 use Rattle.cxx_names.specs.Clashes.{IsPlainName}
 use Rattle.cxx_reading.specs.State.{CxxState}
-use Rattle.cxx_reading.specs.Declaring.{added, declare, declare_object, declare_parameter, declare_synonym, declared_here, fact_here, free, first_function, first_object, is_object, number_id, is_same_function, name_of, no_flags, object_here, parameter_object, place_in, place_of_fact, with_fact, word_of}
-use Rattle.cxx_reading.specs.Seen.{declared_from, declared_in, declares_in}
+use Rattle.cxx_reading.specs.Declaring.{added, declare, declare_object, declare_parameter, declare_synonym, fact_here, free, name_of, object_here, parameter_object, place_in, place_of_fact, with_fact, word_of}
 use Rattle.cxx_declare.specs.Functions.{function_with}
-use Rattle.cxx_declare.specs.Made.{IsNameOf, IsReady, made, place_held, token, unit_of, word_in}
+use Rattle.cxx_declare.specs.Made.{IsEarlierFunction, IsEarlierObject, IsNameOf, IsReady, function_first, made, object_first, place_held, token, unit_of, word_in}
+use Rattle.cxx_declare.proofs.Firsts.{function_after, object_after}
 use Rattle.cxx_tree.specs.Held.{Held, meaning}
 use Rattle.cxx_tree.specs.Answered.{AnyKnown, IsAnswered, IsFactKnown, fact_number, itself}
 use Rattle.cxx_tree.proofs.Graphs.{length_facts}
@@ -46,191 +45,37 @@ places_alike types (one ∷ others) (suc n) = places_alike types others n
 pub fact_place : (types : List CxxType) (graph : Graph) (n : ℕ) (fact : Option Fact) → fact ≡ slice_get graph.facts n → place_held fact ≡ place_of_fact (graph_at types graph) n
 fact_place types graph n fact is = ap place_held is ∙ places_alike types graph.facts n
 
--- ---- the first declaration
+-- ---- objects and functions
 
-abbrev is_an_object : Entity → Bool
-is_an_object (entity.Object of member is_mutable value first) = true
-is_an_object _ = false
-
-abbrev is_a_function : Entity → Bool
-is_a_function (entity.Function of member flags defaults first) = true
-is_a_function _ = false
-
--- An earlier declaration of the name, of that kind.
-record IsEarlierOne (all : List Fact) (test : Entity → Bool) (word : List ℕ) (k : ℕ) : Type 0 where
-  other : Fact
-  at : slice_get all k ≡ Some other
-  kind : test other.what ≡ true
-  named : other.name ≡ name.Spelled word
-
-both_true : (a b : Bool) → (a && b) ≡ true → (a ≡ true) × (b ≡ true)
-both_true true b e = (refl, e)
-both_true false b e = absurd (cc)
-
-name_spelled : (types : List CxxType) (n : Name) (word : List ℕ) → same_name (name_at types n) (spelled word) ≡ true → n ≡ name.Spelled word
-name_spelled types (name.Spelled v) word e = ap name.Spelled ((bytes_eq-Decides v word).0 e)
-name_spelled types name.Unnamed word e = absurd (cc)
-name_spelled types (name.Operator o) word e = absurd (cc)
-name_spelled types (name.Conversion of) word e = absurd (cc)
-name_spelled types name.Destructor word e = absurd (cc)
-
-declared_name : (types : List CxxType) (scope : ℕ) (word : List ℕ) (fact : Fact) → declares_in scope (spelled word) (fact_at types fact) ≡ true → fact.name ≡ name.Spelled word
-declared_name types scope word fact e =
-    let one = both_true (nat_eq fact.scope.0 scope) (declares_name (declares_at types fact.what) && (has_name (spelled word) && same_name (name_at types fact.name) (spelled word))) e in
-    let two = both_true (declares_name (declares_at types fact.what)) (has_name (spelled word) && same_name (name_at types fact.name) (spelled word)) one.1 in
-    name_spelled types fact.name word two.1
-
-chosen : {P : Type 0} (n : ℕ) (rest : Option FactId) (k : FactId) (b : Bool) → (if b then Some (number_id n) else rest) ≡ Some k → (b ≡ true → n ≡ k.0 → P) → (rest ≡ Some k → P) → P
-chosen n rest k true e here after = here refl (let same : number_id n ≡ k = cc in ap (λ (f : FactId). f.0) same)
-chosen n rest k false e here after = after e
-
-object_kind : (types : List CxxType) (what : Entity) → is_object (declares_at types what) ≡ true → is_an_object what ≡ true
-object_kind types (entity.Scope parent kind) e = absurd (cc)
-object_kind types (entity.Object one member is_mutable value first) e = refl
-object_kind types (entity.Function one member flags defaults first) e = absurd (cc)
-object_kind types (entity.Template number member defaults is_explicit first) e = absurd (cc)
-object_kind types (entity.Parameter depth index one) e = absurd (cc)
-object_kind types (entity.Injected number) e = absurd (cc)
-object_kind types (entity.Class number is_union) e = absurd (cc)
-object_kind types (entity.Complete number) e = absurd (cc)
-object_kind types (entity.Passed number) e = absurd (cc)
-object_kind types (entity.Ancestor number parent index access) e = absurd (cc)
-object_kind types (entity.Enumeration number) e = absurd (cc)
-object_kind types (entity.Enumerator number value) e = absurd (cc)
-object_kind types (entity.Synonym one) e = absurd (cc)
-object_kind types (entity.Namespace inner) e = absurd (cc)
-object_kind types (entity.Directive nominated) e = absurd (cc)
-object_kind types (entity.Using target) e = absurd (cc)
-object_kind types (entity.Friend number target) e = absurd (cc)
-
-object_at : (types : List CxxType) (all : List Fact) (scope : ℕ) (word : List ℕ) (n : ℕ) (facts : List Fact) (k : FactId) → ((i : ℕ) → slice_get all (n + i) ≡ slice_get facts i) → first_object (declared_from scope (spelled word) n (facts_at types facts)) ≡ Some k → IsEarlierOne all is_an_object word k.0
-object_at types all scope word n [] k at e = absurd (cc)
-object_at types all scope word n (one ∷ others) k at e =
-    by (declares_in scope (spelled word) (fact_at types one)) refl e (λ f. object_at types all scope word (suc n) others k (λ i. (let p : suc n + i ≡ n + suc i = omega arith in ap (slice_get all) p ∙ at (suc i))) f)
-  where
-    here : slice_get all n ≡ Some one
-    here = (let p : n ≡ n + 0 = omega arith in ap (slice_get all) p ∙ at 0)
-
-    by : (a : Bool) → declares_in scope (spelled word) (fact_at types one) ≡ a
-        → first_object (if a then record { number = n; fact = fact_at types one } ∷ declared_from scope (spelled word) (suc n) (facts_at types others) else declared_from scope (spelled word) (suc n) (facts_at types others)) ≡ Some k
-        → (first_object (declared_from scope (spelled word) (suc n) (facts_at types others)) ≡ Some k → IsEarlierOne all is_an_object word k.0) → IsEarlierOne all is_an_object word k.0
-    by false p f later = later f
-    by true p f later = chosen n (first_object (declared_from scope (spelled word) (suc n) (facts_at types others))) k (is_object (declares_at types one.what)) f (λ yes same. record { other = one; at = subst (λ m. slice_get all m ≡ Some one) same here; kind = object_kind types one.what yes; named = declared_name types scope word one p }) later
-
-object_pair : (graph : Graph) (fact : Fact) (one : TypeId) (k : FactId) (other : Fact) → slice_get graph.facts k.0 ≡ Some other → other.name ≡ fact.name → (what : Entity) → other.what ≡ what → is_an_object what ≡ true → IsEntityInRange graph fact (entity.Object one Free false None (Some k))
-object_pair graph fact one k other at named (entity.Scope parent kind) same e = absurd (cc)
-object_pair graph fact one k other at named (entity.Object two member is_mutable value first) same e = (other, at, rw same (refl), named)
-object_pair graph fact one k other at named (entity.Function two member flags defaults first) same e = absurd (cc)
-object_pair graph fact one k other at named (entity.Template number member defaults is_explicit first) same e = absurd (cc)
-object_pair graph fact one k other at named (entity.Parameter depth index two) same e = absurd (cc)
-object_pair graph fact one k other at named (entity.Injected number) same e = absurd (cc)
-object_pair graph fact one k other at named (entity.Class number is_union) same e = absurd (cc)
-object_pair graph fact one k other at named (entity.Complete number) same e = absurd (cc)
-object_pair graph fact one k other at named (entity.Passed number) same e = absurd (cc)
-object_pair graph fact one k other at named (entity.Ancestor number parent index access) same e = absurd (cc)
-object_pair graph fact one k other at named (entity.Enumeration number) same e = absurd (cc)
-object_pair graph fact one k other at named (entity.Enumerator number value) same e = absurd (cc)
-object_pair graph fact one k other at named (entity.Synonym two) same e = absurd (cc)
-object_pair graph fact one k other at named (entity.Namespace inner) same e = absurd (cc)
-object_pair graph fact one k other at named (entity.Directive nominated) same e = absurd (cc)
-object_pair graph fact one k other at named (entity.Using target) same e = absurd (cc)
-object_pair graph fact one k other at named (entity.Friend number target) same e = absurd (cc)
-
-object_range : (graph : Graph) (fact : Fact) (one : TypeId) (word : List ℕ) → fact.name ≡ name.Spelled word → (first : Option FactId) → ((k : FactId) → first ≡ Some k → IsEarlierOne graph.facts is_an_object word k.0) → IsEntityInRange graph fact (entity.Object one Free false None first)
-object_range graph fact one word named None earlier = tt
-object_range graph fact one word named (Some k) earlier = (let found : IsEarlierOne graph.facts is_an_object word k.0 = earlier k refl in object_pair graph fact one k found.other found.at (found.named ∙ sym named) found.other.what refl found.kind)
-
-object_may : (held : Held) (place : Place) (word : List ℕ) (one : TypeId) (scope : ScopeId) (first : Option FactId) → scope.0 < scopes held.graph.facts → first ≡ first_object (declared_in (graph_at held.types held.graph) scope.0 (spelled word)) → MayFollow held.graph (made scope place (name.Spelled word) (entity.Object one Free false None first))
-unfolding declared_in
-object_may held place word one scope first there is = may_follow held.graph (made scope place (name.Spelled word) (entity.Object one Free false None first)) there (object_range held.graph (made scope place (name.Spelled word) (entity.Object one Free false None first)) one word refl first (λ k e. object_at held.types held.graph.facts scope.0 word zero held.graph.facts k (λ i. (let p : 0 + i ≡ i = omega arith in ap (slice_get held.graph.facts) p)) (sym is ∙ e)))
-
-pub object_ready : (held : Held) (place : Place) (word : List ℕ) (one : TypeId) (scope : ScopeId) (first : Option FactId) (n : Name) (fact : Fact) → scope.0 < scopes held.graph.facts → first ≡ first_object (declared_in (graph_at held.types held.graph) scope.0 (spelled word)) → one.0 < length held.types → n ≡ name.Spelled word → fact ≡ made scope place n (entity.Object one Free false None first) → IsReady held fact
-object_ready held place word one scope first n fact there is below named made_is =
-    subst (λ (f : Fact). IsReady held f) (sym (made_is ∙ ap (λ m. made scope place m (entity.Object one Free false None first)) named)) (record { follows = object_may held place word one scope first there is; below = record { name = tt; what = below }; plain = record { name = tt; what = refl } })
-
-pub object_is : (held : Held) (place : Place) (word : List ℕ) (one : TypeId) (scope : ScopeId) (first : Option FactId) (n : Name) (fact : Fact) → scope ≡ held.scope → first ≡ first_object (declared_in (graph_at held.types held.graph) scope.0 (spelled word)) → n ≡ name.Spelled word → fact ≡ made scope place n (entity.Object one Free false None first)
-    → fact_at held.types fact ≡ fact_here (meaning held) (spelled word) place (object_here (meaning held) (spelled word) (type_at held.types one.0))
-unfolding meaning
-object_is held place word one scope first n fact here is named made_is =
-    ap (fact_at held.types) (made_is ∙ ap (λ m. made scope place m (entity.Object one Free false None first)) named)
-    ∙ (ap (λ f. fact_at held.types (made scope place (name.Spelled word) (entity.Object one Free false None f))) is
-    ∙ ap (λ (s : ScopeId). fact_at held.types (made s place (name.Spelled word) (entity.Object one Free false None (first_object (declared_in (graph_at held.types held.graph) s.0 (spelled word)))))) here)
-
-function_kind : (types : List CxxType) (of : CxxType) (what : Entity) → is_same_function of (declares_at types what) ≡ true → is_a_function what ≡ true
-function_kind types of (entity.Scope parent kind) e = absurd (cc)
-function_kind types of (entity.Object one member is_mutable value first) e = absurd (cc)
-function_kind types of (entity.Function one member flags defaults first) e = refl
-function_kind types of (entity.Template number member defaults is_explicit first) e = absurd (cc)
-function_kind types of (entity.Parameter depth index one) e = absurd (cc)
-function_kind types of (entity.Injected number) e = absurd (cc)
-function_kind types of (entity.Class number is_union) e = absurd (cc)
-function_kind types of (entity.Complete number) e = absurd (cc)
-function_kind types of (entity.Passed number) e = absurd (cc)
-function_kind types of (entity.Ancestor number parent index access) e = absurd (cc)
-function_kind types of (entity.Enumeration number) e = absurd (cc)
-function_kind types of (entity.Enumerator number value) e = absurd (cc)
-function_kind types of (entity.Synonym one) e = absurd (cc)
-function_kind types of (entity.Namespace inner) e = absurd (cc)
-function_kind types of (entity.Directive nominated) e = absurd (cc)
-function_kind types of (entity.Using target) e = absurd (cc)
-function_kind types of (entity.Friend number target) e = absurd (cc)
-
-function_at : (types : List CxxType) (of : CxxType) (all : List Fact) (scope : ℕ) (word : List ℕ) (n : ℕ) (facts : List Fact) (k : FactId) → ((i : ℕ) → slice_get all (n + i) ≡ slice_get facts i) → first_function of (declared_from scope (spelled word) n (facts_at types facts)) ≡ Some k → IsEarlierOne all is_a_function word k.0
-function_at types of all scope word n [] k at e = absurd (cc)
-function_at types of all scope word n (one ∷ others) k at e =
-    by (declares_in scope (spelled word) (fact_at types one)) refl e (λ f. function_at types of all scope word (suc n) others k (λ i. (let p : suc n + i ≡ n + suc i = omega arith in ap (slice_get all) p ∙ at (suc i))) f)
-  where
-    here : slice_get all n ≡ Some one
-    here = (let p : n ≡ n + 0 = omega arith in ap (slice_get all) p ∙ at 0)
-
-    by : (a : Bool) → declares_in scope (spelled word) (fact_at types one) ≡ a
-        → first_function of (if a then record { number = n; fact = fact_at types one } ∷ declared_from scope (spelled word) (suc n) (facts_at types others) else declared_from scope (spelled word) (suc n) (facts_at types others)) ≡ Some k
-        → (first_function of (declared_from scope (spelled word) (suc n) (facts_at types others)) ≡ Some k → IsEarlierOne all is_a_function word k.0) → IsEarlierOne all is_a_function word k.0
-    by false p f later = later f
-    by true p f later = chosen n (first_function of (declared_from scope (spelled word) (suc n) (facts_at types others))) k (is_same_function of (declares_at types one.what)) f (λ yes same. record { other = one; at = subst (λ m. slice_get all m ≡ Some one) same here; kind = function_kind types of one.what yes; named = declared_name types scope word one p }) later
-
-function_pair : (graph : Graph) (fact : Fact) (one : TypeId) (count : ℕ) (k : FactId) (other : Fact) → slice_get graph.facts k.0 ≡ Some other → other.name ≡ fact.name → (what : Entity) → other.what ≡ what → is_a_function what ≡ true → IsEntityInRange graph fact (entity.Function one Free no_flags count (Some k))
-function_pair graph fact one count k other at named (entity.Scope parent kind) same e = absurd (cc)
-function_pair graph fact one count k other at named (entity.Object two member is_mutable value first) same e = absurd (cc)
-function_pair graph fact one count k other at named (entity.Function two member flags defaults first) same e = (other, at, rw same (refl), named)
-function_pair graph fact one count k other at named (entity.Template number member defaults is_explicit first) same e = absurd (cc)
-function_pair graph fact one count k other at named (entity.Parameter depth index two) same e = absurd (cc)
-function_pair graph fact one count k other at named (entity.Injected number) same e = absurd (cc)
-function_pair graph fact one count k other at named (entity.Class number is_union) same e = absurd (cc)
-function_pair graph fact one count k other at named (entity.Complete number) same e = absurd (cc)
-function_pair graph fact one count k other at named (entity.Passed number) same e = absurd (cc)
-function_pair graph fact one count k other at named (entity.Ancestor number parent index access) same e = absurd (cc)
-function_pair graph fact one count k other at named (entity.Enumeration number) same e = absurd (cc)
-function_pair graph fact one count k other at named (entity.Enumerator number value) same e = absurd (cc)
-function_pair graph fact one count k other at named (entity.Synonym two) same e = absurd (cc)
-function_pair graph fact one count k other at named (entity.Namespace inner) same e = absurd (cc)
-function_pair graph fact one count k other at named (entity.Directive nominated) same e = absurd (cc)
-function_pair graph fact one count k other at named (entity.Using target) same e = absurd (cc)
-function_pair graph fact one count k other at named (entity.Friend number target) same e = absurd (cc)
-
-function_range : (graph : Graph) (fact : Fact) (one : TypeId) (count : ℕ) (word : List ℕ) → fact.name ≡ name.Spelled word → (first : Option FactId) → ((k : FactId) → first ≡ Some k → IsEarlierOne graph.facts is_a_function word k.0) → IsEntityInRange graph fact (entity.Function one Free no_flags count first)
-function_range graph fact one count word named None earlier = tt
-function_range graph fact one count word named (Some k) earlier = (let found : IsEarlierOne graph.facts is_a_function word k.0 = earlier k refl in function_pair graph fact one count k found.other found.at (found.named ∙ sym named) found.other.what refl found.kind)
-
-function_may : (held : Held) (place : Place) (word : List ℕ) (one : TypeId) (count : ℕ) (scope : ScopeId) (first : Option FactId) → scope.0 < scopes held.graph.facts → first ≡ first_function (type_at held.types one.0) (declared_in (graph_at held.types held.graph) scope.0 (spelled word)) → MayFollow held.graph (made scope place (name.Spelled word) (entity.Function one Free no_flags count first))
-unfolding declared_in
-function_may held place word one count scope first there is = may_follow held.graph (made scope place (name.Spelled word) (entity.Function one Free no_flags count first)) there (function_range held.graph (made scope place (name.Spelled word) (entity.Function one Free no_flags count first)) one count word refl first (λ k e. function_at held.types (type_at held.types one.0) held.graph.facts scope.0 word zero held.graph.facts k (λ i. (let p : 0 + i ≡ i = omega arith in ap (slice_get held.graph.facts) p)) (sym is ∙ e)))
-
-pub function_ready : (held : Held) (place : Place) (word : List ℕ) (one : TypeId) (count : ℕ) (scope : ScopeId) (first : Option FactId) (n : Name) (fact : Fact) → scope ≡ held.scope → scope.0 < scopes held.graph.facts → first ≡ first_function (type_at held.types one.0) (declared_here (meaning held) (spelled word)) → one.0 < length held.types → n ≡ name.Spelled word → fact ≡ made scope place n (entity.Function one Free no_flags count first) → IsReady held fact
-unfolding meaning
-function_ready held place word one count scope first n fact here there is below named made_is =
-    subst (λ (f : Fact). IsReady held f) (sym (made_is ∙ ap (λ m. made scope place m (entity.Function one Free no_flags count first)) named)) (record {
-      follows = function_may held place word one count scope first there (is ∙ ap (λ (s : ScopeId). first_function (type_at held.types one.0) (declared_in (graph_at held.types held.graph) s.0 (spelled word))) (sym here));
+pub object_ready : (held : Held) (place : Place) (word : List ℕ) (one : TypeId) (scope : ScopeId) (first : Option FactId) (n : Name) (fact : Fact) → scope.0 < scopes held.graph.facts → IsEarlierObject held word first → one.0 < length held.types → n ≡ name.Spelled word → fact ≡ made scope place n (object_first one first) → IsReady held fact
+object_ready held place word one scope first n fact there earlier below named made_is =
+    subst (λ (f : Fact). IsReady held f) (sym (made_is ∙ ap (λ m. made scope place m (object_first one first)) named)) (record {
+      follows = may_follow held.graph (made scope place (name.Spelled word) (object_first one first)) there (object_after held.graph word (made scope place (name.Spelled word) (object_first one first)) one first refl earlier);
       below = record { name = tt; what = below };
       plain = record { name = tt; what = refl };
     })
 
-pub function_is : (held : Held) (place : Place) (word : List ℕ) (one : TypeId) (count : ℕ) (scope : ScopeId) (first : Option FactId) (n : Name) (fact : Fact) → scope ≡ held.scope → n ≡ name.Spelled word → fact ≡ made scope place n (entity.Function one Free no_flags count first)
+pub object_is : (held : Held) (place : Place) (word : List ℕ) (one : TypeId) (scope : ScopeId) (first : Option FactId) (n : Name) (fact : Fact) → scope ≡ held.scope → n ≡ name.Spelled word → fact ≡ made scope place n (object_first one first)
+    → fact_at held.types fact ≡ fact_here (meaning held) (spelled word) place (facts.object (type_at held.types one.0) Free false None first)
+unfolding meaning
+object_is held place word one scope first n fact here named made_is =
+    ap (fact_at held.types) (made_is ∙ ap (λ m. made scope place m (object_first one first)) named)
+    ∙ ap (λ (s : ScopeId). fact_at held.types (made s place (name.Spelled word) (object_first one first))) here
+
+pub function_ready : (held : Held) (place : Place) (word : List ℕ) (one : TypeId) (count : ℕ) (scope : ScopeId) (first : Option FactId) (n : Name) (fact : Fact) → scope.0 < scopes held.graph.facts → IsEarlierFunction held word first → one.0 < length held.types → n ≡ name.Spelled word → fact ≡ made scope place n (function_first one count first) → IsReady held fact
+function_ready held place word one count scope first n fact there earlier below named made_is =
+    subst (λ (f : Fact). IsReady held f) (sym (made_is ∙ ap (λ m. made scope place m (function_first one count first)) named)) (record {
+      follows = may_follow held.graph (made scope place (name.Spelled word) (function_first one count first)) there (function_after held.graph word (made scope place (name.Spelled word) (function_first one count first)) one count first refl earlier);
+      below = record { name = tt; what = below };
+      plain = record { name = tt; what = refl };
+    })
+
+pub function_is : (held : Held) (place : Place) (word : List ℕ) (one : TypeId) (count : ℕ) (scope : ScopeId) (first : Option FactId) (n : Name) (fact : Fact) → scope ≡ held.scope → n ≡ name.Spelled word → fact ≡ made scope place n (function_first one count first)
     → fact_at held.types fact ≡ fact_here (meaning held) (spelled word) place (function_with (type_at held.types one.0) count first)
 unfolding meaning
 function_is held place word one count scope first n fact here named made_is =
-    ap (fact_at held.types) (made_is ∙ ap (λ m. made scope place m (entity.Function one Free no_flags count first)) named)
-    ∙ ap (λ (s : ScopeId). fact_at held.types (made s place (name.Spelled word) (entity.Function one Free no_flags count first))) here
+    ap (fact_at held.types) (made_is ∙ ap (λ m. made scope place m (function_first one count first)) named)
+    ∙ ap (λ (s : ScopeId). fact_at held.types (made s place (name.Spelled word) (function_first one count first))) here
 
 -- ---- what a stop stops
 

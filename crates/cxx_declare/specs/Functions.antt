@@ -1,5 +1,5 @@
 -- How functions are declared, with the default arguments that their declarations give (8.3.5, 8.3.6).
-use Rattle.std.specs.Prelude.{ℕ, zero, suc, Bool, true, false, ◌||◌, nat_eq, if◌then◌else◌, List, [], ◌∷◌, length, Option, Some, None, Ok, Err}
+use Rattle.std.specs.Prelude.{ℕ, zero, suc, Bool, true, false, not, ◌||◌, nat_eq, if◌then◌else◌, List, [], ◌∷◌, length, Option, Some, None, Ok, Err}
 use Rattle.cxx_model.specs.declared.facts.MemberKind.TheVariants as member
 use Rattle.cxx_model.specs.declared.place.Place.{Place}
 use Rattle.cxx_model.specs.declared.types.FactId.{FactId}
@@ -9,7 +9,8 @@ use Rattle.cxx_model.specs.Stops.{Answer, ◌>>=◌}
 use Rattle.cxx_model.specs.Text.Lexemes.{Lexeme}
 use Rattle.cxx_model.specs.Types.Trees.{CxxType, function_of}
 use Rattle.cxx_reading.specs.Choosing.{each_type}
-use Rattle.cxx_reading.specs.Declaring.{added, conflicting_at, declared_here, fact_here, first_function, free, no_flags, place_of_fact}
+use Rattle.cxx_reading.specs.Declaring.{added, conflicting_at, fact_here, first_member_function, free, free_linked, home_here, linked_as, no_flags, place_of_fact}
+use Rattle.cxx_reading.specs.Linked.{is_space_at}
 use Rattle.cxx_reading.specs.Reads.{Asks}
 use Rattle.cxx_reading.specs.State.{CxxGiven, CxxOffered, CxxState}
 use Rattle.cxx_tree.specs.Defaults.{first_given, with_given, without_offers}
@@ -33,10 +34,10 @@ abbrev pub not_given_by : CxxState → Place → List ℕ → Option CxxGiven �
 not_given_by state place word None = Ok tt
 not_given_by state place word (Some given) = Err (conflicting_at place word (place_of_fact state.graph given.declaration))
 
--- the one that an earlier declaration gives to a parameter of a function with a first declaration
+-- the one that an earlier declaration of the same scope gives to a parameter of a function with a first declaration
 abbrev pub given_before : CxxState → Option FactId → ℕ → Option CxxGiven
 given_before state None index = None
-given_before state (Some first) index = first_given state.graph.facts first.0 index state.given
+given_before state (Some first) index = first_given state.graph.facts state.here.scope first.0 index state.given
 
 -- 8.3.6: none is given twice, not even with the same value
 abbrev pub not_given : CxxState → Place → List ℕ → Option FactId → List CxxOffered → Answer (Unit {0})
@@ -86,14 +87,28 @@ with_all_given number (one ∷ others) state = with_all_given number others (wit
 abbrev pub given_as : List CxxOffered → ℕ × CxxState → ℕ × CxxState
 given_as offers answer = (answer.0, without_offers (with_all_given answer.0 offers answer.1))
 
+-- in a block it is linked (3.5)
+abbrev pub linked_if : Bool → ℕ × CxxState → ℕ × CxxState
+linked_if true answer = linked_as answer
+linked_if false answer = answer
+
+abbrev pub free_if : Bool → CxxState → CxxFact → List ℕ → Answer (Unit {0})
+free_if true state fact word = free_linked state fact word
+free_if false state fact word = free state fact word
+
 -- with these default arguments, of a function with this first declaration or of a new one
-abbrev pub declare_with : Lexeme → CxxType → Option FactId → List CxxOffered → Asks CxxState ℕ
-declare_with name of first offers state = do
-  is_free ← free state (function_by state name of first offers) name.spelling
+abbrev pub declare_with : Bool → Lexeme → CxxType → Option FactId → List CxxOffered → Asks CxxState ℕ
+declare_with linked name of first offers state = do
+  is_free ← free_if linked state (function_by state name of first offers) name.spelling
   is_fresh ← not_given state name.place name.spelling first offers
   answer ← added (function_by state name of first offers) state
-  Ok (given_as offers answer)
+  Ok (linked_if linked (given_as offers answer))
+
+-- 3.5: where the reader stands in a block, a function is linked
+abbrev pub is_linked_here : CxxState → Bool
+is_linked_here state = not (is_space_at state.graph state.here.scope)
 
 -- 8.3.5: a function, whose declarator has a list of parameters with that scope, or none of its own
 unfoldable pub declare_function : Option ℕ → Lexeme → CxxType → Asks CxxState ℕ
-declare_function list name of state = declare_with name of (first_function of (declared_here state (spelled name.spelling))) (offered_by list state.offered) state
+declare_function list name of state =
+    declare_with (is_linked_here state) name of (first_member_function state (home_here state) (spelled name.spelling) of) (offered_by list state.offered) state

@@ -1,4 +1,6 @@
+pub mod Asked
 pub mod Functions
 pub mod Given
 pub mod Made
+pub mod Opened
 pub mod Values

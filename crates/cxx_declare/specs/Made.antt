@@ -1,10 +1,10 @@
 -- Declarations that are made, in the terms of the definitions.
-use Rattle.std.specs.Prelude.{ℕ, ℤ, ◌≡◌, ◌<◌, ◌++◌, List, [], ◌∷◌, length, Option, Some, None, Result, Ok, Err}
-use Rattle.cxx_model.specs.declared.evidence.Evidence.TheVariants.{Found}
-use Rattle.cxx_model.specs.declared.fault.FaultText.TheVariants as says
+use Rattle.std.specs.Prelude.{ℕ, ℤ, ◌≡◌, ◌<◌, ◌++◌, Bool, false, List, [], ◌∷◌, length, Option, Some, None, Result, Ok, Err}
 use Rattle.cxx_model.specs.declared.facts.Access.TheVariants.{Public}
 use Rattle.cxx_model.specs.declared.facts.Entity.{Entity}
+use Rattle.cxx_model.specs.declared.facts.Entity.TheVariants as entity
 use Rattle.cxx_model.specs.declared.facts.Fact.{Fact}
+use Rattle.cxx_model.specs.declared.facts.MemberKind.TheVariants.{Free}
 use Rattle.cxx_model.specs.declared.facts.Name.{Name}
 use Rattle.cxx_model.specs.declared.facts.Name.TheVariants as name
 use Rattle.cxx_model.specs.declared.place.Place.{Place}
@@ -14,15 +14,17 @@ use Rattle.cxx_model.specs.declared.types.EnumId.{EnumId}
 use Rattle.cxx_model.specs.declared.types.ScopeId.{ScopeId}
 use Rattle.cxx_model.specs.declared.types.TypeId.{TypeId}
 use Rattle.cxx_model.specs.Facts.Fitted.{IsFactBelow}
-use Rattle.cxx_model.specs.Facts.Graph.{MayFollow, enumerations}
+use Rattle.cxx_model.specs.Facts.Graph.{IsEntityInRange, MayFollow, enumerations}
 use Rattle.cxx_model.specs.Text.Lexemes.{Lexeme, nowhere}
 use Rattle.cxx_names.specs.Clashes.{IsPlain}
-use Rattle.cxx_model.specs.Facts.Declarations.{CxxFact, CxxGraph}
-use Rattle.cxx_model.specs.Stops.{Answer, Faulty, undeclared_at, ◌>>=◌}
+use Rattle.cxx_model.specs.Facts.Declarations.{CxxFact, declares_at}
+use Rattle.cxx_model.specs.Stops.{Answer, ◌>>=◌}
 use Rattle.cxx_meaning.specs.Conversions.Enumerations.{values_in}
 use Rattle.cxx_model.specs.Types.Integral.{one_holds}
+use Rattle.cxx_model.specs.Types.Trees.{CxxType}
 use Rattle.cxx_reading.specs.Declaring as declaring
-use Rattle.cxx_reading.specs.Declaring.{added, defined_as, free, place_of_fact, undefined}
+use Rattle.cxx_reading.specs.Declaring.{added, defined_as, free, free_linked, linked_as, no_flags, undefined}
+use Rattle.cxx_reading.specs.Linked.{is_an_object}
 use Rattle.cxx_reading.specs.State.{CxxState}
 use Rattle.cxx_tree.specs.Held.{Held}
 
@@ -55,6 +57,41 @@ place_held (Some fact) = fact.place
 abbrev pub made : ScopeId → Place → Name → Entity → Fact
 made scope place name what = record { place = place; scope = scope; name = name; access = Public; what = what }
 
+-- the same fact in another scope
+abbrev pub moved : ScopeId → Fact → Fact
+moved scope fact = record fact { scope = scope }
+
+-- 3: whether a fact is there that declares an object
+abbrev pub is_object_there : List CxxType → Option Fact → Bool
+is_object_there types None = false
+is_object_there types (Some fact) = is_an_object (declares_at types fact.what)
+
+-- ---- first declarations
+
+-- a type of which nothing is asked
+abbrev pub a_type : TypeId
+a_type = record { 0 = 0 }
+
+-- a fact of which its name alone is asked
+abbrev pub named : List ℕ → Entity → Fact
+named word what = made (record { 0 = 0 }) nowhere (name.Spelled word) what
+
+abbrev pub object_first : TypeId → Option FactId → Entity
+object_first of first = entity.Object of Free false None first
+
+abbrev pub function_first : TypeId → ℕ → Option FactId → Entity
+function_first of defaults first = entity.Function of Free no_flags defaults first
+
+-- 3: an object with a name may have this first declaration
+abbrev pub IsEarlierObject : Held → List ℕ → Option FactId → Type 0
+IsEarlierObject held word first = IsEntityInRange held.graph (named word (object_first a_type first)) (object_first a_type first)
+
+-- 13.1: the same of a function
+abbrev pub IsEarlierFunction : Held → List ℕ → Option FactId → Type 0
+IsEarlierFunction held word first = IsEntityInRange held.graph (named word (function_first a_type 0 first)) (function_first a_type 0 first)
+
+-- ---- what is declared
+
 -- what was declared has an answer that is not asked
 abbrev pub unit_of : {X E : Type 0} → Result X E → Result (Unit {0}) E
 unit_of (Ok x) = Ok tt
@@ -70,6 +107,13 @@ added_defined fact state = added fact state >>= λ answer. Ok (defined_as answer
 
 abbrev pub defined_by : Place → List ℕ → CxxFact → CxxState → Answer (ℕ × CxxState)
 defined_by place word fact state = definable_by state place word fact >>= λ is_first. added_defined fact state
+
+-- 3.5: what was declared is linked
+abbrev pub linking : Answer (ℕ × CxxState) → Answer (ℕ × CxxState)
+linking reply = reply >>= λ answer. Ok (linked_as answer)
+
+abbrev pub linked_by : CxxFact → List ℕ → CxxState → Answer (ℕ × CxxState)
+linked_by fact word state = free_linked state fact word >>= λ is_free. linking (added fact state)
 
 -- ---- enumerations
 
@@ -87,12 +131,7 @@ value_checked state fact word number value = free state fact word >>= λ is_free
 abbrev pub told_added : CxxFact → CxxState → Answer (Unit {0} × CxxState)
 told_added fact state = added fact state >>= λ answer. Ok (tt, answer.1)
 
--- ---- types
+-- ---- types and namespaces
 
 abbrev pub IsTypeThere : Held → TypeId → Type 0
 IsTypeThere held number = number.0 < length held.types
-
--- 7.1.5.3: a name of no enumeration, given the first declaration of a type that it names
-abbrev pub no_type_by : CxxGraph → Place → List ℕ → Option FactId → Answer (Unit {0})
-no_type_by graph place word None = Err (undeclared_at place word)
-no_type_by graph place word (Some number) = Err (Faulty (record { place = place; text = says.WrongKindOfName word; evidence = Found (place_of_fact graph number.0) ∷ [] }))

@@ -1,55 +1,90 @@
 //! What names mean to a reader (3.4.1, 3.4.4, 7.1.3).
 
-ghost use Rattle.std.specs.Prelude.{◌≡◌, ◌<◌, Ok, IfSome, option_map};
+ghost use Rattle.std.specs.Prelude.{◌≡◌, ◌<◌, Ok, IfOk, IfSome, option_map};
 ghost use Rattle.cxx_model.specs.Facts.Declarations.{spelled};
 ghost use Rattle.cxx_model.specs.Facts.Graph.{enumerations};
 ghost use Rattle.cxx_model.specs.Types.Trees.{enumeration};
-ghost use Rattle.cxx_names.specs.Looked.{enumeration_number, first_number};
-ghost use Rattle.cxx_reading.specs.Declaring.{enumeration_in};
-ghost use Rattle.cxx_reading.specs.Seen.{found_types};
-ghost use Rattle.cxx_model.specs.Stops.{Gives};
+ghost use Rattle.cxx_names.specs.Looked.{enumeration_number};
+ghost use Rattle.cxx_reading.specs.Declaring.{elaborated_by, enumeration_in};
+ghost use Rattle.cxx_reading.specs.Seen.{fact_numbers, found as found_from, kind_of_found, numbered_at, type_in};
 ghost use Rattle.cxx_model.specs.declared.token.TokenKind.{TokenKind};
 ghost use Rattle.cxx_reading.specs.Declaring as declaring;
 ghost use Rattle.cxx_reading.specs.Specifiers.{path_of};
-ghost use Rattle.cxx_declare.specs.Made.{IsTypeThere, no_type_by, token};
-ghost use Rattle.cxx_tree.specs.Answered.{IsAnswered};
+ghost use Rattle.cxx_declare.specs.Asked.{IsStop, first_place as first_place_in, no_enumeration, part_of};
+ghost use Rattle.cxx_declare.specs.Made.{IsTypeThere, token};
+ghost use Rattle.cxx_tree.specs.Answered.{AnyKnown, IsAnswered, itself};
 ghost use Rattle.cxx_tree.specs.Held.{meaning, type_of};
 ghost use Rattle.cxx_model.specs.declared.place.Place.{Place as OnePlace};
 
-use crate::parts::{place_of, undeclared, wrong_kind};
-use cxx_model::{EnumId, FactId, Kind, Place, Stop, TypeId};
+use crate::sought::{
+    first_place, sought_type, stop_ambiguous, stop_no_enumeration, stop_undeclared,
+};
+use cxx_found::{Found, found};
+use cxx_model::{EnumId, FactId, FactList, Kind, OutOfMemory, Place, Stop, TypeId};
+use cxx_names::{first_enumeration, kind_of_found as kind_of};
 use cxx_tree::State;
 
-/// What a name is where the reader stands (3.3.7, 3.4.1).
-#[tactic(auto, unfolding(cxx_tree::specs::Held::meaning, cxx_reading::specs::Declaring::kind_here))]
-pub fn kind(state: &State, word: &[u8]) -> Kind
-    ensures { (one : TokenKind) (place : OnePlace) → declaring.kind_here (path_of (token one place word.now)) (meaning state.now) ≡ Ok (result, meaning state.now) }
+// The entities that a name means where the reader stands (3.4.1).
+#[tactic(auto, unfolding(cxx_tree::specs::Held::meaning))]
+fn found_here(state: &State, word: &[u8]) -> Result<FactList, OutOfMemory>
+    ensures { IfOk result (λ numbers. numbered_at (meaning state.now).graph (fact_numbers numbers) ≡ found_from (meaning state.now).graph (meaning state.now).here.scope (spelled word.now)) }
 {
-    state.names().kind(state.graph(), state.scope(), word)
+    found(
+        state.alloc(),
+        state.names(),
+        state.graph(),
+        state.types(),
+        state.scope(),
+        word,
+    )
+}
+
+#[tactic(auto, unfolding(cxx_tree::specs::Held::meaning))]
+fn kind_among(state: &State, numbers: &[FactId]) -> Kind
+    ensures { result ≡ kind_of_found (meaning state.now).graph (numbered_at (meaning state.now).graph (fact_numbers numbers.now)) }
+{
+    kind_of(state.graph(), numbers)
+}
+
+fn kind_here(state: &State, word: &[u8]) -> Result<Kind, OutOfMemory>
+    ensures { IfOk result (λ kind. kind ≡ kind_of_found (meaning state.now).graph (found_from (meaning state.now).graph (meaning state.now).here.scope (spelled word.now))) }
+{
+    let numbers = found_here(state, word)?;
+    Ok(kind_among(state, numbers.as_slice()))
+}
+
+/// What a name is where the reader stands (3.3.7, 3.4.1).
+#[tactic(auto, using(cxx_tree::proofs::Steps::Later_refl), unfolding(cxx_reading::specs::Declaring::kind_here))]
+pub fn kind(state: &State, word: &[u8]) -> Result<Kind, Stop>
+    ensures { (one : TokenKind) (place : OnePlace) → IsAnswered itself AnyKnown state.now state.now result (declaring.kind_here (path_of (token one place word.now)) (meaning state.now)) }
+{
+    match kind_here(state, word) {
+        Ok(kind) => Ok(kind),
+        Err(_) => Err(Stop::OutOfMemory),
+    }
+}
+
+// The type that declarations that were found name.
+fn type_among(state: &mut State, numbers: &[FactId]) -> Result<TypeId, Stop>
+    ensures { IsAnswered type_of IsTypeThere state.old state.new result (Ok (type_in (numbered_at (meaning state.old).graph (fact_numbers numbers.now)), meaning state.old)) }
+{
+    match state.type_named(numbers) {
+        Ok(number) => Ok(number),
+        Err(_) => Err(Stop::OutOfMemory),
+    }
 }
 
 /// The type that a name means where the reader stands (7.1.3).
 pub fn type_named(state: &mut State, word: &[u8]) -> Result<TypeId, Stop>
     ensures { (one : TokenKind) (place : OnePlace) → IsAnswered type_of IsTypeThere state.old state.new result (declaring.type_here (path_of (token one place word.now)) (meaning state.old)) }
 {
-    match state.named_type(word) {
-        Ok(number) => Ok(number),
+    match found_here(state, word) {
+        Ok(numbers) => type_among(state, numbers.as_slice()),
         Err(_) => Err(Stop::OutOfMemory),
     }
 }
 
-#[tactic(auto, unfolding(cxx_tree::specs::Held::meaning))]
-fn no_type(state: &State, place: Place, word: &[u8], first: Option<FactId>) -> Result<(), Stop>
-    ensures { Gives (λ unit. unit) result (no_type_by (meaning state.now).graph place word.now first) }
-{
-    match first {
-        None => Err(Stop::Fault(undeclared(state.alloc(), place, word)?)),
-        Some(number) => {
-            let other = place_of(state.graph(), number);
-            Err(Stop::Fault(wrong_kind(state.alloc(), place, word, other)?))
-        }
-    }
-}
+// ---- behind `enum`
 
 fn enumeration_type(state: &mut State, number: EnumId) -> Result<TypeId, Stop>
     requires { number.0 < enumerations (state.old).graph.facts }
@@ -61,34 +96,60 @@ fn enumeration_type(state: &mut State, number: EnumId) -> Result<TypeId, Stop>
     }
 }
 
-fn first_enumeration(state: &State, word: &[u8]) -> Option<EnumId>
-    ensures is { option_map enumeration_number result ≡ enumeration_in (found_types (meaning state.now).graph (state.now).scope.0 (spelled word.now)) }
+// The first enumeration among declarations that were found.
+fn enumeration_among(state: &State, numbers: &[FactId]) -> Option<EnumId>
+    ensures is { option_map enumeration_number result ≡ enumeration_in (numbered_at (meaning state.now).graph (fact_numbers numbers.now)) }
     ensures there { IfSome result (λ number. number.0 < enumerations (state.now).graph.facts) }
 {
     let graph = state.graph();
     graph.in_range();
-    state.names().first_enumeration(graph, state.scope(), word)
+    first_enumeration(graph, numbers)
 }
 
-fn first_type(state: &State, word: &[u8]) -> Option<FactId>
-    ensures { result ≡ first_number (found_types (meaning state.now).graph (state.now).scope.0 (spelled word.now)) }
+#[tactic(auto, unfolding(cxx_tree::specs::Held::meaning))]
+fn stop_among(state: &State, place: Place, word: &[u8], numbers: &[FactId]) -> Stop
+    ensures { IsStop (no_enumeration place word.now (first_place_in (numbered_at (meaning state.now).graph (fact_numbers numbers.now)))) result }
 {
-    state.names().first_type(state.graph(), state.scope(), word)
+    let first = first_place(state.graph(), numbers);
+    stop_no_enumeration(state, place, word, first)
+}
+
+// Those of types, where a name behind `enum` means no two.
+fn elaborated_among(
+    state: &mut State,
+    place: Place,
+    word: &[u8],
+    numbers: &[FactId],
+) -> Result<TypeId, Stop>
+    ensures { IsAnswered type_of IsTypeThere state.old state.new result (elaborated_by (part_of place word.now) (numbered_at (meaning state.old).graph (fact_numbers numbers.now)) (enumeration_in (numbered_at (meaning state.old).graph (fact_numbers numbers.now))) (meaning state.old)) }
+{
+    match enumeration_among(state, numbers) {
+        Some(number) => enumeration_type(state, number),
+        None => Err(stop_among(state, place, word, numbers)),
+    }
+}
+
+fn elaborated_found(
+    state: &mut State,
+    place: Place,
+    word: &[u8],
+    found: Found,
+) -> Result<TypeId, Stop>
+    ensures { IsAnswered type_of IsTypeThere state.old state.new result (declaring.elaborated_found (part_of place word.now) found (meaning state.old)) }
+{
+    match found {
+        Found::Set(numbers) => elaborated_among(state, place, word, numbers.as_slice()),
+        Found::Ambiguous(one, two) => Err(stop_ambiguous(state, place, word, one, two)),
+        _ => Err(stop_undeclared(state, place, word)),
+    }
 }
 
 /// The enumeration that a name behind `enum` means (3.4.4, 7.1.5.3).
 pub fn elaborated(state: &mut State, place: Place, word: &[u8]) -> Result<TypeId, Stop>
     ensures { (one : TokenKind) → IsAnswered type_of IsTypeThere state.old state.new result (declaring.elaborated_here (path_of (token one place word.now)) (meaning state.old)) }
 {
-    match first_enumeration(state, word) {
-        Some(number) => enumeration_type(state, number),
-        None => {
-            let first = first_type(state, word);
-            match no_type(state, place, word, first) {
-                // No name of an enumeration is left.
-                Ok(()) => Err(Stop::OutOfMemory),
-                Err(stop) => Err(stop),
-            }
-        }
+    match sought_type(state, word) {
+        Ok(found) => elaborated_found(state, place, word, found),
+        Err(_) => Err(Stop::OutOfMemory),
     }
 }

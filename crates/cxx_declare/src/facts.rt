@@ -1,21 +1,24 @@
 //! Declarations that are made for the scope where the reader stands (3.3.1).
 
-ghost use Rattle.std.specs.Prelude.{◌≡◌, ◌<◌, ◌++◌, ◌∷◌, [], length, IfOk, OnOk, Some};
+ghost use Rattle.std.specs.Prelude.{◌≡◌, ◌<◌, ◌++◌, ◌∷◌, [], false, length, IfOk, OnOk, None, Some};
 ghost use Rattle.std.specs.List.{slice_get};
+ghost use Rattle.cxx_model.specs.declared.facts.MemberKind.TheVariants.{Free};
 ghost use Rattle.cxx_model.specs.declared.facts.Name.TheVariants.{Spelled};
-ghost use Rattle.cxx_model.specs.Facts.Declarations.{fact_at, spelled as spelled_name};
+ghost use Rattle.cxx_model.specs.Facts.Declarations.{fact_at, object, spelled as spelled_name};
 ghost use Rattle.cxx_model.specs.Facts.Graph.{appended, scopes};
 ghost use Rattle.cxx_defined.specs.Defined.{IsOwnEntity};
-ghost use Rattle.cxx_names.specs.Clashes.{IsPlainName};
 ghost use Rattle.cxx_reading.specs.Declaring as declaring;
-ghost use Rattle.cxx_reading.specs.Declaring.{fact_here, object_here, parameter_object};
-ghost use Rattle.cxx_declare.specs.Made.{IsReady, made, word_in};
+ghost use Rattle.cxx_reading.specs.Declaring.{fact_here, linked_object_here, object_here};
+ghost use Rattle.cxx_declare.specs.Made.{IsEarlierObject, IsReady, made, word_in};
 ghost use Rattle.cxx_tree.specs.Answered.{IsAnswered, IsFactKnown, fact_number};
 ghost use Rattle.cxx_tree.specs.Held.{meaning, type_of};
 
 use crate::conflict::free;
+use crate::members::{first_linked_object, first_object_here};
 use crate::parts::spelled;
-use cxx_model::{Access, Entity, Fact, FactId, MemberKind, Name, Place, ScopeId, Stop, TypeId};
+use cxx_model::{
+    Access, Entity, Fact, FactId, MemberKind, Name, OutOfMemory, Place, ScopeId, Stop, TypeId,
+};
 use cxx_tree::State;
 use std::alloc::AllocError;
 
@@ -43,24 +46,24 @@ pub(crate) fn declare(state: &mut State, fact: Fact) -> Result<FactId, Stop>
     state.add(fact)
 }
 
-/// The declaration of an object (3.1).
-pub(crate) fn object_fact(
+// The declaration of an object, given the first one of it.
+fn object_with(
     state: &State,
     place: Place,
     word: &[u8],
     of: TypeId,
+    first: Option<FactId>,
 ) -> Result<Fact, AllocError>
-    requires { of.0 < length (state.now).types }
-    ensures is { IfOk result (λ fact. fact_at (state.now).types fact ≡ fact_here (meaning state.now) (spelled_name word.now) place (object_here (meaning state.now) (spelled_name word.now) (type_of state.now of))) }
+    requires known { of.0 < length (state.now).types }
+    requires earlier { IsEarlierObject state.now word.now first }
+    ensures is { IfOk result (λ fact. fact_at (state.now).types fact ≡ fact_here (meaning state.now) (spelled_name word.now) place (object (type_of state.now of) Free false None first)) }
     ensures ready { IfOk result (IsReady state.now) }
     ensures own { IfOk result (λ fact. IsOwnEntity fact.what) }
     ensures named { IfOk result (λ fact. fact.name ≡ Spelled word.now) }
 {
-    let scope = state.scope();
-    let first = state.names().first_object(state.graph(), scope, word);
     let name = spelled(state.alloc(), word)?;
     Ok(fact_in(
-        scope,
+        state.scope(),
         place,
         name,
         Entity::Object {
@@ -71,6 +74,39 @@ pub(crate) fn object_fact(
             first,
         },
     ))
+}
+
+/// The declaration of an object (3.1).
+pub(crate) fn object_fact(
+    state: &State,
+    place: Place,
+    word: &[u8],
+    of: TypeId,
+) -> Result<Fact, OutOfMemory>
+    requires { of.0 < length (state.now).types }
+    ensures is { IfOk result (λ fact. fact_at (state.now).types fact ≡ fact_here (meaning state.now) (spelled_name word.now) place (object_here (meaning state.now) (spelled_name word.now) (type_of state.now of))) }
+    ensures ready { IfOk result (IsReady state.now) }
+    ensures own { IfOk result (λ fact. IsOwnEntity fact.what) }
+    ensures named { IfOk result (λ fact. fact.name ≡ Spelled word.now) }
+{
+    let first = first_object_here(state, word)?;
+    Ok(object_with(state, place, word, of, first)?)
+}
+
+/// The declaration of an object by a block with `extern` (3.5).
+pub(crate) fn linked_object_fact(
+    state: &State,
+    place: Place,
+    word: &[u8],
+    of: TypeId,
+) -> Result<Fact, OutOfMemory>
+    requires { of.0 < length (state.now).types }
+    ensures is { IfOk result (λ fact. fact_at (state.now).types fact ≡ fact_here (meaning state.now) (spelled_name word.now) place (linked_object_here (meaning state.now) (spelled_name word.now) (type_of state.now of))) }
+    ensures ready { IfOk result (IsReady state.now) }
+    ensures named { IfOk result (λ fact. fact.name ≡ Spelled word.now) }
+{
+    let first = first_linked_object(state, word)?;
+    Ok(object_with(state, place, word, of, first)?)
 }
 
 /// A declaration of another kind, for the scope where the reader stands.

@@ -1,24 +1,26 @@
-//! Functions, with the default arguments that their declarations give (8.3.5, 8.3.6).
+//! Functions, with the default arguments that their declarations give (8.3.5, 8.3.6), linked in blocks (3.5).
 
-ghost use Rattle.std.specs.Prelude.{◌≡◌, ◌<◌, ◌++◌, ◌∷◌, [], length, IfOk, OnOk, List, option_map};
+ghost use Rattle.std.specs.Prelude.{ℕ, ◌≡◌, ◌<◌, ◌++◌, ◌∷◌, [], length, IfOk, Ok, OnOk, List, option_map};
 ghost use Rattle.cxx_model.specs.declared.facts.Name.TheVariants.{Spelled};
 ghost use Rattle.cxx_model.specs.declared.token.TokenKind.{TokenKind};
 ghost use Rattle.cxx_model.specs.Facts.Declarations.{CxxFact, fact_at, spelled as spelled_name};
-ghost use Rattle.cxx_model.specs.Stops.{Gives};
+ghost use Rattle.cxx_model.specs.Stops.{Answer, Gives};
 ghost use Rattle.cxx_model.specs.Types.Numbers.{type_at};
 ghost use Rattle.cxx_reading.specs.Declaring as declaring;
-ghost use Rattle.cxx_reading.specs.Declaring.{added, declared_here, fact_here};
-ghost use Rattle.cxx_reading.specs.State.{CxxOffered};
+ghost use Rattle.cxx_reading.specs.Declaring.{added, fact_here};
+ghost use Rattle.cxx_reading.specs.State.{CxxOffered, CxxState};
 ghost use Rattle.cxx_reading.specs.Trees.{CxxTree};
 ghost use Rattle.cxx_declare.specs.Functions as functions;
-ghost use Rattle.cxx_declare.specs.Given.{added_giving, declared_giving, giving_checked, read_by, read_in};
-ghost use Rattle.cxx_declare.specs.Made.{IsReady, token, word_in};
+ghost use Rattle.cxx_declare.specs.Given.{added_giving, added_linking, declared_giving, giving_checked, linking_if, read_by, read_in};
+ghost use Rattle.cxx_declare.specs.Made.{IsEarlierFunction, IsReady, token, word_in};
 ghost use Rattle.cxx_tree.specs.Answered.{IsAnswered, IsFactKnown, fact_number, scope_of_option};
 ghost use Rattle.cxx_tree.specs.Held.{AreOffersBelow, Held, fallback_at, meaning, offer_at, offers_at, trees, type_of};
 ghost use Rattle.cxx_tree.specs.Later.{Later};
 
-use crate::conflict::free;
+use crate::conflict::free_if;
 use crate::facts::fact_in;
+use crate::linking::link;
+use crate::members::{first_function_here, is_linked_here};
 use crate::parts::{conflicting, place_of, spelled, word_of};
 use cxx_model::{
     Entity, Fact, FactId, FunctionFlags, MemberKind, OutOfMemory, Place, ScopeId, Stop, TypeId,
@@ -68,13 +70,14 @@ fn offered_by(state: &State, list: Option<ScopeId>) -> Result<OfferList, AllocEr
 
 // ---- each once
 
-// What an earlier declaration of a function gives to a parameter.
+// What an earlier declaration of a function in the scope where the reader stands gives to a parameter.
+#[tactic(auto, unfolding(cxx_tree::specs::Held::meaning))]
 fn given_before(state: &State, first: Option<FactId>, index: u32) -> Option<Fallback>
     ensures { option_map (fallback_at (trees state.now)) result ≡ functions.given_before (meaning state.now) first index }
 {
     match first {
         None => None,
-        Some(first) => state.first_given(first, index),
+        Some(first) => state.first_given(state.scope(), first, index),
     }
 }
 
@@ -189,15 +192,6 @@ fn defaults_by(
 
 // ---- the declaration
 
-fn first_function(state: &State, word: &[u8], of: TypeId) -> Option<FactId>
-    requires { of.0 < length (state.now).types }
-    ensures { result ≡ declaring.first_function (type_of state.now of) (declared_here (meaning state.now) (spelled_name word.now)) }
-{
-    state
-        .names()
-        .first_function(state.graph(), state.types(), of, state.scope(), word)
-}
-
 fn fact_with(
     state: &State,
     place: Place,
@@ -207,7 +201,7 @@ fn fact_with(
     defaults: u32,
 ) -> Result<Fact, AllocError>
     requires known { of.0 < length (state.now).types }
-    requires first { first ≡ declaring.first_function (type_of state.now of) (declared_here (meaning state.now) (spelled_name word.now)) }
+    requires earlier { IsEarlierFunction state.now word.now first }
     ensures is { IfOk result (λ fact. fact_at (state.now).types fact ≡ fact_here (meaning state.now) (spelled_name word.now) place (functions.function_with (type_of state.now of) defaults first)) }
     ensures ready { IfOk result (IsReady state.now) }
     ensures named { IfOk result (λ fact. fact.name ≡ Spelled word.now) }
@@ -241,7 +235,7 @@ fn function_by(
     offers: &[Offer],
 ) -> Result<Fact, OutOfMemory>
     requires known { of.0 < length (state.now).types }
-    requires first { first ≡ declaring.first_function (type_of state.now of) (declared_here (meaning state.now) (spelled_name word.now)) }
+    requires earlier { IsEarlierFunction state.now word.now first }
     ensures is { (kind : TokenKind) → IfOk result (λ fact. fact_at (state.now).types fact ≡ functions.function_by (meaning state.now) (token kind place word.now) (type_of state.now of) first (offers_at (trees state.now) offers.now)) }
     ensures ready { IfOk result (IsReady state.now) }
     ensures named { IfOk result (λ fact. fact.name ≡ Spelled word.now) }
@@ -250,12 +244,18 @@ fn function_by(
     Ok(fact_with(state, place, word, of, first, defaults)?)
 }
 
-// Nothing stands in the way of a declaration, and it gives nothing twice (3.3, 8.3.6).
-fn checked(state: &State, fact: &Fact, first: Option<FactId>, offers: &[Offer]) -> Result<(), Stop>
+// Nothing stands in the way of a declaration, and it gives nothing twice (3.3, 3.5, 8.3.6).
+fn checked(
+    state: &State,
+    linked: bool,
+    fact: &Fact,
+    first: Option<FactId>,
+    offers: &[Offer],
+) -> Result<(), Stop>
     requires { IsReady state.now fact.now }
-    ensures { Gives (λ unit. unit) result (giving_checked (meaning state.now) (fact_at (state.now).types fact.now) (word_in (fact.now).name) first (offers_at (trees state.now) offers.now)) }
+    ensures { Gives (λ unit. unit) result (giving_checked linked (meaning state.now) (fact_at (state.now).types fact.now) (word_in (fact.now).name) first (offers_at (trees state.now) offers.now)) }
 {
-    free(state, fact)?;
+    free_if(state, linked, fact)?;
     not_given(state, fact.place, word_of(&fact.name), first, offers)
 }
 
@@ -295,19 +295,68 @@ fn add_giving(state: &mut State, fact: Fact, offers: &[Offer]) -> Result<FactId,
     }
 }
 
+fn link_if(state: &mut State, linked: bool, number: FactId) -> Result<FactId, Stop>
+    requires { number.0 < length (state.old).graph.facts }
+    ensures { (old : Held) (reply : Answer (ℕ × CxxState)) → IsAnswered fact_number IsFactKnown old state.old (Ok number) reply → IsAnswered fact_number IsFactKnown old state.new result (linking_if linked reply) }
+{
+    if linked {
+        link(state, number)
+    } else {
+        Ok(number)
+    }
+}
+
+// Adds a declaration, which is linked in a block (3.5).
+fn add_linking(
+    state: &mut State,
+    linked: bool,
+    fact: Fact,
+    offers: &[Offer],
+) -> Result<FactId, Stop>
+    requires ready { IsReady state.old fact }
+    requires below { AreOffersBelow (length (trees state.old)) offers.now }
+    ensures { IsAnswered fact_number IsFactKnown state.old state.new result (added_linking linked (fact_at (state.old).types fact) (offers_at (trees state.old) offers.now) (meaning state.old)) }
+{
+    match add_giving(state, fact, offers) {
+        Ok(number) => link_if(state, linked, number),
+        Err(stop) => Err(stop),
+    }
+}
+
 fn declare_giving(
     state: &mut State,
+    linked: bool,
     fact: Fact,
     first: Option<FactId>,
     offers: &[Offer],
 ) -> Result<FactId, Stop>
     requires ready { IsReady state.old fact }
     requires below { AreOffersBelow (length (trees state.old)) offers.now }
-    ensures { IsAnswered fact_number IsFactKnown state.old state.new result (declared_giving (fact_at (state.old).types fact) (word_in fact.name) first (offers_at (trees state.old) offers.now) (meaning state.old)) }
+    ensures { IsAnswered fact_number IsFactKnown state.old state.new result (declared_giving linked (fact_at (state.old).types fact) (word_in fact.name) first (offers_at (trees state.old) offers.now) (meaning state.old)) }
 {
-    match checked(state, &fact, first, offers) {
-        Ok(()) => add_giving(state, fact, offers),
+    match checked(state, linked, &fact, first, offers) {
+        Ok(()) => add_linking(state, linked, fact, offers),
         Err(stop) => Err(stop),
+    }
+}
+
+fn declare_first(
+    state: &mut State,
+    linked: bool,
+    place: Place,
+    word: &[u8],
+    of: TypeId,
+    first: Option<FactId>,
+    offers: &[Offer],
+) -> Result<FactId, Stop>
+    requires known { of.0 < length (state.old).types }
+    requires earlier { IsEarlierFunction state.old word.now first }
+    requires below { AreOffersBelow (length (trees state.old)) offers.now }
+    ensures { (kind : TokenKind) → IsAnswered fact_number IsFactKnown state.old state.new result (functions.declare_with linked (token kind place word.now) (type_of state.old of) first (offers_at (trees state.old) offers.now) (meaning state.old)) }
+{
+    match function_by(state, place, word, of, first, offers) {
+        Ok(fact) => declare_giving(state, linked, fact, first, offers),
+        Err(_) => Err(Stop::OutOfMemory),
     }
 }
 
@@ -320,17 +369,17 @@ fn declare_with(
 ) -> Result<FactId, Stop>
     requires known { of.0 < length (state.old).types }
     requires below { AreOffersBelow (length (trees state.old)) offers.now }
-    ensures { (kind : TokenKind) → IsAnswered fact_number IsFactKnown state.old state.new result (functions.declare_with (token kind place word.now) (type_of state.old of) (declaring.first_function (type_of state.old of) (declared_here (meaning state.old) (spelled_name word.now))) (offers_at (trees state.old) offers.now) (meaning state.old)) }
+    ensures { (kind : TokenKind) → IsAnswered fact_number IsFactKnown state.old state.new result (functions.declare_with (functions.is_linked_here (meaning state.old)) (token kind place word.now) (type_of state.old of) (declaring.first_member_function (meaning state.old) (declaring.home_here (meaning state.old)) (spelled_name word.now) (type_of state.old of)) (offers_at (trees state.old) offers.now) (meaning state.old)) }
 {
-    let first = first_function(state, word, of);
-    match function_by(state, place, word, of, first, offers) {
-        Ok(fact) => declare_giving(state, fact, first, offers),
+    let linked = is_linked_here(state);
+    match first_function_here(state, of, word) {
+        Ok(first) => declare_first(state, linked, place, word, of, first, offers),
         Err(_) => Err(Stop::OutOfMemory),
     }
 }
 
 /// A function is declared (8.3.5), whose declarator has its own list of parameters with that scope, or none. The default
-/// arguments that were read in that list are given to it, each once (8.3.6).
+/// arguments that were read in that list are given to it, each once in a scope (8.3.6). In a block it is linked (3.5).
 pub fn declare_function(
     state: &mut State,
     list: Option<ScopeId>,

@@ -7,8 +7,12 @@ mod conflict;
 mod enumerations;
 mod facts;
 mod functions;
+mod linking;
+mod members;
 mod objects;
 mod parts;
+mod sought;
+mod spaces;
 mod values;
 
 pub use asks::{elaborated, kind, type_named};
@@ -16,5 +20,9 @@ pub use bodies::{begin_body, end_body};
 pub use enumerations::{declare_enumeration, declare_enumerator, end_enumeration};
 pub use functions::declare_function;
 pub use objects::{
-    declare_object, declare_parameter, declare_synonym, define_declared, define_object,
+    declare_linked_object, declare_object, declare_parameter, declare_synonym, define_declared,
+    define_object,
+};
+pub use spaces::{
+    close_space, declare_alias, declare_directive, open_space, open_unnamed, space_here,
 };

@@ -1,4 +1,4 @@
-//! Names of types, objects and parameters (7.1.3, 8.3.5, 3.1, 3.2).
+//! Names of types, objects and parameters (7.1.3, 8.3.5, 3.1, 3.2, 3.5).
 
 ghost use Rattle.std.specs.Prelude.{◌≡◌, ◌<◌, length, IfErr, IfOk, Ok, OnOk, List, Option};
 ghost use Rattle.std.specs.List.{slice_get};
@@ -10,13 +10,14 @@ ghost use Rattle.cxx_defined.specs.Defined.{IsOwn, IsOwnEntity};
 ghost use Rattle.cxx_names.specs.Clashes.{IsPlainName};
 ghost use Rattle.cxx_reading.specs.Declaring as declaring;
 ghost use Rattle.cxx_reading.specs.Declaring.{added, with_definition};
-ghost use Rattle.cxx_declare.specs.Made.{IsNameOf, IsReady, added_defined, defined_by, token, word_in};
+ghost use Rattle.cxx_declare.specs.Made.{IsNameOf, IsReady, added_defined, defined_by, linked_by, linking, token, word_in};
 ghost use Rattle.cxx_tree.specs.Answered.{AnyKnown, IsAnswered, IsFactKnown, fact_number, itself};
 ghost use Rattle.cxx_tree.specs.Held.{Held, meaning, type_of};
 ghost use Rattle.cxx_tree.specs.Later.{Later};
 
-use crate::conflict::{definable, undefined};
-use crate::facts::{declare, fact_in, object_fact, word_fact};
+use crate::conflict::{definable, free_linked, undefined};
+use crate::facts::{declare, fact_in, linked_object_fact, object_fact, word_fact};
+use crate::linking::link;
 use crate::parts::what_of;
 use cxx_model::{Entity, Fact, FactId, MemberKind, Name, Place, Stop, TypeId};
 use cxx_tree::State;
@@ -50,6 +51,43 @@ pub fn declare_object(
 {
     match object_fact(state, place, word, of) {
         Ok(fact) => declare(state, fact),
+        Err(_) => Err(Stop::OutOfMemory),
+    }
+}
+
+// Adds a declaration that is linked.
+fn add_linked(state: &mut State, fact: Fact) -> Result<FactId, Stop>
+    requires { IsReady state.old fact }
+    ensures { IsAnswered fact_number IsFactKnown state.old state.new result (linking (added (fact_at (state.old).types fact) (meaning state.old))) }
+{
+    match state.add(fact) {
+        Ok(number) => link(state, number),
+        Err(stop) => Err(stop),
+    }
+}
+
+fn declare_linked(state: &mut State, fact: Fact) -> Result<FactId, Stop>
+    requires { IsReady state.old fact }
+    ensures { IsAnswered fact_number IsFactKnown state.old state.new result (linked_by (fact_at (state.old).types fact) (word_in fact.name) (meaning state.old)) }
+{
+    match free_linked(state, &fact) {
+        Ok(()) => add_linked(state, fact),
+        Err(stop) => Err(stop),
+    }
+}
+
+/// The same in a block, with `extern`: it is a member of the innermost namespace (3.5).
+pub fn declare_linked_object(
+    state: &mut State,
+    place: Place,
+    word: &[u8],
+    of: TypeId,
+) -> Result<FactId, Stop>
+    requires { of.0 < length (state.old).types }
+    ensures { (kind : TokenKind) → IsAnswered fact_number IsFactKnown state.old state.new result (declaring.declare_linked_object (token kind place word.now) (type_of state.old of) (meaning state.old)) }
+{
+    match linked_object_fact(state, place, word, of) {
+        Ok(fact) => declare_linked(state, fact),
         Err(_) => Err(Stop::OutOfMemory),
     }
 }

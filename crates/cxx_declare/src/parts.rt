@@ -140,6 +140,29 @@ pub(crate) fn conflicting(
     )
 }
 
+fn found_both(alloc: Global, one: Place, two: Place) -> Result<EvidenceList, AllocError>
+    ensures { IfOk result (λ evidence. evidence ≡ Found one ∷ Found two ∷ []) }
+{
+    let mut evidence = found(alloc, one)?;
+    evidence.push(Evidence::Found(two))?;
+    Ok(evidence)
+}
+
+/// A name means two declarations of which none hides the other (3.4).
+pub(crate) fn ambiguous(
+    alloc: Global,
+    place: Place,
+    word: &[u8],
+    one: Place,
+    two: Place,
+) -> Result<Box<Fault>, AllocError>
+    ensures { IfOk result (λ fault. fault.value ≡ record { place = place; text = says.AmbiguousName word.now; evidence = Found one ∷ Found two ∷ [] }) }
+{
+    let word = Word::from_slice(alloc, word)?;
+    let evidence = found_both(alloc, one, two)?;
+    fault_with(alloc, place, FaultText::AmbiguousName(word), evidence)
+}
+
 /// A name is that of another thing.
 pub(crate) fn wrong_kind(
     alloc: Global,

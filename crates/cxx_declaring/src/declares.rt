@@ -10,10 +10,10 @@ use cxx_graph::Graph;
 use cxx_initialize::initialize;
 use cxx_knot::{read_declarator, read_initializer, read_specifiers};
 use cxx_language::{Declares, constant_value};
-use cxx_model::{Entity, FactId, Node, OutOfMemory, ScopeId, Stop, TreeId, TypeId};
+use cxx_model::{Entity, FactId, Node, OutOfMemory, Place, ScopeId, Stop, TreeId, TypeId};
 use cxx_phrases::Initializer;
 use cxx_reading::{Naming, SpecifierPlace};
-use cxx_syntax::{Cursor, Declarator, NameToken, Specifiers};
+use cxx_syntax::{Cursor, Declarator, NameToken, Specifiers, Spelled};
 use cxx_tree::State;
 
 // Whether a number is that of a declaration of an object, a function or a template.
@@ -108,6 +108,15 @@ impl Declares for Declaring {
         declare::declare_object(state, name.place, name.spelling.as_slice(), of)
     }
 
+    fn declare_linked_object(
+        &self,
+        state: &mut State,
+        name: &NameToken,
+        of: TypeId,
+    ) -> Result<FactId, Stop> {
+        declare::declare_linked_object(state, name.place, name.spelling.as_slice(), of)
+    }
+
     fn define_object(
         &self,
         state: &mut State,
@@ -129,5 +138,28 @@ impl Declares for Declaring {
             return Err(Stop::OutOfMemory);
         }
         declare::define_declared(state, name.place, name.spelling.as_slice(), number)
+    }
+
+    fn space_here(&self, state: &mut State, name: Spelled<'_>) -> Result<ScopeId, Stop> {
+        declare::space_here(state, name.place, name.spelling)
+    }
+
+    fn declare_alias(
+        &self,
+        state: &mut State,
+        name: Spelled<'_>,
+        inner: ScopeId,
+    ) -> Result<(), Stop> {
+        declare::declare_alias(state, name.place, name.spelling, inner)
+    }
+
+    #[tactic(auto, using(crate::proofs::Answering::asked))]
+    fn declare_directive(
+        &self,
+        state: &mut State,
+        place: Place,
+        inner: ScopeId,
+    ) -> Result<(), Stop> {
+        declare::declare_directive(state, place, inner)
     }
 }

@@ -1,11 +1,9 @@
-ghost use Rattle.std.specs.Prelude.{◌≡◌, ◌<◌, IfOk, Ok};
+ghost use Rattle.std.specs.Prelude.{◌<◌, IfOk, Ok};
 ghost use Rattle.cxx_model.specs.Facts.Graph.{enumerations};
 ghost use Rattle.cxx_declare.specs.Made.{IsNameOf};
 ghost use Rattle.cxx_names.specs.Clashes.{IsPlainName};
-ghost use Rattle.cxx_reading.specs.Declaring.{kind_here};
-ghost use Rattle.cxx_reading.specs.Specifiers.{path_of};
 ghost use Rattle.cxx_syntax.specs.Asking.{IsAsked, IsEnumeration, enumeration_number};
-ghost use Rattle.cxx_syntax.specs.Views.{lexeme_at, name_of_option};
+ghost use Rattle.cxx_syntax.specs.Views.{name_of_option};
 ghost use Rattle.cxx_tree.specs.Held.{meaning};
 
 use cxx_answers::{Answering, begin_default, constant_here, end_default};
@@ -31,13 +29,6 @@ fn name_of(alloc: Global, name: &Option<NameToken>) -> Result<Name, AllocError>
     }
 }
 
-// What a name is where the reader stands (3.4.1).
-fn kind_of(state: &State, name: Spelled<'_>) -> Kind
-    ensures { kind_here (path_of (lexeme_at name.entry)) (meaning state.now) ≡ Ok (result, meaning state.now) }
-{
-    declare::kind(state, name.spelling)
-}
-
 // The type of an enumeration that begins.
 #[tactic(auto, using(cxx_syntax::proofs::Kept::later_trans))]
 fn begun(state: &mut State, number: EnumId) -> Result<(EnumId, TypeId), Stop>
@@ -57,9 +48,9 @@ impl Kinds for Declaring {
 
     ghost is_ready = { λ self. Unit {0} };
 
-    #[tactic(auto, using(cxx_syntax::proofs::Kept::later_refl), unfolding(cxx_language::specs::Answers::asking))]
+    #[tactic(auto, using(crate::proofs::Answering::asked), unfolding(cxx_language::specs::Answers::asking))]
     fn kind(&self, state: &mut State, name: Spelled<'_>, _room: u32) -> Result<Kind, Stop> {
-        Ok(kind_of(state, name))
+        declare::kind(state, name.spelling)
     }
 
     #[tactic(auto, using(crate::proofs::Answering::asked), unfolding(cxx_language::specs::Answers::asking))]

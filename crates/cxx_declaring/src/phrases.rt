@@ -1,4 +1,4 @@
-//! The expressions and the bodies that declarations hold.
+//! The expressions and the bodies that declarations hold, and namespaces.
 
 ghost use Rattle.cxx_language.specs.Asked.{inner_at, phrases_at};
 ghost use Rattle.cxx_language.specs.Blocks as blocks;
@@ -10,12 +10,13 @@ ghost use Rattle.cxx_tree.specs.Held.{meaning, tree};
 
 use crate::declaring::Declaring;
 use cxx_body::{Phrasing, read_function_body};
+use cxx_declare as declare;
 use cxx_heads::Head;
 use cxx_knot::{condition_ahead, head_ahead, read_phrase};
-use cxx_language::Defines;
-use cxx_model::{FactId, Form, Listed, ScopeId, Stop, TreeId, TypeId, punct};
+use cxx_model::{FactId, Form, Listed, Place, ScopeId, Stop, TreeId, TypeId, punct};
 use cxx_phrases::{Initializer, Level};
-use cxx_syntax::{Cursor, NameToken, is_punct};
+use cxx_space::Defines;
+use cxx_syntax::{Cursor, NameToken, Spelled, is_punct};
 use cxx_tree::State;
 
 #[tactic(auto, unfolding(cxx_language::specs::Answers::asking))]
@@ -106,5 +107,19 @@ impl Defines for Declaring {
         room: u32,
     ) -> Result<TreeId, Stop> {
         read_function_body(self, state, cursor, name, of, number, list, room)
+    }
+
+    fn open_space(&self, state: &mut State, name: Spelled<'_>) -> Result<(), Stop> {
+        declare::open_space(state, name.place, name.spelling)
+    }
+
+    #[tactic(auto, using(crate::proofs::Answering::asked))]
+    fn open_unnamed(&self, state: &mut State, place: Place) -> Result<(), Stop> {
+        declare::open_unnamed(state, place)
+    }
+
+    #[tactic(auto, using(crate::proofs::Answering::asked))]
+    fn close_space(&self, state: &mut State) -> Result<(), Stop> {
+        declare::close_space(state)
     }
 }

@@ -5,7 +5,7 @@ use Rattle.cxx_model.specs.declared.fault.FaultText.TheVariants as says
 use Rattle.cxx_model.specs.declared.fault.LeftOut.TheVariants as form
 use Rattle.cxx_model.specs.Stops.{fault}
 use Rattle.cxx_model.specs.Types.Trees.{array_of, fundamental, number_bound, pointer_to, reference_to}
-use Rattle.cxx_expr.proofs.Sample.{assigned_to, binary, bracket, call, char, choice, gives, int, long, name, node, prefix, text, to_type}
+use Rattle.cxx_expr.proofs.Sample.{assigned_to, binary, bracket, bracketed_call, call, char, choice, gives, int, long, name, node, prefix, text, to_type}
 
 -- ---- rows
 
@@ -102,12 +102,13 @@ call_rows : (gives (call (codes "f") (text (codes "'a'") ∷ [])) ≡ Ok (codes 
 unfolding gives
 call_rows = (refl, refl, refl, refl, refl)
 
--- 3.4, 13.4: y, y(), g
+-- 3.4, 3.4.2, 13.4: y, y(), (y)(), g
 name_faults : (gives (name (codes "y")) ≡ Err (fault (record { line = 1; column = 3 }) (says.UndeclaredName (codes "y"))))
-    × (gives (call (codes "y") ([])) ≡ Err (fault (record { line = 1; column = 3 }) (says.UndeclaredName (codes "y"))))
+    × (gives (call (codes "y") ([])) ≡ Err (fault (record { line = 1; column = 2 }) (says.UndeclaredName (codes "y"))))
+    × (gives (bracketed_call (codes "y") ([])) ≡ Err (fault (record { line = 1; column = 3 }) (says.UndeclaredName (codes "y"))))
     × (gives (name (codes "g")) ≡ Err (fault (record { line = 1; column = 2 }) (says.LeftOut form.AddressOfSeveralFunctions)))
 unfolding gives
-name_faults = (refl, refl, refl)
+name_faults = (refl, refl, refl, refl)
 
 -- clause 5: p + p, *pv, &1, 1 = 2, e + 1, b ? x : p
 operand_faults : (gives (binary (codes "+") (name (codes "p")) (name (codes "p"))) ≡ Err (fault (record { line = 1; column = 2 }) says.OperandsDoNotFit))

@@ -17,7 +17,7 @@ use Rattle.cxx_model.specs.declared.sequence.ConstantKind.TheVariants as constan
 use Rattle.cxx_model.specs.declared.types.Cv.{Cv}
 use Rattle.cxx_model.specs.Facts.Declarations as facts
 use Rattle.cxx_model.specs.Facts.Declarations.{CxxFact, CxxGraph, Declares, spelled}
-use Rattle.cxx_model.specs.Stops.{Answer, Stopped, fault, not_built_at}
+use Rattle.cxx_model.specs.Stops.{Answer, Stopped, fault, not_built_at, undeclared_at}
 use Rattle.cxx_model.specs.Text.Lexemes.{nowhere}
 use Rattle.cxx_model.specs.Text.Spelling.{keywords, alternatives, operators, digraphs, word_kind, number_kind, operator, literal, hash, slash, percent, spelling_of, literal_type, literal_value}
 use Rattle.cxx_model.specs.Types.Trees.{CxxType, CxxTypes, CxxBound, array_of, class_type, enumeration, function_of, fundamental, no_types, number_bound, pointer_to, qualified, reference_to, type_then, unknown_bound}
@@ -35,7 +35,7 @@ use Rattle.cxx_meaning.specs.declared.size.SizeReason.{SizeReason}
 use Rattle.cxx_meaning.specs.Conversions.Standard.{CxxOperand, is_text, pointer_to_other, steps_of_pointers, step_of_enumeration, steps_of_arithmetic, steps_of_enumeration, steps_of_pointer, steps_of_kinds, value_step, steps_to_scalar, steps_by_kinds, steps_of_value, related_kinds, related, steps_of_related, steps_of_unrelated, steps_by_relation, steps_of_reference, steps_between, standard_sequence}
 use Rattle.cxx_reading.specs.Declaring.{name_in}
 use Rattle.cxx_reading.specs.Reads.{Asks}
-use Rattle.cxx_reading.specs.Seen.{Numbered, declared_in, found, found_from}
+use Rattle.cxx_reading.specs.Seen.{Numbered, declared_in}
 use Rattle.cxx_reading.specs.State.{CxxState, first_state, at_unit}
 use Rattle.cxx_reading.specs.Trees.{CxxPath, CxxTree, CxxTrees, Label, each_tree, in_turn, no_trees, tree_of, tree_then}
 use Rattle.cxx_expr.specs.Asking.{then_asked}
@@ -108,9 +108,13 @@ abbrev pub is_zero_in : Option CxxOperand → Bool
 is_zero_in None = false
 is_zero_in (Some operand) = is_zero operand.constant
 
-abbrev pub chosen_by : List Numbered → CxxState → Answer (CxxChosen × CxxState)
-chosen_by [] s = Err (not_built_at nowhere)
-chosen_by (one ∷ others) s = by one.fact.what
+abbrev pub word_or_none : Option (List ℕ) → List ℕ
+word_or_none None = codes ""
+word_or_none (Some word) = word
+
+abbrev pub chosen_by : CxxQuestion → List Numbered → CxxState → Answer (CxxChosen × CxxState)
+chosen_by question [] s = Err (undeclared_at question.place (word_or_none question.word))
+chosen_by question (one ∷ others) s = by one.fact.what
   where
     each : CxxTypes → List CxxType
     each no_types = []
@@ -150,9 +154,9 @@ is_unbroken (Err class) s = Err (not_built_at nowhere)
 -- the first function is the one that is meant
 abbrev pub asks : Questions
 asks = record {
-  name = λ path s. Ok (found s.graph s.here.scope (name_in path), s);
+  name = λ path s. Ok (declared_in s.graph s.here.scope (name_in path), s);
   bound = λ place number s. Ok (tt, s);
-  call = λ question s. chosen_by question.functions s;
+  call = λ question s. chosen_by question question.functions s;
   fallback = λ target index s. Ok (fallback_tree, s);
   size = λ of s. is_unbroken (size_of s.graph of) s;
   is_null = λ tree s. is_zero_in tree.label.operand;
@@ -174,6 +178,10 @@ name word = with_path word (node 36 (codes "") None [])
 
 abbrev pub call : List ℕ → List CxxTree → CxxTree
 call word arguments = with_path word (node 40 (codes "") None arguments)
+
+-- its name in brackets
+abbrev pub bracketed_call : List ℕ → List CxxTree → CxxTree
+bracketed_call word arguments = with_path word (node 40 (codes "(") None arguments)
 
 abbrev pub binary : List ℕ → CxxTree → CxxTree → CxxTree
 binary spelling one two = node 50 spelling None (one ∷ two ∷ [])
@@ -269,7 +277,7 @@ shown_of (Ok one) = Ok (by one.0)
 shown_of (Err why) = Err why
 
 unfoldable pub gives : CxxTree → Answer (List ℕ)
-unfolding elaborate by_production parenthesis judged judged_beside judged_to convert convert_known convert_more convert_each literals.literal literals.operand_of_literal literals.is_text literals.text_operand literals.text_length literal_type literal_value spelling_of word_kind number_kind operator literal hash slash percent keywords alternatives operators digraphs names.name names.named names.meant_by found found_from declared_in operators_of.operator_in operators_of.built operators_of.prefix operators_of.prefix_built operators_of.step operators_of.step_built operators_of.operand_beside operators_of.binary_by operators_of.binary_built operators_of.conditional operators_of.conditional_built operators_of.arms_built operators_of.arms cast.explicit cast.explicit_built cast.static_cast_of cast.static_built cast.constant cast.reinterpreted cast.cast_as cast.cast cast.zero cast.functional sizes.type_of_operand sizes.measured sizes.size size_of object_extent class_in extent_of calls.fallbacks calls.chosen_call calls.function_call calls.through_signature calls.through calls.value_call calls.called calls.name_call calls.call usual promoted follow is_stepped steps_to before after unary_by unary_family_result unary_result beside_integer subscripted added_to built.added distance subtracted compared_pointers compared_by assigned binary_by compound_on compound compound_result family_result binary_result built.built_in_result shared_pointers arms_of_arithmetic arms_of_enumeration arms_of_pointer arms_of_void arms_of conditional.conditional casts.const_cast casts.static_pointers casts.static_kinds casts.static_objects casts.static_only casts.static_unless casts.static_cast casts.reinterpret_cast casts.cast_operand casts.between casts.cast_between casts.cast_unless casts.cast is_complete_object common_other common_pointer is_text pointer_to_other steps_of_pointers step_of_enumeration steps_of_arithmetic steps_of_enumeration steps_of_pointer steps_of_kinds value_step steps_to_scalar steps_by_kinds steps_of_value related_kinds related steps_of_related steps_of_unrelated steps_by_relation steps_of_reference steps_between standard_sequence digits calls.fallback_more cast.several
+unfolding elaborate by_production parenthesis judged judged_beside judged_to convert convert_known convert_more convert_each literals.literal literals.operand_of_literal literals.is_text literals.text_operand literals.text_length literal_type literal_value spelling_of word_kind number_kind operator literal hash slash percent keywords alternatives operators digraphs names.name names.named names.meant_by declared_in operators_of.operator_in operators_of.built operators_of.prefix operators_of.prefix_built operators_of.step operators_of.step_built operators_of.operand_beside operators_of.binary_by operators_of.binary_built operators_of.conditional operators_of.conditional_built operators_of.arms_built operators_of.arms cast.explicit cast.explicit_built cast.static_cast_of cast.static_built cast.constant cast.reinterpreted cast.cast_as cast.cast cast.zero cast.functional sizes.type_of_operand sizes.measured sizes.size size_of object_extent class_in extent_of calls.fallbacks calls.chosen_call calls.function_call calls.through_signature calls.through calls.value_call calls.called calls.name_call calls.call usual promoted follow is_stepped steps_to before after unary_by unary_family_result unary_result beside_integer subscripted added_to built.added distance subtracted compared_pointers compared_by assigned binary_by compound_on compound compound_result family_result binary_result built.built_in_result shared_pointers arms_of_arithmetic arms_of_enumeration arms_of_pointer arms_of_void arms_of conditional.conditional casts.const_cast casts.static_pointers casts.static_kinds casts.static_objects casts.static_only casts.static_unless casts.static_cast casts.reinterpret_cast casts.cast_operand casts.between casts.cast_between casts.cast_unless casts.cast is_complete_object common_other common_pointer is_text pointer_to_other steps_of_pointers step_of_enumeration steps_of_arithmetic steps_of_enumeration steps_of_pointer steps_of_kinds value_step steps_to_scalar steps_by_kinds steps_of_value related_kinds related steps_of_related steps_of_unrelated steps_by_relation steps_of_reference steps_between standard_sequence digits calls.fallback_more cast.several
 gives tree = shown_of (elaborated (in_turn (tree ∷ [])) state)
 
 -- ---- initializers
@@ -292,5 +300,5 @@ text_of (Ok one) = Ok one.0
 text_of (Err why) = Err why
 
 unfoldable pub begins : CxxType → CxxTree → Answer (List ℕ)
-unfolding initial.initialize initial.array_whole initial.value_whole initial.part elaborate by_production parenthesis judged judged_beside judged_to convert convert_known convert_more convert_each literals.literal literals.operand_of_literal literals.is_text literals.text_operand literals.text_length literal_type literal_value spelling_of word_kind number_kind operator literal hash slash percent keywords alternatives operators digraphs names.name names.named names.meant_by found found_from declared_in operators_of.operator_in operators_of.built operators_of.prefix operators_of.prefix_built operators_of.step operators_of.step_built operators_of.operand_beside operators_of.binary_by operators_of.binary_built operators_of.conditional operators_of.conditional_built operators_of.arms_built operators_of.arms cast.explicit cast.explicit_built cast.static_cast_of cast.static_built cast.constant cast.reinterpreted cast.cast_as cast.cast cast.zero cast.functional sizes.type_of_operand sizes.measured sizes.size size_of object_extent class_in extent_of calls.fallbacks calls.chosen_call calls.function_call calls.through_signature calls.through calls.value_call calls.called calls.name_call calls.call usual promoted follow is_stepped steps_to before after unary_by unary_family_result unary_result beside_integer subscripted added_to built.added distance subtracted compared_pointers compared_by assigned binary_by compound_on compound compound_result family_result binary_result built.built_in_result shared_pointers arms_of_arithmetic arms_of_enumeration arms_of_pointer arms_of_void arms_of conditional.conditional casts.const_cast casts.static_pointers casts.static_kinds casts.static_objects casts.static_only casts.static_unless casts.static_cast casts.reinterpret_cast casts.cast_operand casts.between casts.cast_between casts.cast_unless casts.cast is_complete_object common_other common_pointer is_text pointer_to_other steps_of_pointers step_of_enumeration steps_of_arithmetic steps_of_enumeration steps_of_pointer steps_of_kinds value_step steps_to_scalar steps_by_kinds steps_of_value related_kinds related steps_of_related steps_of_unrelated steps_by_relation steps_of_reference steps_between standard_sequence digits calls.fallback_more cast.several
+unfolding initial.initialize initial.array_whole initial.value_whole initial.part elaborate by_production parenthesis judged judged_beside judged_to convert convert_known convert_more convert_each literals.literal literals.operand_of_literal literals.is_text literals.text_operand literals.text_length literal_type literal_value spelling_of word_kind number_kind operator literal hash slash percent keywords alternatives operators digraphs names.name names.named names.meant_by declared_in operators_of.operator_in operators_of.built operators_of.prefix operators_of.prefix_built operators_of.step operators_of.step_built operators_of.operand_beside operators_of.binary_by operators_of.binary_built operators_of.conditional operators_of.conditional_built operators_of.arms_built operators_of.arms cast.explicit cast.explicit_built cast.static_cast_of cast.static_built cast.constant cast.reinterpreted cast.cast_as cast.cast cast.zero cast.functional sizes.type_of_operand sizes.measured sizes.size size_of object_extent class_in extent_of calls.fallbacks calls.chosen_call calls.function_call calls.through_signature calls.through calls.value_call calls.called calls.name_call calls.call usual promoted follow is_stepped steps_to before after unary_by unary_family_result unary_result beside_integer subscripted added_to built.added distance subtracted compared_pointers compared_by assigned binary_by compound_on compound compound_result family_result binary_result built.built_in_result shared_pointers arms_of_arithmetic arms_of_enumeration arms_of_pointer arms_of_void arms_of conditional.conditional casts.const_cast casts.static_pointers casts.static_kinds casts.static_objects casts.static_only casts.static_unless casts.static_cast casts.reinterpret_cast casts.cast_operand casts.between casts.cast_between casts.cast_unless casts.cast is_complete_object common_other common_pointer is_text pointer_to_other steps_of_pointers step_of_enumeration steps_of_arithmetic steps_of_enumeration steps_of_pointer steps_of_kinds value_step steps_to_scalar steps_by_kinds steps_of_value related_kinds related steps_of_related steps_of_unrelated steps_by_relation steps_of_reference steps_between standard_sequence digits calls.fallback_more cast.several
 begins of tree = text_of (then_asked (parts_read (in_turn (tree ∷ [])) state) (first_text of))

@@ -1,5 +1,5 @@
 -- Calls (5.2.2).
-use Rattle.std.specs.Prelude.{ℕ, zero, suc, ◌+◌, ◌-◌, Bool, not, ◌&&◌, ◌||◌, nat_eq, nat_lt, if◌then◌else◌, List, [], ◌∷◌, ◌++◌, length, Option, Some, None, Err}
+use Rattle.std.specs.Prelude.{ℕ, zero, suc, ◌+◌, ◌-◌, Bool, true, false, not, ◌&&◌, ◌||◌, nat_eq, nat_lt, if◌then◌else◌, List, [], ◌∷◌, ◌++◌, length, Option, Some, None, Err}
 use Rattle.cxx_model.specs.declared.fault.FaultText.TheVariants as says
 use Rattle.cxx_model.specs.declared.place.Place.{Place}
 use Rattle.cxx_model.specs.Stops.{Stopped, fault, not_built_at}
@@ -48,6 +48,10 @@ chosen_call q tree arguments chosen = do
   given ← convert_each q tree.label.place chosen.parameters [] arguments
   all ← fallbacks q chosen.target (length arguments) given (length chosen.parameters - length arguments)
   give (chosen_tree tree chosen all)
+
+abbrev pub is_none_left : {A : Type 0} → List A → Bool
+is_none_left [] = true
+is_none_left (x ∷ xs) = false
 
 -- 3.4.2: the name, where it does not stand in brackets
 abbrev pub bare_word : List ℕ → List ℕ → Option (List ℕ)
@@ -126,11 +130,17 @@ value_call q tree all arguments = do
   callee ← named q (called_label tree.label arguments) all
   through q (without_name tree) callee arguments
 
+-- 3.4.2: whether a name without brackets round it means nothing where it stands
+abbrev pub is_asked_for : Label → List Numbered → Bool
+is_asked_for label [] = is_none_left label.spelling
+is_asked_for label (one ∷ others) = false
+
 abbrev pub called_first : Questions → CxxTree → List Numbered → List CxxTree → List Numbered → Asks CxxState CxxTree
-called_first q tree all arguments [] state = value_call q tree all arguments state
+called_first q tree all arguments [] state = if is_asked_for tree.label all then function_call q tree [] arguments state else value_call q tree all arguments state
 called_first q tree all arguments (one ∷ others) state = if is_function state.graph one.fact.what then function_call q tree (one ∷ others) arguments state else value_call q tree all arguments state
 
 -- A name that has these declarations is called: a function among them hides the types, and is looked for by its arguments.
+-- So is what is not declared where it stands: the types of the arguments may find it (3.4.2).
 unfoldable pub called : Questions → CxxTree → List CxxTree → List Numbered → Asks CxxState CxxTree
 called q tree arguments all state = called_first q tree all arguments (values_among state.graph all) state
 

@@ -1,6 +1,6 @@
 -- The lines of a plain form, one declaration after another.
-use Rattle.std.proofs.Common.{◌≡◌, ℕ, suc, ◌+◌, ◌<◌, ◌≤◌, List, [], ◌∷◌, ◌++◌, length, drop, get_or, map, Option, Some, None, option_map, refl, ap, sym, subst, ◌∙◌, append-nil, append_assoc, add-one}
-use Rattle.std.specs.Prelude.{flat_map}
+use Rattle.std.proofs.Common.{◌≡◌, Bool, true, false, ℕ, suc, ◌+◌, ◌<◌, ◌≤◌, List, [], ◌∷◌, ◌++◌, length, drop, get_or, map, Option, Some, None, option_map, refl, ap, sym, subst, ◌∙◌, append-nil, append_assoc, add-one}
+use Rattle.std.specs.Prelude.{flat_map, if◌then◌else◌}
 use Rattle.std.specs.List.{slice_get}
 use Rattle.std.proofs.lemmas.List.{at_drop_more, at_drop_all, map-append}
 use Rattle.cxx_model.specs.declared.facts.Access.{Access}
@@ -14,7 +14,7 @@ use Rattle.cxx_meaning.specs.Lookups.Gathered.{before, gathered}
 use Rattle.cxx_form.specs.Order as text
 use Rattle.cxx_reading.specs.TextOrder.{part_tree}
 use Rattle.cxx_statement_text.specs.Objects.{first_by, first_found, first_in, first_of_fact}
-use Rattle.cxx_form.specs.Order.{declarators_of, definitions_of, enumeration_of, enumeration_lines, function_of_fact, function_lines, lines, object_by, object_lines, object_of_fact}
+use Rattle.cxx_form.specs.Order.{declarators_of, definitions_of, enumeration_of, enumeration_lines, function_of_fact, function_lines, lines, is_written_out, object_at, object_by, object_lines, object_of_fact, scope_of_fact}
 use Rattle.cxx_reading.specs.Trees.{CxxTree}
 use Rattle.cxx_tree.specs.Arena.{tree_in, trees_in, AreTreesBelow}
 use Rattle.cxx_tree.specs.Held.{meaning, pieces_at, trees, Held}
@@ -23,7 +23,7 @@ use Rattle.cxx_form.specs.declared.lines.Line.TheVariants as line
 use Rattle.cxx_form.specs.Giving.{enumeration_by, enumeration_given, function_by, function_given, given_at}
 use Rattle.cxx_form.specs.Lines.{line_at, lines_at, object_line_by, AddsLines, AreLinesBelow, IsLineBelow}
 use Rattle.cxx_form.specs.Views.{facts_in}
-use Rattle.cxx_form.proofs.Gathering.{given_cut}
+use Rattle.cxx_form.proofs.Gathering.{fact_is, given_cut}
 use Rattle.cxx_form.proofs.InTrees.{child_below}
 
 -- ---- a line that is added
@@ -78,6 +78,12 @@ given_all give types trees facts number first now all wanted past same so =
 
 -- ---- the lines of objects
 
+pub scope_there : (types : List CxxType) (facts : List Fact) (n : ℕ) (fact : Fact) → slice_get facts n ≡ Some fact → fact.scope.0 ≡ scope_of_fact (slice_get (facts_at types facts) n)
+scope_there types facts n fact is = sym (ap scope_of_fact (fact_is types facts n ∙ ap (option_map (fact_at types)) is))
+
+pub scope_nowhere : (types : List CxxType) (facts : List Fact) (n : ℕ) → slice_get facts n ≡ None → 0 ≡ scope_of_fact (slice_get (facts_at types facts) n)
+scope_nowhere types facts n is = sym (ap scope_of_fact (fact_is types facts n ∙ ap (option_map (fact_at types)) is))
+
 object_read : (tree : CxxTree) (number : ℕ) (place : Place) (scope : ℕ) (name : CxxName) (rights : Access) (what : Declares) → object_of_fact tree number (Some (record { place = place; scope = scope; name = name; access = rights; what = what })) ≡ object_line_by tree (first_by number what)
 object_read tree number place scope name rights (facts.scope parent kind) = refl
 object_read tree number place scope name rights (facts.object of member is_mutable value first) = refl
@@ -104,15 +110,18 @@ object_found : (tree : CxxTree) (number : ℕ) (one : Option CxxFact) → object
 object_found tree number None = refl
 object_found tree number (Some fact) = sym (object_of tree number fact)
 
-object_is : (all : List CxxFact) (tree : CxxTree) → object_line_by tree (first_in all tree) ≡ object_by all tree tree.label.target
+object_is : (all : List CxxFact) (tree : CxxTree) → object_line_by tree (first_in all tree) ≡ object_at all tree tree.label.target
 object_is all tree = by tree.label.target
   where
-    by : (target : Option ℕ) → object_line_by tree (first_found all target) ≡ object_by all tree target
+    by : (target : Option ℕ) → object_line_by tree (first_found all target) ≡ object_at all tree target
     by None = refl
     by (Some number) = object_found tree number (slice_get all number)
 
-pub object_by_first : (all : List CxxFact) (tree : CxxTree) (first : Option ℕ) → first ≡ first_in all tree → object_line_by tree first ≡ object_by all tree tree.label.target
-object_by_first all tree first is = ap (object_line_by tree) is ∙ object_is all tree
+pub object_by_first : (all : List CxxFact) (tree : CxxTree) (first : Option ℕ) → is_written_out all tree ≡ true → first ≡ first_in all tree → object_line_by tree first ≡ object_by all tree tree.label.target
+object_by_first all tree first written is = ap (object_line_by tree) is ∙ object_is all tree ∙ sym (ap (λ (b : Bool). if b then object_at all tree tree.label.target else []) written)
+
+pub object_not_written : (all : List CxxFact) (tree : CxxTree) → is_written_out all tree ≡ false → [] ≡ object_by all tree tree.label.target
+object_not_written all tree written = sym (ap (λ (b : Bool). if b then object_at all tree tree.label.target else []) written)
 
 pub object_on : (trees : List CxxTree) (facts : List CxxFact) (declarators : List TreeId) (i : ℕ) (d : TreeId) (first now new : List Line) (all : List text.Line) → i < length declarators → SoFar trees first now (object_lines facts (trees_in trees (drop i declarators))) all → AddsLines trees now new (object_by facts (tree_in trees (get_or declarators i d).0) (tree_in trees (get_or declarators i d).0).label.target) → SoFar trees first new (object_lines facts (trees_in trees (drop (i + 1) declarators))) all
 object_on trees facts declarators i d first now new all within so added =

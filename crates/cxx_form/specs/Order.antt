@@ -3,14 +3,14 @@
 -- Enumerations stand first, by the end of their lists, then functions, by their first declarations, then objects of
 -- namespaces, each declaration of one in its place, then definitions of functions in the order of reading. A name has its
 -- number by where it stands first in the text.
-use Rattle.std.specs.Prelude.{ℕ, zero, suc, Bool, false, ◌&&◌, nat_eq, if◌then◌else◌, List, [], ◌∷◌, ◌++◌, flat_map, map, Option, Some, None}
+use Rattle.std.specs.Prelude.{ℕ, zero, suc, Bool, false, not, ◌&&◌, ◌||◌, nat_eq, if◌then◌else◌, List, [], ◌∷◌, ◌++◌, flat_map, map, Option, Some, None}
 use Rattle.std.specs.List.{slice_get}
 use Rattle.cxx_model.specs.Facts.Conflicts.{has_name}
 use Rattle.cxx_model.specs.Facts.Declarations as facts
 use Rattle.cxx_model.specs.Facts.Declarations.{CxxFact, Declares}
-use Rattle.cxx_model.specs.Facts.Entities.{first_or}
+use Rattle.cxx_model.specs.Facts.Entities.{first_or, is_space, scope_kinds}
 use Rattle.cxx_reading.specs.Declaring.{is_object}
-use Rattle.cxx_reading.specs.Plain.{NamesOfText, name_by, number_of_enumeration}
+use Rattle.cxx_reading.specs.Plain.{NamesOfText, is_empty, name_by, number_of_enumeration}
 use Rattle.cxx_reading.specs.Productions as production
 use Rattle.cxx_reading.specs.State.{CxxState}
 use Rattle.cxx_reading.specs.TextOrder.{enumerators_of, part_tree, with_each_new}
@@ -56,9 +56,9 @@ found_in wanted passed (tree_then label children next) =
 abbrev pub found_of : ℕ → ℕ → CxxTree → List CxxTree
 found_of wanted passed tree = found_in wanted passed (tree_then tree.label tree.children no_trees)
 
--- the declarators of declarations, but for those in definitions of functions
+-- all declarators
 abbrev pub declarators_of : CxxTree → List CxxTree
-declarators_of tree = found_of production.declarator production.function_definition tree
+declarators_of tree = found_of production.declarator production.declarator tree
 
 abbrev pub object_of_fact : CxxTree → ℕ → Option CxxFact → List Line
 object_of_fact tree number None = []
@@ -68,9 +68,24 @@ object_of_fact tree number (Some fact) = by fact.what
     by (facts.object of member is_mutable value first) = object_line tree (first_or number first) ∷ []
     by _ = []
 
+abbrev pub object_at : List CxxFact → CxxTree → Option ℕ → List Line
+object_at all tree None = []
+object_at all tree (Some number) = object_of_fact tree number (slice_get all number)
+
+abbrev pub scope_of_fact : Option CxxFact → ℕ
+scope_of_fact None = zero
+scope_of_fact (Some fact) = fact.scope
+
+abbrev pub is_of_namespace : List CxxFact → Option ℕ → Bool
+is_of_namespace all None = false
+is_of_namespace all (Some number) = is_space (slice_get (scope_kinds all) (scope_of_fact (slice_get all number)))
+
+-- 3.5: what a namespace declares, or what is declared with `extern`, which is how its declarator is spelled
+abbrev pub is_written_out : List CxxFact → CxxTree → Bool
+is_written_out all tree = is_of_namespace all tree.label.target || not (is_empty tree.label.spelling)
+
 abbrev pub object_by : List CxxFact → CxxTree → Option ℕ → List Line
-object_by all tree None = []
-object_by all tree (Some number) = object_of_fact tree number (slice_get all number)
+object_by all tree target = if is_written_out all tree then object_at all tree target else []
 
 abbrev pub object_lines : List CxxFact → List CxxTree → List Line
 object_lines all [] = []
@@ -115,10 +130,6 @@ is_in_list scope fact = nat_eq fact.scope scope && is_object fact.what
 abbrev pub parameters_in : ℕ → ℕ → List CxxFact → List ℕ
 parameters_in scope number [] = []
 parameters_in scope number (fact ∷ others) = if is_in_list scope fact then number ∷ parameters_in scope (suc number) others else parameters_in scope (suc number) others
-
-abbrev pub scope_of_fact : Option CxxFact → ℕ
-scope_of_fact None = zero
-scope_of_fact (Some fact) = fact.scope
 
 abbrev pub list_by : List CxxFact → Option ℕ → ℕ
 list_by all None = zero

@@ -114,7 +114,7 @@ fn in_pieces(
 pub(crate) fn declarators(state: &State, alloc: Global) -> Result<Vec<TreeId>, AllocError>
     ensures { IfOk result (λ found. AreTrees (trees state.now) found.items (flat_map declarators_of (map part_tree (pieces_at (trees state.now) (state.now).pieces)))) }
 {
-    in_pieces(state, DECLARATOR, FUNCTION_DEFINITION, alloc)
+    in_pieces(state, DECLARATOR, DECLARATOR, alloc)
 }
 
 /// The definitions of functions of a unit, in order.

@@ -4,18 +4,18 @@ ghost use Rattle.std.specs.List.{slice_get};
 ghost use Rattle.cxx_model.specs.Facts.Declarations.{declares_at};
 ghost use Rattle.cxx_model.specs.Types.Trees.{CxxType};
 ghost use Rattle.cxx_meaning.specs.Lookups.Gathered.{before};
-ghost use Rattle.cxx_form.specs.Order.{definition_lines, enumeration_lines, function_lines, lines as lines_of, object_by, object_lines};
+ghost use Rattle.cxx_form.specs.Order.{definition_lines, enumeration_lines, function_lines, is_of_namespace as is_of_a_namespace, is_written_out as is_written_out_by, lines as lines_of, object_by, object_lines, scope_of_fact};
 ghost use Rattle.cxx_reading.specs.Trees.{CxxTree};
 ghost use Rattle.cxx_tree.specs.Arena.{tree_in, trees_in, AreTreesBelow};
 ghost use Rattle.cxx_tree.specs.Held.{meaning, trees};
 ghost use Rattle.cxx_form.specs.Giving.{enumeration_by, enumeration_given, function_by, function_given, given_at};
-ghost use Rattle.cxx_form.specs.Lines.{line_at, lines_at, AddsLines, AreLinesBelow, IsGivenBelow};
+ghost use Rattle.cxx_form.specs.Lines.{number_in, line_at, lines_at, AddsLines, AreLinesBelow, IsGivenBelow};
 ghost use Rattle.cxx_form.specs.Views.{facts_in};
 
 use crate::defined::first_in;
-use crate::facts::fact;
+use crate::facts::{fact, find};
 use crate::found::{declarators, definitions};
-use cxx_model::{Entity, EnumId, FactId, TreeId};
+use cxx_model::{Entity, EnumId, FactId, ScopeId, TreeId};
 use cxx_tree::State;
 use std::alloc::{AllocError, Global};
 
@@ -103,12 +103,47 @@ fn add_functions(state: &State, lines: &mut Vec<Line>) -> Result<(), AllocError>
     Ok(())
 }
 
+#[tactic(auto, using(crate::proofs::Lined::scope_there, crate::proofs::Lined::scope_nowhere))]
+fn scope_in(state: &State, number: FactId) -> ScopeId
+    ensures { result.0 ≡ scope_of_fact (slice_get (facts_in state.now) number.0) }
+{
+    match find(state, number) {
+        Some(fact) => fact.scope,
+        None => ScopeId(0),
+    }
+}
+
+// Whether what a declarator declares is of a namespace.
+fn is_of_namespace(state: &State, target: Option<FactId>) -> bool
+    ensures { result ≡ is_of_a_namespace (facts_in state.now) (option_map number_in target) }
+{
+    match target {
+        None => false,
+        Some(number) => state
+            .names()
+            .is_space(state.graph(), scope_in(state, number)),
+    }
+}
+
+// Whether a declarator is written among those of namespaces (3.5).
+fn is_written_out(state: &State, tree: TreeId) -> bool
+    requires { tree.0 < length (trees state.now) }
+    ensures { result ≡ is_written_out_by (facts_in state.now) (tree_in (trees state.now) tree.0) }
+{
+    let node = state.node(tree);
+    is_of_namespace(state, node.target) || !node.spelling.as_slice().is_empty()
+}
+
 // The line of a declarator, where it declares an object.
+#[tactic(auto, using(crate::proofs::Lined::object_by_first, crate::proofs::Lined::object_not_written))]
 fn object_line(state: &State, tree: TreeId) -> Option<Line>
     requires { tree.0 < length (trees state.now) }
     ensures is { before (option_map (line_at (trees state.now)) result) [] ≡ object_by (facts_in state.now) (tree_in (trees state.now) tree.0) (tree_in (trees state.now) tree.0).label.target }
     ensures below { IsGivenBelow (length (trees state.now)) result }
 {
+    if !is_written_out(state, tree) {
+        return None;
+    }
     let Some(first) = first_in(state, tree) else {
         return None;
     };

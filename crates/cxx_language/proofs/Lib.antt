@@ -1,3 +1,2 @@
 pub mod Further
-mod Opened
 pub mod Parts

@@ -17,7 +17,6 @@ use Rattle.cxx_reading.specs.Declaring.{enter_block, leave_block, within_step}
 use Rattle.cxx_reading.specs.Initializers.{operand_of}
 use Rattle.cxx_reading.specs.Reads.{Reads, Asks, ◌>>=◌, give, ask, fault_at, kind_ahead, place_ahead}
 use Rattle.cxx_reading.specs.State.{CxxState}
-use Rattle.cxx_reading.specs.Tokens.{not_built}
 use Rattle.cxx_reading.specs.Trees.{CxxTree}
 use Rattle.cxx_heads.specs.declared.head.Head as heads
 use Rattle.cxx_heads.specs.declared.head.Head.TheVariants as heads_
@@ -50,11 +49,11 @@ abbrev pub left_out : TokenKind → Option FaultText
 left_out (Keyword n) = left_out_word n
 left_out kind = None
 
--- labels that are names, which `goto` alone uses (6.1), and what is not read in a block yet (7.3)
+-- labels that are names are left out, which `goto` alone uses (6.1)
 abbrev pub head_as : heads.Head → Reads CxxState Head
 head_as heads_.Declaration = give head.Declaration
-head_as heads_.Using = not_built
-head_as heads_.Namespace = not_built
+head_as heads_.Using = give head.Declaration
+head_as heads_.Namespace = give head.Declaration
 head_as heads_.Label = λ state ahead. fault_at (place_ahead ahead) (says.LeftOut form.Label) state ahead
 head_as heads_.Expression = give head.Expression
 

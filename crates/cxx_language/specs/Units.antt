@@ -27,6 +27,7 @@ use Rattle.cxx_statements.specs.Productions as statement
 use Rattle.cxx_language.specs.Asked.{asked, inner_at}
 use Rattle.cxx_language.specs.Bodies.{function_body}
 use Rattle.cxx_language.specs.Made.{defined_object, extern_object}
+use Rattle.cxx_language.specs.Spaces.{namespace_at, using_at}
 
 -- ---- one declarator (8, 8.5)
 
@@ -124,19 +125,26 @@ plain_declaration_at room counts_as_extern state ahead =
 
 -- ---- linkage (7.5)
 
-unfoldable pub linked_one : ℕ → Reads CxxState (List CxxTree)
-linked_one room = plain_declaration_at room true >>= one_tree
+-- 7.5: a linkage reaches no further than to a namespace that it stands before
+unfoldable pub linked_one : ℕ → Reads CxxState (List CxxTree) → Reads CxxState CxxTree
+linked_one room inside state ahead =
+    if is_keyword keyword.NAMESPACE (kind_ahead ahead) then namespace_at inside state ahead else (
+    if is_keyword keyword.USING (kind_ahead ahead) then using_at state ahead else
+    plain_declaration_at room true state ahead)
 
 abbrev pub linked_by : ℕ → Reads CxxState (List CxxTree) → Reads CxxState (List CxxTree)
-linked_by room inside state ahead = if is_punct punct.LEFT_BRACE (kind_ahead ahead) then linkage_list inside state ahead else linked_one room state ahead
+linked_by room inside state ahead = if is_punct punct.LEFT_BRACE (kind_ahead ahead) then linkage_list inside state ahead else (linked_one room inside >>= one_tree) state ahead
 
 abbrev pub linkage_by : ℕ → Reads CxxState (List CxxTree) → Ahead → Bool → Reads CxxState CxxTree
 linkage_by room inside from true = linked_by room inside >>= linked_tree from
 linkage_by room inside from false = plain_declaration_at room false
 
--- a declaration, where `inside` reads those between the braces of a linkage
+-- a declaration, where `inside` reads those between the braces of a linkage or a namespace
 unfoldable pub declaration_by : ℕ → Reads CxxState (List CxxTree) → Reads CxxState CxxTree
-declaration_by room inside state ahead = (linkages_passed >>= linkage_by room inside ahead) state ahead
+declaration_by room inside state ahead =
+    if is_keyword keyword.NAMESPACE (kind_ahead ahead) then namespace_at inside state ahead else (
+    if is_keyword keyword.USING (kind_ahead ahead) then using_at state ahead else
+    (linkages_passed >>= linkage_by room inside ahead) state ahead)
 
 -- the declarations behind a brace, with its end, with room for so many more braces
 unfoldable pub linkage_opened : ℕ → Reads CxxState (List CxxTree)

@@ -1,48 +1,23 @@
 //! Declarations in blocks (6.7).
 
-ghost use Rattle.std.specs.Prelude.{◌≡◌, ◌<◌, false, length};
+ghost use Rattle.std.specs.Prelude.{false};
 ghost use Rattle.cxx_language.specs.Blocks as definition;
-ghost use Rattle.cxx_reading.specs.Units.{token_or};
 ghost use Rattle.cxx_syntax.specs.Asking.{IsTreeKnown};
 ghost use Rattle.cxx_syntax.specs.Reading.{IsRead};
-ghost use Rattle.cxx_syntax.specs.Views.{AreSpecifiers, AreTreesHeld, IsDeclarator, declarator_of, name_of_option, specifiers_of, trees_held};
+ghost use Rattle.cxx_syntax.specs.Views.{AreSpecifiers, AreTreesHeld, IsDeclarator, declarator_of, specifiers_of, trees_held};
 ghost use Rattle.cxx_tree.specs.Held.{meaning, tree};
 ghost use Rattle.cxx_units.specs.Said.{IsDeclared, IsListed, IsListedTurn, IsSaid, listed_of, listed_turn, said_of};
 
 use crate::declares::{Declares, Reader};
-use cxx_model::{FaultText, Place, Stop, TreeId, TreeIdList, TypeId, punct};
+use crate::spaces::{local_alias_at, using_at};
+use cxx_model::{Stop, TreeId, TreeIdList, TypeId, keyword, punct};
 use cxx_reading::SpecifierPlace;
-use cxx_syntax::{Cursor, Declarator, NameToken, Specifiers, Turn, declared, is_punct};
+use cxx_syntax::{Cursor, Declarator, Specifiers, Turn, declared, is_keyword, is_punct};
 use cxx_tree::State;
 use cxx_units::ends::nothing_declared;
 use cxx_units::said::{Listed as ListedTrees, Said, said_by};
-use cxx_units::trees::faulty;
 use cxx_units::types::is_function_type;
 use cxx_units::{declaration_tree, declarator_ended, declared_fits, no_declarators};
-
-// The place of the name of a declarator.
-fn place_of_name(name: &Option<NameToken>) -> Place
-    ensures { result ≡ (token_or (name_of_option name.now)).place }
-{
-    match name {
-        None => Place { line: 0, column: 0 },
-        Some(name) => name.place,
-    }
-}
-
-/// A function, and an object that is declared with `extern`, are not read in a block yet (3.5).
-#[tactic(auto, using(cxx_syntax::proofs::Kept::later_refl))]
-pub(crate) fn not_read_there(
-    state: &State,
-    cursor: &Cursor<'_>,
-    declarator: &Declarator,
-) -> Result<TreeId, Stop>
-    ensures { IsRead tree IsTreeKnown state.now state.now cursor.now result (definition.not_read_there (declarator_of state.now declarator.now) (meaning state.now) cursor.now) }
-{
-    let _ = state;
-    let place = place_of_name(&declarator.name);
-    Err(Stop::Fault(faulty(cursor.alloc(), place, FaultText::NotBuilt)?))
-}
 
 impl<D: Declares> Reader<'_, D> {
     // What a declarator in a block declares.
@@ -62,8 +37,11 @@ impl<D: Declares> Reader<'_, D> {
         if said.is_typedef {
             return self.declared_synonym(state, cursor, said, from, declarator, of);
         }
-        if is_function_type(state.types(), of) || said.is_extern {
-            return not_read_there(state, cursor, &declarator);
+        if is_function_type(state.types(), of) {
+            return self.local_function(state, cursor, said, from, declarator, of);
+        }
+        if said.is_extern {
+            return self.local_extern(state, cursor, said, from, declarator, of);
         }
         self.defined_object(state, cursor, said, from, declarator, of)
     }
@@ -159,13 +137,9 @@ impl<D: Declares> Reader<'_, D> {
         self.local_declarators_at(state, cursor, said)
     }
 
-    #[tactic(auto, using(cxx_syntax::proofs::Kept::named_kept, cxx_syntax::proofs::Kept::named_later, cxx_syntax::proofs::Kept::trees_kept, cxx_syntax::proofs::Kept::trees_later, cxx_syntax::proofs::Kept::later_refl, cxx_syntax::proofs::Kept::later_trans), unfolding(crate::specs::Blocks::local_declaration_at))]
-    fn local_declaration_at(
-        &self,
-        state: &mut State,
-        cursor: &mut Cursor<'_>,
-    ) -> Result<TreeId, Stop>
-        ensures { IsRead tree IsTreeKnown state.old state.new cursor.new result (definition.local_declaration_at self.now.room (meaning state.old) cursor.old) }
+    #[tactic(auto, using(cxx_syntax::proofs::Kept::named_kept, cxx_syntax::proofs::Kept::named_later, cxx_syntax::proofs::Kept::trees_kept, cxx_syntax::proofs::Kept::trees_later, cxx_syntax::proofs::Kept::later_refl, cxx_syntax::proofs::Kept::later_trans), unfolding(crate::specs::Blocks::simple_local_at))]
+    fn simple_local_at(&self, state: &mut State, cursor: &mut Cursor<'_>) -> Result<TreeId, Stop>
+        ensures { IsRead tree IsTreeKnown state.old state.new cursor.new result (definition.simple_local_at self.now.room (meaning state.old) cursor.old) }
     {
         let from = cursor.mark();
         let specifiers = self
@@ -174,6 +148,23 @@ impl<D: Declares> Reader<'_, D> {
         let between = cursor.mark();
         let declarators = self.local_declarators_of(state, cursor, &specifiers)?;
         declaration_tree(state, specifiers, declarators, &from, &between, cursor)
+    }
+
+    #[tactic(auto, unfolding(crate::specs::Blocks::local_declaration_at))]
+    fn local_declaration_at(
+        &self,
+        state: &mut State,
+        cursor: &mut Cursor<'_>,
+    ) -> Result<TreeId, Stop>
+        ensures { IsRead tree IsTreeKnown state.old state.new cursor.new result (definition.local_declaration_at self.now.room (meaning state.old) cursor.old) }
+    {
+        if is_keyword(keyword::NAMESPACE, cursor.kind()) {
+            return local_alias_at(self.declares, state, cursor);
+        }
+        if is_keyword(keyword::USING, cursor.kind()) {
+            return using_at(self.declares, state, cursor);
+        }
+        self.simple_local_at(state, cursor)
     }
 }
 

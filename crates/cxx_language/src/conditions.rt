@@ -17,7 +17,6 @@ ghost use Rattle.cxx_syntax.specs.Views.{AreSpecifiers, AreTreesHeld, IsDeclarat
 ghost use Rattle.cxx_tree.specs.Held.{meaning, tree, trees, type_of};
 ghost use Rattle.cxx_units.specs.Said.{IsDeclared, IsSaid, said_of};
 
-use crate::blocks::not_read_there;
 use crate::declares::{Declares, Reader};
 use crate::initializers::initializer_node;
 use cxx_expr::operands::referred;
@@ -26,6 +25,7 @@ use cxx_reading::SpecifierPlace;
 use cxx_syntax::{Cursor, Declarator, NameToken, Specifiers, declared, joined, node_from, push};
 use cxx_tree::State;
 use cxx_units::declared_fits;
+use cxx_units::ends::own_parameters;
 use cxx_units::said::{Said, said_by};
 use cxx_units::trees::{declarator_tree, listed_tree, one_tree, specifiers_tree, token_or};
 use cxx_units::types::is_function_type;
@@ -199,6 +199,26 @@ impl<D: Declares> Reader<'_, D> {
         declarator_tree(state, false, &name, of, number, parts, from, cursor)
     }
 
+    // A function has no `=` behind it.
+    #[tactic(auto, using(cxx_syntax::proofs::Kept::layers_kept, cxx_syntax::proofs::Kept::later_refl, cxx_syntax::proofs::Kept::later_trans), unfolding(crate::specs::Blocks::tested_function))]
+    fn tested_function(
+        &self,
+        state: &mut State,
+        cursor: &Cursor<'_>,
+        said: Said,
+        declarator: Declarator,
+        of: TypeId,
+    ) -> Result<TreeId, Stop>
+        requires { IsDeclared state.old said declarator of }
+        ensures { IsRead tree IsTreeKnown state.old state.new cursor.now result (definition.tested_function (said_of state.old said) (declarator_of state.old declarator) (meaning state.old) cursor.now) }
+    {
+        let _ = said;
+        let name = token_or(cursor.alloc(), declarator.name);
+        let list = own_parameters(state, &declarator.layers);
+        self.declares.declare_function(state, list, &name, of)?;
+        Err(Stop::Fault(cursor.refused()?))
+    }
+
     #[tactic(auto, using(cxx_syntax::proofs::Kept::later_refl, cxx_syntax::proofs::Kept::later_trans))]
     fn tested_by(
         &self,
@@ -213,7 +233,7 @@ impl<D: Declares> Reader<'_, D> {
         ensures { IsRead tree IsTreeKnown state.old state.new cursor.new result (definition.tested_by self.now.room (said_of state.old said) from.now (declarator_of state.old declarator) (meaning state.old) cursor.old) }
     {
         if is_function_type(state.types(), of) {
-            return not_read_there(state, cursor, &declarator);
+            return self.tested_function(state, cursor, said, declarator, of);
         }
         self.tested_object(state, cursor, said, from, declarator, of)
     }

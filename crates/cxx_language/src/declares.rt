@@ -6,25 +6,26 @@ ghost use Rattle.cxx_declare.specs.Functions.{declare_function};
 ghost use Rattle.cxx_expr.specs.Initializing.{initialize};
 ghost use Rattle.cxx_expr.specs.Nodes.{IsNodeHeld, node_tree};
 ghost use Rattle.cxx_language.specs.Known.{value_of};
+ghost use Rattle.cxx_model.specs.Facts.Graph.{scopes};
 ghost use Rattle.cxx_language.specs.Asked.{answers, asked, inner_at, phrases_at};
 ghost use Rattle.cxx_language.specs.Blocks as blocks;
-ghost use Rattle.cxx_language.specs.Bodies.{function_body};
 ghost use Rattle.cxx_phrases.specs.Initializers.{initializer_at};
 ghost use Rattle.cxx_phrases.specs.Views.{IsInitializer, initializer_of};
 ghost use Rattle.cxx_reading.specs.Declaring as definition;
-ghost use Rattle.cxx_reading.specs.Specifiers.{specifiers_at};
+ghost use Rattle.cxx_reading.specs.Spaces as spaces;
+ghost use Rattle.cxx_reading.specs.Specifiers.{path_of, specifiers_at};
 ghost use Rattle.cxx_reading.specs.Syntax.{declarator_at};
 ghost use Rattle.cxx_reading.specs.declared.specifier.Naming.TheVariants as naming;
-ghost use Rattle.cxx_syntax.specs.Asking.{AnyKnown, IsAsked, IsTreeKnown, itself};
+ghost use Rattle.cxx_syntax.specs.Asking.{AnyKnown, IsAsked, IsTreeKnown, itself, scope_number};
 ghost use Rattle.cxx_syntax.specs.Reading.{IsRead};
-ghost use Rattle.cxx_syntax.specs.Views.{AreSpecifiers, IsDeclarator, declarator_of, name_at, specifiers_of};
-ghost use Rattle.cxx_tree.specs.Answered.{fact_number, scope_of_option};
+ghost use Rattle.cxx_syntax.specs.Views.{AreSpecifiers, IsDeclarator, declarator_of, lexeme_at, name_at, specifiers_of};
+ghost use Rattle.cxx_tree.specs.Answered.{IsScopeKnown, fact_number, scope_of_option};
 ghost use Rattle.cxx_tree.specs.Held.{meaning, tree, trees, type_of};
 
-use cxx_model::{FactId, Node, OutOfMemory, ScopeId, Stop, TreeId, TypeId};
+use cxx_model::{FactId, Node, OutOfMemory, Place, ScopeId, Stop, TreeId, TypeId};
 use cxx_phrases::Initializer;
 use cxx_reading::SpecifierPlace;
-use cxx_syntax::{Cursor, Declarator, NameToken, Specifiers};
+use cxx_syntax::{Cursor, Declarator, NameToken, Specifiers, Spelled};
 use cxx_tree::State;
 
 /// Who reads specifiers, declarators and initializers, declares names, and says what expressions mean and what their values
@@ -109,6 +110,16 @@ pub trait Declares {
         requires { of.0 < length (state.old).types }
         ensures { IsAsked fact_number AnyKnown state.old state.new result (definition.declare_object (name_at name.now) (type_of state.old of) (meaning state.old)) };
 
+    /// An object that a block declares with `extern` (3.5).
+    fn declare_linked_object(
+        &self,
+        state: &mut State,
+        name: &NameToken,
+        of: TypeId,
+    ) -> Result<FactId, Stop>
+        requires { of.0 < length (state.old).types }
+        ensures { IsAsked fact_number AnyKnown state.old state.new result (definition.declare_linked_object (name_at name.now) (type_of state.old of) (meaning state.old)) };
+
     /// An object that is defined, once (3.2).
     fn define_object(&self, state: &mut State, name: &NameToken, of: TypeId) -> Result<FactId, Stop>
         requires { of.0 < length (state.old).types }
@@ -122,28 +133,30 @@ pub trait Declares {
         number: FactId,
     ) -> Result<(), Stop>
         ensures { IsAsked itself AnyKnown state.old state.new result (definition.define_declared (name_at name.now) number.0 (meaning state.old)) };
-}
 
-/// Who reads the bodies of functions too.
-pub trait Defines: Declares {
-    /// The body of the function with a declaration, whose list of parameters has a scope, from its `{` on (8.4).
-    fn body(
+    /// The namespace that a name means (3.4.6).
+    fn space_here(&self, state: &mut State, name: Spelled<'_>) -> Result<ScopeId, Stop>
+        ensures { IsAsked scope_number IsScopeKnown state.old state.new result (spaces.space_here (path_of (lexeme_at name.entry)) (meaning state.old)) };
+
+    /// Another name of a namespace (7.3.2).
+    fn declare_alias(
         &self,
         state: &mut State,
-        cursor: &mut Cursor<'_>,
-        name: &NameToken,
-        of: TypeId,
-        number: FactId,
-        list: ScopeId,
-        room: u32,
-    ) -> Result<TreeId, Stop>
-        requires { of.0 < length (state.old).types }
-        ensures { IsRead tree IsTreeKnown state.old state.new cursor.new result (function_body room (name_at name.now) (type_of state.old of) number.0 list.0 (meaning state.old) cursor.old) };
+        name: Spelled<'_>,
+        inner: ScopeId,
+    ) -> Result<(), Stop>
+        requires { inner.0 < scopes (state.old).graph.facts }
+        ensures { IsAsked itself AnyKnown state.old state.new result (spaces.declare_alias (lexeme_at name.entry) inner.0 (meaning state.old)) };
+
+    /// A using-directive (7.3.4), at the name of the namespace that it nominates.
+    fn declare_directive(&self, state: &mut State, place: Place, inner: ScopeId) -> Result<(), Stop>
+        requires { inner.0 < scopes (state.old).graph.facts }
+        ensures { IsAsked itself AnyKnown state.old state.new result (spaces.declare_directive place inner.0 (meaning state.old)) };
 }
 
-/// A reader with room for so many more brackets and braces.
+/// A reader with room for so many more brackets and statements inside one another.
 #[derive_where(Clone, Copy)]
-pub(crate) struct Reader<'d, D> {
+pub struct Reader<'d, D> {
     pub declares: &'d D,
     pub room: u32,
 }

@@ -1,8 +1,6 @@
-//! Functions and synonyms of types (7.1.3, 8.3.5), and the choice among declared entities.
+//! Synonyms of types (7.1.3), and functions that blocks declare (3.5).
 
-ghost use Rattle.std.specs.Prelude.{◌≡◌, ◌<◌, length, true, false, None};
-ghost use Rattle.cxx_language.specs.Units as units;
-ghost use Rattle.cxx_language.specs.Views.{IsDeclaredKnown, declares_of};
+ghost use Rattle.cxx_language.specs.Blocks as blocks;
 ghost use Rattle.cxx_reading.specs.Units as definition;
 ghost use Rattle.cxx_syntax.specs.Asking.{IsTreeKnown};
 ghost use Rattle.cxx_syntax.specs.Reading.{IsRead};
@@ -10,30 +8,18 @@ ghost use Rattle.cxx_syntax.specs.Views.{declarator_of};
 ghost use Rattle.cxx_tree.specs.Held.{meaning, tree};
 ghost use Rattle.cxx_units.specs.Said.{IsDeclared, said_of};
 
-use crate::bodies::Declared;
-use crate::declares::{Declares, Defines, Reader};
+use crate::declares::{Declares, Reader};
 use cxx_model::{Stop, TreeId, TypeId};
 use cxx_syntax::{Cursor, Declarator};
 use cxx_tree::State;
 use cxx_units::ends::{own_parameters, synonym_ended};
 use cxx_units::said::Said;
 use cxx_units::trees::{declarator_tree, token_or};
-use cxx_units::types::is_function_type;
-
-// What a declarator declares that defines no function.
-fn alone(number: TreeId) -> Declared
-    ensures { result ≡ record { tree = number; body = None } }
-{
-    Declared {
-        tree: number,
-        body: None,
-    }
-}
 
 impl<D: Declares> Reader<'_, D> {
     /// A name of a type (7.1.3).
     #[tactic(auto, using(cxx_syntax::proofs::Kept::trees_kept, cxx_syntax::proofs::Kept::trees_later, cxx_syntax::proofs::Kept::type_kept, cxx_syntax::proofs::Kept::type_later, cxx_syntax::proofs::Kept::later_refl, cxx_syntax::proofs::Kept::later_trans), unfolding(cxx_reading::specs::Units::declared_synonym))]
-    pub(crate) fn declared_synonym(
+    pub fn declared_synonym(
         &self,
         state: &mut State,
         cursor: &Cursor<'_>,
@@ -60,28 +46,26 @@ impl<D: Declares> Reader<'_, D> {
             cursor,
         )
     }
-}
 
-impl<D: Defines> Reader<'_, D> {
-    // A function is declared before it is looked whether a body follows.
-    #[tactic(auto, using(cxx_syntax::proofs::Kept::trees_kept, cxx_syntax::proofs::Kept::trees_later, cxx_syntax::proofs::Kept::layers_kept, cxx_syntax::proofs::Kept::type_kept, cxx_syntax::proofs::Kept::type_later, cxx_syntax::proofs::Kept::later_refl, cxx_syntax::proofs::Kept::later_trans, cxx_expr::proofs::Kept::tree_kept, cxx_expr::proofs::Kept::tree_later), unfolding(crate::specs::Units::declared_function, crate::specs::Units::function_ended))]
-    fn declared_function(
+    /// A function that a block declares (3.5).
+    #[tactic(auto, using(cxx_syntax::proofs::Kept::trees_kept, cxx_syntax::proofs::Kept::trees_later, cxx_syntax::proofs::Kept::layers_kept, cxx_syntax::proofs::Kept::type_kept, cxx_syntax::proofs::Kept::type_later, cxx_syntax::proofs::Kept::later_refl, cxx_syntax::proofs::Kept::later_trans), unfolding(crate::specs::Blocks::local_function))]
+    pub(crate) fn local_function(
         &self,
         state: &mut State,
-        cursor: &mut Cursor<'_>,
+        cursor: &Cursor<'_>,
         said: Said,
-        is_first: bool,
         from: &Cursor<'_>,
         declarator: Declarator,
         of: TypeId,
-    ) -> Result<Declared, Stop>
+    ) -> Result<TreeId, Stop>
         requires { IsDeclared state.old said declarator of }
-        ensures { IsRead declares_of IsDeclaredKnown state.old state.new cursor.new result (units.declared_function self.now.room (said_of state.old said) is_first (declarator_of state.old declarator) from.now (meaning state.old) cursor.old) }
+        ensures { IsRead tree IsTreeKnown state.old state.new cursor.now result (blocks.local_function (said_of state.old said) from.now (declarator_of state.old declarator) (meaning state.old) cursor.now) }
     {
         let name = token_or(cursor.alloc(), declarator.name);
         let list = own_parameters(state, &declarator.layers);
         let number = self.declares.declare_function(state, list, &name, of)?;
-        let tree = declarator_tree(
+        synonym_ended(state, cursor)?;
+        declarator_tree(
             state,
             said.is_extern,
             &name,
@@ -90,38 +74,6 @@ impl<D: Defines> Reader<'_, D> {
             declarator.parts,
             from,
             cursor,
-        )?;
-        let body = self.function_ended(state, cursor, is_first, &name, of, number, list)?;
-        Ok(Declared { tree, body })
-    }
-
-    /// What a declarator declares; its name is declared before what follows is looked at (3.3.1).
-    #[tactic(auto, using(cxx_syntax::proofs::Kept::later_refl, cxx_syntax::proofs::Kept::later_trans))]
-    pub(crate) fn declared_by(
-        &self,
-        state: &mut State,
-        cursor: &mut Cursor<'_>,
-        said: Said,
-        is_first: bool,
-        from: &Cursor<'_>,
-        declarator: Declarator,
-        of: TypeId,
-    ) -> Result<Declared, Stop>
-        requires { IsDeclared state.old said declarator of }
-        ensures { IsRead declares_of IsDeclaredKnown state.old state.new cursor.new result (units.declared_by self.now.room (said_of state.old said) is_first from.now (declarator_of state.old declarator) (meaning state.old) cursor.old) }
-    {
-        if said.is_typedef {
-            let number = self.declared_synonym(state, cursor, said, from, declarator, of)?;
-            return Ok(alone(number));
-        }
-        if is_function_type(state.types(), of) {
-            return self.declared_function(state, cursor, said, is_first, from, declarator, of);
-        }
-        if said.is_extern {
-            let number = self.extern_object(state, cursor, said, from, declarator, of)?;
-            return Ok(alone(number));
-        }
-        let number = self.defined_object(state, cursor, said, from, declarator, of)?;
-        Ok(alone(number))
+        )
     }
 }

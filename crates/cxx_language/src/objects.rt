@@ -2,10 +2,11 @@
 
 ghost use Rattle.std.specs.Prelude.{◌≡◌, ◌<◌, length, true, false};
 ghost use Rattle.cxx_language.specs.Asked.{answers, inner_at, phrases_at};
+ghost use Rattle.cxx_language.specs.Blocks as blocks;
 ghost use Rattle.cxx_language.specs.Made as made;
 ghost use Rattle.cxx_language.specs.Objects as definition;
 ghost use Rattle.cxx_language.specs.Parts.{initialized_by as initialized_by_one};
-ghost use Rattle.cxx_syntax.specs.Asking.{IsTreeKnown};
+ghost use Rattle.cxx_syntax.specs.Asking.{AnyKnown, IsTreeKnown, itself};
 ghost use Rattle.cxx_syntax.specs.Reading.{IsRead};
 ghost use Rattle.cxx_syntax.specs.Views.{AreTreesHeld, declarator_of, name_at, trees_held};
 ghost use Rattle.cxx_tree.specs.Held.{meaning, tree, type_of};
@@ -15,10 +16,10 @@ use crate::declares::{Declares, Reader};
 use crate::initializers::{begins_initializer, initializer_node, some_elements};
 use crate::known::{note_known, type_known};
 use cxx_answers::typed::type_so_far;
-use cxx_model::{FactId, Listed, Stop, TreeId, TreeIdList, TypeId};
+use cxx_model::{FactId, FaultText, Listed, Stop, TreeId, TreeIdList, TypeId};
 use cxx_syntax::{Cursor, Declarator, NameToken, joined};
 use cxx_tree::State;
-use cxx_units::ends::{ends_declarator, uninitialized};
+use cxx_units::ends::{ends_declarator, synonym_ended, uninitialized};
 use cxx_units::said::Said;
 use cxx_units::trees::{declarator_tree, one_tree, token_or};
 
@@ -35,6 +36,17 @@ fn without_initializer(
     ensures { IsRead trees_held AreTreesHeld state.now state.now cursor.now result (definition.without_initializer (name_at name.now) (type_of state.now of) number.0 (meaning state.now) cursor.now) }
 {
     uninitialized(state, cursor, name, type_so_far(state, number, of))
+}
+
+// An object that a block declares with `extern` has no initializer there (3.5, 6.7).
+#[tactic(auto, using(cxx_syntax::proofs::Kept::later_refl), unfolding(crate::specs::Blocks::linked_ended))]
+fn linked_ended(state: &State, cursor: &Cursor<'_>) -> Result<(), Stop>
+    ensures { IsRead itself AnyKnown state.now state.now cursor.now result (blocks.linked_ended (meaning state.now) cursor.now) }
+{
+    if begins_initializer(cursor) {
+        return Err(Stop::Fault(cursor.faulty(FaultText::OperandsDoNotFit)?));
+    }
+    synonym_ended(state, cursor)
 }
 
 impl<D: Declares> Reader<'_, D> {
@@ -141,7 +153,7 @@ impl<D: Declares> Reader<'_, D> {
 
     /// An object that is declared with `extern`.
     #[tactic(auto, using(cxx_syntax::proofs::Kept::trees_kept, cxx_syntax::proofs::Kept::trees_later, cxx_syntax::proofs::Kept::trees_append, cxx_syntax::proofs::Kept::trees_below_append, cxx_syntax::proofs::Kept::type_kept, cxx_syntax::proofs::Kept::type_later, cxx_syntax::proofs::Kept::later_refl, cxx_syntax::proofs::Kept::later_trans), unfolding(crate::specs::Made::extern_object))]
-    pub(crate) fn extern_object(
+    pub fn extern_object(
         &self,
         state: &mut State,
         cursor: &mut Cursor<'_>,
@@ -162,7 +174,7 @@ impl<D: Declares> Reader<'_, D> {
 
     /// An object that is defined.
     #[tactic(auto, using(cxx_syntax::proofs::Kept::trees_kept, cxx_syntax::proofs::Kept::trees_later, cxx_syntax::proofs::Kept::trees_append, cxx_syntax::proofs::Kept::trees_below_append, cxx_syntax::proofs::Kept::type_kept, cxx_syntax::proofs::Kept::type_later, cxx_syntax::proofs::Kept::later_refl, cxx_syntax::proofs::Kept::later_trans), unfolding(crate::specs::Made::defined_object))]
-    pub(crate) fn defined_object(
+    pub fn defined_object(
         &self,
         state: &mut State,
         cursor: &mut Cursor<'_>,
@@ -179,5 +191,35 @@ impl<D: Declares> Reader<'_, D> {
         let parts = self.defined_part(state, cursor, &name, of, number)?;
         let parts = joined(declarator.parts, parts)?;
         declarator_tree(state, false, &name, of, number, parts, from, cursor)
+    }
+
+    /// An object that a block declares with `extern` (3.5).
+    #[tactic(auto, using(cxx_syntax::proofs::Kept::trees_kept, cxx_syntax::proofs::Kept::trees_later, cxx_syntax::proofs::Kept::type_kept, cxx_syntax::proofs::Kept::type_later, cxx_syntax::proofs::Kept::later_refl, cxx_syntax::proofs::Kept::later_trans), unfolding(crate::specs::Blocks::local_extern))]
+    pub(crate) fn local_extern(
+        &self,
+        state: &mut State,
+        cursor: &Cursor<'_>,
+        said: Said,
+        from: &Cursor<'_>,
+        declarator: Declarator,
+        of: TypeId,
+    ) -> Result<TreeId, Stop>
+        requires { IsDeclared state.old said declarator of }
+        ensures { IsRead tree IsTreeKnown state.old state.new cursor.now result (blocks.local_extern (said_of state.old said) from.now (declarator_of state.old declarator) (meaning state.old) cursor.now) }
+    {
+        let _ = said;
+        let name = token_or(cursor.alloc(), declarator.name);
+        let number = self.declares.declare_linked_object(state, &name, of)?;
+        linked_ended(state, cursor)?;
+        declarator_tree(
+            state,
+            true,
+            &name,
+            of,
+            number,
+            declarator.parts,
+            from,
+            cursor,
+        )
     }
 }

@@ -1,6 +1,6 @@
 -- What is kept where it is asked which function a call means, and that what stops such a question is true.
 use Rattle.std.proofs.Common.{◌≡◌, ℕ, List, [], ◌∷◌, ◌++◌, Option, Some, None, Ok, Err, refl, sym, ap, subst, ◌∙◌, inl, inr}
-use Rattle.std.specs.Prelude.{nat_lt, if◌then◌else◌, length}
+use Rattle.std.specs.Prelude.{Bool, nat_lt, length}
 use Rattle.std.specs.List.{AllByRecursion}
 use Rattle.std.proofs.lemmas.List.{append-nil}
 use Rattle.cxx_model.specs.declared.evidence.Reason.{Reason}
@@ -8,22 +8,25 @@ use Rattle.cxx_model.specs.declared.limits.TheConstants as limits
 use Rattle.cxx_model.specs.declared.place.Place.{Place}
 use Rattle.cxx_model.specs.declared.stop.LimitKind.TheVariants.{Arguments}
 use Rattle.cxx_model.specs.declared.fault.FaultText.TheVariants as says
-use Rattle.cxx_model.specs.Facts.Declarations.{CxxGraph, CxxName, spelled}
-use Rattle.cxx_model.specs.Stops.{Answer, Stopped, Limited}
+use Rattle.cxx_model.specs.Facts.Declarations.{CxxGraph, spelled}
+use Rattle.cxx_model.specs.Stops.{Answer, Stopped, Limited, undeclared_at}
 use Rattle.cxx_meaning.specs.Conversions.Asking.{Asked, ◌>>=◌}
 use Rattle.cxx_meaning.specs.Conversions.Standard.{CxxOperand}
+use Rattle.cxx_meaning.specs.Lookups.Wanted.{any_name}
 use Rattle.cxx_reading.specs.Initializers.{with_call}
 use Rattle.cxx_reading.specs.Reads.{Ahead}
+use Rattle.cxx_reading.specs.Seen.{Numbered, sought_from}
 use Rattle.cxx_reading.specs.State.{CxxState, CxxCall}
+use Rattle.cxx_expr.specs.Questions.{CxxQuestion}
 use Rattle.cxx_overload.specs.Calls.{CxxDecision, decided}
 use Rattle.cxx_overload.specs.Candidates.{CxxCandidate, candidates}
 use Rattle.cxx_overload.specs.Decided.{IsDecided, IsUndecided, NoneViable, IsAmbiguous}
 use Rattle.cxx_overload.specs.Sequences.{CxxSequence, sequences_of}
 use Rattle.cxx_overload.specs.Viability.{Rated, by_count, by_sequences, first_without, rated, rated_one}
 use Rattle.cxx_overload.specs.Words.{IsOutcome}
-use Rattle.cxx_answers.specs.Answers.{called_as}
-use Rattle.cxx_language_laws.specs.Best.{IsBestCall, IsRatedSo, values_of}
-use Rattle.cxx_language_laws.specs.Told.{IsUnitCall, meant, operands, no_viable_function, ambiguous_call}
+use Rattle.cxx_answers.specs.Answers.{call_here, called_as, decided_among, functions_of_call, word_or_none}
+use Rattle.cxx_language_laws.specs.Best.{IsBestCall, IsClear, IsRatedSo, asked_word, values_of, values_of_call}
+use Rattle.cxx_language_laws.specs.Told.{IsUnitCall, called, meant, operands, no_viable_function, ambiguous_call}
 use Rattle.cxx_language_laws.proofs.Later.{IsLater, grown_same, each_widened}
 use Rattle.cxx_language_laws.proofs.QuestionsTell.{if_by}
 use Rattle.cxx_language_laws.proofs.Reached.{Told, reached_here, IsChosen}
@@ -86,19 +89,21 @@ call_added state call best = record {
   grown = grown_same state (with_call call state) refl;
   scopes = scopes_same state (with_call call state) refl refl;
   best = λ all. one_more_call state call best state.calls (each_widened state (with_call call state) (grown_same state (with_call call state) refl) state.calls all);
-  here = refl;
+  here = λ is. refl;
 }
 
-best_call : (state : CxxState) (new : CxxState) (place : Place) (operands : List CxxOperand) (scope : ℕ) (name : CxxName) (decision : CxxDecision) → new.graph ≡ state.graph → IsDecided place operands state.graph (values_of state.graph scope name) decision → IsBestCall new decision.call
-best_call state new place operands scope name decision same is = subst (IsBestCall new) (sym is.keeps) (record {
+best_call : (state : CxxState) (new : CxxState) (place : Place) (operands : List CxxOperand) (scope : ℕ) (word : List ℕ) (is_bare : Bool) (decision : CxxDecision) → new.graph ≡ state.graph → IsClear (sought_from state.graph any_name scope (spelled word)) → IsDecided place operands state.graph (values_of_call state.graph scope word is_bare operands) decision → IsBestCall new decision.call
+best_call state new place operands scope word is_bare decision same clear is = subst (IsBestCall new) (sym is.keeps) (record {
   before = state.graph;
   later = [];
   stands = ap (λ (g : CxxGraph). g.facts) same ∙ sym (append-nil state.graph.facts);
   scope = scope;
-  name = name;
+  word = word;
+  is_bare = is_bare;
+  clear = clear;
   all = is.all;
   rated_so = is.rated_so;
-  reasons = rated_hold state.graph operands (candidates (values_of state.graph scope name)) is.all is.rated_so;
+  reasons = rated_hold state.graph operands (candidates (values_of_call state.graph scope word is_bare operands)) is.all is.rated_so;
   meant = is.meant;
   best = is.best;
   keeps = refl;
@@ -106,20 +111,33 @@ best_call state new place operands scope name decision same is = subst (IsBestCa
 
 -- ---- a call that is not
 
-fault_told : (state : CxxState) (ahead : Ahead) (room : ℕ) (call : IsUnitCall room state ahead) (why : Stopped) → IsUndecided call.name.place (operands call) call.at.graph (meant call) why → Told state ahead why
-fault_told state ahead room call why (inl many) = subst (Told state ahead) (sym many.why_is) tt
-fault_told state ahead room call why (inr (inl class)) = subst (Told state ahead) (sym class.why_is) tt
-fault_told state ahead room call why (inr (inr (inl none))) = subst (Told state ahead) (sym none.why_is) (reached_here state ahead (IsChosen (record { place = call.name.place; text = says.NoViableFunction; evidence = none.lines })) (no_viable_function room call (subst (NoneViable call.name.place (operands call) call.at.graph (meant call)) none.why_is none)))
-fault_told state ahead room call why (inr (inr (inr tied))) = subst (Told state ahead) (sym tied.why_is) (reached_here state ahead (IsChosen (record { place = call.name.place; text = says.AmbiguousCall; evidence = tied.lines })) (ambiguous_call room call (subst (IsAmbiguous call.name.place (operands call) call.at.graph (meant call)) tied.why_is tied)))
+fault_told : (state : CxxState) (ahead : Ahead) (room : ℕ) (call : IsUnitCall room state ahead) → IsClear (called call) → (why : Stopped) → IsUndecided call.name.place (operands call) call.at.graph (meant call) why → Told state ahead why
+fault_told state ahead room call clear why (inl many) = subst (Told state ahead) (sym many.why_is) tt
+fault_told state ahead room call clear why (inr (inl class)) = subst (Told state ahead) (sym class.why_is) tt
+fault_told state ahead room call clear why (inr (inr (inl none))) = subst (Told state ahead) (sym none.why_is) (reached_here state ahead (IsChosen (record { place = call.name.place; text = says.NoViableFunction; evidence = none.lines })) (no_viable_function room call clear (subst (NoneViable call.name.place (operands call) call.at.graph (meant call)) none.why_is none)))
+fault_told state ahead room call clear why (inr (inr (inr tied))) = subst (Told state ahead) (sym tied.why_is) (reached_here state ahead (IsChosen (record { place = call.name.place; text = says.AmbiguousCall; evidence = tied.lines })) (ambiguous_call room call clear (subst (IsAmbiguous call.name.place (operands call) call.at.graph (meant call)) tied.why_is tied)))
 
 -- ---- the question of a call
 
-called_tells : (state : CxxState) (ahead rest : Ahead) (room : ℕ) (call : IsUnitCall room state ahead) (answer : Answer CxxDecision) → decided call.name.place (operands call) call.at.graph (meant call) ≡ answer
+-- what is asked for it
+abbrev pub asked_for : {room : ℕ} {before : CxxState} {ahead : Ahead} → IsUnitCall room before ahead → CxxQuestion
+asked_for call = record { place = call.name.place; word = asked_word call.is_bare call.name.spelling; functions = values_of call.at.graph call.at.here.scope (spelled call.name.spelling); operands = operands call }
+
+-- it is told where a call may mean nothing
+abbrev pub NothingTold : {room : ℕ} {state : CxxState} {ahead : Ahead} → IsUnitCall room state ahead → CxxState → Ahead → Type 0
+NothingTold call state ahead = meant call ≡ [] → Told state ahead (undeclared_at call.name.place (word_or_none (asked_word call.is_bare call.name.spelling)))
+
+decided_tells : (state : CxxState) (ahead rest : Ahead) (room : ℕ) (call : IsUnitCall room state ahead) → IsClear (called call) → (answer : Answer CxxDecision) → decided call.name.place (operands call) call.at.graph (meant call) ≡ answer
     → ToldBy IsLater (λ t ahead' why. Told state ahead why) call.at rest (called_as call.at answer)
-called_tells state ahead rest room call (Ok one) is = tells_answer _ (call_added call.at one.call (best_call call.at (with_call one.call call.at) call.name.place (operands call) call.at.here.scope (spelled call.name.spelling) one refl (decision_best _ _ _ _ one is)))
-called_tells state ahead rest room call (Err why) is = tells_refusal why (fault_told state ahead room call why (undecided_why _ _ _ _ why is))
+decided_tells state ahead rest room call clear (Ok one) is = tells_answer _ (call_added call.at one.call (best_call call.at (with_call one.call call.at) call.name.place (operands call) call.at.here.scope call.name.spelling call.is_bare one refl clear (decision_best _ _ _ _ one is)))
+decided_tells state ahead rest room call clear (Err why) is = tells_refusal why (fault_told state ahead room call clear why (undecided_why _ _ _ _ why is))
+
+among_tells : (state : CxxState) (ahead rest : Ahead) (room : ℕ) (call : IsUnitCall room state ahead) → IsClear (called call) → NothingTold call state ahead → (all : List Numbered) → meant call ≡ all
+    → ToldBy IsLater (λ t ahead' why. Told state ahead why) call.at rest (called_as call.at (decided_among (asked_for call) call.at all))
+among_tells state ahead rest room call clear nothing [] is = tells_refusal _ (nothing is)
+among_tells state ahead rest room call clear nothing (one ∷ others) is = decided_tells state ahead rest room call clear (decided call.name.place (operands call) call.at.graph (one ∷ others)) (ap (decided call.name.place (operands call) call.at.graph) is)
 
 -- in the state in which the arguments of the call are read
-pub call_asked_tells : (state : CxxState) (ahead rest : Ahead) (room : ℕ) (call : IsUnitCall room state ahead)
-    → ToldBy IsLater (λ t ahead' why. Told state ahead why) call.at rest (if nat_lt limits.MOST_ARGUMENTS (length (operands call)) then Err (Limited Arguments) else called_as call.at (decided call.name.place (operands call) call.at.graph (meant call)))
-call_asked_tells state ahead rest room call = if_by (nat_lt limits.MOST_ARGUMENTS (length (operands call))) (tells_refusal (Limited Arguments) tt) (called_tells state ahead rest room call (decided call.name.place (operands call) call.at.graph (meant call)) refl)
+pub call_asked_tells : (state : CxxState) (ahead rest : Ahead) (room : ℕ) (call : IsUnitCall room state ahead) → IsClear (called call) → NothingTold call state ahead → ToldBy IsLater (λ t ahead' why. Told state ahead why) call.at rest (call_here (asked_for call) call.at)
+unfolding call_here functions_of_call
+call_asked_tells state ahead rest room call clear nothing = if_by (nat_lt limits.MOST_ARGUMENTS (length (operands call))) (tells_refusal (Limited Arguments) tt) (among_tells state ahead rest room call clear nothing (meant call) refl)

@@ -1,18 +1,21 @@
 -- Where the reading of a declaration stops.
 use Rattle.std.proofs.Common.{arith, ◌≡◌, ◌<◌, refl, sym, subst}
-use Rattle.std.specs.Prelude.{ℕ, zero, suc, Bool, true, false, List, [], ◌∷◌, ◌++◌, Option, Some, None, length, Ok}
+use Rattle.std.specs.Prelude.{ℕ, zero, suc, Bool, true, false, List, [], ◌∷◌, ◌++◌, Option, Some, None, length, Ok, Err}
 use Rattle.cxx_model.specs.declared.keyword.TheConstants as keyword
 use Rattle.cxx_model.specs.declared.punct.TheConstants as punct
-use Rattle.cxx_model.specs.Stops.{Answer}
+use Rattle.cxx_model.specs.declared.stop.LimitKind.TheVariants.{Nesting}
+use Rattle.cxx_model.specs.Stops.{Answer, Stopped, Limited}
 use Rattle.cxx_model.specs.Text.Lexemes.{Lexeme}
 use Rattle.cxx_model.specs.Types.Trees.{CxxType}
 use Rattle.cxx_reading.specs.declared.specifier.Naming.TheVariants as naming
 use Rattle.cxx_reading.specs.declared.specifier.SpecifierPlace.TheVariants as where_
 use Rattle.cxx_reading.specs.Declarators.{Declarator, declared_type, Specifiers, is_function_type, own_parameters}
 use Rattle.cxx_reading.specs.Declaring.{begin_body, declare_object, define_object, define_declared, end_body, number_id, scope_count}
-use Rattle.cxx_reading.specs.Reads.{Ahead, Got, Reads, More, Done, ◌>>=◌, then_read, answered, ask, taken, give, count_ahead, kind_ahead, behind}
+use Rattle.cxx_reading.specs.Reads.{Ahead, Asks, Got, Reads, More, Done, ◌>>=◌, then_read, answered, ask, taken, give, count_ahead, kind_ahead, place_ahead, behind}
+use Rattle.cxx_reading.specs.Productions as unit_production
+use Rattle.cxx_reading.specs.Spaces.{close_space, open_space, open_unnamed}
 use Rattle.cxx_reading.specs.State.{CxxState}
-use Rattle.cxx_reading.specs.Tokens.{is_keyword, is_punct}
+use Rattle.cxx_reading.specs.Tokens.{is_keyword, is_name, is_punct, token_in}
 use Rattle.cxx_reading.specs.Labels.{label_from}
 use Rattle.cxx_reading.specs.Trees.{CxxTree, tree_of}
 use Rattle.cxx_reading.specs.Units.{specifiers_tree, declarator_tree, name_in as name_of_declarator, declared_fits, ends_declarator, give_trees, no_declarators, said_by, empty_tree, another_ahead, linkages_passed, linkage_list, inside_step, Said, Listed}
@@ -22,18 +25,22 @@ use Rattle.cxx_statements.specs.Statements.{body_at}
 use Rattle.cxx_language.specs.Bodies.{function_body, result_of, statements_within}
 use Rattle.cxx_language.specs.Made.{defined_object, extern_object}
 use Rattle.cxx_language.specs.Objects.{begins_initializer}
+use Rattle.cxx_language.specs.Spaces.{behind_namespace, give_part, namespace_at, part_tree, space_opened, space_or_alias}
 use Rattle.cxx_language.specs.Statements.{parts_at}
 use Rattle.cxx_language.specs.Units.{Declares, alone, behind_list, declaration_at, declaration_by, declaration_tree, declarator_step, declarators_at, declarators_of, declared_by, declared_function, ended_behind, ended_by, function_ended, init_declarator_at, linkage_by, linkage_opened, linked_by, linked_one, not_ended, plain_declaration_at, simple_declaration_at}
-use Rattle.cxx_language_laws.specs.Stopping.{BeginsBody, Gives, Initializes, Leads, Part, a_body, a_declaration, a_simple_declaration, an_initializer, begins_body, by_definition, by_extern, declarator_of, in_declaration, in_declarator, in_specifiers, linked_declarations, next_declaration, next_declarator, some_declarators, to_body, to_braces, to_declarators, to_initializer, to_linked, to_unlinked}
+use Rattle.cxx_language_laws.specs.Stopping.{BeginsBody, Gives, Initializes, IsLinked, IsNoSpace, Leads, OpensSpace, Part, a_body, a_declaration, a_namespace, a_simple_declaration, alias_name, an_initializer, begins_body, by_definition, by_extern, declarator_of, in_alias, in_declaration, in_declarator, in_space, in_specifiers, next_declaration, opens_named, opens_unnamed, some_declarations, to_directive, to_linked_directive, to_linked_namespace, to_namespace, next_declarator, some_declarators, to_body, to_braces, to_declarators, to_initializer, to_linked, to_unlinked}
 use Rattle.cxx_language_laws.specs.Told.{EndsIn}
 use Rattle.cxx_language_laws.proofs.Begun.{Begun, Brings, HaveBegun, brings, brings_none, declarator_has_begun, own_has_begun}
 use Rattle.cxx_language_laws.proofs.Declared.{declared_synonym_tells, declarator_ended_tells, give_trees_tells, linkages_tell, linked_tree_tells, no_declaration_tells, nothing_tells, one_tree_tells}
 use Rattle.cxx_language_laws.proofs.DeclaratorsStop.{declarator_stops, defined_part_stops, extern_part_stops, fits_stops, specifiers_stop, which_reads}
-use Rattle.cxx_language_laws.proofs.Later.{IsLater, define_later_tells, define_tells, function_answer_tells, later_is_kept, later_is_quiet, object_tells}
-use Rattle.cxx_language_laws.proofs.Reached.{count_more, reached_by_later, reached_later}
+use Rattle.cxx_language_laws.proofs.Later.{IsLater, declared_is_there, defined_is_there, define_later_tells, define_tells, function_answer_tells, later_is_kept, later_is_quiet, object_tells}
+use Rattle.cxx_language_laws.proofs.Opened.{InSpace, open_space_tells, open_unnamed_tells, space_closed}
+use Rattle.cxx_language_laws.proofs.Reached.{behind_by, behind_by_later, behind_later, count_more}
+use Rattle.cxx_language_laws.proofs.Lists.{left}
+use Rattle.cxx_language_laws.proofs.Spaces.{alias_or_not_stops, directive_stops}
 use Rattle.cxx_language_laws.proofs.StatementsStop.{body_stops}
-use Rattle.cxx_language_laws.proofs.Stopping.{Inside, Stops, calm, calm_from, leads_here, leads_in, quiet_told, repeat_stops, then_asked, then_asked_from, then_calm, told_within, which_in, whole_calm, whole_stops, within_part}
-use Rattle.cxx_language_laws.proofs.Tells.{Quietly, Tells, ToldBy, tells_answer, tells_read, tells_refusal, tells_stop, ends_later, then_from, then_in, if_in, same_in, next_in, give_in, looked_in, past_stands, quiet_in}
+use Rattle.cxx_language_laws.proofs.Stopping.{ChainedOf, Inside, Stops, calm, calm_from, leads_here, leads_in, quiet_told, repeat_stops, then_asked, then_asked_from, then_calm, told_within, which_in, whole_calm, whole_stops, within_part}
+use Rattle.cxx_language_laws.proofs.Tells.{Quietly, Tells, ToldBy, tells_answer, tells_read, tells_refusal, tells_stop, behind_stands, twice_behind, ends_later, then_from, then_in, if_in, same_in, next_in, give_in, looked_in, past_stands, quiet_in}
 use Rattle.cxx_language_laws.proofs.TellsBodies.{IsInBlock, begun_body, body_later, body_reached, ended_body, enter_tells, in_list}
 
 -- ---- bodies (8.4)
@@ -49,8 +56,8 @@ body_ends {state = state} {ahead = ahead} room list number result between t rest
     let all = later_is_kept.later (begun_body list number result between) t one.state begun later in
     tells_read (record { value = one.value; state = ended_body between.here.scope one.state; rest = one.rest }) (later_is_kept.later state between (ended_body between.here.scope one.state) first (body_later list number result between one.state there all)) (ends_later ahead.tokens (behind rest).tokens one.rest.tokens (past_stands ahead rest stands) ends)
 body_ends {part = part} {state = state} {ahead = ahead} room list number result between t rest there first stands begun leads (tells_stop why true_of) =
-    let reached = reached_later state between (begun_body list number result between) (reached_by_later state between first) (body_reached list number result between there) in
-    tells_stop why (told_within part (a_body room) state t ahead (behind rest) why leads (reached_later state (begun_body list number result between) t reached (reached_by_later (begun_body list number result between) t begun)) (past_stands ahead rest stands) true_of)
+    let reached = behind_later state between (begun_body list number result between) (behind_by_later state between first) (behind_by between (begun_body list number result between) (body_reached list number result between there)) in
+    tells_stop why (told_within part (a_body room) state t ahead (behind rest) why leads (behind_later state (begun_body list number result between) t reached (behind_by_later (begun_body list number result between) t begun)) (past_stands ahead rest stands) true_of)
 
 begun_stops : {part : Part} {state : CxxState} {ahead : Ahead} (room list number : ℕ) (result : CxxType) (between : CxxState) (rest : Ahead) → list < scope_count between.graph → IsLater state between → EndsIn ahead.tokens rest.tokens
     → {r : Answer (Unit {0} × CxxState)} → ToldBy (IsInBlock (Some (number_id number))) Quietly (in_list list result between) rest r → ((begun : Unit {0} × CxxState) → r ≡ Ok begun → Leads part state ahead (a_body room) begun.1 (behind rest))
@@ -134,7 +141,7 @@ extern_object_stops room said so_far declarator from state between ahead rest is
     let name = name_of_declarator declarator in
     let of = declared_type declarator.layers said.of in
     then_asked _ (declare_object name of) (object_tells name of between rest) later stands (λ answer is_declared later.
-    then_calm (extern_part_stops answer.1 rest room name of answer.0 (λ begins defined is_defined. leads answer.0 defined.1 (by_extern answer defined is_extern is_declared is_defined) begins) later stands) (λ parts state ahead.
+    then_calm (extern_part_stops answer.1 rest room name of answer.0 (declared_is_there name of between answer is_declared) (λ begins defined is_defined. leads answer.0 defined.1 (by_extern answer defined is_extern is_declared is_defined) begins) later stands) (λ parts state ahead.
     then_in later_is_quiet (looked_in later_is_quiet state ahead) (λ to. give_in later_is_quiet (declarator_tree true name of answer.0 (declarator.parts ++ parts) from to))))
 
 defined_object_stops : (room : ℕ) (said : Said) (so_far : Listed) (declarator : Declarator) (from : Ahead) (state between : CxxState) (ahead rest : Ahead) → said.is_extern ≡ false → LeadsOn room said so_far declarator state ahead between rest → IsLater state between → EndsIn ahead.tokens rest.tokens
@@ -144,7 +151,7 @@ defined_object_stops room said so_far declarator from state between ahead rest n
     let name = name_of_declarator declarator in
     let of = declared_type declarator.layers said.of in
     then_asked _ (define_object name of) (define_tells name of between rest) later stands (λ answer is_defined later.
-    then_calm (defined_part_stops answer.1 rest room name of answer.0 (leads answer.0 answer.1 (by_definition answer no_extern is_defined)) later stands) (λ parts state ahead.
+    then_calm (defined_part_stops answer.1 rest room name of answer.0 (defined_is_there name of between answer is_defined) (leads answer.0 answer.1 (by_definition answer no_extern is_defined)) later stands) (λ parts state ahead.
     then_in later_is_quiet (looked_in later_is_quiet state ahead) (λ to. give_in later_is_quiet (declarator_tree false name of answer.0 (declarator.parts ++ parts) from to))))
 
 declared_by_stops : (room : ℕ) (said : Said) (so_far : Listed) (from : Ahead) (declarator : Declarator) (state between : CxxState) (ahead rest : Ahead) → Gives (declarator_of room) state ahead declarator between rest → HaveBegun between declarator.layers → IsLater state between → EndsIn ahead.tokens rest.tokens
@@ -204,42 +211,109 @@ plain_stops : (room : ℕ) (as_extern : Bool) (state : CxxState) (ahead : Ahead)
 unfolding plain_declaration_at
 plain_stops room as_extern state ahead = if_in (is_punct punct.SEMICOLON (kind_ahead ahead)) (whole_calm (next_in later_is_quiet (empty_tree ahead) state ahead)) (if_in (another_ahead (kind_ahead ahead)) (whole_calm (no_declaration_tells state ahead)) (simple_stops room as_extern state ahead))
 
--- ---- linkage
+-- ---- between braces
 
--- what stands between braces
-abbrev BracesStop : ℕ → Type 0
-BracesStop room = (state after : CxxState) (ahead rest : Ahead) → Gives linkages_passed state ahead true after rest → is_punct punct.LEFT_BRACE (kind_ahead rest) ≡ true → IsLater state after → EndsIn ahead.tokens rest.tokens → Inside (a_declaration room) state ahead (linkage_opened room after (behind rest))
+-- what stands between the braces of a namespace or a linkage, with room for so many more
+data OpenedStops : ℕ → CxxState → Ahead → Answer (Got CxxState (List CxxTree)) → Type 0 where
+  no_room : (state : CxxState) (ahead : Ahead) → OpenedStops zero state ahead (Err (Limited Nesting))
+  with_room : (room : ℕ) (state : CxxState) (ahead : Ahead) (r : Answer (Got CxxState (List CxxTree))) → Stops (some_declarations room []) state ahead r → OpenedStops (suc room) state ahead r
 
-linked_by_stops : (room : ℕ) → BracesStop room → (state after : CxxState) (ahead rest : Ahead) → Gives linkages_passed state ahead true after rest → IsLater state after → EndsIn ahead.tokens rest.tokens
+abbrev EachOpened : ℕ → Type 0
+EachOpened room = (state : CxxState) (ahead : Ahead) → OpenedStops room state ahead (linkage_opened room state ahead)
+
+-- ---- namespaces (7.3.1)
+
+-- what stops those in a namespace, and what is read of them in its scope
+data InsideSpace (room : ℕ) (state : CxxState) (ahead : Ahead) (opened : CxxState) (rest : Ahead) : Answer (Got CxxState (List CxxTree)) → Type 0 where
+  read_inside : (one : Got CxxState (List CxxTree)) → IsLater opened one.state → EndsIn rest.tokens one.rest.tokens → InsideSpace room state ahead opened rest (Ok one)
+  stopped_inside : (why : Stopped) → ChainedOf within_part (a_namespace room) state ahead why → InsideSpace room state ahead opened rest (Err why)
+
+inside_space : (room : ℕ) (state opened : CxxState) (ahead rest : Ahead) → OpensSpace state ahead opened rest → InSpace state opened → EndsIn ahead.tokens rest.tokens → {r : Answer (Got CxxState (List CxxTree))} → OpenedStops room opened rest r → InsideSpace room state ahead opened rest r
+inside_space zero state opened ahead rest opens is stands (no_room _ _) = stopped_inside _ tt
+inside_space (suc room) state opened ahead rest opens is stands (with_room _ _ _ _ (tells_read one later ends)) = read_inside one later ends
+inside_space (suc room) state opened ahead rest opens is stands (with_room _ _ _ _ (tells_stop why told)) = stopped_inside why (told_within (a_namespace (suc room)) (some_declarations room []) state opened ahead rest why (in_space opens) (record { grown = is.grown; scopes = is.scopes }) stands told)
+
+-- behind them the reader stands where it did
+abbrev behind_space : Ahead → List CxxTree → Reads CxxState CxxTree
+behind_space from trees = ask close_space >>= λ closed. give_part unit_production.namespace_definition from trees
+
+give_part_calm : (number : ℕ) (from : Ahead) (inside : List CxxTree) → Tells IsLater Quietly (give_part number from inside)
+give_part_calm number from inside state ahead = then_in later_is_quiet (looked_in later_is_quiet state ahead) (λ to. give_in later_is_quiet (part_tree number inside from to))
+
+space_ends : (room : ℕ) (state opened : CxxState) (ahead rest from : Ahead) → InSpace state opened → EndsIn ahead.tokens rest.tokens → {r : Answer (Got CxxState (List CxxTree))} → InsideSpace room state ahead opened rest r → Inside (a_namespace room) state ahead (then_read r (behind_space from))
+unfolding close_space
+space_ends room state opened ahead rest from is stands (read_inside one later ends) = calm_from (space_closed state opened one.state is later) (ends_later ahead.tokens rest.tokens one.rest.tokens stands ends) (give_part_calm unit_production.namespace_definition from one.value (left one.state) one.rest)
+space_ends room state opened ahead rest from is stands (stopped_inside why told) = tells_stop why told
+
+begun_space_stops : (room : ℕ) → EachOpened room → (state : CxxState) (ahead brace from : Ahead) → EndsIn ahead.tokens brace.tokens → {r : Answer (Unit {0} × CxxState)} → ToldBy InSpace Quietly state brace r → ((opened : Unit {0} × CxxState) → r ≡ Ok opened → OpensSpace state ahead opened.1 (behind brace))
+    → Inside (a_namespace room) state ahead (then_read (answered r brace) (λ begun. taken >>= λ opened. linkage_opened room >>= behind_space from))
+begun_space_stops room each state ahead brace from stands (tells_answer one is) opens = space_ends room state one.1 ahead (behind brace) from is (past_stands ahead brace stands) (inside_space room state one.1 ahead (behind brace) (opens one refl) is (past_stands ahead brace stands) (each one.1 (behind brace)))
+begun_space_stops room each state ahead brace from stands (tells_refusal why quiet) opens = tells_stop why (quiet_told within_part (a_namespace room) state ahead why quiet)
+
+space_opened_stops : (room : ℕ) → EachOpened room → (begin : Asks CxxState (Unit {0})) (state : CxxState) (ahead brace from : Ahead) → EndsIn ahead.tokens brace.tokens → ToldBy InSpace Quietly state brace (begin state) → ((opened : Unit {0} × CxxState) → begin state ≡ Ok opened → OpensSpace state ahead opened.1 (behind brace))
+    → Inside (a_namespace room) state ahead (space_opened begin (linkage_opened room) from state brace)
+unfolding space_opened
+space_opened_stops room each begin state ahead brace from stands tells opens = begun_space_stops room each state ahead brace from stands tells opens
+
+named_space_stops : (room : ℕ) → EachOpened room → (state : CxxState) (ahead : Ahead) → is_punct punct.LEFT_BRACE (kind_ahead (behind ahead)) ≡ false → is_name (kind_ahead (behind ahead)) ≡ true
+    → Inside (a_namespace room) state ahead (space_or_alias (linkage_opened room) ahead (token_in (behind ahead).tokens) state (behind (behind ahead)))
+named_space_stops room each state ahead unnamed named =
+    which_in (is_punct punct.LEFT_BRACE (kind_ahead (behind (behind ahead)))) (λ brace. space_opened_stops room each (open_space (token_in (behind ahead).tokens)) state ahead (behind (behind ahead)) ahead (twice_behind ahead) (open_space_tells (token_in (behind ahead).tokens) state (behind (behind ahead))) (λ opened is. opens_named opened unnamed named brace is))
+    (λ none. alias_or_not_stops state ahead (behind ahead) ahead (alias_name ahead) (behind_stands ahead) (λ equals. in_alias (record { named = named; equals = equals })))
+
+namespace_stops : (room : ℕ) → EachOpened room → (state : CxxState) (ahead : Ahead) → Stops (a_namespace room) state ahead (namespace_at (linkage_opened room) state ahead)
+unfolding namespace_at behind_namespace
+namespace_stops room each state ahead =
+    whole_stops (λ fault is. is) (
+    which_in (is_punct punct.LEFT_BRACE (kind_ahead (behind ahead))) (λ brace. space_opened_stops room each (open_unnamed (place_ahead ahead)) state ahead (behind ahead) ahead (behind_stands ahead) (open_unnamed_tells (place_ahead ahead) state (behind ahead)) (λ opened is. opens_unnamed opened brace is)) (λ no_brace.
+    which_in (is_name (kind_ahead (behind ahead))) (λ named. named_space_stops room each state ahead no_brace named) (λ none. calm (quiet_in later_is_quiet refl))))
+
+-- ---- linkage (7.5)
+
+braces_stop : (room : ℕ) (state after : CxxState) (ahead rest : Ahead) → IsNoSpace ahead → Gives linkages_passed state ahead true after rest → is_punct punct.LEFT_BRACE (kind_ahead rest) ≡ true → IsLater state after → EndsIn ahead.tokens rest.tokens → {r : Answer (Got CxxState (List CxxTree))} → OpenedStops room after (behind rest) r → Inside (a_declaration room) state ahead r
+braces_stop zero state after ahead rest no_space is brace later stands (no_room _ _) = calm (quiet_in later_is_quiet refl)
+braces_stop (suc room) state after ahead rest no_space is brace later stands (with_room _ _ _ _ stops) = leads_in (to_braces no_space is brace) later (past_stands ahead rest stands) stops
+
+linked_one_stops : (room : ℕ) → EachOpened room → (state after : CxxState) (ahead rest : Ahead) → IsLinked state ahead after rest → IsLater state after → EndsIn ahead.tokens rest.tokens → Inside (a_declaration room) state ahead (linked_one room (linkage_opened room) after rest)
+unfolding linked_one
+linked_one_stops room each state after ahead rest is later stands =
+    which_in (is_keyword keyword.NAMESPACE (kind_ahead rest)) (λ word. leads_in (to_linked_namespace is word) later stands (namespace_stops room each after rest)) (λ no_namespace.
+    which_in (is_keyword keyword.USING (kind_ahead rest)) (λ using. leads_in (to_linked_directive is (record { no_namespace = no_namespace; is_using = using })) later stands (directive_stops after rest))
+    (λ no_using. leads_in (to_linked is (record { no_namespace = no_namespace; no_using = no_using })) later stands (plain_stops room true after rest)))
+
+linked_by_stops : (room : ℕ) → EachOpened room → (state after : CxxState) (ahead rest : Ahead) → IsNoSpace ahead → Gives linkages_passed state ahead true after rest → IsLater state after → EndsIn ahead.tokens rest.tokens
     → Inside (a_declaration room) state ahead (linked_by room (linkage_opened room) after rest)
-unfolding linkage_list linked_one
-linked_by_stops room braces state after ahead rest is later stands =
-    which_in (is_punct punct.LEFT_BRACE (kind_ahead rest)) (λ brace. braces state after ahead rest is brace later stands)
-    (λ no_brace. then_calm (leads_in (to_linked is no_brace) later stands (plain_stops room true after rest)) one_tree_tells)
+unfolding linkage_list
+linked_by_stops room each state after ahead rest no_space is later stands =
+    which_in (is_punct punct.LEFT_BRACE (kind_ahead rest)) (λ brace. braces_stop room state after ahead rest no_space is brace later stands (each after (behind rest)))
+    (λ no_brace. then_calm (linked_one_stops room each state after ahead rest (record { before = no_space; passed = is; no_brace = no_brace }) later stands) one_tree_tells)
 
-linkage_by_stops : (room : ℕ) → BracesStop room → (any : Bool) (state after : CxxState) (ahead rest : Ahead) → Gives linkages_passed state ahead any after rest → IsLater state after → EndsIn ahead.tokens rest.tokens
+linkage_by_stops : (room : ℕ) → EachOpened room → (any : Bool) (state after : CxxState) (ahead rest : Ahead) → IsNoSpace ahead → Gives linkages_passed state ahead any after rest → IsLater state after → EndsIn ahead.tokens rest.tokens
     → Inside (a_declaration room) state ahead (linkage_by room (linkage_opened room) ahead any after rest)
-linkage_by_stops room braces true state after ahead rest is later stands = then_calm (linked_by_stops room braces state after ahead rest is later stands) (linked_tree_tells ahead)
-linkage_by_stops room braces false state after ahead rest is later stands = leads_in (to_unlinked is) later stands (plain_stops room false after rest)
+linkage_by_stops room each true state after ahead rest no_space is later stands = then_calm (linked_by_stops room each state after ahead rest no_space is later stands) (linked_tree_tells ahead)
+linkage_by_stops room each false state after ahead rest no_space is later stands = leads_in (to_unlinked no_space is) later stands (plain_stops room false after rest)
 
-a_declaration_stops : (room : ℕ) → BracesStop room → (state : CxxState) (ahead : Ahead) → Stops (a_declaration room) state ahead (declaration_at room state ahead)
+a_declaration_stops : (room : ℕ) → EachOpened room → (state : CxxState) (ahead : Ahead) → Stops (a_declaration room) state ahead (declaration_at room state ahead)
 unfolding declaration_at declaration_by
-a_declaration_stops room braces state ahead =
-    whole_stops (λ fault is. is) (then_from (linkage_by room (linkage_opened room) ahead) (calm (linkages_tell state ahead)) (λ one is later stands. linkage_by_stops room braces one.value state one.state ahead one.rest is later stands))
+a_declaration_stops room each state ahead =
+    whole_stops (λ fault is. is) (
+    which_in (is_keyword keyword.NAMESPACE (kind_ahead ahead)) (λ word. leads_here (to_namespace word) (namespace_stops room each state ahead)) (λ no_namespace.
+    which_in (is_keyword keyword.USING (kind_ahead ahead)) (λ using. leads_here (to_directive (record { no_namespace = no_namespace; is_using = using })) (directive_stops state ahead)) (λ no_using.
+    let no_space : IsNoSpace ahead = record { no_namespace = no_namespace; no_using = no_using } in
+    then_from (linkage_by room (linkage_opened room) ahead) (calm (linkages_tell state ahead)) (λ one is later stands. linkage_by_stops room each one.value state one.state ahead one.rest no_space is later stands))))
 
-inside_step_stops : (room : ℕ) → BracesStop room → (so_far : List CxxTree) (state : CxxState) (ahead : Ahead) → Inside (linked_declarations room so_far) state ahead (inside_step (declaration_at room) so_far state ahead)
+inside_step_stops : (room : ℕ) → EachOpened room → (so_far : List CxxTree) (state : CxxState) (ahead : Ahead) → Inside (some_declarations room so_far) state ahead (inside_step (declaration_at room) so_far state ahead)
 unfolding inside_step
-inside_step_stops room braces so_far state ahead =
+inside_step_stops room each so_far state ahead =
     if_in (is_punct punct.RIGHT_BRACE (kind_ahead ahead)) (calm (next_in later_is_quiet (Done so_far) state ahead))
-    (then_calm (leads_here in_declaration (a_declaration_stops room braces state ahead)) (λ tree. give_in later_is_quiet (More (so_far ++ tree ∷ []))))
+    (then_calm (leads_here in_declaration (a_declaration_stops room each state ahead)) (λ tree. give_in later_is_quiet (More (so_far ++ tree ∷ []))))
 
-braces_stop : (room : ℕ) → BracesStop room
+each_opened : (room : ℕ) → EachOpened room
 unfolding linkage_opened declaration_at
-braces_stop zero state after ahead rest is brace later stands = calm (quiet_in later_is_quiet refl)
-braces_stop (suc room) state after ahead rest is brace later stands =
-    leads_in (to_braces is brace) later (past_stands ahead rest stands)
-    (repeat_stops (linked_declarations room) (inside_step (declaration_at room)) give (λ so_far s ahead fault is. is) (λ so_far more s t ahead rest is. next_declaration is) (inside_step_stops room (braces_stop room)) (λ so_far. give_in later_is_quiet so_far) (count_ahead (behind rest)) [] after (behind rest))
+each_opened zero state ahead = no_room state ahead
+each_opened (suc room) state ahead =
+    with_room room state ahead _ (repeat_stops (some_declarations room) (inside_step (declaration_at room)) give (λ so_far s ahead fault is. is) (λ so_far more s t ahead rest is. next_declaration is) (inside_step_stops room (each_opened room)) (λ so_far. give_in later_is_quiet so_far) (count_ahead ahead) [] state ahead)
 
 -- what stops a declaration is true where its reading stops
 pub declaration_stops : (room : ℕ) (state : CxxState) (ahead : Ahead) → Stops (a_declaration room) state ahead (declaration_at room state ahead)
-declaration_stops room state ahead = a_declaration_stops room (braces_stop room) state ahead
+declaration_stops room state ahead = a_declaration_stops room (each_opened room) state ahead

@@ -20,9 +20,9 @@ use Rattle.cxx_language_laws.proofs.Asked.{kinds_tell}
 use Rattle.cxx_language_laws.proofs.Both.{both_tell}
 use Rattle.cxx_language_laws.proofs.Declared.{uninitialized_tells}
 use Rattle.cxx_language_laws.proofs.Later.{IsLater, define_later_tells, later_is_quiet}
-use Rattle.cxx_language_laws.proofs.Objects.{initialized_tells}
+use Rattle.cxx_language_laws.proofs.Objects.{HasNumber, initialized_tells, number_later}
 use Rattle.cxx_language_laws.proofs.Reached.{later_is_told}
-use Rattle.cxx_language_laws.proofs.Stopping.{Inside, Stops, calm_from, innermost_stops, leads_in, then_asked, which_in}
+use Rattle.cxx_language_laws.proofs.Stopping.{Inside, Stops, calm_from, innermost_stops, leads_in, then_asked_from, which_in}
 use Rattle.cxx_language_laws.proofs.Tells.{tells_stop, if_in, same_in, quiet_in}
 use Rattle.cxx_language_laws.proofs.TellsSpecifiers.{specifiers_tell}
 use Rattle.cxx_language_laws.proofs.TellsSyntax.{declarator_tells}
@@ -35,30 +35,30 @@ specifiers_stop room place state ahead = innermost_stops tt (λ fault is. is) (s
 pub declarator_stops : (room : ℕ) (state : CxxState) (ahead : Ahead) → Stops (a_declarator room) state ahead (declarator_of room state ahead)
 declarator_stops room state ahead = innermost_stops tt (λ fault is. is) (declarator_tells later_is_told (kinds_tell room) (both_tell room).types naming.Required state ahead)
 
-pub initializer_stops : (room : ℕ) (name : Lexeme) (of : CxxType) (number : ℕ) (state : CxxState) (ahead : Ahead) → Stops (an_initializer room name of number) state ahead (initializer_of room name of number state ahead)
-initializer_stops room name of number state ahead = innermost_stops tt (λ fault is. is) (initialized_tells room name of number state ahead)
+pub initializer_stops : (room : ℕ) (name : Lexeme) (of : CxxType) (number : ℕ) (state : CxxState) (ahead : Ahead) → HasNumber number state → Stops (an_initializer room name of number) state ahead (initializer_of room name of number state ahead)
+initializer_stops room name of number state ahead there = innermost_stops tt (λ fault is. is) (initialized_tells room name of number state ahead there)
 
 -- ---- what follows a declarator
 
-pub defined_part_stops : {part : Part} {state : CxxState} {ahead : Ahead} (after : CxxState) (rest : Ahead) (room : ℕ) (name : Lexeme) (of : CxxType) (number : ℕ) → (begins_initializer rest ≡ true → Leads part state ahead (an_initializer room name of number) after rest) → IsLater state after → EndsIn ahead.tokens rest.tokens
+pub defined_part_stops : {part : Part} {state : CxxState} {ahead : Ahead} (after : CxxState) (rest : Ahead) (room : ℕ) (name : Lexeme) (of : CxxType) (number : ℕ) → HasNumber number after → (begins_initializer rest ≡ true → Leads part state ahead (an_initializer room name of number) after rest) → IsLater state after → EndsIn ahead.tokens rest.tokens
     → Inside part state ahead (defined_part answers (phrases_at room) (inner_at room).phrases name of number after rest)
 unfolding defined_part without_initializer
-defined_part_stops after rest room name of number leads later stands =
-    which_in (begins_initializer rest) (λ begins. leads_in (leads begins) later stands (initializer_stops room name of number after rest)) (λ none. calm_from later stands (
+defined_part_stops after rest room name of number there leads later stands =
+    which_in (begins_initializer rest) (λ begins. leads_in (leads begins) later stands (initializer_stops room name of number after rest there)) (λ none. calm_from later stands (
     if_in (ends_declarator (kind_ahead rest)) (uninitialized_tells name (type_so_far after number of) after rest) (quiet_in later_is_quiet refl)))
 
-defined_later_stops : {part : Part} {state : CxxState} {ahead : Ahead} (between : CxxState) (rest : Ahead) (room : ℕ) (name : Lexeme) (of : CxxType) (number : ℕ) → ((defined : Unit {0} × CxxState) → define_declared name number between ≡ Ok defined → Leads part state ahead (an_initializer room name of number) defined.1 rest) → IsLater state between → EndsIn ahead.tokens rest.tokens
+defined_later_stops : {part : Part} {state : CxxState} {ahead : Ahead} (between : CxxState) (rest : Ahead) (room : ℕ) (name : Lexeme) (of : CxxType) (number : ℕ) → HasNumber number between → ((defined : Unit {0} × CxxState) → define_declared name number between ≡ Ok defined → Leads part state ahead (an_initializer room name of number) defined.1 rest) → IsLater state between → EndsIn ahead.tokens rest.tokens
     → Inside part state ahead (defined_later answers (phrases_at room) (inner_at room).phrases name of number between rest)
 unfolding defined_later
-defined_later_stops between rest room name of number leads later stands =
-    then_asked (λ defined. initializer_of room name of number) (define_declared name number) (define_later_tells name number between rest) later stands (λ defined is later. leads_in (leads defined is) later stands (initializer_stops room name of number defined.1 rest))
+defined_later_stops between rest room name of number there leads later stands =
+    then_asked_from (λ defined. initializer_of room name of number) (define_declared name number) (define_later_tells name number between rest) later stands (λ defined is keeps later. leads_in (leads defined is) later stands (initializer_stops room name of number defined.1 rest (number_later number between defined.1 keeps there)))
 
-pub extern_part_stops : {part : Part} {state : CxxState} {ahead : Ahead} (between : CxxState) (rest : Ahead) (room : ℕ) (name : Lexeme) (of : CxxType) (number : ℕ)
+pub extern_part_stops : {part : Part} {state : CxxState} {ahead : Ahead} (between : CxxState) (rest : Ahead) (room : ℕ) (name : Lexeme) (of : CxxType) (number : ℕ) → HasNumber number between
     → (begins_initializer rest ≡ true → (defined : Unit {0} × CxxState) → define_declared name number between ≡ Ok defined → Leads part state ahead (an_initializer room name of number) defined.1 rest)
     → IsLater state between → EndsIn ahead.tokens rest.tokens → Inside part state ahead (extern_part answers (phrases_at room) (inner_at room).phrases name of number between rest)
 unfolding extern_part
-extern_part_stops between rest room name of number leads later stands =
-    which_in (begins_initializer rest) (λ begins. defined_later_stops between rest room name of number (leads begins) later stands) (λ none. calm_from later stands (
+extern_part_stops between rest room name of number there leads later stands =
+    which_in (begins_initializer rest) (λ begins. defined_later_stops between rest room name of number there (leads begins) later stands) (λ none. calm_from later stands (
     if_in (ends_declarator (kind_ahead rest)) (same_in later_is_quiet [] between rest) (quiet_in later_is_quiet refl)))
 
 -- ---- by tests

@@ -1,28 +1,32 @@
 -- What stops a question about declarations says nothing of them, and each answer keeps them, and the calls so far.
-use Rattle.std.proofs.Common.{◌≡◌, ℕ, ◌+◌, Bool, true, false, List, [], ◌∷◌, ◌++◌, length, Option, Some, None, Ok, Err, refl, sym, ap, subst, ◌∙◌}
-use Rattle.std.specs.Prelude.{if◌then◌else◌, ℤ, nat_eq}
-use Rattle.std.specs.List.{AllByRecursion}
-use Rattle.std.proofs.lemmas.List.{append-nil, append_assoc}
+use Rattle.std.proofs.Common.{arith, ◌≡◌, ℕ, suc, ◌+◌, ◌<◌, ◌≤◌, Bool, true, false, List, [], ◌∷◌, ◌++◌, length, Option, Some, None, Ok, Err, refl, sym, ap, subst, ◌∙◌}
+use Rattle.std.specs.Prelude.{if◌then◌else◌, ℤ, nat_eq, nat_lt}
+use Rattle.std.specs.List.{AllByRecursion, slice_get}
+use Rattle.std.proofs.lemmas.List.{append-nil, append_assoc, length-append}
+use Rattle.std.proofs.lemmas.Option.{slice_get_within}
 use Rattle.cxx_model.specs.declared.place.Place.{Place}
 use Rattle.cxx_model.specs.declared.stop.LimitKind.TheVariants.{Facts}
 use Rattle.cxx_model.specs.declared.types.FactId.{FactId}
-use Rattle.cxx_model.specs.Facts.Declarations.{CxxFact, CxxGraph, spelled}
+use Rattle.cxx_model.specs.Facts.Declarations.{CxxFact, CxxGraph, CxxName, spelled}
 use Rattle.cxx_model.specs.Facts.Declarations as facts
 use Rattle.cxx_model.specs.Stops.{Answer, Stopped, Limited, ◌>>=◌}
 use Rattle.cxx_model.specs.Text.Lexemes.{Lexeme}
 use Rattle.cxx_model.specs.Types.Integral.{one_holds}
 use Rattle.cxx_model.specs.Types.Trees.{CxxType}
 use Rattle.cxx_meaning.specs.Conversions.Enumerations.{values_in}
-use Rattle.cxx_reading.specs.Declaring.{with_fact, added, free, free_by, declare, declare_synonym, declared_here, first_function, declare_object, define_object, define_declared, undefined, undefined_by, defined_as, with_definition, declare_parameter, declare_enumeration, begun_as, declare_enumerator, declare_value, held, end_enumeration, kind_here, type_here, most_facts, fact_here, object_here, enumeration_count}
+use Rattle.cxx_reading.specs.Declaring.{with_fact, added, free, free_by, free_linked, declare, declare_linked_object, declare_synonym, declared_here, first_function, first_member_function, first_member_object, first_object, first_object_here, home_here, is_object, is_same_function, linked_as, linked_object_here, name_of, number_id, parameter_object, with_linked, word_of, declare_object, define_object, define_declared, undefined, undefined_by, defined_as, with_definition, declare_parameter, declare_enumeration, begun_as, declare_enumerator, declare_value, held, end_enumeration, kind_here, type_here, most_facts, fact_here, object_here, enumeration_count}
+use Rattle.cxx_reading.specs.Linked.{is_linked_as, is_space_at, linked_among, linked_in, sooner_fact}
 use Rattle.cxx_reading.specs.Reads.{Ahead, Asks}
+use Rattle.cxx_reading.specs.Seen.{Numbered, declared_from, declared_in, declares_in, numbered_at, numbered_by}
+use Rattle.cxx_reading.specs.Spaces.{space_in}
 use Rattle.cxx_reading.specs.State.{CxxState, CxxCall, CxxGiven, CxxOffered}
 use Rattle.cxx_reading.specs.Trees.{CxxPath}
 use Rattle.cxx_reading.proofs.Keeps.{IsKept}
 use Rattle.cxx_tree.specs.Defaults.{with_given, without_offers}
-use Rattle.cxx_declare.specs.Functions.{declare_function, declare_with, function_by, given_as, given_before, not_given, not_given_by, offered_by, with_all_given}
+use Rattle.cxx_declare.specs.Functions.{declare_function, declare_with, free_if, function_by, given_as, is_linked_here, linked_if, given_before, not_given, not_given_by, offered_by, with_all_given}
 use Rattle.cxx_language_laws.specs.Best.{IsBestCall, AreBestCalls}
 use Rattle.cxx_language_laws.specs.Told.{IsGrown}
-use Rattle.cxx_language_laws.proofs.Scopes.{InScopes, scopes_same, scopes_added}
+use Rattle.cxx_language_laws.proofs.Scopes.{InScopes, IsFirstThere, IsSound, MayStand, may_stand, scopes_same, scopes_added}
 use Rattle.cxx_language_laws.proofs.Tells.{IsQuiet, Quietly, quiet_is_told, IsTold, ToldBy, tells_answer, tells_refusal, Answers}
 
 -- ---- what a state keeps
@@ -30,13 +34,13 @@ use Rattle.cxx_language_laws.proofs.Tells.{IsQuiet, Quietly, quiet_is_told, IsTo
 abbrev with_facts : List CxxFact → CxxGraph → CxxGraph
 with_facts own graph = record graph { facts = graph.facts ++ own }
 
--- a state keeps what is declared, the scope in which it stands, that each scope is held by an earlier one, and that each
--- call is the best
+-- a state keeps what is declared, how its scopes stand in one another and with that the scope in which it stands, and that
+-- each call is the best
 pub record IsLater (old new : CxxState) : Type 0 where
   pub grown : IsGrown old new
   pub scopes : InScopes old → InScopes new
   pub best : AreBestCalls old → AreBestCalls new
-  pub here : new.here.scope ≡ old.here.scope
+  pub here : InScopes old → new.here.scope ≡ old.here.scope
 
 pub grown_by : (old new : CxxState) (own : List CxxFact) → new.graph ≡ with_facts own old.graph → IsGrown old new
 grown_by old new own declared = record { own = own; declared = declared }
@@ -55,7 +59,9 @@ widened old new grown call best = record {
   later = best.later ++ grown.own;
   stands = ap (λ (g : CxxGraph). g.facts) grown.declared ∙ (ap (λ fs. fs ++ grown.own) best.stands ∙ append_assoc best.before.facts best.later grown.own);
   scope = best.scope;
-  name = best.name;
+  word = best.word;
+  is_bare = best.is_bare;
+  clear = best.clear;
   all = best.all;
   rated_so = best.rated_so;
   reasons = best.reasons;
@@ -72,7 +78,7 @@ pub same_calls : (old new : CxxState) → IsGrown old new → new.calls ≡ old.
 same_calls old new grown calls all = subst (λ cs. AllByRecursion (IsBestCall new) cs) (sym calls) (each_widened old new grown old.calls all)
 
 pub later_by : (old new : CxxState) → IsGrown old new → (InScopes old → InScopes new) → new.calls ≡ old.calls → new.here.scope ≡ old.here.scope → IsLater old new
-later_by old new grown scopes calls here = record { grown = grown; scopes = scopes; best = same_calls old new grown calls; here = here }
+later_by old new grown scopes calls here = record { grown = grown; scopes = scopes; best = same_calls old new grown calls; here = λ is. here }
 
 pub later_same : (old new : CxxState) → new.graph ≡ old.graph → new.here.scope ≡ old.here.scope → new.calls ≡ old.calls → IsLater old new
 later_same old new same here calls = later_by old new (grown_same old new same) (scopes_same old new same here) calls here
@@ -80,7 +86,7 @@ later_same old new same here calls = later_by old new (grown_same old new same) 
 pub later_is_kept : IsKept IsLater
 later_is_kept = record {
   same = λ s. later_same s s refl refl refl;
-  later = λ s t u one two. record { grown = grown_later s t u one.grown two.grown; scopes = λ is. two.scopes (one.scopes is); best = λ is. two.best (one.best is); here = two.here ∙ one.here };
+  later = λ s t u one two. record { grown = grown_later s t u one.grown two.grown; scopes = λ is. two.scopes (one.scopes is); best = λ is. two.best (one.best is); here = λ is. two.here (one.scopes is) ∙ one.here is };
 }
 
 pub later_is_quiet : IsTold IsLater Quietly
@@ -112,9 +118,13 @@ free_by_quiet : (state : CxxState) (fact : CxxFact) (word : List ℕ) (conflict 
 free_by_quiet state fact word None = quiet_answer tt
 free_by_quiet state fact word (Some number) = quiet_refusal _ refl
 
-free_quiet : (state : CxxState) (fact : CxxFact) (word : List ℕ) → QuietBy (free state fact word)
+pub free_quiet : (state : CxxState) (fact : CxxFact) (word : List ℕ) → QuietBy (free state fact word)
 unfolding free
 free_quiet state fact word = free_by_quiet state fact word _
+
+free_linked_quiet : (state : CxxState) (fact : CxxFact) (word : List ℕ) → QuietBy (free_linked state fact word)
+unfolding free_linked
+free_linked_quiet state fact word = free_by_quiet state fact word _
 
 undefined_by_quiet : (state : CxxState) (place : Place) (word : List ℕ) (number : Option ℕ) → QuietBy (undefined_by state place word number)
 undefined_by_quiet state place word None = quiet_answer tt
@@ -128,26 +138,119 @@ held_quiet : (place : Place) (is_held : Bool) → QuietBy (held place is_held)
 held_quiet place true = quiet_answer tt
 held_quiet place false = quiet_refusal _ refl
 
+-- a fact may be added where its state is as it should be
+abbrev pub MayBeAdded : CxxState → CxxFact → Type 0
+MayBeAdded state fact = InScopes state → MayStand state.graph.facts fact
+
+-- of what is no namespace
+pub may_be_added : (state : CxxState) (fact : CxxFact) → space_in fact.what ≡ None → IsSound state.graph.facts fact.what → MayBeAdded state fact
+may_be_added state fact none is scopes = may_stand state.graph.facts fact none is
+
 -- a fact in the scope where the reader stands
-pub added_tells : (fact : CxxFact) (state : CxxState) (ahead : Ahead) → fact.scope ≡ state.here.scope → ToldBy IsLater Quietly state ahead (added fact state)
+pub added_tells : (fact : CxxFact) (state : CxxState) (ahead : Ahead) → fact.scope ≡ state.here.scope → MayBeAdded state fact → ToldBy IsLater Quietly state ahead (added fact state)
 unfolding added
-added_tells fact state ahead here = by (nat_eq (length state.graph.facts + length state.graph.classes) most_facts)
+added_tells fact state ahead here may = by (nat_eq (length state.graph.facts + length state.graph.classes) most_facts)
   where
     by : (b : Bool) → ToldBy IsLater Quietly state ahead (if b then Err (Limited Facts) else Ok (length state.graph.facts, with_fact fact state))
     by true = quietly state ahead (Limited Facts) refl
-    by false = tells_answer _ (later_by state (with_fact fact state) (grown_by state (with_fact fact state) (fact ∷ []) refl) (scopes_added state fact here) refl refl)
+    by false = tells_answer _ (later_by state (with_fact fact state) (grown_by state (with_fact fact state) (fact ∷ []) refl) (λ is. scopes_added state fact here (may is) is) refl refl)
 
-declare_tells : (fact : CxxFact) (word : List ℕ) (state : CxxState) (ahead : Ahead) → fact.scope ≡ state.here.scope → ToldBy IsLater Quietly state ahead (declare fact word state)
+pub declare_tells : (fact : CxxFact) (word : List ℕ) (state : CxxState) (ahead : Ahead) → fact.scope ≡ state.here.scope → MayBeAdded state fact → ToldBy IsLater Quietly state ahead (declare fact word state)
 unfolding declare
-declare_tells fact word state ahead here = by_then state ahead (λ is_free. added fact state) (free_quiet state fact word) (λ is_free. added_tells fact state ahead here)
+declare_tells fact word state ahead here may = by_then state ahead (λ is_free. added fact state) (free_quiet state fact word) (λ is_free. added_tells fact state ahead here may)
 
 pub synonym_tells : (name : Lexeme) (of : CxxType) → Answers IsLater Quietly (declare_synonym name of)
 unfolding declare_synonym
-synonym_tells name of state ahead = declare_tells _ _ state ahead refl
+synonym_tells name of state ahead = declare_tells (fact_here state (spelled name.spelling) name.place (facts.synonym of)) name.spelling state ahead refl (may_be_added state (fact_here state (spelled name.spelling) name.place (facts.synonym of)) refl tt)
+
+-- ---- first declarations
+
+abbrev AreThere : ℕ → List Numbered → Type 0
+AreThere count all = AllByRecursion (λ one. one.number < count) all
+
+from_there : (scope : ℕ) (name : CxxName) (number : ℕ) (all : List CxxFact) (count : ℕ) → number + length all ≤ count → AreThere count (declared_from scope name number all)
+from_there scope name number [] count le = tt
+from_there scope name number (fact ∷ others) count le = by (declares_in scope name fact) (from_there scope name (suc number) others count (omega (arith, le)))
+  where
+    by : (b : Bool) → AreThere count (declared_from scope name (suc number) others) → AreThere count (if b then record { number = number; fact = fact } ∷ declared_from scope name (suc number) others else declared_from scope name (suc number) others)
+    by true later = (omega (arith, le), later)
+    by false later = later
+
+declared_there : (graph : CxxGraph) (scope : ℕ) (name : CxxName) → AreThere (length graph.facts) (declared_in graph scope name)
+unfolding declared_in
+declared_there graph scope name = from_there scope name 0 graph.facts (length graph.facts) (omega arith)
+
+numbered_there : (graph : CxxGraph) (all : List ℕ) → AreThere (length graph.facts) (numbered_at graph all)
+numbered_there graph [] = tt
+numbered_there graph (number ∷ others) = by (slice_get graph.facts number) refl (numbered_there graph others)
+  where
+    by : (o : Option CxxFact) → slice_get graph.facts number ≡ o → AreThere (length graph.facts) (numbered_at graph others) → AreThere (length graph.facts) (numbered_by number o (numbered_at graph others))
+    by None is later = later
+    by (Some fact) is later = (slice_get_within graph.facts number fact is, later)
+
+among_there : (graph : CxxGraph) (space : ℕ) (name : CxxName) (count : ℕ) (all : List Numbered) → AreThere count all → AreThere count (linked_among graph space name all)
+among_there graph space name count [] are = tt
+among_there graph space name count (one ∷ others) are = by (is_linked_as graph space name one) (among_there graph space name count others are.1)
+  where
+    by : (b : Bool) → AreThere count (linked_among graph space name others) → AreThere count (if b then one ∷ linked_among graph space name others else linked_among graph space name others)
+    by true later = (are.0, later)
+    by false later = later
+
+linked_there : (state : CxxState) (space : ℕ) (name : CxxName) → AreThere (length state.graph.facts) (linked_in state space name)
+unfolding linked_in
+linked_there state space name = among_there state.graph space name (length state.graph.facts) (numbered_at state.graph state.linked) (numbered_there state.graph state.linked)
+
+object_there : (count : ℕ) (all : List Numbered) → AreThere count all → IsFirstThere count (first_object all)
+object_there count [] are = tt
+object_there count (one ∷ others) are = by (is_object one.fact.what) (object_there count others are.1)
+  where
+    by : (b : Bool) → IsFirstThere count (first_object others) → IsFirstThere count (if b then Some (number_id one.number) else first_object others)
+    by true later = are.0
+    by false later = later
+
+function_there : (count : ℕ) (of : CxxType) (all : List Numbered) → AreThere count all → IsFirstThere count (first_function of all)
+function_there count of [] are = tt
+function_there count of (one ∷ others) are = by (is_same_function of one.fact.what) (function_there count of others are.1)
+  where
+    by : (b : Bool) → IsFirstThere count (first_function of others) → IsFirstThere count (if b then Some (number_id one.number) else first_function of others)
+    by true later = are.0
+    by false later = later
+
+sooner_there : (count : ℕ) (one two : Option FactId) → IsFirstThere count one → IsFirstThere count two → IsFirstThere count (sooner_fact one two)
+sooner_there count None two first second = second
+sooner_there count (Some m) None first second = first
+sooner_there count (Some m) (Some n) first second = by (nat_lt n.0 m.0)
+  where
+    by : (b : Bool) → IsFirstThere count (if b then Some n else Some m)
+    by true = second
+    by false = first
+
+member_object_there : (state : CxxState) (space : ℕ) (name : CxxName) → IsFirstThere (length state.graph.facts) (first_member_object state space name)
+unfolding first_member_object
+member_object_there state space name = sooner_there (length state.graph.facts) (first_object (declared_in state.graph space name)) (first_object (linked_in state space name)) (object_there (length state.graph.facts) (declared_in state.graph space name) (declared_there state.graph space name)) (object_there (length state.graph.facts) (linked_in state space name) (linked_there state space name))
+
+member_function_there : (state : CxxState) (space : ℕ) (name : CxxName) (of : CxxType) → IsFirstThere (length state.graph.facts) (first_member_function state space name of)
+unfolding first_member_function
+member_function_there state space name of = sooner_there (length state.graph.facts) (first_function of (declared_in state.graph space name)) (first_function of (linked_in state space name)) (function_there (length state.graph.facts) of (declared_in state.graph space name) (declared_there state.graph space name)) (function_there (length state.graph.facts) of (linked_in state space name) (linked_there state space name))
+
+object_here_there : (state : CxxState) (name : CxxName) → IsFirstThere (length state.graph.facts) (first_object_here state name)
+object_here_there state name = by (is_space_at state.graph state.here.scope)
+  where
+    by : (b : Bool) → IsFirstThere (length state.graph.facts) (if b then first_member_object state state.here.scope name else first_object (declared_here state name))
+    by true = member_object_there state state.here.scope name
+    by false = object_there (length state.graph.facts) (declared_here state name) (declared_there state.graph state.here.scope name)
+
+-- ---- objects
+
+abbrev object_fact : CxxState → Lexeme → CxxType → CxxFact
+object_fact state name of = fact_here state (spelled name.spelling) name.place (object_here state (spelled name.spelling) of)
+
+object_may : (state : CxxState) (name : Lexeme) (of : CxxType) → MayBeAdded state (object_fact state name of)
+object_may state name of = may_be_added state (object_fact state name of) refl (object_here_there state (spelled name.spelling))
 
 pub object_tells : (name : Lexeme) (of : CxxType) → Answers IsLater Quietly (declare_object name of)
 unfolding declare_object
-object_tells name of state ahead = declare_tells _ _ state ahead refl
+object_tells name of state ahead = declare_tells (object_fact state name of) name.spelling state ahead refl (object_may state name of)
 
 -- what else an answer changes
 pub turned : (state old new : CxxState) → IsLater state old → new.graph ≡ old.graph → new.here.scope ≡ old.here.scope → new.calls ≡ old.calls → IsLater state new
@@ -156,8 +259,60 @@ turned state old new later same here calls = later_is_kept.later state old new l
 pub define_tells : (name : Lexeme) (of : CxxType) → Answers IsLater Quietly (define_object name of)
 unfolding define_object
 define_tells name of state ahead =
-    let fact = fact_here state (spelled name.spelling) name.place (object_here state (spelled name.spelling) of) in
-    by_then state ahead _ (free_quiet state fact name.spelling) (λ is_free. by_then state ahead _ (undefined_quiet state name.place name.spelling (length state.graph.facts) fact.what) (λ is_first. by_answer state ahead _ (added_tells fact state ahead refl) (λ answer later. tells_answer (defined_as answer) (turned state answer.1 (with_definition answer.0 answer.1) later refl refl refl))))
+    let fact = object_fact state name of in
+    by_then state ahead _ (free_quiet state fact name.spelling) (λ is_free. by_then state ahead _ (undefined_quiet state name.place name.spelling (length state.graph.facts) fact.what) (λ is_first. by_answer state ahead _ (added_tells fact state ahead refl (object_may state name of)) (λ answer later. tells_answer (defined_as answer) (turned state answer.1 (with_definition answer.0 answer.1) later refl refl refl))))
+
+-- 3.5: one that a block declares with `extern`
+pub linked_object_tells : (name : Lexeme) (of : CxxType) → Answers IsLater Quietly (declare_linked_object name of)
+unfolding declare_linked_object
+linked_object_tells name of state ahead =
+    let fact = fact_here state (spelled name.spelling) name.place (linked_object_here state (spelled name.spelling) of) in
+    by_then state ahead _ (free_linked_quiet state fact name.spelling) (λ is_free. by_answer state ahead _ (added_tells fact state ahead refl (may_be_added state fact refl (member_object_there state (home_here state) (spelled name.spelling)))) (λ answer later. tells_answer (linked_as answer) (turned state answer.1 (with_linked answer.0 answer.1) later refl refl refl)))
+
+-- what is added has a number that there is
+added_there : (fact : CxxFact) (state : CxxState) (answer : ℕ × CxxState) → added fact state ≡ Ok answer → answer.0 < length answer.1.graph.facts
+unfolding added
+added_there fact state answer e = by (nat_eq (length state.graph.facts + length state.graph.classes) most_facts) e
+  where
+    same : Answer (ℕ × CxxState) → Answer (ℕ × CxxState) → Type 0
+    same one two = one ≡ two
+
+    is_it : same (Ok (length state.graph.facts, with_fact fact state)) (Ok answer) → (length state.graph.facts, with_fact fact state) ≡ answer
+    is_it e = cc
+
+    more : length state.graph.facts < length (state.graph.facts ++ fact ∷ [])
+    more = let count = length-append state.graph.facts (fact ∷ []) in omega (arith, count)
+
+    by : (b : Bool) → same (if b then Err (Limited Facts) else Ok (length state.graph.facts, with_fact fact state)) (Ok answer) → answer.0 < length answer.1.graph.facts
+    by true e = absurd cc
+    by false e = subst (λ (a : ℕ × CxxState). a.0 < length a.1.graph.facts) (is_it e) more
+
+-- an answer that comes behind others
+behind_answer : {A B : Type 0} (first : Answer A) (go : A → Answer B) (answer : B) → (first >>= go) ≡ Ok answer → (one : A) × (go one ≡ Ok answer)
+behind_answer (Ok one) go answer e = (one, e)
+behind_answer (Err why) go answer e = absurd cc
+
+pub declared_is_there : (name : Lexeme) (of : CxxType) (state : CxxState) (answer : ℕ × CxxState) → declare_object name of state ≡ Ok answer → answer.0 < length answer.1.graph.facts
+unfolding declare_object declare
+declared_is_there name of state answer e = let one = behind_answer (free state (object_fact state name of) name.spelling) (λ is_free. added (object_fact state name of) state) answer e in added_there (object_fact state name of) state answer one.1
+
+pub defined_is_there : (name : Lexeme) (of : CxxType) (state : CxxState) (answer : ℕ × CxxState) → define_object name of state ≡ Ok answer → answer.0 < length answer.1.graph.facts
+unfolding define_object
+defined_is_there name of state answer e =
+    let fact = object_fact state name of in
+    let one = behind_answer (free state fact name.spelling) (λ is_free. undefined state name.place name.spelling (length state.graph.facts) fact.what >>= λ is_first. added fact state >>= λ answer. Ok (defined_as answer)) answer e in
+    let two = behind_answer (undefined state name.place name.spelling (length state.graph.facts) fact.what) (λ is_first. added fact state >>= λ answer. Ok (defined_as answer)) answer one.1 in
+    by (added fact state) refl two.1
+  where
+    same : Answer (ℕ × CxxState) → Answer (ℕ × CxxState) → Type 0
+    same one two = one ≡ two
+
+    is_it : (one : ℕ × CxxState) → same (Ok (defined_as one)) (Ok answer) → defined_as one ≡ answer
+    is_it one e = cc
+
+    by : (o : Answer (ℕ × CxxState)) → added (object_fact state name of) state ≡ o → same (o >>= λ answer. Ok (defined_as answer)) (Ok answer) → answer.0 < length answer.1.graph.facts
+    by (Ok one) is e = subst (λ (a : ℕ × CxxState). a.0 < length a.1.graph.facts) (is_it one e) (added_there (object_fact state name of) state one is)
+    by (Err why) is e = absurd cc
 
 pub define_later_tells : (name : Lexeme) (number : ℕ) → Answers IsLater Quietly (define_declared name number)
 unfolding define_declared
@@ -180,28 +335,36 @@ all_given number (one ∷ others) old state later = all_given number others old 
 given_later : (state : CxxState) (offers : List CxxOffered) (answer : ℕ × CxxState) → IsLater state answer.1 → IsLater state (given_as offers answer).1
 given_later state offers answer later = turned state (with_all_given answer.0 offers answer.1) (without_offers (with_all_given answer.0 offers answer.1)) (all_given answer.0 offers state answer.1 later) refl refl refl
 
-declare_with_tells : (name : Lexeme) (of : CxxType) (first : Option FactId) (offers : List CxxOffered) → Answers IsLater Quietly (declare_with name of first offers)
-declare_with_tells name of first offers state ahead =
+free_if_quiet : (linked : Bool) (state : CxxState) (fact : CxxFact) (word : List ℕ) → QuietBy (free_if linked state fact word)
+free_if_quiet true state fact word = free_linked_quiet state fact word
+free_if_quiet false state fact word = free_quiet state fact word
+
+linked_later : (linked : Bool) (state : CxxState) (answer : ℕ × CxxState) → IsLater state answer.1 → IsLater state (linked_if linked answer).1
+linked_later true state answer later = turned state answer.1 (with_linked answer.0 answer.1) later refl refl refl
+linked_later false state answer later = later
+
+declare_with_tells : (linked : Bool) (name : Lexeme) (of : CxxType) (first : Option FactId) (offers : List CxxOffered) (state : CxxState) (ahead : Ahead) → IsFirstThere (length state.graph.facts) first → ToldBy IsLater Quietly state ahead (declare_with linked name of first offers state)
+declare_with_tells linked name of first offers state ahead there =
     let fact = function_by state name of first offers in
-    by_then state ahead _ (free_quiet state fact name.spelling) (λ is_free. by_then state ahead _ (not_given_quiet state name.place name.spelling first offers) (λ is_fresh. by_answer state ahead _ (added_tells fact state ahead refl) (λ answer later. tells_answer (given_as offers answer) (given_later state offers answer later))))
+    by_then state ahead _ (free_if_quiet linked state fact name.spelling) (λ is_free. by_then state ahead _ (not_given_quiet state name.place name.spelling first offers) (λ is_fresh. by_answer state ahead _ (added_tells fact state ahead refl (may_be_added state fact refl there)) (λ answer later. tells_answer (linked_if linked (given_as offers answer)) (linked_later linked state (given_as offers answer) (given_later state offers answer later)))))
 
 pub function_answer_tells : (list : Option ℕ) (name : Lexeme) (of : CxxType) → Answers IsLater Quietly (declare_function list name of)
 unfolding declare_function
-function_answer_tells list name of state ahead = declare_with_tells name of (first_function of (declared_here state (spelled name.spelling))) (offered_by list state.offered) state ahead
+function_answer_tells list name of state ahead = declare_with_tells (is_linked_here state) name of (first_member_function state (home_here state) (spelled name.spelling) of) (offered_by list state.offered) state ahead (member_function_there state (home_here state) (spelled name.spelling) of)
 
 pub parameter_answer_tells : (name : Option Lexeme) (place : Place) (of : CxxType) → Answers IsLater Quietly (declare_parameter name place of)
 unfolding declare_parameter
-parameter_answer_tells name place of state ahead = by_answer state ahead _ (declare_tells _ _ state ahead refl) (λ answer later. tells_answer (tt, answer.1) later)
+parameter_answer_tells name place of state ahead = by_answer state ahead _ (declare_tells (fact_here state (name_of name) place (parameter_object of)) (word_of name) state ahead refl (may_be_added state (fact_here state (name_of name) place (parameter_object of)) refl tt)) (λ answer later. tells_answer (tt, answer.1) later)
 
 pub enumeration_answer_tells : (name : Option Lexeme) (place : Place) → Answers IsLater Quietly (declare_enumeration name place)
 unfolding declare_enumeration
-enumeration_answer_tells name place state ahead = by_answer state ahead _ (declare_tells _ _ state ahead refl) (λ answer later. tells_answer (begun_as (enumeration_count state.graph.facts) answer) (turned state answer.1 (begun_as (enumeration_count state.graph.facts) answer).1 later refl refl refl))
+enumeration_answer_tells name place state ahead = by_answer state ahead _ (declare_tells (fact_here state (name_of name) place (facts.enumeration (enumeration_count state.graph.facts))) (word_of name) state ahead refl (may_be_added state (fact_here state (name_of name) place (facts.enumeration (enumeration_count state.graph.facts))) refl tt)) (λ answer later. tells_answer (begun_as (enumeration_count state.graph.facts) answer) (turned state answer.1 (begun_as (enumeration_count state.graph.facts) answer).1 later refl refl refl))
 
 value_answer_tells : (number : ℕ) (name : Lexeme) (value : ℤ) → Answers IsLater Quietly (declare_value number name value)
 unfolding declare_value
 value_answer_tells number name value state ahead =
     let fact = fact_here state (spelled name.spelling) name.place (facts.enumerator number value) in
-    by_then state ahead _ (free_quiet state fact name.spelling) (λ is_free. by_then state ahead _ (held_quiet name.place (one_holds (values_in number state.graph.facts ++ value ∷ []))) (λ is_held. by_answer state ahead _ (added_tells fact state ahead refl) (λ answer later. tells_answer (tt, answer.1) later)))
+    by_then state ahead _ (free_quiet state fact name.spelling) (λ is_free. by_then state ahead _ (held_quiet name.place (one_holds (values_in number state.graph.facts ++ value ∷ []))) (λ is_held. by_answer state ahead _ (added_tells fact state ahead refl (may_be_added state fact refl tt)) (λ answer later. tells_answer (tt, answer.1) later)))
 
 pub enumerator_answer_tells : (number : ℕ) (name : Lexeme) (value : Option ℤ) → Answers IsLater Quietly (declare_enumerator number name value)
 unfolding declare_enumerator

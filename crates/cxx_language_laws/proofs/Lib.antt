@@ -17,6 +17,9 @@ pub mod TellsExpressions
 pub mod TellsHeads
 pub mod TellsStatements
 pub mod Scopes
+pub mod Outward
+pub mod Shown
+pub mod Sought
 pub mod Later
 pub mod Reached
 pub mod Lists
@@ -28,6 +31,8 @@ pub mod Both
 pub mod Begun
 pub mod Declared
 pub mod Objects
+pub mod Spaces
+pub mod Opened
 pub mod TellsBlocks
 pub mod TellsBodies
 pub mod Stopping

@@ -1,13 +1,19 @@
 -- The reader of an initializer keeps the declarations and the calls so far, and what stops it is true.
-use Rattle.std.proofs.Common.{refl}
-use Rattle.std.specs.Prelude.{ℕ, ◌||◌, [], ◌∷◌}
-use Rattle.cxx_model.specs.Facts.Declarations.{spelled}
+use Rattle.std.proofs.Common.{arith, ◌≡◌, ◌<◌, ap, refl}
+use Rattle.std.specs.Prelude.{ℕ, ◌||◌, length, List, [], ◌∷◌, Option, Some, None}
+use Rattle.std.specs.List.{slice_get}
+use Rattle.std.proofs.lemmas.List.{length-append}
+use Rattle.cxx_model.specs.Facts.Declarations as facts
+use Rattle.cxx_model.specs.Facts.Declarations.{CxxFact, CxxGraph, Declares, spelled}
+use Rattle.cxx_model.specs.Stops.{Answer, Stopped}
 use Rattle.cxx_model.specs.Text.Lexemes.{Lexeme}
 use Rattle.cxx_model.specs.Types.Trees.{CxxType}
-use Rattle.cxx_reading.specs.Declaring.{fact_here}
+use Rattle.cxx_reading.specs.Declaring.{declares_by, fact_here}
+use Rattle.cxx_reading.specs.Reads.{Ahead, Got, Reads, then_read}
+use Rattle.cxx_reading.specs.State.{CxxState}
 use Rattle.cxx_reading.specs.Trees.{CxxTree}
 use Rattle.cxx_reading.specs.Units.{is_unbounded}
-use Rattle.cxx_answers.specs.Typed.{entity_number}
+use Rattle.cxx_answers.specs.Typed.{entity_number, first_of}
 use Rattle.cxx_language.specs.Known.{is_some_value, known_answer, known_object, known_value, note_known, noted, type_known}
 use Rattle.cxx_language.specs.Objects.{initialized_part, initializer_tree, is_empty_array, some_elements}
 use Rattle.cxx_language.specs.Asked.{answers, inner_at, phrases_at}
@@ -16,19 +22,50 @@ use Rattle.cxx_language_laws.proofs.Both.{both_tell}
 use Rattle.cxx_language_laws.proofs.Later.{IsLater, added_tells, by_answer, calm_by, later_is_quiet}
 use Rattle.cxx_language_laws.proofs.QuestionsTell.{if_by, same_by}
 use Rattle.cxx_language_laws.proofs.Reached.{Told, later_is_told}
-use Rattle.cxx_language_laws.proofs.Tells.{Quietly, Answers, Tells, tells_answer, quiet_in, if_in, then_in, ask_in, same_in, looked_in, give_in}
+use Rattle.cxx_language_laws.proofs.Scopes.{InScopes, IsSound, may_stand}
+use Rattle.cxx_language_laws.proofs.Tells.{IsTold, Quietly, Tells, ToldBy, ToldIn, tells_answer, quiet_in, if_in, from_in, then_from, then_in, ask_in, same_in, looked_in, give_in}
 use Rattle.cxx_language_laws.proofs.TellsExpressions.{initialize_tells}
 use Rattle.cxx_language_laws.proofs.TellsInitializers.{initializer_tells}
 
 -- ---- what an initializer makes known
 
-noted_tells : (name : Lexeme) (number : ℕ) (of : CxxType) (tree : CxxTree) → Answers IsLater Quietly (noted name number of tree)
-unfolding noted
-noted_tells name number of tree state ahead = by_answer state ahead _ (added_tells (fact_here state (spelled name.spelling) name.place (known_object (entity_number state number) (type_known of tree) (known_value state.graph of tree))) state ahead refl) (λ answer later. tells_answer (known_answer answer) later)
+-- a number that a declaration has
+abbrev pub HasNumber : ℕ → CxxState → Type 0
+HasNumber number state = number < length state.graph.facts
 
-pub note_tells : (name : Lexeme) (number : ℕ) (of : CxxType) (tree : CxxTree) → Answers IsLater Quietly (note_known name number of tree)
+pub number_later : (number : ℕ) (s t : CxxState) → IsLater s t → HasNumber number s → HasNumber number t
+number_later number s t later is =
+    let more = ap (λ (g : CxxGraph). length g.facts) later.grown.declared in
+    let count = length-append s.graph.facts later.grown.own in
+    omega (arith, more, count, is)
+
+-- what follows one with which a number is there
+pub then_there : {A B : Type 0} {told : CxxState → Ahead → Stopped → Type 0} → IsTold IsLater told → {state : CxxState} {ahead : Ahead} {r : Answer (Got CxxState A)} (number : ℕ) {go : A → Reads CxxState B} → HasNumber number state → ToldIn IsLater told state ahead r
+    → ((x : A) (t : CxxState) (rest : Ahead) → HasNumber number t → ToldIn IsLater told t rest (go x t rest)) → ToldIn IsLater told state ahead (then_read r go)
+then_there is {state = state} {ahead = ahead} number {go = go} there first second = then_from go first (λ one is_read later stands. from_in is state one.state ahead one.rest later stands (second one.value one.state one.rest (number_later number state one.state later there)))
+
+-- its entity has one
+first_has : (all : List CxxFact) (number : ℕ) (what : Declares) → number < length all → IsSound all what → first_of number what < length all
+first_has all number (facts.object of member is_mutable value None) there is = there
+first_has all number (facts.object of member is_mutable value (Some first)) there is = is
+first_has all number _ there is = there
+
+entity_has : (state : CxxState) (number : ℕ) → InScopes state → HasNumber number state → entity_number state number < length state.graph.facts
+entity_has state number is there = by (slice_get state.graph.facts number) refl
+  where
+    by : (o : Option CxxFact) → slice_get state.graph.facts number ≡ o → first_of number (declares_by o) < length state.graph.facts
+    by None none = there
+    by (Some fact) at = first_has state.graph.facts number fact.what there (is.sound number fact at)
+
+noted_tells : (name : Lexeme) (number : ℕ) (of : CxxType) (tree : CxxTree) (state : CxxState) (ahead : Ahead) → HasNumber number state → ToldBy IsLater Quietly state ahead (noted name number of tree state)
+unfolding noted
+noted_tells name number of tree state ahead there =
+    let fact = fact_here state (spelled name.spelling) name.place (known_object (entity_number state number) (type_known of tree) (known_value state.graph of tree)) in
+    by_answer state ahead _ (added_tells fact state ahead refl (λ is. may_stand state.graph.facts fact refl (entity_has state number is there))) (λ answer later. tells_answer (known_answer answer) later)
+
+pub note_tells : (name : Lexeme) (number : ℕ) (of : CxxType) (tree : CxxTree) (state : CxxState) (ahead : Ahead) → HasNumber number state → ToldBy IsLater Quietly state ahead (note_known name number of tree state)
 unfolding note_known
-note_tells name number of tree state ahead = if_by (is_unbounded of || is_some_value (known_value state.graph of tree)) (noted_tells name number of tree state ahead) (same_by later_is_quiet tt state ahead)
+note_tells name number of tree state ahead there = if_by (is_unbounded of || is_some_value (known_value state.graph of tree)) (noted_tells name number of tree state ahead there) (same_by later_is_quiet tt state ahead)
 
 -- ---- initializers
 
@@ -36,13 +73,13 @@ pub some_elements_tell : (name : Lexeme) (of : CxxType) → Tells IsLater Told (
 unfolding some_elements
 some_elements_tell name of state ahead = if_in (is_empty_array of) (quiet_in later_is_told refl) (same_in later_is_told tt state ahead)
 
-pub initialized_tells : (room : ℕ) (name : Lexeme) (of : CxxType) (number : ℕ) → Tells IsLater Told (initialized_part answers (phrases_at room) (inner_at room).phrases name of number)
+pub initialized_tells : (room : ℕ) (name : Lexeme) (of : CxxType) (number : ℕ) (state : CxxState) (ahead : Ahead) → HasNumber number state → ToldIn IsLater Told state ahead (initialized_part answers (phrases_at room) (inner_at room).phrases name of number state ahead)
 unfolding initialized_part
-initialized_tells room name of number state ahead =
-    then_in later_is_told (looked_in later_is_told state ahead) (λ from state ahead.
-    then_in later_is_told (initializer_tells later_is_told (phrases_tell room (both_tell room).types) (both_tell room).phrases state ahead) (λ read state ahead.
-    then_in later_is_told (looked_in later_is_told state ahead) (λ to state ahead.
-    then_in later_is_told (ask_in ahead (initialize_tells later_is_told answers of (initializer_tree read from to) state ahead)) (λ tree state ahead.
-    then_in later_is_told (some_elements_tell name (type_known of tree) state ahead) (λ fits state ahead.
-    then_in later_is_told (ask_in ahead (calm_by later_is_told (note_tells name number of tree state ahead))) (λ noted.
+initialized_tells room name of number state ahead there =
+    then_there later_is_told number there (looked_in later_is_told state ahead) (λ from state ahead there.
+    then_there later_is_told number there (initializer_tells later_is_told (phrases_tell room (both_tell room).types) (both_tell room).phrases state ahead) (λ read state ahead there.
+    then_there later_is_told number there (looked_in later_is_told state ahead) (λ to state ahead there.
+    then_there later_is_told number there (ask_in ahead (initialize_tells later_is_told answers of (initializer_tree read from to) state ahead)) (λ tree state ahead there.
+    then_there later_is_told number there (some_elements_tell name (type_known of tree) state ahead) (λ fits state ahead there.
+    then_in later_is_told (ask_in ahead (calm_by later_is_told (note_tells name number of tree state ahead there))) (λ noted.
     give_in later_is_told (tree ∷ [])))))))

@@ -1,7 +1,7 @@
 -- What is asked while an expression is read, and the readers of what stands in it: what they keep of the state, and what
 -- stops them.
 use Rattle.std.proofs.Common.{◌≡◌}
-use Rattle.std.specs.Prelude.{ℕ, true, false, nat_eq, List, None}
+use Rattle.std.specs.Prelude.{ℕ, Bool, true, false, nat_eq, codes, List, [], None}
 use Rattle.cxx_model.specs.Stops.{Answer, Stopped}
 use Rattle.cxx_phrases.specs.declared.level.Level.{Level}
 use Rattle.cxx_phrases.specs.Forms.{name_tree, call_tree}
@@ -17,6 +17,11 @@ use Rattle.cxx_language_laws.proofs.Tells.{IsTold, ToldIn, tells_stop, Tells, To
 abbrev pub IsPlain : CxxTree → Type 0
 IsPlain tree = (nat_eq tree.label.production phrase.name ≡ false) × (tree.label.path ≡ None)
 
+-- 5.2.2: how it is told of a call whether its name stands in no brackets
+abbrev pub brackets_of : Bool → List ℕ
+brackets_of true = []
+brackets_of false = codes "("
+
 pub record PhrasesTell {S : Type 0} (kept : S → S → Type 0) (told : S → Ahead → Stopped → Type 0) (asks : Phrases S) (inner : Inner S) : Type 0 where
   pub kind : (path : CxxPath) → Answers kept told (asks.kind path)
   pub type_named : (path : CxxPath) → Answers kept told (asks.type_named path)
@@ -24,7 +29,7 @@ pub record PhrasesTell {S : Type 0} (kept : S → S → Type 0) (told : S → Ah
   -- 5.1: of a name that is ahead
   pub name : (state : S) (ahead : Ahead) → is_name (kind_ahead ahead) ≡ true → ToldBy kept told state ahead (asks.whole (name_tree ahead (behind ahead)) state)
   -- 5.2.2: of a call that stands ahead
-  pub call : (state : S) (ahead : Ahead) (is : IsCall asks inner state ahead) → kept state is.at → (spelling : List ℕ) (from : Ahead) → ToldBy kept told state ahead (asks.whole (call_tree spelling is.name is.arguments from is.rest) is.at)
+  pub call : (state : S) (ahead : Ahead) (is : IsCall asks inner state ahead) → kept state is.at → (from : Ahead) → ToldBy kept told state ahead (asks.whole (call_tree (brackets_of is.is_bare) is.name is.arguments from is.rest) is.at)
   pub type_id : Tells kept told asks.type_id
 
 pub record InnerTell {S : Type 0} (kept : S → S → Type 0) (told : S → Ahead → Stopped → Type 0) (inner : Inner S) : Type 0 where

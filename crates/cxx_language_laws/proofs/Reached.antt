@@ -9,16 +9,30 @@ use Rattle.cxx_model.specs.declared.stop.Fault.{Fault}
 use Rattle.cxx_model.specs.Stops.{Stopped, Faulty, Limited}
 use Rattle.cxx_reading.specs.Reads.{Ahead}
 use Rattle.cxx_reading.specs.State.{CxxState}
-use Rattle.cxx_language_laws.specs.Told.{EndsIn, IsChoiceFault, IsGrown, IsScopeSince, IsUnknown}
+use Rattle.cxx_language_laws.specs.Told.{EndsIn, IsChoiceFault, IsGrown, IsNowhere, IsScopeSince, IsTwofold, IsUnknown}
 use Rattle.cxx_language_laws.proofs.Later.{IsLater, grown_later, later_is_kept}
 use Rattle.cxx_language_laws.proofs.Scopes.{InScopes}
-use Rattle.cxx_language_laws.proofs.Tells.{Saying, choosing, undeclared, nothing, saying, IsQuiet, IsTold, whole_stands, ends_later}
+use Rattle.cxx_language_laws.proofs.Tells.{Saying, choosing, undeclared, ambiguous, nothing, saying, IsQuiet, IsTold, whole_stands, ends_later}
 
--- A state that is reached keeps what is declared. It stands in the same scope, or in one that begins later.
+-- a state that comes behind another keeps what is declared, and how its scopes stand
+pub record IsBehind (old new : CxxState) : Type 0 where
+  pub grown : IsGrown old new
+  pub scopes : InScopes old → InScopes new
+
+-- A state that is reached stands in the same scope too, or in one that begins later.
 pub record IsReached (old new : CxxState) : Type 0 where
   pub grown : IsGrown old new
   pub scopes : InScopes old → InScopes new
-  pub scope : IsScopeSince old new
+  pub scope : InScopes old → IsScopeSince old new
+
+pub behind_by : (old new : CxxState) → IsReached old new → IsBehind old new
+behind_by old new reached = record { grown = reached.grown; scopes = reached.scopes }
+
+pub behind_by_later : (old new : CxxState) → IsLater old new → IsBehind old new
+behind_by_later old new later = record { grown = later.grown; scopes = later.scopes }
+
+pub behind_later : (s t u : CxxState) → IsBehind s t → IsBehind t u → IsBehind s u
+behind_later s t u one two = record { grown = grown_later s t u one.grown two.grown; scopes = λ is. two.scopes (one.scopes is) }
 
 scopes_more : (xs ys : List CxxFact) → length (scope_kinds xs) ≤ length (scope_kinds (xs ++ ys))
 scopes_more [] ys = omega arith
@@ -37,10 +51,10 @@ scope_later s t u grown (inr one) (inl two) = inr (subst (λ (n : ℕ). scope_co
 scope_later s t u grown one (inr two) = let more = count_more s t grown in inr (omega (arith, more, two))
 
 pub reached_by_later : (old new : CxxState) → IsLater old new → IsReached old new
-reached_by_later old new later = record { grown = later.grown; scopes = later.scopes; scope = inl later.here }
+reached_by_later old new later = record { grown = later.grown; scopes = later.scopes; scope = λ is. inl (later.here is) }
 
 pub reached_later : (s t u : CxxState) → IsReached s t → IsReached t u → IsReached s u
-reached_later s t u one two = record { grown = grown_later s t u one.grown two.grown; scopes = λ is. two.scopes (one.scopes is); scope = scope_later s t u one.grown one.scope two.scope }
+reached_later s t u one two = record { grown = grown_later s t u one.grown two.grown; scopes = λ is. two.scopes (one.scopes is); scope = λ is. scope_later s t u one.grown (one.scope is) (two.scope (one.scopes is)) }
 
 pub record Reached (state : CxxState) (ahead : Ahead) (P : CxxState → Ahead → Type 0) : Type 0 where
   pub at : CxxState
@@ -61,9 +75,16 @@ reached_sooner s t ahead rest P first stands told = record {
   is = told.is;
 }
 
+-- what is unknown, and that no scope outward declares it
+abbrev pub Unknown : CxxState → Ahead → Fault → List ℕ → Type 0
+Unknown at rest fault word = (is : IsUnknown at rest fault word) × IsNowhere is
+
 pub record IsUndeclared (fault : Fault) (word : List ℕ) (at : CxxState) (rest : Ahead) : Type 0 where
-  pub is : IsUnknown at rest fault word
+  pub is : InScopes at → Unknown at rest fault word
   pub bare : fault.evidence ≡ []
+
+abbrev pub IsManifold : Fault → List ℕ → CxxState → Ahead → Type 0
+IsManifold fault word at rest = InScopes at → IsTwofold at rest fault word
 
 abbrev pub IsChosen : Fault → CxxState → Ahead → Type 0
 IsChosen fault at rest = IsChoiceFault at rest fault
@@ -71,6 +92,7 @@ IsChosen fault at rest = IsChoiceFault at rest fault
 abbrev pub ToldSo : CxxState → Ahead → Fault → Saying → Type 0
 ToldSo state ahead fault choosing = Reached state ahead (IsChosen fault)
 ToldSo state ahead fault (undeclared word) = Reached state ahead (IsUndeclared fault word)
+ToldSo state ahead fault (ambiguous word) = Reached state ahead (IsManifold fault word)
 ToldSo state ahead fault nothing = Unit {0}
 
 abbrev pub Told : CxxState → Ahead → Stopped → Type 0
@@ -84,6 +106,7 @@ quiet_told state ahead (Limited kind) quiet = tt
 so_sooner : (s t : CxxState) (ahead rest : Ahead) (fault : Fault) (what : Saying) → IsReached s t → EndsIn ahead.tokens rest.tokens → ToldSo t rest fault what → ToldSo s ahead fault what
 so_sooner s t ahead rest fault choosing first stands told = reached_sooner s t ahead rest (IsChosen fault) first stands told
 so_sooner s t ahead rest fault (undeclared word) first stands told = reached_sooner s t ahead rest (IsUndeclared fault word) first stands told
+so_sooner s t ahead rest fault (ambiguous word) first stands told = reached_sooner s t ahead rest (IsManifold fault word) first stands told
 so_sooner s t ahead rest fault nothing first stands told = tt
 
 pub told_sooner : (s t : CxxState) (ahead rest : Ahead) (why : Stopped) → IsReached s t → EndsIn ahead.tokens rest.tokens → Told t rest why → Told s ahead why

@@ -14,7 +14,7 @@ use Rattle.cxx_reading.specs.Declaring.{define_object, enter_block, leave_block}
 use Rattle.cxx_reading.specs.Initializers.{operand_of}
 use Rattle.cxx_reading.specs.Reads.{Ahead, Got, Reads, More, Done, ◌>>=◌, beside, got, looked, then_read, answered, tokens, give, place_ahead, count_ahead, kind_ahead, behind}
 use Rattle.cxx_reading.specs.State.{CxxState}
-use Rattle.cxx_reading.specs.Tokens.{is_keyword, is_punct, punct_taken, refused}
+use Rattle.cxx_reading.specs.Tokens.{is_keyword, is_name, is_punct, punct_taken, refused}
 use Rattle.cxx_reading.specs.Trees.{CxxTree}
 use Rattle.cxx_reading.specs.Units.{Said, Listed, specifiers_tree, declarator_tree, name_in as name_of_declarator, declared_fits, give_trees, no_declarators, said_by, simple_tree}
 use Rattle.cxx_statements.specs.declared.parts.Head.{Head}
@@ -22,23 +22,26 @@ use Rattle.cxx_statements.specs.declared.parts.Head.TheVariants as head
 use Rattle.cxx_statements.specs.declared.parts.Purpose.TheVariants as purpose
 use Rattle.cxx_statements.specs.Productions as production
 use Rattle.cxx_statements.specs.Statements.{CxxTarget, to_bool, to_promoted, to_type, to_result, Switch, Around, nothing_around, in_a_loop, in_a_switch, behind_loop, statement_tree, word_tree, no_part, keyword_taken, condition_ended, condition_at as bracket_condition_at, last_condition_at, expression_statement, declaration_statement, plain_by, plain_statement, begins_statement, begins_no_object, first_part, some_condition, second_part, some_step, third_part, loop_parts_at, block_in, begun, sub_in, else_part, other_part, if_ended, if_in as if_statement, switch_in, loop_ended, while_in, do_in, for_in, some_answer, answer, return_in, with_label, case_of, label_in, label_of, label_at, is_label, label_step, labels_in, plain_in, flat_in, keyword_in, unlabelled_in, statement_in, sub_statement_at, statement_step, never_ended, statements_in, statements_at, within, body_at}
-use Rattle.cxx_language.specs.Blocks.{locally_declared, local_declarator_at, local_step, local_declarators_at, local_declarators_of, local_declaration_at, tested_object, tested_by, tested_declarator_at, condition_tree, declared_condition_at}
+use Rattle.cxx_language.specs.Spaces.{behind_word, local_alias_at}
+use Rattle.cxx_language.specs.Blocks.{locally_declared, local_declarator_at, local_step, local_declarators_at, local_declarators_of, local_declaration_at, simple_local_at, tested_object, tested_by, tested_declarator_at, condition_tree, declared_condition_at}
 use Rattle.cxx_language.specs.Made.{defined_object}
 use Rattle.cxx_language.specs.Statements.{condition_at, condition_by, expression_for, parts_at}
-use Rattle.cxx_language_laws.specs.Stopping.{BeginsFor, Enters, Gives, HasCondition, IsOpened, Leads, Part, a_body, a_condition_initializer, a_declared_condition, a_local_declaration, a_plain_statement, a_statement, an_expression, an_inner_statement, an_unlabelled_statement, beginning_of, behind_do, behind_else, behind_for, behind_if, behind_labels, behind_switch, behind_while, body_of, condition_initializer_of, declarator_of, in_body, in_bracket, in_condition, in_condition_specifiers, in_label, in_labels, in_local_declarator, in_local_specifiers, in_statement, inner_statement_of, is_conditional, is_declaration_of, next_label, next_local_declarator, next_statement, some_labels, some_local_declarators, some_statements, specifiers_of, statement_of, statement_step_of, to_answer, to_block, to_condition, to_condition_declarator, to_condition_initializer, to_declared_condition, to_expression, to_first_part, to_inner_block, to_last_condition, to_local_declaration, to_local_declarators, to_local_initializer, to_plain_statement, to_second_part, to_statement, to_third_part, unlabelled_of}
+use Rattle.cxx_language_laws.specs.Stopping.{BeginsFor, Enters, Gives, HasCondition, IsNoSpace, IsOpened, Leads, Part, a_body, a_condition_initializer, a_declared_condition, a_local_declaration, a_plain_statement, a_statement, an_expression, an_inner_statement, an_unlabelled_statement, alias_name, in_local_alias, to_local_directive, beginning_of, behind_do, behind_else, behind_for, behind_if, behind_labels, behind_switch, behind_while, body_of, condition_initializer_of, declarator_of, in_body, in_bracket, in_condition, in_condition_specifiers, in_label, in_labels, in_local_declarator, in_local_specifiers, in_statement, inner_statement_of, is_conditional, is_declaration_of, next_label, next_local_declarator, next_statement, some_labels, some_local_declarators, some_statements, specifiers_of, statement_of, statement_step_of, to_answer, to_block, to_condition, to_condition_declarator, to_condition_initializer, to_declared_condition, to_expression, to_first_part, to_inner_block, to_last_condition, to_local_declaration, to_local_declarators, to_local_initializer, to_plain_statement, to_second_part, to_statement, to_third_part, unlabelled_of}
 use Rattle.cxx_language_laws.specs.Told.{EndsIn}
 use Rattle.cxx_language_laws.proofs.Asked.{constant_tells, phrases_tell}
 use Rattle.cxx_language_laws.proofs.Both.{both_tell}
 use Rattle.cxx_language_laws.proofs.Declared.{declared_synonym_tells, declarator_ended_tells, give_trees_tells, nothing_tells}
 use Rattle.cxx_language_laws.proofs.DeclaratorsStop.{declarator_stops, defined_part_stops, fits_stops, specifiers_stop, which_reads}
-use Rattle.cxx_language_laws.proofs.Later.{IsLater, define_tells, later_is_kept, later_is_quiet}
-use Rattle.cxx_language_laws.proofs.Lists.{entered_reached, left, left_later}
+use Rattle.cxx_language_laws.proofs.Later.{IsLater, defined_is_there, define_tells, later_is_kept, later_is_quiet}
+use Rattle.cxx_language_laws.proofs.Lists.{entered_behind, left, left_later}
 use Rattle.cxx_model.specs.declared.facts.ScopeKind.TheVariants as scope_kind
-use Rattle.cxx_language_laws.proofs.Reached.{IsReached, later_is_told, reached_by_later, reached_later}
+use Rattle.cxx_language_laws.proofs.Objects.{HasNumber}
+use Rattle.cxx_language_laws.proofs.Reached.{IsBehind, later_is_told, behind_by_later, behind_later}
 use Rattle.cxx_language_laws.proofs.Scopes.{entered}
+use Rattle.cxx_language_laws.proofs.Spaces.{alias_or_not_stops, directive_stops}
 use Rattle.cxx_language_laws.proofs.Stopping.{Calm, ChainedOf, Inside, Stops, calm, calm_from, innermost_stops, later_here, leads_here, leads_in, quiet_told, repeat_stops, then_asked, then_calm, told_within, which_in, whole_calm, whole_stops, within_part}
 use Rattle.cxx_language_laws.proofs.Tells.{IsTold, Quietly, ToldIn, Tells, ToldBy, tells_answer, tells_read, tells_refusal, tells_stop, whole_stands, ends_later, behind_stands, past_stands, twice_behind, from_in, past_in, then_from, then_in, if_in, same_in, next_in, give_in, looked_in, ask_in, punct_in, quiet_in, returned_in, tokens_in, unit_is_told}
-use Rattle.cxx_language_laws.proofs.TellsBlocks.{condition_part_tells, keep_tested_tells}
+use Rattle.cxx_language_laws.proofs.TellsBlocks.{condition_part_tells, keep_tested_tells, local_extern_tells, local_function_tells, tested_function_tells}
 use Rattle.cxx_language_laws.proofs.TellsBodies.{IsInBlock, become_tells, enter_tells, expression_tells, is_declared_tells, statement_head_tells, step_tells}
 use Rattle.cxx_language_laws.proofs.TellsLevels.{conditional_tells}
 use Rattle.cxx_language_laws.proofs.TellsStatements.{default_tells, empty_in_tells, fresh_tells, jump_tells, labelled_tells}
@@ -57,21 +60,22 @@ step_stops room s ahead = innermost_stops tt (λ fault is. is) (step_tells room 
 -- ---- declarations in blocks
 
 local_object_stops : (room : ℕ) (said : Said) (so_far : Listed) (declarator : Declarator) (from : Ahead) (state between : CxxState) (ahead rest : Ahead) → Gives (declarator_of room) state ahead declarator between rest → said.is_typedef ≡ false
-    → (is_function_type (declared_type declarator.layers said.of) || said.is_extern) ≡ false → IsLater state between → EndsIn ahead.tokens rest.tokens → Inside (some_local_declarators room said so_far) state ahead (defined_object room said declarator from between rest)
+    → is_function_type (declared_type declarator.layers said.of) ≡ false → said.is_extern ≡ false → IsLater state between → EndsIn ahead.tokens rest.tokens → Inside (some_local_declarators room said so_far) state ahead (defined_object room said declarator from between rest)
 unfolding defined_object
-local_object_stops room said so_far declarator from state between ahead rest is no_synonym no_other later stands =
+local_object_stops room said so_far declarator from state between ahead rest is no_synonym no_function no_extern later stands =
     let name = name_of_declarator declarator in
     let of = declared_type declarator.layers said.of in
     then_asked _ (define_object name of) (define_tells name of between rest) later stands (λ answer is_defined later.
-    then_calm (defined_part_stops answer.1 rest room name of answer.0 (λ begins. to_local_initializer is no_synonym no_other is_defined begins) later stands) (λ parts state ahead.
+    then_calm (defined_part_stops answer.1 rest room name of answer.0 (defined_is_there name of between answer is_defined) (λ begins. to_local_initializer is no_synonym no_function no_extern is_defined begins) later stands) (λ parts state ahead.
     then_in later_is_quiet (looked_in later_is_quiet state ahead) (λ to. give_in later_is_quiet (declarator_tree false name of answer.0 (declarator.parts ++ parts) from to))))
 
 locally_stops : (room : ℕ) (said : Said) (so_far : Listed) (from : Ahead) (declarator : Declarator) (state between : CxxState) (ahead rest : Ahead) → Gives (declarator_of room) state ahead declarator between rest → IsLater state between → EndsIn ahead.tokens rest.tokens
     → Inside (some_local_declarators room said so_far) state ahead (locally_declared room said from declarator between rest)
 locally_stops room said so_far from declarator state between ahead rest is later stands =
     which_reads said.is_typedef _ _ between rest (λ synonym. calm_from later stands (declared_synonym_tells said declarator from between rest)) (λ no_synonym.
-    which_reads (is_function_type (declared_type declarator.layers said.of) || said.is_extern) _ _ between rest (λ other. calm (quiet_in later_is_quiet refl))
-    (λ no_other. local_object_stops room said so_far declarator from state between ahead rest is no_synonym no_other later stands))
+    which_reads (is_function_type (declared_type declarator.layers said.of)) _ _ between rest (λ function. calm_from later stands (local_function_tells said from declarator between rest)) (λ no_function.
+    which_reads said.is_extern _ _ between rest (λ is_extern. calm_from later stands (local_extern_tells said from declarator between rest))
+    (λ no_extern. local_object_stops room said so_far declarator from state between ahead rest is no_synonym no_function no_extern later stands)))
 
 local_declarator_stops : (room : ℕ) (said : Said) (so_far : Listed) (state : CxxState) (ahead : Ahead) → Inside (some_local_declarators room said so_far) state ahead (local_declarator_at room said state ahead)
 unfolding local_declarator_at
@@ -91,17 +95,31 @@ local_declarators_of_stop : (room : ℕ) (specifiers : Specifiers) (state : CxxS
 unfolding local_declarators_of
 local_declarators_of_stop room specifiers state ahead = if_in (is_punct punct.SEMICOLON (kind_ahead ahead)) (whole_calm (nothing_tells specifiers state ahead)) (local_declarators_stop room (said_by false specifiers) state ahead)
 
+simple_local_stops : (room : ℕ) (state : CxxState) (ahead : Ahead) → IsNoSpace ahead → Inside (a_local_declaration room) state ahead (simple_local_at room state ahead)
+unfolding simple_local_at
+simple_local_stops room state ahead no_space =
+    then_from _ (leads_here (in_local_specifiers no_space) (specifiers_stop room where_.Block state ahead)) (λ one is later stands.
+    then_calm (leads_in (to_local_declarators no_space is) later stands (local_declarators_of_stop room one.value one.state one.rest)) (λ declarators state rest.
+    then_in later_is_quiet (looked_in later_is_quiet state rest) (λ to. give_in later_is_quiet (simple_tree (specifiers_tree one.value ahead one.rest) declarators ahead to))))
+
+-- 7.3.2
+local_alias_stops : (room : ℕ) (state : CxxState) (ahead : Ahead) → is_keyword keyword.NAMESPACE (kind_ahead ahead) ≡ true → Inside (a_local_declaration room) state ahead (local_alias_at state ahead)
+unfolding local_alias_at behind_word
+local_alias_stops room state ahead word =
+    which_in (is_name (kind_ahead (behind ahead))) (λ named. alias_or_not_stops state ahead (behind ahead) ahead (alias_name ahead) (behind_stands ahead) (λ equals. in_local_alias word (record { named = named; equals = equals }))) (λ none. calm (quiet_in later_is_quiet refl))
+
 local_declaration_stops : (room : ℕ) (state : CxxState) (ahead : Ahead) → Stops (a_local_declaration room) state ahead (local_declaration_at room state ahead)
 unfolding local_declaration_at
 local_declaration_stops room state ahead =
-    whole_stops (λ fault is. is) (then_from _ (leads_here in_local_specifiers (specifiers_stop room where_.Block state ahead)) (λ one is later stands.
-    then_calm (leads_in (to_local_declarators is) later stands (local_declarators_of_stop room one.value one.state one.rest)) (λ declarators state rest.
-    then_in later_is_quiet (looked_in later_is_quiet state rest) (λ to. give_in later_is_quiet (simple_tree (specifiers_tree one.value ahead one.rest) declarators ahead to)))))
+    whole_stops (λ fault is. is) (
+    which_in (is_keyword keyword.NAMESPACE (kind_ahead ahead)) (λ word. local_alias_stops room state ahead word) (λ no_namespace.
+    which_in (is_keyword keyword.USING (kind_ahead ahead)) (λ using. leads_here (to_local_directive (record { no_namespace = no_namespace; is_using = using })) (directive_stops state ahead))
+    (λ no_using. simple_local_stops room state ahead (record { no_namespace = no_namespace; no_using = no_using }))))
 
 -- ---- conditions
 
-condition_initializer_stops : (room : ℕ) (name : Lexeme) (of : CxxType) (number : ℕ) (state : CxxState) (ahead : Ahead) → Stops (a_condition_initializer room name of number) state ahead (condition_initializer_of room name of number state ahead)
-condition_initializer_stops room name of number state ahead = innermost_stops tt (λ fault is. is) (condition_part_tells room name of number state ahead)
+condition_initializer_stops : (room : ℕ) (name : Lexeme) (of : CxxType) (number : ℕ) (state : CxxState) (ahead : Ahead) → HasNumber number state → Stops (a_condition_initializer room name of number) state ahead (condition_initializer_of room name of number state ahead)
+condition_initializer_stops room name of number state ahead there = innermost_stops tt (λ fault is. is) (condition_part_tells room name of number state ahead there)
 
 tested_object_stops : (room : ℕ) (specifiers : Specifiers) (declarator : Declarator) (from : Ahead) (state between after : CxxState) (ahead middle rest : Ahead) → Gives (specifiers_of room where_.TypeId) state ahead specifiers between middle → Gives (declarator_of room) between middle declarator after rest
     → is_function_type (declared_type declarator.layers (said_by false specifiers).of) ≡ false → IsLater state after → EndsIn ahead.tokens rest.tokens → Inside (a_declared_condition room) state ahead (tested_object room (said_by false specifiers) declarator from after rest)
@@ -110,7 +128,7 @@ tested_object_stops room specifiers declarator from state between after ahead mi
     let name = name_of_declarator declarator in
     let of = declared_type declarator.layers (said_by false specifiers).of in
     then_asked _ (define_object name of) (define_tells name of after rest) later stands (λ answer is_defined later.
-    then_calm (leads_in (to_condition_initializer is_specified is_declared no_function is_defined) later stands (condition_initializer_stops room name of answer.0 answer.1 rest)) (λ parts state ahead.
+    then_calm (leads_in (to_condition_initializer is_specified is_declared no_function is_defined) later stands (condition_initializer_stops room name of answer.0 answer.1 rest (defined_is_there name of after answer is_defined))) (λ parts state ahead.
     then_in later_is_quiet (ask_in ahead (keep_tested_tells answer.0 state ahead)) (λ kept state ahead.
     then_in later_is_quiet (looked_in later_is_quiet state ahead) (λ to. give_in later_is_quiet (declarator_tree false name of answer.0 (declarator.parts ++ parts) from to)))))
 
@@ -121,7 +139,7 @@ tested_stops room specifiers state between ahead middle is_specified later stand
     let said = said_by false specifiers in
     then_from (λ declarator. declared_fits said declarator >>= λ fits. tested_by room said middle declarator) (leads_in (to_condition_declarator is_specified) later stands (declarator_stops room between middle)) (λ one is later stands.
     fits_stops said one.value (λ fits. tested_by room said middle one.value) one.state one.rest (
-    which_reads (is_function_type (declared_type one.value.layers said.of)) _ _ one.state one.rest (λ function. calm (quiet_in later_is_quiet refl))
+    which_reads (is_function_type (declared_type one.value.layers said.of)) _ _ one.state one.rest (λ function. calm_from later stands (tested_function_tells said one.value one.state one.rest))
     (λ no_function. tested_object_stops room specifiers one.value middle state between one.state ahead middle one.rest is_specified is no_function later stands)))
 
 declared_condition_stops : (room : ℕ) (state : CxxState) (ahead : Ahead) → Stops (a_declared_condition room) state ahead (declared_condition_at room state ahead)
@@ -207,7 +225,7 @@ calm_of : {A : Type 0} {part : Part} {s : CxxState} {ahead : Ahead} {t : CxxStat
 calm_of (tells_read one keeps stands) = tells_read one keeps stands
 calm_of {part = part} {s = s} {ahead = ahead} (tells_stop why quiet) = tells_stop why (quiet_told within_part part s ahead why quiet)
 
-leads_of : {A : Type 0} {part next : Part} {s : CxxState} {ahead : Ahead} {t : CxxState} {rest : Ahead} {r : Answer (Got CxxState A)} → Leads part s ahead next t rest → IsReached s t → EndsIn ahead.tokens rest.tokens → Stops next t rest r → From part s ahead t rest r
+leads_of : {A : Type 0} {part next : Part} {s : CxxState} {ahead : Ahead} {t : CxxState} {rest : Ahead} {r : Answer (Got CxxState A)} → Leads part s ahead next t rest → IsBehind s t → EndsIn ahead.tokens rest.tokens → Stops next t rest r → From part s ahead t rest r
 leads_of leads reached stands (tells_read one keeps ends) = tells_read one keeps ends
 leads_of {part = part} {next = next} {s = s} {ahead = ahead} {t = t} {rest = rest} leads reached stands (tells_stop why true_of) = tells_stop why (told_within part next s t ahead rest why leads reached stands true_of)
 
@@ -244,8 +262,8 @@ keyword_of {B = B} {part = part} {s = s} {ahead = ahead} {t = t} {rest = rest} n
 
 -- ---- blocks that are entered
 
-block_reached : (t u : CxxState) → IsInBlock None t u → IsReached t u
-block_reached t u first = reached_later t (entered (scope_kind.Block None) t) u (entered_reached (scope_kind.Block None) t) (reached_by_later (entered (scope_kind.Block None) t) u first)
+block_reached : (t u : CxxState) → IsInBlock None t u → IsBehind t u
+block_reached t u first = behind_later t (entered (scope_kind.Block None) t) u (entered_behind (scope_kind.Block None) tt t) (behind_by_later (entered (scope_kind.Block None) t) u first)
 
 block_on : (t u v : CxxState) → IsInBlock None t u → IsLater u v → IsInBlock None t v
 block_on t u v first later = later_is_kept.later (entered (scope_kind.Block None) t) u v first later
@@ -275,7 +293,7 @@ outward_of go first tells second = then_entered_of go (stays_of first tells) sec
 
 leave_of : {B : Type 0} {part : Part} {s : CxxState} {ahead : Ahead} {t u : CxxState} {rest : Ahead} {go : Unit {0} → Reads CxxState B} → IsInBlock None t u → ((x : Unit {0}) → Tells IsLater Quietly (go x)) → From part s ahead t rest (then_read (answered (leave_block u) rest) go)
 unfolding leave_block
-leave_of {part = part} {s = s} {ahead = ahead} {t = t} {u = u} {rest = rest} first tells = from_in (of_told part s ahead) t (left u) rest rest (left_later (scope_kind.Block None) t u first) (whole_stands rest.tokens) (calm_of (tells tt (left u) rest))
+leave_of {part = part} {s = s} {ahead = ahead} {t = t} {u = u} {rest = rest} first tells = from_in (of_told part s ahead) t (left u) rest rest (left_later (scope_kind.Block None) tt t u first) (whole_stands rest.tokens) (calm_of (tells tt (left u) rest))
 
 -- ---- statements up to the end of a block
 
@@ -297,11 +315,11 @@ unfolding statements_in
 statements_stop room each around s ahead = repeat_stops (some_statements room) (statement_step_of room) never_ended (λ so_far s ahead fault is. is) (λ so_far more s t ahead rest is. next_statement is) (statement_step_stops room each) (λ so_far state ahead. quiet_in later_is_quiet refl) (count_ahead ahead) ([], around) s ahead
 
 -- the statements of a block, which is entered where the reader stands
-block_statements_of : {part : Part} {s : CxxState} {ahead : Ahead} (room : ℕ) → EachStops room → (around : Around) (t : CxxState) (rest : Ahead) → IsReached s t → EndsIn ahead.tokens rest.tokens → ((entered : Unit {0} × CxxState) → Enters t entered → Leads part s ahead (some_statements room ([], around)) entered.1 rest)
+block_statements_of : {part : Part} {s : CxxState} {ahead : Ahead} (room : ℕ) → EachStops room → (around : Around) (t : CxxState) (rest : Ahead) → IsBehind s t → EndsIn ahead.tokens rest.tokens → ((entered : Unit {0} × CxxState) → Enters t entered → Leads part s ahead (some_statements room ([], around)) entered.1 rest)
     → From part s ahead t rest (statements_at (parts_at room) (within parts_at room) around t rest)
 unfolding statements_at parts_at
 block_statements_of {s = s} room each around t rest reached stands leads =
-    enter_of _ (λ entered is first. outward_of _ first (leads_of (leads entered is) (reached_later s t entered.1 reached (block_reached t entered.1 first)) stands (statements_stop room each around entered.1 rest)) (λ one is_read last ends. leave_of last (λ left. give_in later_is_quiet one.value)))
+    enter_of _ (λ entered is first. outward_of _ first (leads_of (leads entered is) (behind_later s t entered.1 reached (block_reached t entered.1 first)) stands (statements_stop room each around entered.1 rest)) (λ one is_read last ends. leave_of last (λ left. give_in later_is_quiet one.value)))
 
 abbrev LeadsToBlock : Part → ℕ → Around → CxxState → Ahead → Type 0
 LeadsToBlock part zero around s ahead = Unit {0}
@@ -311,7 +329,7 @@ block_stops : {part : Part} (room : ℕ) → InnerStops room → (around : Aroun
 unfolding block_in within
 block_stops zero inner around s ahead leads = calm (quiet_in later_is_quiet refl)
 block_stops (suc room) inner around s ahead leads =
-    inside (past_of (then_quiet _ (block_statements_of room inner around s (behind ahead) (reached_by_later s s (later_here s)) (behind_stands ahead) leads) (λ inside_it state rest.
+    inside (past_of (then_quiet _ (block_statements_of room inner around s (behind ahead) (behind_by_later s s (later_here s)) (behind_stands ahead) leads) (λ inside_it state rest.
     then_in later_is_quiet (looked_in later_is_quiet state rest) (λ to. give_in later_is_quiet (statement_tree production.block inside_it.0 ahead to, inside_it.1)))))
 
 -- ---- statements in statements
@@ -325,7 +343,7 @@ nested_stops : (room : ℕ) → InnerStops room → (around : Around) (begins : 
 unfolding within sub_statement_at parts_at
 nested_stops zero inner around begins s t ahead rest no_brace is later stands = calm_of (quiet_in later_is_quiet refl)
 nested_stops (suc room) inner around begins s t ahead rest no_brace is later stands =
-    enter_of _ (λ entered enters first. outward_of _ first (leads_of (to_statement no_brace is enters) (reached_later s t entered.1 (reached_by_later s t later) (block_reached t entered.1 first)) stands (inner around entered.1 rest)) (λ one is_read last ends. leave_of last (λ left. give_in later_is_quiet one.value)))
+    enter_of _ (λ entered enters first. outward_of _ first (leads_of (to_statement no_brace is enters) (behind_later s t entered.1 (behind_by_later s t later) (block_reached t entered.1 first)) stands (inner around entered.1 rest)) (λ one is_read last ends. leave_of last (λ left. give_in later_is_quiet one.value)))
 
 inner_block_leads : (room : ℕ) (around : Around) (s : CxxState) (ahead : Ahead) → is_punct punct.LEFT_BRACE (kind_ahead ahead) ≡ true → LeadsToBlock (an_inner_statement room around) room around s ahead
 inner_block_leads zero around s ahead brace = tt
@@ -362,7 +380,7 @@ left_tells number from trees around left state ahead = then_in later_is_quiet (l
 -- ---- selection
 
 other_stops : (room : ℕ) → InnerStops room → (around : Around) (condition : CxxTree) (one : CxxTree × Around) (s between t : CxxState) (ahead middle rest : Ahead) → is_keyword keyword.IF (kind_ahead ahead) ≡ true → HasCondition room to_bool s ahead condition between middle
-    → Gives (inner_statement_of room around) between middle one t rest → IsReached s t → EndsIn ahead.tokens rest.tokens → From (an_unlabelled_statement room around) s ahead t rest (other_part (parts_at room) (within parts_at room) one.1 t rest)
+    → Gives (inner_statement_of room around) between middle one t rest → IsBehind s t → EndsIn ahead.tokens rest.tokens → From (an_unlabelled_statement room around) s ahead t rest (other_part (parts_at room) (within parts_at room) one.1 t rest)
 unfolding other_part else_part
 other_stops room inner around condition one s between t ahead middle rest word has is reached stands =
     which_of (is_keyword keyword.ELSE (kind_ahead rest)) (λ other.
@@ -390,11 +408,11 @@ switch_stops room inner around s ahead begins word =
 
 -- ---- loops
 
-loop_stops : {part : Part} {s : CxxState} {ahead : Ahead} (room : ℕ) → InnerStops room → (number : ℕ) (from : Ahead) (before : List CxxTree) (around : Around) (t u : CxxState) (rest : Ahead) → IsReached s t → IsInBlock None t u → EndsIn ahead.tokens rest.tokens → Leads part s ahead (an_inner_statement room (in_a_loop around)) u rest
+loop_stops : {part : Part} {s : CxxState} {ahead : Ahead} (room : ℕ) → InnerStops room → (number : ℕ) (from : Ahead) (before : List CxxTree) (around : Around) (t u : CxxState) (rest : Ahead) → IsBehind s t → IsInBlock None t u → EndsIn ahead.tokens rest.tokens → Leads part s ahead (an_inner_statement room (in_a_loop around)) u rest
     → From part s ahead t rest (loop_ended (parts_at room) (within parts_at room) number from before around u rest)
 unfolding loop_ended parts_at
 loop_stops {s = s} room inner number from before around t u rest reached first stands leads =
-    outward_of _ first (leads_of leads (reached_later s t u reached (block_reached t u first)) stands (inner_statement_stops room inner (in_a_loop around) u rest)) (λ body is_body second ends.
+    outward_of _ first (leads_of leads (behind_later s t u reached (block_reached t u first)) stands (inner_statement_stops room inner (in_a_loop around) u rest)) (λ body is_body second ends.
     leave_of second (left_tells number from (before ++ body.value.0 ∷ []) (behind_loop around body.value.1)))
 
 while_stops : (room : ℕ) → InnerStops room → (around : Around) (s : CxxState) (ahead : Ahead) → is_conditional (kind_ahead ahead) ≡ true → is_keyword keyword.WHILE (kind_ahead ahead) ≡ true → Inside (an_unlabelled_statement room around) s ahead (while_in (parts_at room) (within parts_at room) around s ahead)
@@ -402,7 +420,7 @@ unfolding while_in
 while_stops room inner around s ahead begins word =
     inside (past_of (punct_of punct.LEFT_PARENTHESIS _ (λ opens.
     then_entered_of _ (bracket_stops room around to_bool s ahead (begins, opens)) (λ condition is first stands.
-    loop_stops room inner production.while ahead (condition.value ∷ []) around s condition.state condition.rest (reached_by_later s s (later_here s)) first (ends_later ahead.tokens (in_bracket ahead).tokens condition.rest.tokens (twice_behind ahead) stands)
+    loop_stops room inner production.while ahead (condition.value ∷ []) around s condition.state condition.rest (behind_by_later s s (later_here s)) first (ends_later ahead.tokens (in_bracket ahead).tokens condition.rest.tokens (twice_behind ahead) stands)
     (behind_while word (record { opens = opens; gives = is }))))))
 
 last_condition_stops : (room : ℕ) (around : Around) (body : CxxTree × Around) (s t : CxxState) (ahead rest : Ahead) → is_keyword keyword.DO (kind_ahead ahead) ≡ true → Gives (inner_statement_of room (in_a_loop around)) s (behind ahead) body t rest → is_keyword keyword.WHILE (kind_ahead rest) ≡ true → IsOpened rest → IsLater s t → EndsIn ahead.tokens rest.tokens
@@ -410,12 +428,12 @@ last_condition_stops : (room : ℕ) (around : Around) (body : CxxTree × Around)
 unfolding within last_condition_at parts_at
 last_condition_stops zero around body s t ahead rest word is loops opens later stands = calm_of (quiet_in later_is_quiet refl)
 last_condition_stops (suc room) around body s t ahead rest word is loops opens later stands =
-    then_quiet _ (leads_of (to_last_condition word is loops opens) (reached_by_later s t later) (past_stands ahead (behind rest) (past_stands ahead rest stands)) (whole_expression_stops room t (in_bracket rest))) (ended_tells room to_bool)
+    then_quiet _ (leads_of (to_last_condition word is loops opens) (behind_by_later s t later) (past_stands ahead (behind rest) (past_stands ahead rest stands)) (whole_expression_stops room t (in_bracket rest))) (ended_tells room to_bool)
 
 do_stops : (room : ℕ) → InnerStops room → (around : Around) (s : CxxState) (ahead : Ahead) → is_keyword keyword.DO (kind_ahead ahead) ≡ true → Inside (an_unlabelled_statement room around) s ahead (do_in (parts_at room) (within parts_at room) around s ahead)
 unfolding do_in
 do_stops room inner around s ahead word =
-    inside (past_of (then_of _ (leads_of (behind_do word) (reached_by_later s s (later_here s)) (behind_stands ahead) (inner_statement_stops room inner (in_a_loop around) s (behind ahead))) (λ body is later stands.
+    inside (past_of (then_of _ (leads_of (behind_do word) (behind_by_later s s (later_here s)) (behind_stands ahead) (inner_statement_stops room inner (in_a_loop around) s (behind ahead))) (λ body is later stands.
     keyword_of keyword.WHILE _ (λ loops. punct_of punct.LEFT_PARENTHESIS _ (λ opens.
     then_quiet _ (last_condition_stops room around body.value s body.state ahead body.rest word is loops opens later (ends_later ahead.tokens (behind ahead).tokens body.rest.tokens (behind_stands ahead) stands)) (λ condition state rest.
     then_in later_is_quiet (tokens_in later_is_quiet (punct_in unit_is_told punct.SEMICOLON) state rest) (λ ended state rest.
@@ -423,14 +441,14 @@ do_stops room inner around s ahead word =
 
 -- ---- `for`
 
-first_stops : (room : ℕ) (around : Around) (s : CxxState) (ahead : Ahead) (entered : Unit {0} × CxxState) → BeginsFor s ahead entered → IsReached s entered.1 → From (an_unlabelled_statement (suc room) around) s ahead entered.1 (in_bracket ahead) (first_part (parts_at room) entered.1 (in_bracket ahead))
+first_stops : (room : ℕ) (around : Around) (s : CxxState) (ahead : Ahead) (entered : Unit {0} × CxxState) → BeginsFor s ahead entered → IsBehind s entered.1 → From (an_unlabelled_statement (suc room) around) s ahead entered.1 (in_bracket ahead) (first_part (parts_at room) entered.1 (in_bracket ahead))
 unfolding first_part
 first_stops room around s ahead entered begins reached =
     which_of (is_punct punct.SEMICOLON (kind_ahead (in_bracket ahead))) (λ ends. calm_of (next_in later_is_quiet (no_part (in_bracket ahead)) entered.1 (in_bracket ahead))) (λ goes_on.
     which_of (begins_statement (kind_ahead (in_bracket ahead)) || begins_no_object (kind_ahead (in_bracket ahead))) (λ other. calm_of (quiet_in later_is_quiet refl)) (λ plain.
     leads_of (to_first_part begins goes_on plain) reached (twice_behind ahead) (plain_stops room entered.1 (in_bracket ahead))))
 
-second_stops : (room : ℕ) (around : Around) (s : CxxState) (ahead : Ahead) (entered : Unit {0} × CxxState) (first : CxxTree) (t : CxxState) (rest : Ahead) → BeginsFor s ahead entered → Gives (first_part (parts_at room)) entered.1 (in_bracket ahead) first t rest → IsReached s t → EndsIn ahead.tokens rest.tokens
+second_stops : (room : ℕ) (around : Around) (s : CxxState) (ahead : Ahead) (entered : Unit {0} × CxxState) (first : CxxTree) (t : CxxState) (rest : Ahead) → BeginsFor s ahead entered → Gives (first_part (parts_at room)) entered.1 (in_bracket ahead) first t rest → IsBehind s t → EndsIn ahead.tokens rest.tokens
     → From (an_unlabelled_statement (suc room) around) s ahead t rest (second_part (parts_at room) t rest)
 unfolding second_part some_condition parts_at
 second_stops room around s ahead entered first t rest begins is reached stands =
@@ -439,7 +457,7 @@ second_stops room around s ahead entered first t rest begins is reached stands =
     then_in later_is_quiet (ask_in rest (become_tells later_is_quiet to_bool tree state rest)) (λ value state rest.
     then_in later_is_quiet (tokens_in later_is_quiet (punct_in unit_is_told punct.SEMICOLON) state rest) (λ ended. give_in later_is_quiet value))))
 
-third_stops : (room : ℕ) (around : Around) (s : CxxState) (ahead : Ahead) (entered : Unit {0} × CxxState) (first second : CxxTree) (between t : CxxState) (middle rest : Ahead) → BeginsFor s ahead entered → Gives (first_part (parts_at room)) entered.1 (in_bracket ahead) first between middle → Gives (second_part (parts_at room)) between middle second t rest → IsReached s t → EndsIn ahead.tokens rest.tokens
+third_stops : (room : ℕ) (around : Around) (s : CxxState) (ahead : Ahead) (entered : Unit {0} × CxxState) (first second : CxxTree) (between t : CxxState) (middle rest : Ahead) → BeginsFor s ahead entered → Gives (first_part (parts_at room)) entered.1 (in_bracket ahead) first between middle → Gives (second_part (parts_at room)) between middle second t rest → IsBehind s t → EndsIn ahead.tokens rest.tokens
     → From (an_unlabelled_statement (suc room) around) s ahead t rest (third_part (parts_at room) t rest)
 unfolding third_part some_step parts_at
 third_stops room around s ahead entered first second between t middle rest begins is is_second reached stands =
@@ -455,10 +473,10 @@ loop_parts_stop (suc room) around s ahead word opens =
     let begins : BeginsFor s ahead entered = record { word = word; opens = opens; enters = enters } in
     let reached = block_reached s entered.1 block in
     stays_of block (then_of _ (first_stops room around s ahead entered begins reached) (λ first is later stands.
-    let reached = reached_later s entered.1 first.state reached (reached_by_later entered.1 first.state later) in
+    let reached = behind_later s entered.1 first.state reached (behind_by_later entered.1 first.state later) in
     let stands = ends_later ahead.tokens (in_bracket ahead).tokens first.rest.tokens (twice_behind ahead) stands in
     then_of _ (second_stops room around s ahead entered first.value first.state first.rest begins is reached stands) (λ second is_second later ends.
-    let reached = reached_later s first.state second.state reached (reached_by_later first.state second.state later) in
+    let reached = behind_later s first.state second.state reached (behind_by_later first.state second.state later) in
     let stands = ends_later ahead.tokens first.rest.tokens second.rest.tokens stands ends in
     then_quiet _ (third_stops room around s ahead entered first.value second.value first.state second.state first.rest second.rest begins is is_second reached stands) (λ third. give_in later_is_quiet (first.value ∷ second.value ∷ third ∷ []))))))
 
@@ -467,7 +485,7 @@ unfolding for_in
 for_stops room inner around s ahead word =
     inside (past_of (punct_of punct.LEFT_PARENTHESIS _ (λ opens.
     then_entered_of _ (loop_parts_stop room around s ahead word opens) (λ all is first stands.
-    loop_stops room inner production.for ahead all.value around s all.state all.rest (reached_by_later s s (later_here s)) first (ends_later ahead.tokens (in_bracket ahead).tokens all.rest.tokens (twice_behind ahead) stands) (behind_for word opens is)))))
+    loop_stops room inner production.for ahead all.value around s all.state all.rest (behind_by_later s s (later_here s)) first (ends_later ahead.tokens (in_bracket ahead).tokens all.rest.tokens (twice_behind ahead) stands) (behind_for word opens is)))))
 
 -- ---- statements without labels
 
@@ -475,7 +493,7 @@ answer_stops : (room : ℕ) (around : Around) (s : CxxState) (ahead : Ahead) →
 unfolding answer some_answer parts_at
 answer_stops room around s ahead word =
     which_of (is_punct punct.SEMICOLON (kind_ahead (behind ahead))) (λ ends. calm_of (next_in later_is_quiet [] s (behind ahead))) (λ goes_on.
-    then_quiet _ (leads_of (to_answer word goes_on) (reached_by_later s s (later_here s)) (behind_stands ahead) (whole_expression_stops room s (behind ahead))) (λ tree state rest.
+    then_quiet _ (leads_of (to_answer word goes_on) (behind_by_later s s (later_here s)) (behind_stands ahead) (whole_expression_stops room s (behind ahead))) (λ tree state rest.
     then_in later_is_quiet (ask_in rest (become_tells later_is_quiet to_result tree state rest)) (λ value state rest.
     then_in later_is_quiet (tokens_in later_is_quiet (punct_in unit_is_told punct.SEMICOLON) state rest) (λ ended. give_in later_is_quiet (value ∷ [])))))
 

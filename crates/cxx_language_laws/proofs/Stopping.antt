@@ -8,8 +8,8 @@ use Rattle.cxx_reading.specs.State.{CxxState}
 use Rattle.cxx_language_laws.specs.Stopping.{Gives, IsInnermost, IsStopped, IsStoppedIn, Leads, Part, StopsWithin, it_leads, it_stops}
 use Rattle.cxx_language_laws.specs.Told.{EndsIn}
 use Rattle.cxx_language_laws.proofs.Later.{IsLater, later_is_kept, later_is_quiet}
-use Rattle.cxx_language_laws.proofs.Reached.{IsChosen, IsReached, IsUndeclared, Reached, reached_by_later, reached_later, Told as ToldOf, ToldSo as ToldSoOf}
-use Rattle.cxx_language_laws.proofs.Tells.{Saying, choosing, undeclared, nothing, saying, IsQuiet, Quietly, whole_stands, ends_later, ToldIn, tells_read, tells_stop, Tells, ToldBy, tells_answer, tells_refusal, from_in, then_from}
+use Rattle.cxx_language_laws.proofs.Reached.{IsBehind, IsChosen, IsManifold, IsUndeclared, Reached, behind_by_later, behind_later, Told as ToldOf, ToldSo as ToldSoOf}
+use Rattle.cxx_language_laws.proofs.Tells.{Saying, choosing, undeclared, ambiguous, nothing, saying, IsQuiet, Quietly, whole_stands, ends_later, ToldIn, tells_read, tells_stop, Tells, ToldBy, tells_answer, tells_refusal, from_in, then_from}
 
 -- ---- what is true of a stop
 
@@ -20,14 +20,14 @@ pub record Chained (part : Part) (state : CxxState) (ahead : Ahead) (fault : Fau
   pub from : Ahead
   pub stops : StopsWithin fault part state ahead last before from
   pub innermost : IsInnermost last
-  pub later : IsReached state before
+  pub later : IsBehind state before
   pub stands : EndsIn ahead.tokens from.tokens
   pub is : P before from
 
 -- the same within a part, whether or not its reading stops
 pub data Within (part : Part) (state : CxxState) (ahead : Ahead) (fault : Fault) (P : CxxState → Ahead → Type 0) : Type 0 where
   it_is_here : IsInnermost part → P state ahead → Within part state ahead fault P
-  it_is_in : (next : Part) (t : CxxState) (middle : Ahead) → Leads part state ahead next t middle → IsReached state t → EndsIn ahead.tokens middle.tokens → Chained next t middle fault P → Within part state ahead fault P
+  it_is_in : (next : Part) (t : CxxState) (middle : Ahead) → Leads part state ahead next t middle → IsBehind state t → EndsIn ahead.tokens middle.tokens → Chained next t middle fault P → Within part state ahead fault P
 
 pub data Sight : Type 0 where
   whole_part : Sight
@@ -45,9 +45,14 @@ Choosing fault before from = Reached before from (IsChosen fault)
 abbrev pub Unknown : Fault → List ℕ → CxxState → Ahead → Type 0
 Unknown fault word before from = Reached before from (IsUndeclared fault word)
 
+-- 3.4: a name that is ambiguous is reached
+abbrev pub Manifold : Fault → List ℕ → CxxState → Ahead → Type 0
+Manifold fault word before from = Reached before from (IsManifold fault word)
+
 abbrev pub ChainedSo : Sight → Part → CxxState → Ahead → Fault → Saying → Type 0
 ChainedSo sight part state ahead fault choosing = ChainedBy sight part state ahead fault (Choosing fault)
 ChainedSo sight part state ahead fault (undeclared word) = ChainedBy sight part state ahead fault (Unknown fault word)
+ChainedSo sight part state ahead fault (ambiguous word) = ChainedBy sight part state ahead fault (Manifold fault word)
 ChainedSo sight part state ahead fault nothing = Unit {0}
 
 abbrev pub ChainedOf : Sight → Part → CxxState → Ahead → Stopped → Type 0
@@ -76,18 +81,19 @@ pub later_here : (state : CxxState) → IsLater state state
 later_here state = later_is_kept.same state
 
 -- what stops the part to which another leads
-so_within : (part next : Part) (s t : CxxState) (ahead middle : Ahead) (fault : Fault) (what : Saying) → Leads part s ahead next t middle → IsReached s t → EndsIn ahead.tokens middle.tokens → ChainedSo whole_part next t middle fault what → ChainedSo within_part part s ahead fault what
+so_within : (part next : Part) (s t : CxxState) (ahead middle : Ahead) (fault : Fault) (what : Saying) → Leads part s ahead next t middle → IsBehind s t → EndsIn ahead.tokens middle.tokens → ChainedSo whole_part next t middle fault what → ChainedSo within_part part s ahead fault what
 so_within part next s t ahead middle fault choosing leads later stands told = it_is_in next t middle leads later stands told
 so_within part next s t ahead middle fault (undeclared word) leads later stands told = it_is_in next t middle leads later stands told
+so_within part next s t ahead middle fault (ambiguous word) leads later stands told = it_is_in next t middle leads later stands told
 so_within part next s t ahead middle fault nothing leads later stands told = tt
 
-pub told_within : (part next : Part) (s t : CxxState) (ahead middle : Ahead) (why : Stopped) → Leads part s ahead next t middle → IsReached s t → EndsIn ahead.tokens middle.tokens → ChainedOf whole_part next t middle why → ChainedOf within_part part s ahead why
+pub told_within : (part next : Part) (s t : CxxState) (ahead middle : Ahead) (why : Stopped) → Leads part s ahead next t middle → IsBehind s t → EndsIn ahead.tokens middle.tokens → ChainedOf whole_part next t middle why → ChainedOf within_part part s ahead why
 told_within part next s t ahead middle (Faulty fault) leads later stands told = so_within part next s t ahead middle fault (saying fault.text) leads later stands told
 told_within part next s t ahead middle (Limited kind) leads later stands told = tt
 
 pub leads_in : {A : Type 0} {part next : Part} {s t : CxxState} {ahead middle : Ahead} {r : Answer (Got CxxState A)} → Leads part s ahead next t middle → IsLater s t → EndsIn ahead.tokens middle.tokens → Stops next t middle r → Inside part s ahead r
 leads_in {s = s} {t = t} {ahead = ahead} {middle = middle} leads later stands (tells_read one keeps ends) = tells_read one (later_is_kept.later s t one.state later keeps) (ends_later ahead.tokens middle.tokens one.rest.tokens stands ends)
-leads_in {part = part} {next = next} {s = s} {t = t} {ahead = ahead} {middle = middle} leads later stands (tells_stop why true_of) = tells_stop why (told_within part next s t ahead middle why leads (reached_by_later s t later) stands true_of)
+leads_in {part = part} {next = next} {s = s} {t = t} {ahead = ahead} {middle = middle} leads later stands (tells_stop why true_of) = tells_stop why (told_within part next s t ahead middle why leads (behind_by_later s t later) stands true_of)
 
 -- the same where nothing was read
 pub leads_here : {A : Type 0} {part next : Part} {state : CxxState} {ahead : Ahead} {r : Answer (Got CxxState A)} → Leads part state ahead next state ahead → Stops next state ahead r → Inside part state ahead r
@@ -102,7 +108,7 @@ reached_by part state ahead fault P stops (it_is_here innermost is) = record {
   from = ahead;
   stops = it_stops stops;
   innermost = innermost;
-  later = reached_by_later state state (later_here state);
+  later = behind_by_later state state (later_here state);
   stands = whole_stands ahead.tokens;
   is = is;
 }
@@ -112,7 +118,7 @@ reached_by part state ahead fault P stops (it_is_in next t middle leads later st
   from = reached.from;
   stops = it_leads stops leads reached.stops;
   innermost = reached.innermost;
-  later = reached_later state t reached.before later reached.later;
+  later = behind_later state t reached.before later reached.later;
   stands = ends_later ahead.tokens middle.tokens reached.from.tokens stands reached.stands;
   is = reached.is;
 }
@@ -120,6 +126,7 @@ reached_by part state ahead fault P stops (it_is_in next t middle leads later st
 so_whole : (part : Part) (state : CxxState) (ahead : Ahead) (fault : Fault) (what : Saying) → IsStopped part state ahead fault → ChainedSo within_part part state ahead fault what → ChainedSo whole_part part state ahead fault what
 so_whole part state ahead fault choosing stops told = reached_by part state ahead fault (Choosing fault) stops told
 so_whole part state ahead fault (undeclared word) stops told = reached_by part state ahead fault (Unknown fault word) stops told
+so_whole part state ahead fault (ambiguous word) stops told = reached_by part state ahead fault (Manifold fault word) stops told
 so_whole part state ahead fault nothing stops told = tt
 
 -- where its reader stops, the reading of the part does
@@ -133,6 +140,7 @@ whole_stops {part = part} {state = state} {ahead = ahead} stops (tells_stop (Fau
 so_here : (part : Part) (state : CxxState) (ahead : Ahead) (fault : Fault) (what : Saying) → IsInnermost part → ToldSoOf state ahead fault what → ChainedSo within_part part state ahead fault what
 so_here part state ahead fault choosing innermost told = it_is_here innermost told
 so_here part state ahead fault (undeclared word) innermost told = it_is_here innermost told
+so_here part state ahead fault (ambiguous word) innermost told = it_is_here innermost told
 so_here part state ahead fault nothing innermost told = tt
 
 told_here : (part : Part) (state : CxxState) (ahead : Ahead) (why : Stopped) → IsInnermost part → ToldOf state ahead why → ChainedOf within_part part state ahead why

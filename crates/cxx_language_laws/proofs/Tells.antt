@@ -26,12 +26,14 @@ use Rattle.cxx_language_laws.specs.Told.{EndsIn}
 pub data Saying : Type 0 where
   choosing : Saying
   undeclared : List ℕ → Saying
+  ambiguous : List ℕ → Saying
   nothing : Saying
 
 abbrev pub saying : FaultText → Saying
 saying says.NoViableFunction = choosing
 saying says.AmbiguousCall = choosing
 saying (says.UndeclaredName word) = undeclared word
+saying (says.AmbiguousName word) = ambiguous word
 saying _ = nothing
 
 abbrev pub saying_of : Stopped → Saying

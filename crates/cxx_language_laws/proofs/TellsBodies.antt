@@ -63,8 +63,8 @@ left_out_calm _ = tt
 
 head_as_tells : (begins : heads.Head) → Tells IsLater Quietly (head_as begins)
 head_as_tells heads_.Declaration state ahead = give_in later_is_quiet head.Declaration state ahead
-head_as_tells heads_.Using state ahead = quiet_in later_is_quiet refl
-head_as_tells heads_.Namespace state ahead = quiet_in later_is_quiet refl
+head_as_tells heads_.Using state ahead = give_in later_is_quiet head.Declaration state ahead
+head_as_tells heads_.Namespace state ahead = give_in later_is_quiet head.Declaration state ahead
 head_as_tells heads_.Label state ahead = quiet_in later_is_quiet refl
 head_as_tells heads_.Expression state ahead = give_in later_is_quiet head.Expression state ahead
 
@@ -174,8 +174,8 @@ body_grown list number result state = grown_by state (begun_body list number res
 pub body_reached : (list number : ℕ) (result : CxxType) (state : CxxState) → list < scope_count state.graph → IsReached state (begun_body list number result state)
 body_reached list number result state there = record {
   grown = body_grown list number result state;
-  scopes = λ is. scopes_entered (scope_kind.Block (Some (number_id number))) (in_list list result state) (scopes_at list (with_result (Some result) state) there (scopes_same state (with_result (Some result) state) refl refl is));
-  scope = inr (omega arith);
+  scopes = λ is. scopes_entered (scope_kind.Block (Some (number_id number))) tt (in_list list result state) (scopes_at list (with_result (Some result) state) there (scopes_same state (with_result (Some result) state) refl refl is));
+  scope = λ is. inr (omega arith);
 }
 
 -- where all of it was read
@@ -189,5 +189,5 @@ body_later list number result state t there later =
       grown = grown_later state t ended grown (grown_same t ended refl);
       scopes = λ is. let stands = scope_is_there state is in scopes_at state.here.scope (with_result None t) (omega (arith, stands, more)) (scopes_same t (with_result None t) refl refl (later.scopes ((body_reached list number result state there).scopes is)));
       best = λ is. same_calls t ended (grown_same t ended refl) refl (later.best (same_calls state begun (body_grown list number result state) refl is));
-      here = refl;
+      here = λ is. refl;
     }

@@ -24,7 +24,7 @@ use Rattle.cxx_language_laws.proofs.PhrasesTell.{IsPlain}
 use Rattle.cxx_language_laws.proofs.QuestionsTell.{QuestionsTell, quiet_by, same_by, if_by, yes_by, no_by, then_by, give_by}
 use Rattle.cxx_language_laws.proofs.Tells.{IsTold, ToldBy, Answers}
 use Rattle.cxx_language_laws.proofs.TellsConversions.{literal_tells, convert_tells, size_tells}
-use Rattle.cxx_language_laws.proofs.TellsNames.{AskedOf, NameTells, through_tells, name_call_tells, name_alone_tells}
+use Rattle.cxx_language_laws.proofs.TellsNames.{AskedOf, CalledTells, NameTells, through_tells, name_call_tells, name_alone_tells}
 use Rattle.cxx_language_laws.proofs.TellsOperators.{misshapen_tells, prefix_tells, step_tells, binary_tells, conditional_tells, cast_tells, functional_tells}
 
 -- ---- expressions without names
@@ -77,7 +77,7 @@ pub name_tells : {kept : CxxState → CxxState → Type 0} {told : CxxState → 
 unfolding elaborate by_production name
 name_tells is asks from to state ahead tells = name_alone_tells is asks (name_tree from to).label state ahead tells
 
-pub call_tells : {kept : CxxState → CxxState → Type 0} {told : CxxState → Ahead → Stopped → Type 0} → IsTold kept told → {q : Questions} → QuestionsTell kept told q → (spelling : List ℕ) (token : Lexeme) (arguments : List CxxTree) (from to : Ahead) (state : CxxState) (ahead : Ahead) → NameTells kept told q (call_tree spelling token arguments from to).label state ahead
+pub call_tells : {kept : CxxState → CxxState → Type 0} {told : CxxState → Ahead → Stopped → Type 0} → IsTold kept told → {q : Questions} → QuestionsTell kept told q → (spelling : List ℕ) (token : Lexeme) (arguments : List CxxTree) (from to : Ahead) (state : CxxState) (ahead : Ahead) → CalledTells kept told q (call_tree spelling token arguments from to).label state ahead
     → ((one : List Numbered × CxxState) → q.name (path_in (call_tree spelling token arguments from to).label) state ≡ Ok one → AskedOf kept told q (call_tree spelling token arguments from to) (children_of (call_tree spelling token arguments from to)) one.0 one.1 ahead)
     → ToldBy kept told state ahead (elaborate q (call_tree spelling token arguments from to) state)
 unfolding elaborate by_production call

@@ -1,12 +1,12 @@
 -- What names and calls keep of the state, and what stops them.
-use Rattle.std.proofs.Common.{◌≡◌, refl}
+use Rattle.std.proofs.Common.{◌≡◌, refl, sym, ap, subst, ◌∙◌}
 use Rattle.std.specs.Prelude.{Bool, true, false, if◌then◌else◌, ℕ, zero, suc, ◌+◌, ◌-◌, List, [], ◌∷◌, ◌++◌, length, Option, Some, None, Ok, Err}
 use Rattle.cxx_model.specs.declared.place.Place.{Place}
 use Rattle.cxx_model.specs.Facts.Declarations as facts
 use Rattle.cxx_model.specs.Facts.Declarations.{CxxGraph, Declares}
 use Rattle.cxx_model.specs.Facts.Entities.{first_or}
 use Rattle.cxx_model.specs.declared.fault.FaultText.TheVariants as says
-use Rattle.cxx_model.specs.Stops.{Stopped, fault, not_built_at, undeclared_at}
+use Rattle.cxx_model.specs.Stops.{Answer, Stopped, fault, not_built_at, undeclared_at}
 use Rattle.cxx_expr.specs.Asking.{then_asked}
 use Rattle.cxx_model.specs.Types.Trees.{CxxType}
 use Rattle.cxx_meaning.specs.Lookups.Wanted.{is_function}
@@ -14,7 +14,7 @@ use Rattle.cxx_reading.specs.Reads.{Ahead}
 use Rattle.cxx_reading.specs.Seen.{Numbered}
 use Rattle.cxx_reading.specs.State.{CxxState}
 use Rattle.cxx_reading.specs.Trees.{CxxPathPart, CxxTree, Label}
-use Rattle.cxx_expr.specs.Calls.{fallback_more, fallbacks, chosen_tree, chosen_call, question, function_call, Signature, fits_count, through_tree, through_signature, through_counted, no_callee, through_by, signature_by, through, called_label, without_name, value_call, called_first, called, name_call}
+use Rattle.cxx_expr.specs.Calls.{fallback_more, fallbacks, chosen_tree, chosen_call, is_none_left, question, function_call, Signature, fits_count, through_tree, through_signature, through_counted, no_callee, through_by, signature_by, through, called_label, without_name, value_call, is_asked_for, called_first, called, name_call}
 use Rattle.cxx_expr.specs.Names.{are_one_function, means_enumerator, means_first, means_function, means_object, means_value, meant_by, named, named_tree, path_in, values_among, word_in}
 use Rattle.cxx_expr.specs.Operands.{is_of_class}
 use Rattle.cxx_expr.specs.Questions.{CxxChosen, Questions}
@@ -84,9 +84,18 @@ chosen_call_tells : {kept : CxxState → CxxState → Type 0} {told : CxxState �
 unfolding chosen_call
 chosen_call_tells is {q = q} asks tree arguments chosen state ahead = then_by is (asks.bound tree.label.place chosen.target state ahead) (λ noted state ahead. then_by is (convert_each_tells is q tree.label.place chosen.parameters [] arguments state ahead) (λ given state ahead. then_by is (fallbacks_tell is asks chosen.target (length arguments) given (length chosen.parameters - length arguments) state ahead) (λ all. give_by is (chosen_tree tree chosen all))))
 
+-- 3.4.2: a call asks for its functions where its name has a value, or means nothing and stands in no brackets
+abbrev pub IsAskedSo : Label → List Numbered → List Numbered → Type 0
+IsAskedSo label all [] = is_asked_for label all ≡ true
+IsAskedSo label all (one ∷ others) = Unit {0}
+
 -- what is asked of the called name, where it has these declarations
 abbrev pub AskedOf : (CxxState → CxxState → Type 0) → (CxxState → Ahead → Stopped → Type 0) → Questions → CxxTree → List CxxTree → List Numbered → CxxState → Ahead → Type 0
-AskedOf kept told q tree arguments all state ahead = ToldBy kept told state ahead (q.call (question q tree.label (values_among state.graph all) arguments state) state)
+AskedOf kept told q tree arguments all state ahead = IsAskedSo tree.label all (values_among state.graph all) → ToldBy kept told state ahead (q.call (question q tree.label (values_among state.graph all) arguments state) state)
+
+-- what is told of a called name in brackets that has no declarations
+abbrev pub UnknownInBrackets : (CxxState → Ahead → Stopped → Type 0) → Label → List Numbered → CxxState → Ahead → Type 0
+UnknownInBrackets told label all state ahead = all ≡ [] → is_none_left label.spelling ≡ false → told state ahead (undeclared_at (word_in label).place (word_in label).word)
 
 value_call_tells : {kept : CxxState → CxxState → Type 0} {told : CxxState → Ahead → Stopped → Type 0} → IsTold kept told → {q : Questions} → QuestionsTell kept told q → (tree : CxxTree) (all : List Numbered) (arguments : List CxxTree) (state : CxxState) (ahead : Ahead) → (all ≡ [] → told state ahead (undeclared_at (word_in tree.label).place (word_in tree.label).word)) → ToldBy kept told state ahead (value_call q tree all arguments state)
 unfolding value_call
@@ -96,22 +105,39 @@ function_call_tells : {kept : CxxState → CxxState → Type 0} {told : CxxState
 unfolding function_call
 function_call_tells is asks tree functions arguments state ahead answered = then_by is answered (chosen_call_tells is asks tree arguments)
 
-called_first_tells : {kept : CxxState → CxxState → Type 0} {told : CxxState → Ahead → Stopped → Type 0} → IsTold kept told → {q : Questions} → QuestionsTell kept told q → (tree : CxxTree) (all : List Numbered) (arguments : List CxxTree) (values : List Numbered) (state : CxxState) (ahead : Ahead) → (all ≡ [] → told state ahead (undeclared_at (word_in tree.label).place (word_in tree.label).word))
-    → ToldBy kept told state ahead (q.call (question q tree.label values arguments state) state) → ToldBy kept told state ahead (called_first q tree all arguments values state)
-called_first_tells is asks tree all arguments [] state ahead unknown answered = value_call_tells is asks tree all arguments state ahead unknown
-called_first_tells is asks tree all arguments (one ∷ others) state ahead unknown answered = if_by (is_function state.graph one.fact.what) (function_call_tells is asks tree (one ∷ others) arguments state ahead answered) (value_call_tells is asks tree all arguments state ahead unknown)
+-- by a test of which it is known what it says
+which_by : {kept : CxxState → CxxState → Type 0} {told : CxxState → Ahead → Stopped → Type 0} {state : CxxState} {ahead : Ahead} (b : Bool) {x y : Answer (CxxTree × CxxState)} → (b ≡ true → ToldBy kept told state ahead x) → (b ≡ false → ToldBy kept told state ahead y) → ToldBy kept told state ahead (if b then x else y)
+which_by true x y = x refl
+which_by false x y = y refl
 
-called_tells : {kept : CxxState → CxxState → Type 0} {told : CxxState → Ahead → Stopped → Type 0} → IsTold kept told → {q : Questions} → QuestionsTell kept told q → (tree : CxxTree) (arguments : List CxxTree) (all : List Numbered) (state : CxxState) (ahead : Ahead) → (all ≡ [] → told state ahead (undeclared_at (word_in tree.label).place (word_in tree.label).word))
+called_first_tells : {kept : CxxState → CxxState → Type 0} {told : CxxState → Ahead → Stopped → Type 0} → IsTold kept told → {q : Questions} → QuestionsTell kept told q → (tree : CxxTree) (all : List Numbered) (arguments : List CxxTree) (values : List Numbered) (state : CxxState) (ahead : Ahead) → values_among state.graph all ≡ values → UnknownInBrackets told tree.label all state ahead
+    → (IsAskedSo tree.label all values → ToldBy kept told state ahead (q.call (question q tree.label values arguments state) state)) → ToldBy kept told state ahead (called_first q tree all arguments values state)
+called_first_tells is asks tree all arguments [] state ahead are unknown answered =
+    which_by (is_asked_for tree.label all) (λ asked. function_call_tells is asks tree [] arguments state ahead (answered asked))
+    (λ not_asked. value_call_tells is asks tree all arguments state ahead (λ none. unknown none (subst (λ (some : List Numbered). is_asked_for tree.label some ≡ false) none not_asked)))
+called_first_tells is asks tree all arguments (one ∷ others) state ahead are unknown answered =
+    if_by (is_function state.graph one.fact.what) (function_call_tells is asks tree (one ∷ others) arguments state ahead (answered tt))
+    (value_call_tells is asks tree all arguments state ahead (λ none. absurd (no_one (ap (values_among state.graph) (sym none) ∙ are))))
+  where
+    no_one : [] ≡ one ∷ others → ⊥
+    no_one e = cc
+
+called_tells : {kept : CxxState → CxxState → Type 0} {told : CxxState → Ahead → Stopped → Type 0} → IsTold kept told → {q : Questions} → QuestionsTell kept told q → (tree : CxxTree) (arguments : List CxxTree) (all : List Numbered) (state : CxxState) (ahead : Ahead) → UnknownInBrackets told tree.label all state ahead
     → AskedOf kept told q tree arguments all state ahead → ToldBy kept told state ahead (called q tree arguments all state)
 unfolding called
-called_tells is asks tree arguments all state ahead unknown answered = called_first_tells is asks tree all arguments (values_among state.graph all) state ahead unknown answered
+called_tells is asks tree arguments all state ahead unknown answered = called_first_tells is asks tree all arguments (values_among state.graph all) state ahead refl unknown answered
 
 -- what is known of the answer to the question of a name
 pub record NameTells (kept : CxxState → CxxState → Type 0) (told : CxxState → Ahead → Stopped → Type 0) (q : Questions) (label : Label) (state : CxxState) (ahead : Ahead) : Type 0 where
   pub answers : ToldBy kept told state ahead (q.name (path_in label) state)
   pub unknown : (one : List Numbered × CxxState) → q.name (path_in label) state ≡ Ok one → one.0 ≡ [] → told one.1 ahead (undeclared_at (word_in label).place (word_in label).word)
 
-pub name_call_tells : {kept : CxxState → CxxState → Type 0} {told : CxxState → Ahead → Stopped → Type 0} → IsTold kept told → {q : Questions} → QuestionsTell kept told q → (tree : CxxTree) (arguments : List CxxTree) (state : CxxState) (ahead : Ahead) → NameTells kept told q tree.label state ahead
+-- the same of a called name
+pub record CalledTells (kept : CxxState → CxxState → Type 0) (told : CxxState → Ahead → Stopped → Type 0) (q : Questions) (label : Label) (state : CxxState) (ahead : Ahead) : Type 0 where
+  pub answers : ToldBy kept told state ahead (q.name (path_in label) state)
+  pub unknown : (one : List Numbered × CxxState) → q.name (path_in label) state ≡ Ok one → UnknownInBrackets told label one.0 one.1 ahead
+
+pub name_call_tells : {kept : CxxState → CxxState → Type 0} {told : CxxState → Ahead → Stopped → Type 0} → IsTold kept told → {q : Questions} → QuestionsTell kept told q → (tree : CxxTree) (arguments : List CxxTree) (state : CxxState) (ahead : Ahead) → CalledTells kept told q tree.label state ahead
     → ((one : List Numbered × CxxState) → q.name (path_in tree.label) state ≡ Ok one → AskedOf kept told q tree arguments one.0 one.1 ahead) → ToldBy kept told state ahead (name_call q tree arguments state)
 unfolding name_call
 name_call_tells is {q = q} asks tree arguments state ahead name calls = then_by_from (called q tree arguments) name.answers (λ one is_so keeps. from_by is state one.1 ahead keeps (called_tells is asks tree arguments one.0 one.1 ahead (name.unknown one is_so) (calls one is_so)))

@@ -20,7 +20,7 @@ use Rattle.cxx_reading.specs.Tokens.{is_name, is_punct, is_keyword}
 use Rattle.cxx_reading.specs.Trees.{CxxTree}
 use Rattle.cxx_language_laws.specs.Told.{EndsIn}
 use Rattle.cxx_language_laws.proofs.PhrasesTell.{PhrasesTell, InnerTell, asked_in}
-use Rattle.cxx_language_laws.proofs.Tells.{IsTold, ToldIn, Tells, quiet_in, if_in, past_in, then_in, ask_in, same_in, repeat_tells, taken_in, looked_in, punct_in, give_in, returned_in, tokens_in, unit_is_told}
+use Rattle.cxx_language_laws.proofs.Tells.{IsTold, ToldIn, Tells, quiet_in, if_in, when_in, past_in, then_in, ask_in, same_in, repeat_tells, taken_in, looked_in, punct_in, give_in, returned_in, tokens_in, unit_is_told}
 use Rattle.cxx_language_laws.proofs.TellsBrackets.{NameIn, stops_quietly, finds_none, finds_name, called_name_finds, begins_cast_tells}
 use Rattle.cxx_language_laws.proofs.TellsPrimary.{arguments_tell, called_tells, parenthesis_tells, primary_tells}
 
@@ -69,32 +69,32 @@ unfolding cast_or_parenthesis
 cast_or_parenthesis_tells is asks inner state ahead = then_in is (begins_cast_tells is inner state ahead) (cast_by_tells is asks inner)
 
 -- a name that stands in brackets, with what is ahead of its arguments
-called_part_tells : {S : Type 0} {kept : S → S → Type 0} {told : S → Ahead → Stopped → Type 0} → IsTold kept told → {asks : Phrases S} {inner : Inner S} → PhrasesTell kept told asks inner → InnerTell kept told inner → (state : S) (ahead rest : Ahead) (name : Lexeme) (others : List Lexeme) → EndsIn ahead.tokens (name ∷ others) → EndsIn others rest.tokens → is_name name.kind ≡ true
+called_part_tells : {S : Type 0} {kept : S → S → Type 0} {told : S → Ahead → Stopped → Type 0} → IsTold kept told → {asks : Phrases S} {inner : Inner S} → PhrasesTell kept told asks inner → InnerTell kept told inner → (state : S) (ahead rest : Ahead) (name : Lexeme) (others : List Lexeme) → EndsIn ahead.tokens (name ∷ others) → EndsIn others rest.tokens → is_name name.kind ≡ true → is_punct punct.LEFT_PARENTHESIS (kind_ahead ahead) ≡ true
     → ToldIn kept told state ahead (called_part asks inner ahead name state rest)
 unfolding called_part
-called_part_tells is asks inner state ahead rest name others stands follows named = then_in is (called_tells is asks inner state ahead rest (codes "(") ahead name others stands follows named) (postfixes_tell is asks inner ahead)
+called_part_tells is asks inner state ahead rest name others stands follows named opens = then_in is (called_tells is asks inner state ahead rest false ahead name others stands follows named opens) (postfixes_tell is asks inner ahead)
 
-called_by_tells : {S : Type 0} {kept : S → S → Type 0} {told : S → Ahead → Stopped → Type 0} → IsTold kept told → {asks : Phrases S} {inner : Inner S} → PhrasesTell kept told asks inner → InnerTell kept told inner → (kind : Kind) (state : S) (ahead rest : Ahead) (name : Lexeme) (others : List Lexeme) → EndsIn ahead.tokens (name ∷ others) → EndsIn others rest.tokens → is_name name.kind ≡ true
+called_by_tells : {S : Type 0} {kept : S → S → Type 0} {told : S → Ahead → Stopped → Type 0} → IsTold kept told → {asks : Phrases S} {inner : Inner S} → PhrasesTell kept told asks inner → InnerTell kept told inner → (kind : Kind) (state : S) (ahead rest : Ahead) (name : Lexeme) (others : List Lexeme) → EndsIn ahead.tokens (name ∷ others) → EndsIn others rest.tokens → is_name name.kind ≡ true → is_punct punct.LEFT_PARENTHESIS (kind_ahead ahead) ≡ true
     → ToldIn kept told state ahead (called_by asks inner ahead name kind state rest)
-called_by_tells is asks inner kind.OfType state ahead rest name others stands follows named = cast_or_parenthesis_tells is asks inner state ahead
-called_by_tells is asks inner kind.OfTemplate state ahead rest name others stands follows named = called_part_tells is asks inner state ahead rest name others stands follows named
-called_by_tells is asks inner kind.OfBoth state ahead rest name others stands follows named = called_part_tells is asks inner state ahead rest name others stands follows named
-called_by_tells is asks inner kind.Space state ahead rest name others stands follows named = called_part_tells is asks inner state ahead rest name others stands follows named
-called_by_tells is asks inner kind.Value state ahead rest name others stands follows named = called_part_tells is asks inner state ahead rest name others stands follows named
+called_by_tells is asks inner kind.OfType state ahead rest name others stands follows named opens = cast_or_parenthesis_tells is asks inner state ahead
+called_by_tells is asks inner kind.OfTemplate state ahead rest name others stands follows named opens = called_part_tells is asks inner state ahead rest name others stands follows named opens
+called_by_tells is asks inner kind.OfBoth state ahead rest name others stands follows named opens = called_part_tells is asks inner state ahead rest name others stands follows named opens
+called_by_tells is asks inner kind.Space state ahead rest name others stands follows named opens = cast_or_parenthesis_tells is asks inner state ahead
+called_by_tells is asks inner kind.Value state ahead rest name others stands follows named opens = called_part_tells is asks inner state ahead rest name others stands follows named opens
 
-called_or_not_tells : {S : Type 0} {kept : S → S → Type 0} {told : S → Ahead → Stopped → Type 0} → IsTold kept told → {asks : Phrases S} {inner : Inner S} → PhrasesTell kept told asks inner → InnerTell kept told inner → (state : S) (ahead rest : Ahead) (name : Lexeme) (others : List Lexeme) → EndsIn ahead.tokens (name ∷ others) → EndsIn others rest.tokens → is_name name.kind ≡ true
+called_or_not_tells : {S : Type 0} {kept : S → S → Type 0} {told : S → Ahead → Stopped → Type 0} → IsTold kept told → {asks : Phrases S} {inner : Inner S} → PhrasesTell kept told asks inner → InnerTell kept told inner → (state : S) (ahead rest : Ahead) (name : Lexeme) (others : List Lexeme) → EndsIn ahead.tokens (name ∷ others) → EndsIn others rest.tokens → is_name name.kind ≡ true → is_punct punct.LEFT_PARENTHESIS (kind_ahead ahead) ≡ true
     → ToldIn kept told state ahead (called_or_not asks inner ahead name state rest)
 unfolding called_or_not
-called_or_not_tells is asks inner state ahead rest name others stands follows named = asked_in is _ rest (asks.kind (path_of name) state ahead) (λ kind state. called_by_tells is asks inner kind state ahead rest name others stands follows named)
+called_or_not_tells is asks inner state ahead rest name others stands follows named opens = asked_in is _ rest (asks.kind (path_of name) state ahead) (λ kind state. called_by_tells is asks inner kind state ahead rest name others stands follows named opens)
 
-bracket_by_tells : {S : Type 0} {kept : S → S → Type 0} {told : S → Ahead → Stopped → Type 0} → IsTold kept told → {asks : Phrases S} {inner : Inner S} → PhrasesTell kept told asks inner → InnerTell kept told inner → (state : S) (ahead : Ahead) {r : Answer (Got (Unit {0}) (Option Lexeme))} → NameIn ahead r → ToldIn kept told state ahead (then_read (beside state r) (bracket_by asks inner ahead))
-bracket_by_tells is asks inner state ahead (stops_quietly why quiet) = quiet_in is quiet
-bracket_by_tells is asks inner state ahead (finds_none rest) = cast_or_parenthesis_tells is asks inner state ahead
-bracket_by_tells is asks inner state ahead (finds_name name others rest stands follows named) = called_or_not_tells is asks inner state ahead rest name others stands follows named
+bracket_by_tells : {S : Type 0} {kept : S → S → Type 0} {told : S → Ahead → Stopped → Type 0} → IsTold kept told → {asks : Phrases S} {inner : Inner S} → PhrasesTell kept told asks inner → InnerTell kept told inner → (state : S) (ahead : Ahead) {r : Answer (Got (Unit {0}) (Option Lexeme))} → NameIn ahead r → is_punct punct.LEFT_PARENTHESIS (kind_ahead ahead) ≡ true → ToldIn kept told state ahead (then_read (beside state r) (bracket_by asks inner ahead))
+bracket_by_tells is asks inner state ahead (stops_quietly why quiet) opens = quiet_in is quiet
+bracket_by_tells is asks inner state ahead (finds_none rest) opens = cast_or_parenthesis_tells is asks inner state ahead
+bracket_by_tells is asks inner state ahead (finds_name name others rest stands follows named) opens = called_or_not_tells is asks inner state ahead rest name others stands follows named opens
 
-bracket_tells : {S : Type 0} {kept : S → S → Type 0} {told : S → Ahead → Stopped → Type 0} → IsTold kept told → {asks : Phrases S} {inner : Inner S} → PhrasesTell kept told asks inner → InnerTell kept told inner → Tells kept told (bracket_at asks inner)
+bracket_tells : {S : Type 0} {kept : S → S → Type 0} {told : S → Ahead → Stopped → Type 0} → IsTold kept told → {asks : Phrases S} {inner : Inner S} → PhrasesTell kept told asks inner → InnerTell kept told inner → (state : S) (ahead : Ahead) → is_punct punct.LEFT_PARENTHESIS (kind_ahead ahead) ≡ true → ToldIn kept told state ahead (bracket_at asks inner state ahead)
 unfolding bracket_at
-bracket_tells is {asks = a} asks inner state ahead = bracket_by_tells is asks inner state ahead (called_name_finds a.room ahead)
+bracket_tells is {asks = a} asks inner state ahead opens = bracket_by_tells is asks inner state ahead (called_name_finds a.room ahead) opens
 
 -- ---- unary expressions
 
@@ -115,7 +115,7 @@ unfolding operand_at
 operand_tells is asks inner state ahead =
     if_in (is_prefix (kind_ahead ahead)) (prefix_tells is asks inner state ahead) (
     if_in (is_keyword keyword.SIZEOF (kind_ahead ahead)) (size_tells is asks inner state ahead) (
-    if_in (is_punct punct.LEFT_PARENTHESIS (kind_ahead ahead)) (bracket_tells is asks inner state ahead)
+    when_in (is_punct punct.LEFT_PARENTHESIS (kind_ahead ahead)) (bracket_tells is asks inner state ahead)
     (primary_part_tells is asks inner state ahead)))
 
 -- ---- behind `sizeof`

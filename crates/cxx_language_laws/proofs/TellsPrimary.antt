@@ -1,6 +1,6 @@
 -- What the readers of primary expressions keep of the state, and what stops them.
 use Rattle.std.proofs.Common.{◌≡◌, refl, ap}
-use Rattle.std.specs.Prelude.{ℕ, true, ◌||◌, ◌==◌, List, [], ◌∷◌, ◌++◌, Option, Some, None}
+use Rattle.std.specs.Prelude.{Bool, true, ◌||◌, ◌==◌, List, [], ◌∷◌, ◌++◌, Option, Some, None}
 use Rattle.cxx_model.specs.declared.base.Base.{Base}
 use Rattle.cxx_model.specs.declared.keyword.TheConstants as keyword
 use Rattle.cxx_model.specs.declared.limits.TheConstants as limits
@@ -20,8 +20,8 @@ use Rattle.cxx_phrases.specs.Primary.{literal_part, name_at, called_at, named_ca
 use Rattle.cxx_reading.specs.Reads.{Ahead, More, Done, kind_ahead, word_ahead, behind}
 use Rattle.cxx_reading.specs.Tokens.{is_name, is_punct, is_keyword, is_plain_name, path_ahead, token_in}
 use Rattle.cxx_reading.specs.Trees.{CxxTree}
-use Rattle.cxx_language_laws.specs.Told.{EndsIn}
-use Rattle.cxx_language_laws.proofs.PhrasesTell.{PhrasesTell, InnerTell, asked_in}
+use Rattle.cxx_language_laws.specs.Told.{EndsIn, IsCalledSo}
+use Rattle.cxx_language_laws.proofs.PhrasesTell.{PhrasesTell, brackets_of, InnerTell, asked_in}
 use Rattle.cxx_language_laws.proofs.Tells.{IsTold, ToldIn, Tells, quiet_in, if_in, when_in, past_in, then_in, then_from, from_in, ask_from, ask_in, next_in, repeat_tells, taken_in, looked_in, punct_in, give_in, tokens_in, unit_is_told, whole_stands, ends_later, behind_stands}
 use Rattle.cxx_language_laws.proofs.TellsBrackets.{left_true}
 use Rattle.cxx_language_laws.proofs.TellsSyntax.{no_expression_tells}
@@ -69,12 +69,12 @@ unfolding name_at
 name_tells is asks inner state ahead named = ask_from (behind ahead) (behind_stands ahead) (asks.name state ahead named)
 
 -- behind a name that is ahead the arguments begin
-pub called_tells : {S : Type 0} {kept : S → S → Type 0} {told : S → Ahead → Stopped → Type 0} → IsTold kept told → {asks : Phrases S} {inner : Inner S} → PhrasesTell kept told asks inner → InnerTell kept told inner → (state : S) (ahead opened : Ahead) (spelling : List ℕ) (from : Ahead) (name : Lexeme) (others : List Lexeme) → EndsIn ahead.tokens (name ∷ others) → EndsIn others opened.tokens → is_name name.kind ≡ true
-    → ToldIn kept told state ahead (called_at asks inner spelling from name state opened)
+pub called_tells : {S : Type 0} {kept : S → S → Type 0} {told : S → Ahead → Stopped → Type 0} → IsTold kept told → {asks : Phrases S} {inner : Inner S} → PhrasesTell kept told asks inner → InnerTell kept told inner → (state : S) (ahead opened : Ahead) (is_bare : Bool) (from : Ahead) (name : Lexeme) (others : List Lexeme) → EndsIn ahead.tokens (name ∷ others) → EndsIn others opened.tokens → is_name name.kind ≡ true → IsCalledSo ahead name opened is_bare
+    → ToldIn kept told state ahead (called_at asks inner (brackets_of is_bare) from name state opened)
 unfolding called_at
-called_tells is asks inner state ahead opened spelling from name others stands follows named =
+called_tells is asks inner state ahead opened is_bare from name others stands follows named so =
     then_from _ (from_in is state state ahead opened (is.keeps.same state) (ends_later ahead.tokens (name ∷ others) opened.tokens stands (record { first = name ∷ follows.first; parts = cons_parts name others opened.tokens follows })) (arguments_tell is asks inner state opened))
-    (λ one lists keeps ends. ask_from one.rest ends (asks.call state ahead (record { name = name; behind = others; stands = stands; named = named; opened = opened; follows = follows; arguments = one.value; at = one.state; rest = one.rest; lists = lists }) keeps spelling from))
+    (λ one lists keeps ends. ask_from one.rest ends (asks.call state ahead (record { name = name; behind = others; stands = stands; named = named; opened = opened; follows = follows; is_bare = is_bare; so = so; arguments = one.value; at = one.state; rest = one.rest; lists = lists }) keeps from))
 
 named_call_tells : {S : Type 0} {kept : S → S → Type 0} {told : S → Ahead → Stopped → Type 0} → IsTold kept told → {asks : Phrases S} {inner : Inner S} → PhrasesTell kept told asks inner → InnerTell kept told inner → (state : S) (ahead : Ahead) → is_name (kind_ahead ahead) ≡ true → ToldIn kept told state ahead (named_call asks inner state ahead)
 unfolding named_call is_name
@@ -82,7 +82,7 @@ named_call_tells {kept = kept} {told = told} is {asks = a} {inner = i} asks inne
   where
     by : (last : Place) (tokens : List Lexeme) → is_name (kind_of tokens) ≡ true → ToldIn kept told state (record { last = last; tokens = tokens }) (called_at a i [] (record { last = last; tokens = tokens }) (token_in tokens) state (behind (record { last = last; tokens = tokens })))
     by last [] named = absurd cc
-    by last (name ∷ others) named = called_tells is asks inner state (record { last = last; tokens = name ∷ others }) (record { last = name.place; tokens = others }) [] (record { last = last; tokens = name ∷ others }) name others (whole_stands (name ∷ others)) (whole_stands others) named
+    by last (name ∷ others) named = called_tells is asks inner state (record { last = last; tokens = name ∷ others }) (record { last = name.place; tokens = others }) true (record { last = last; tokens = name ∷ others }) name others (whole_stands (name ∷ others)) (whole_stands others) named refl
 
 value_name_tells : {S : Type 0} {kept : S → S → Type 0} {told : S → Ahead → Stopped → Type 0} → IsTold kept told → {asks : Phrases S} {inner : Inner S} → PhrasesTell kept told asks inner → InnerTell kept told inner → (state : S) (ahead : Ahead) → is_name (kind_ahead ahead) ≡ true → ToldIn kept told state ahead (value_name_at asks inner state ahead)
 unfolding value_name_at
@@ -104,7 +104,7 @@ named_by_tells : {S : Type 0} {kept : S → S → Type 0} {told : S → Ahead �
 named_by_tells is asks inner kind.OfType state ahead named = type_name_tells is asks inner state ahead
 named_by_tells is asks inner kind.OfTemplate state ahead named = value_name_tells is asks inner state ahead named
 named_by_tells is asks inner kind.OfBoth state ahead named = value_name_tells is asks inner state ahead named
-named_by_tells is asks inner kind.Space state ahead named = value_name_tells is asks inner state ahead named
+named_by_tells is asks inner kind.Space state ahead named = quiet_in is refl
 named_by_tells is asks inner kind.Value state ahead named = value_name_tells is asks inner state ahead named
 
 named_tells : {S : Type 0} {kept : S → S → Type 0} {told : S → Ahead → Stopped → Type 0} → IsTold kept told → {asks : Phrases S} {inner : Inner S} → PhrasesTell kept told asks inner → InnerTell kept told inner → (state : S) (ahead : Ahead) → is_name (kind_ahead ahead) ≡ true → ToldIn kept told state ahead (named_at asks inner state ahead)

@@ -1,16 +1,14 @@
 -- What holds of whole readings: each of their calls is the best, and the fault with which one stops is true.
 use Rattle.std.proofs.Common.{◌≡◌, inl, inr, refl, ap, subst, ◌∙◌}
-use Rattle.std.specs.Prelude.{ℕ, zero, suc, Bool, true, false, List, [], Ok, Err, if◌then◌else◌}
+use Rattle.std.specs.Prelude.{ℕ, zero, suc, Bool, true, false, List, Ok, Err, if◌then◌else◌}
 use Rattle.cxx_model.specs.declared.fault.FaultText.{FaultText}
 use Rattle.cxx_model.specs.declared.fault.FaultText.TheVariants as says
 use Rattle.cxx_model.specs.declared.limits.TheConstants as limits
 use Rattle.cxx_model.specs.declared.options.Options.{Options}
 use Rattle.cxx_model.specs.declared.stop.Fault.{Fault}
-use Rattle.cxx_model.specs.Facts.Declarations.{spelled}
 use Rattle.cxx_model.specs.Stops.{Answer, Stopped, Faulty}
 use Rattle.cxx_model.specs.Text.Lexemes.{Lexeme}
 use Rattle.cxx_reading.specs.Reads.{Ahead, Got, Reads, More, Done, ◌>>=◌, then_read, got, give, ask, go_on, repeat, count_ahead, kind_ahead}
-use Rattle.cxx_reading.specs.Seen.{declared_in}
 use Rattle.cxx_reading.specs.State.{CxxState, first_state}
 use Rattle.cxx_reading.specs.Tokens.{is_end}
 use Rattle.cxx_reading.specs.Trees.{CxxTree}
@@ -18,16 +16,13 @@ use Rattle.cxx_reading.specs.Units.{CxxReading, with_part, part_added, read_as}
 use Rattle.cxx_language.specs.Units.{declaration_at, unit_reading, unit_step}
 use Rattle.cxx_language_laws.specs.Best.{AreBestCalls, EachCallIsBest}
 use Rattle.cxx_language_laws.specs.Stopping.{a_declaration}
-use Rattle.cxx_language_laws.specs.Told.{EndsIn, IsChoiceText, ReadsTo, none_more, one_more, whole, StopsIn, StopsAt, IsToldFault, IsUnitCall, IsUnknown, unknown_name, unknown_call, unknown_type, IsNotOfUnit, IsUndeclaredFault}
-use Rattle.cxx_language_laws.proofs.Asked.{phrases_tell}
-use Rattle.cxx_language_laws.proofs.Both.{both_tell}
-use Rattle.cxx_language_laws.proofs.Scopes.{InScopes, scopes_same, scopes_first, none_in_unit, no_type_in_unit}
-use Rattle.cxx_language_laws.proofs.TellsPrimary.{arguments_tell}
+use Rattle.cxx_language_laws.specs.Told.{EndsIn, IsChoiceText, ReadsTo, none_more, one_more, whole, StopsIn, StopsAt, IsAmbiguousFault, IsToldFault, IsUndeclaredFault}
+use Rattle.cxx_language_laws.proofs.Scopes.{InScopes, scopes_same, scopes_first}
 use Rattle.cxx_language_laws.proofs.Declarations.{declaration_stops}
 use Rattle.cxx_language_laws.proofs.Later.{IsLater, later_is_kept, later_same}
-use Rattle.cxx_language_laws.proofs.Reached.{IsChosen, IsUndeclared, Reached, later_is_told}
+use Rattle.cxx_language_laws.proofs.Reached.{IsChosen, IsManifold, IsUndeclared, Reached}
 use Rattle.cxx_language_laws.proofs.Stopping.{Chained, ChainedOf, ChainedSo, Stops, whole_part}
-use Rattle.cxx_language_laws.proofs.Tells.{Saying, choosing, undeclared, saying, IsTold, whole_stands, ends_later, ToldIn, tells_read, tells_stop, Tells, Answers, tells_answer, if_in, then_in, ask_in, same_in, repeat_tells, give_in}
+use Rattle.cxx_language_laws.proofs.Tells.{Saying, choosing, undeclared, ambiguous, saying, IsTold, whole_stands, ends_later, ToldIn, tells_read, tells_stop, Tells, Answers, tells_answer, if_in, then_in, ask_in, same_in, repeat_tells, give_in}
 
 -- ---- the calls of a whole reading
 
@@ -174,18 +169,6 @@ read_scopes state ahead after rest (none_more s a) is = is
 read_scopes state ahead after rest (one_more s a one t b goes_on read others) is =
     read_scopes (with_part one.value one.state) one.rest t b others (scopes_same one.state (with_part one.value one.state) refl refl ((read_later s a one (declaration_stops limits.MOST_NESTING s a) read).scopes is))
 
--- the arguments of a call come later
-call_scopes : (room : ℕ) (before : CxxState) (ahead : Ahead) (call : IsUnitCall room before ahead) → InScopes before → InScopes call.at
-call_scopes room before ahead call = (read_later before call.opened (record { value = call.arguments; state = call.at; rest = call.rest }) (arguments_tell later_is_told (phrases_tell room (both_tell room).types) (both_tell room).phrases before call.opened) call.lists).scopes
-
--- a name that means nothing is not declared in the scope of the unit
-not_of_unit : (at : CxxState) (ahead : Ahead) (fault : Fault) (word : List ℕ) → InScopes at → (is : IsUnknown at ahead fault word) → IsNotOfUnit is
-not_of_unit at ahead fault word scopes (unknown_name is) = none_in_unit at (spelled word) scopes is.unknown
-not_of_unit at ahead fault word scopes (unknown_call is) =
-    subst (λ (w : List ℕ). declared_in is.call.at.graph 0 (spelled w) ≡ []) is.is_named.spelled_so
-    (none_in_unit is.call.at (spelled is.call.name.spelling) (call_scopes is.room at ahead is.call scopes) is.unknown)
-not_of_unit at ahead fault word scopes (unknown_type is) = no_type_in_unit at (spelled word) scopes is.unknown
-
 -- ---- what is true of the fault
 
 stop_told : (before : CxxState) (ahead : Ahead) (fault : Fault) {answer : Answer (Got CxxState CxxTree)} → Stops (a_declaration limits.MOST_NESTING) before ahead answer → answer ≡ Err (Faulty fault) → ChainedOf whole_part (a_declaration limits.MOST_NESTING) before ahead (Faulty fault)
@@ -200,6 +183,10 @@ told_as tokens fault declaration what is =
     subst (ChainedSo whole_part (a_declaration limits.MOST_NESTING) declaration.before declaration.ahead fault) is
     (stop_told declaration.before declaration.ahead fault (declaration_stops limits.MOST_NESTING declaration.before declaration.ahead) declaration.stops)
 
+-- in the state where the declaration begins
+scopes_before : (tokens : List Lexeme) (fault : Fault) (declaration : StopsIn tokens fault) → InScopes declaration.before
+scopes_before tokens fault declaration = read_scopes first_state (whole tokens) declaration.before declaration.ahead declaration.reads scopes_first
+
 stop_at : (tokens : List Lexeme) (fault : Fault) (declaration : StopsIn tokens fault) (P : CxxState → Ahead → Type 0) → Chained (a_declaration limits.MOST_NESTING) declaration.before declaration.ahead fault (λ before from. Reached before from P) → StopsAt tokens fault
 stop_at tokens fault declaration P told = record {
   declaration = declaration;
@@ -211,7 +198,7 @@ stop_at tokens fault declaration P told = record {
   at = told.is.at;
   ahead = told.is.rest;
   grown = told.is.later.grown;
-  scope = told.is.later.scope;
+  scope = told.is.later.scope (told.later.scopes (scopes_before tokens fault declaration));
   part_stands = told.stands;
   stands = told.is.stands;
 }
@@ -232,5 +219,12 @@ unfolding stop_at
 undeclared_is_told options tokens fault word e text =
     let declaration = unit_stops options tokens fault e in
     let told = told_as tokens fault declaration (undeclared word) (ap saying text) in
-    let scopes = told.is.later.scopes (told.later.scopes (read_scopes first_state (whole tokens) declaration.before declaration.ahead declaration.reads scopes_first)) in
-    record { stop = stop_at tokens fault declaration (IsUndeclared fault word) told; is = told.is.is.is; in_unit = not_of_unit told.is.at told.is.rest fault word scopes told.is.is.is; is_text = text; bare = told.is.is.bare }
+    let unknown = told.is.is.is (told.is.later.scopes (told.later.scopes (scopes_before tokens fault declaration))) in
+    record { stop = stop_at tokens fault declaration (IsUndeclared fault word) told; is = unknown.0; nowhere = unknown.1; is_text = text; bare = told.is.is.bare }
+
+pub ambiguous_is_told : (options : Options) (tokens : List Lexeme) (fault : Fault) (word : List ℕ) → unit_reading options tokens ≡ Err (Faulty fault) → fault.text ≡ says.AmbiguousName word → IsAmbiguousFault tokens fault word
+unfolding stop_at
+ambiguous_is_told options tokens fault word e text =
+    let declaration = unit_stops options tokens fault e in
+    let told = told_as tokens fault declaration (ambiguous word) (ap saying text) in
+    record { stop = stop_at tokens fault declaration (IsManifold fault word) told; is = told.is.is (told.is.later.scopes (told.later.scopes (scopes_before tokens fault declaration))); is_text = text }

@@ -15,11 +15,12 @@ use Rattle.cxx_reading.specs.declared.specifier.SpecifierPlace.TheVariants as wh
 use Rattle.cxx_reading.specs.Declarators.{Declarator, Specifiers, declared_type, is_function_type, own_parameters}
 use Rattle.cxx_reading.specs.Declaring.{begin_body, declare_object, define_declared, define_object, enter_block}
 use Rattle.cxx_reading.specs.Initializers.{operand_of}
-use Rattle.cxx_reading.specs.Reads.{Ahead, Reads, Turn, More, behind, give, got, kind_ahead, repeat}
+use Rattle.cxx_reading.specs.Reads.{Ahead, Reads, Turn, More, behind, give, got, kind_ahead, place_ahead, repeat}
+use Rattle.cxx_reading.specs.Spaces.{open_space, open_unnamed}
 use Rattle.cxx_reading.specs.Specifiers.{specifiers_at}
 use Rattle.cxx_reading.specs.State.{CxxState}
 use Rattle.cxx_reading.specs.Syntax.{declarator_at}
-use Rattle.cxx_reading.specs.Tokens.{is_keyword, is_punct}
+use Rattle.cxx_reading.specs.Tokens.{is_keyword, is_name, is_punct, token_in}
 use Rattle.cxx_reading.specs.Trees.{CxxTree}
 use Rattle.cxx_reading.specs.Units.{Said, Listed, give_trees, inside_step, linkages_passed, name_in, no_declarators, said_by}
 use Rattle.cxx_language.specs.Blocks.{condition_part, declared_condition_at, local_declaration_at, local_step}
@@ -34,7 +35,8 @@ use Rattle.cxx_statements.specs.declared.parts.Purpose.TheVariants as purpose
 use Rattle.cxx_statements.specs.Statements.{Around, CxxTarget, begins_no_object, begins_statement, begun, body_at, first_part, in_a_loop, in_a_switch, label_step, labels_in, never_ended, nothing_around, plain_statement, second_part, statement_in, statement_step, sub_in, to_bool, to_promoted, unlabelled_in, within}
 use Rattle.cxx_language.specs.Asked.{answers, asked, inner_at, phrases_at}
 use Rattle.cxx_language.specs.Statements.{expression_for, parts_at, statement_head}
-use Rattle.cxx_language.specs.Units.{declaration_at, declarator_step, simple_declaration_at}
+use Rattle.cxx_language.specs.Spaces.{alias_at, namespace_at, using_at}
+use Rattle.cxx_language.specs.Units.{declaration_at, declarator_step, linkage_opened, simple_declaration_at}
 
 -- a reader reads a value from a state with these tokens ahead, to another
 abbrev pub Gives : {S A : Type 0} → Reads S A → S → Ahead → A → S → Ahead → Type 0
@@ -87,8 +89,14 @@ inner_statement_of room around = sub_in (parts_at room) (within parts_at room) a
 pub data Part : Type 0 where
   -- clause 7
   a_declaration : ℕ → Part
-  -- 7.5: declarations between the braces of a linkage
-  linked_declarations : ℕ → List CxxTree → Part
+  -- 7.3.1, 7.5: declarations between the braces of a namespace or a linkage
+  some_declarations : ℕ → List CxxTree → Part
+  -- 7.3.1, 7.3.2: from the word `namespace` on
+  a_namespace : ℕ → Part
+  -- 7.3.2: another name of a namespace, from its `=` on
+  an_alias : Ahead → Lexeme → Part
+  -- 7.3.4: from the word `using` on
+  a_directive : Part
   -- clause 7: a declaration that is no linkage, and whether it counts as if it had the word `extern`
   a_simple_declaration : ℕ → Bool → Part
   -- clause 8: the declarators behind specifiers
@@ -122,8 +130,10 @@ pub data Part : Type 0 where
   a_declared_condition : ℕ → Part
   a_condition_initializer : ℕ → Lexeme → CxxType → ℕ → Part
 
--- it has no part in turn: expressions stand in it
+-- it has no part in turn: expressions stand in it, or the name of a namespace
 abbrev pub IsInnermost : Part → Type 0
+IsInnermost (an_alias from name) = Unit {0}
+IsInnermost a_directive = Unit {0}
 IsInnermost (some_specifiers room place) = Unit {0}
 IsInnermost (a_declarator room) = Unit {0}
 IsInnermost (an_initializer room name of number) = Unit {0}
@@ -140,7 +150,10 @@ IsStoppedIn step over so_far state ahead fault = (turns : ℕ) × (repeat step o
 -- The reading of a part, from a state with these tokens ahead, stops with a fault.
 abbrev pub IsStopped : Part → CxxState → Ahead → Fault → Type 0
 IsStopped (a_declaration room) state ahead fault = declaration_at room state ahead ≡ Err (Faulty fault)
-IsStopped (linked_declarations room so_far) state ahead fault = IsStoppedIn (inside_step (declaration_at room)) give so_far state ahead fault
+IsStopped (some_declarations room so_far) state ahead fault = IsStoppedIn (inside_step (declaration_at room)) give so_far state ahead fault
+IsStopped (a_namespace room) state ahead fault = namespace_at (linkage_opened room) state ahead ≡ Err (Faulty fault)
+IsStopped (an_alias from name) state ahead fault = alias_at from name state ahead ≡ Err (Faulty fault)
+IsStopped a_directive state ahead fault = using_at state ahead ≡ Err (Faulty fault)
 IsStopped (a_simple_declaration room as_extern) state ahead fault = simple_declaration_at room as_extern state ahead ≡ Err (Faulty fault)
 IsStopped (some_declarators room said so_far) state ahead fault = IsStoppedIn (declarator_step room said) give_trees so_far state ahead fault
 IsStopped (some_specifiers room place) state ahead fault = specifiers_of room place state ahead ≡ Err (Faulty fault)
@@ -158,6 +171,38 @@ IsStopped (a_local_declaration room) state ahead fault = local_declaration_at ro
 IsStopped (some_local_declarators room said so_far) state ahead fault = IsStoppedIn (local_step room said) give_trees so_far state ahead fault
 IsStopped (a_declared_condition room) state ahead fault = declared_condition_at room state ahead ≡ Err (Faulty fault)
 IsStopped (a_condition_initializer room name of number) state ahead fault = condition_initializer_of room name of number state ahead ≡ Err (Faulty fault)
+
+-- 7.3: neither a namespace nor a directive is ahead
+pub record IsNoSpace (ahead : Ahead) : Type 0 where
+  pub no_namespace : is_keyword keyword.NAMESPACE (kind_ahead ahead) ≡ false
+  pub no_using : is_keyword keyword.USING (kind_ahead ahead) ≡ false
+
+-- 7.3.4: a directive is ahead
+pub record IsDirective (ahead : Ahead) : Type 0 where
+  pub no_namespace : is_keyword keyword.NAMESPACE (kind_ahead ahead) ≡ false
+  pub is_using : is_keyword keyword.USING (kind_ahead ahead) ≡ true
+
+-- 7.5: specifications of linkage are passed, and no brace is behind them
+pub record IsLinked (state : CxxState) (ahead : Ahead) (after : CxxState) (rest : Ahead) : Type 0 where
+  pub before : IsNoSpace ahead
+  pub passed : Gives linkages_passed state ahead true after rest
+  pub no_brace : is_punct punct.LEFT_BRACE (kind_ahead rest) ≡ false
+
+-- 7.3.1: Behind the word `namespace` a namespace begins, by its name or without one. The reader stands in its scope then,
+-- that of an earlier opening where there is one, with the declarations behind its brace ahead.
+pub data OpensSpace (state : CxxState) (ahead : Ahead) : CxxState → Ahead → Type 0 where
+  opens_named : (opened : Unit {0} × CxxState) → is_punct punct.LEFT_BRACE (kind_ahead (behind ahead)) ≡ false → is_name (kind_ahead (behind ahead)) ≡ true → is_punct punct.LEFT_BRACE (kind_ahead (behind (behind ahead))) ≡ true
+      → open_space (token_in (behind ahead).tokens) state ≡ Ok opened → OpensSpace state ahead opened.1 (behind (behind (behind ahead)))
+  opens_unnamed : (opened : Unit {0} × CxxState) → is_punct punct.LEFT_BRACE (kind_ahead (behind ahead)) ≡ true → open_unnamed (place_ahead ahead) state ≡ Ok opened → OpensSpace state ahead opened.1 (behind (behind ahead))
+
+-- 7.3.2: behind the word `namespace` and a name stands `=`
+pub record IsAlias (ahead : Ahead) : Type 0 where
+  pub named : is_name (kind_ahead (behind ahead)) ≡ true
+  pub equals : is_punct punct.EQUALS (kind_ahead (behind (behind ahead))) ≡ true
+
+-- the other name that an alias gives
+abbrev pub alias_name : Ahead → Lexeme
+alias_name ahead = token_in (behind ahead).tokens
 
 -- 3.1, 3.2, 3.3.1: The name of a declarator is declared, with a number, before its initializer, which is ahead.
 pub data Initializes (said : Said) (declarator : Declarator) (before : CxxState) : ℕ → CxxState → Type 0 where
@@ -206,16 +251,24 @@ pub record BeginsFor (state : CxxState) (ahead : Ahead) (entered : Unit {0} × C
 -- From one part of a declaration, in a state with these tokens ahead, the reading comes to another, in a state with those
 -- tokens ahead.
 pub data Leads : Part → CxxState → Ahead → Part → CxxState → Ahead → Type 0 where
+  -- 7.3: a namespace, another name of one, or a directive
+  to_namespace : {room : ℕ} {state : CxxState} {ahead : Ahead} → is_keyword keyword.NAMESPACE (kind_ahead ahead) ≡ true → Leads (a_declaration room) state ahead (a_namespace room) state ahead
+  to_directive : {room : ℕ} {state : CxxState} {ahead : Ahead} → IsDirective ahead → Leads (a_declaration room) state ahead a_directive state ahead
+  in_space : {room : ℕ} {state after : CxxState} {ahead rest : Ahead} → OpensSpace state ahead after rest → Leads (a_namespace (suc room)) state ahead (some_declarations room []) after rest
+  in_alias : {room : ℕ} {state : CxxState} {ahead : Ahead} → IsAlias ahead → Leads (a_namespace room) state ahead (an_alias ahead (alias_name ahead)) state (behind (behind ahead))
   -- 7.5: specifications of linkage are passed, if there are any
-  to_unlinked : {room : ℕ} {state after : CxxState} {ahead rest : Ahead} → Gives linkages_passed state ahead false after rest
+  to_unlinked : {room : ℕ} {state after : CxxState} {ahead rest : Ahead} → IsNoSpace ahead → Gives linkages_passed state ahead false after rest
       → Leads (a_declaration room) state ahead (a_simple_declaration room false) after rest
-  to_linked : {room : ℕ} {state after : CxxState} {ahead rest : Ahead} → Gives linkages_passed state ahead true after rest → is_punct punct.LEFT_BRACE (kind_ahead rest) ≡ false
+  to_linked : {room : ℕ} {state after : CxxState} {ahead rest : Ahead} → IsLinked state ahead after rest → IsNoSpace rest
       → Leads (a_declaration room) state ahead (a_simple_declaration room true) after rest
-  to_braces : {room : ℕ} {state after : CxxState} {ahead rest : Ahead} → Gives linkages_passed state ahead true after rest → is_punct punct.LEFT_BRACE (kind_ahead rest) ≡ true
-      → Leads (a_declaration (suc room)) state ahead (linked_declarations room []) after (behind rest)
+  to_linked_namespace : {room : ℕ} {state after : CxxState} {ahead rest : Ahead} → IsLinked state ahead after rest → is_keyword keyword.NAMESPACE (kind_ahead rest) ≡ true
+      → Leads (a_declaration room) state ahead (a_namespace room) after rest
+  to_linked_directive : {room : ℕ} {state after : CxxState} {ahead rest : Ahead} → IsLinked state ahead after rest → IsDirective rest → Leads (a_declaration room) state ahead a_directive after rest
+  to_braces : {room : ℕ} {state after : CxxState} {ahead rest : Ahead} → IsNoSpace ahead → Gives linkages_passed state ahead true after rest → is_punct punct.LEFT_BRACE (kind_ahead rest) ≡ true
+      → Leads (a_declaration (suc room)) state ahead (some_declarations room []) after (behind rest)
   next_declaration : {room : ℕ} {so_far more : List CxxTree} {state after : CxxState} {ahead rest : Ahead} → Gives (inside_step (declaration_at room) so_far) state ahead (More more) after rest
-      → Leads (linked_declarations room so_far) state ahead (linked_declarations room more) after rest
-  in_declaration : {room : ℕ} {so_far : List CxxTree} {state : CxxState} {ahead : Ahead} → Leads (linked_declarations room so_far) state ahead (a_declaration room) state ahead
+      → Leads (some_declarations room so_far) state ahead (some_declarations room more) after rest
+  in_declaration : {room : ℕ} {so_far : List CxxTree} {state : CxxState} {ahead : Ahead} → Leads (some_declarations room so_far) state ahead (a_declaration room) state ahead
   -- clause 7: specifiers, then declarators
   in_specifiers : {room : ℕ} {as_extern : Bool} {state : CxxState} {ahead : Ahead} → Leads (a_simple_declaration room as_extern) state ahead (some_specifiers room where_.Declaration) state ahead
   to_declarators : {room : ℕ} {as_extern : Bool} {specifiers : Specifiers} {state after : CxxState} {ahead rest : Ahead} → Gives (specifiers_of room where_.Declaration) state ahead specifiers after rest
@@ -280,15 +333,18 @@ pub data Leads : Part → CxxState → Ahead → Part → CxxState → Ahead →
   to_plain_statement : {room : ℕ} {around : Around} {state : CxxState} {ahead : Ahead} → begins_other (kind_ahead ahead) ≡ false → Leads (an_unlabelled_statement room around) state ahead (a_plain_statement room) state ahead
   to_expression : {room : ℕ} {state after : CxxState} {ahead rest : Ahead} → Gives (beginning_of room) state ahead head.Expression after rest → Leads (a_plain_statement room) state ahead (an_expression room purpose.Whole) after rest
   to_local_declaration : {room : ℕ} {state after : CxxState} {ahead rest : Ahead} → Gives (beginning_of room) state ahead head.Declaration after rest → Leads (a_plain_statement room) state ahead (a_local_declaration room) after rest
+  -- 7.3.2, 7.3.4: another name of a namespace, or a directive
+  in_local_alias : {room : ℕ} {state : CxxState} {ahead : Ahead} → is_keyword keyword.NAMESPACE (kind_ahead ahead) ≡ true → IsAlias ahead → Leads (a_local_declaration room) state ahead (an_alias ahead (alias_name ahead)) state (behind (behind ahead))
+  to_local_directive : {room : ℕ} {state : CxxState} {ahead : Ahead} → IsDirective ahead → Leads (a_local_declaration room) state ahead a_directive state ahead
   -- 6.7: specifiers, then declarators
-  in_local_specifiers : {room : ℕ} {state : CxxState} {ahead : Ahead} → Leads (a_local_declaration room) state ahead (some_specifiers room where_.Block) state ahead
-  to_local_declarators : {room : ℕ} {specifiers : Specifiers} {state after : CxxState} {ahead rest : Ahead} → Gives (specifiers_of room where_.Block) state ahead specifiers after rest
+  in_local_specifiers : {room : ℕ} {state : CxxState} {ahead : Ahead} → IsNoSpace ahead → Leads (a_local_declaration room) state ahead (some_specifiers room where_.Block) state ahead
+  to_local_declarators : {room : ℕ} {specifiers : Specifiers} {state after : CxxState} {ahead rest : Ahead} → IsNoSpace ahead → Gives (specifiers_of room where_.Block) state ahead specifiers after rest
       → Leads (a_local_declaration room) state ahead (some_local_declarators room (said_by false specifiers) no_declarators) after rest
   next_local_declarator : {room : ℕ} {said : Said} {so_far more : Listed} {state after : CxxState} {ahead rest : Ahead} → Gives (local_step room said so_far) state ahead (More more) after rest
       → Leads (some_local_declarators room said so_far) state ahead (some_local_declarators room said more) after rest
   in_local_declarator : {room : ℕ} {said : Said} {so_far : Listed} {state : CxxState} {ahead : Ahead} → Leads (some_local_declarators room said so_far) state ahead (a_declarator room) state ahead
   to_local_initializer : {room : ℕ} {said : Said} {so_far : Listed} {declarator : Declarator} {state between : CxxState} {answer : ℕ × CxxState} {ahead rest : Ahead} → Gives (declarator_of room) state ahead declarator between rest → said.is_typedef ≡ false
-      → (is_function_type (declared_type declarator.layers said.of) || said.is_extern) ≡ false → define_object (name_in declarator) (declared_type declarator.layers said.of) between ≡ Ok answer → begins_initializer rest ≡ true
+      → is_function_type (declared_type declarator.layers said.of) ≡ false → said.is_extern ≡ false → define_object (name_in declarator) (declared_type declarator.layers said.of) between ≡ Ok answer → begins_initializer rest ≡ true
       → Leads (some_local_declarators room said so_far) state ahead (an_initializer room (name_in declarator) (declared_type declarator.layers said.of) answer.0) answer.1 rest
   -- 6.4: a condition is an expression, or declares an object
   in_condition : {room : ℕ} {state after : CxxState} {ahead rest : Ahead} → Gives (is_declaration_of room) state ahead false after rest → Leads (an_expression room purpose.Condition) state ahead (an_expression room purpose.Whole) after rest

@@ -3,7 +3,7 @@ use Rattle.std.proofs.Common.{◌≡◌, ◌≤◌, ◌<◌, inl, inr, ℕ, zero
 use Rattle.std.specs.List.{AllByRecursion, Contains, filter, slice_get}
 use Rattle.std.proofs.lemmas.List.{length-map}
 use Rattle.cxx_form.specs.Text.{printed_calls}
-use Rattle.cxx_language_laws.specs.Best.{EachCallIsBest, IsBestCall, values_of}
+use Rattle.cxx_language_laws.specs.Best.{EachCallIsBest, IsBestCall, values_of_call}
 use Rattle.cxx_meaning.specs.Conversions.Asking.{Asked, ◌>>=◌}
 use Rattle.cxx_meaning.specs.Conversions.Standard.{CxxOperand}
 use Rattle.cxx_meaning.specs.Lookups.Gathered.{before}
@@ -105,7 +105,7 @@ of_filter test (first ∷ others) one m = kept_of (test first) first (filter tes
 
 well_kept : (state : CxxState) (call : CxxCall) → IsBestCall state call → IsWellKept call
 well_kept state call is =
-    let ordered : AreInOrder 1 is.all = all_in_order is.before call.operands (values_of is.before is.scope is.name) is.all is.rated_so in
+    let ordered : AreInOrder 1 is.all = all_in_order is.before call.operands (values_of_call is.before is.scope is.word is.is_bare call.operands) is.all is.rated_so in
     let at = within 1 is.all ordered is.meant (of_filter (λ one. is_viable one.outcome) is.all is.meant is.best.member) in
     let count : length call.candidates ≡ length is.all = ap (λ (c : CxxCall). length c.candidates) is.keeps ∙ length-map is.all number_of in
     let told : length call.outcomes ≡ length is.all = ap (λ (c : CxxCall). length c.outcomes) is.keeps ∙ length-map is.all outcome_of in

@@ -9,7 +9,7 @@ use Rattle.cxx_model.specs.declared.facts.Fact.{Fact}
 use Rattle.cxx_model.specs.declared.facts.ScopeKind.{ScopeKind}
 use Rattle.cxx_model.specs.declared.facts.ScopeKind.TheVariants as kind
 use Rattle.cxx_model.specs.declared.types.ScopeId.{ScopeId}
-use Rattle.cxx_model.specs.Facts.Conflicts.{are_parameters, conflicts, conflict_among, declares_name, first_conflict, has_name, is_constructor, is_of_parameters, is_one_scope, is_outermost, is_closed, is_using, may_stand, standing, of_one_name, same_name, scope_facts, stand_together}
+use Rattle.cxx_model.specs.Facts.Conflicts.{are_parameters, conflicts, conflict_among, declares_name, first_conflict, has_name, is_constructor, is_of_parameters, is_one_scope, is_outermost, is_class_scope, is_closed, of_one_name, same_name, scope_facts, stand_together}
 use Rattle.cxx_model.specs.Facts.Declarations.{CxxFact, CxxGraph, CxxName, declares_at, fact_at, facts_at, graph_at, name_at, spelled, unnamed}
 use Rattle.cxx_model.specs.declared.facts.Name.TheVariants as name
 use Rattle.cxx_model.specs.declared.types.FactId.{FactId}
@@ -21,7 +21,10 @@ use Rattle.cxx_reading.specs.Seen.{declared_from, declared_in, declares_in}
 use Rattle.cxx_names.specs.declared.entry.Noted.{Noted}
 use Rattle.cxx_names.proofs.Pairs.{plain_free}
 use Rattle.cxx_names.specs.Looked.{looked_up, seen_by}
-use Rattle.cxx_names.specs.Clashes.{are_parameters_in, block_in, is_block_in, is_one_scope_in, IsPlain, IsPlainEntity, NoneBrought, conflict_in, conflict_in_scopes, holder_of_block, sooner}
+use Rattle.cxx_reading.specs.Linked.{clash_among, rescoped}
+use Rattle.cxx_names.proofs.Looking.{facts_length}
+use Rattle.cxx_names.proofs.Openings.{kinds_are}
+use Rattle.cxx_names.specs.Clashes.{are_parameters_in, block_in, is_block_in, is_class_in, is_one_scope_in, IsNoTemplate, IsPlain, IsPlainEntity, NoTemplates, stand_in, conflict_in, conflict_in_scopes, holder_of_block, sooner}
 use Rattle.cxx_names.specs.Index.{blocks_from, is_outermost_kind, noted_by, scopes_of}
 
 -- ---- the first of those that pass a test
@@ -335,22 +338,40 @@ one_scope_is types facts one two =
     at : (scope other : ℕ) → is_block_in (scopes_of facts) scope other ≡ is_of_parameters (facts_at types facts) scope other
     at scope other = block_is (facts_at types facts) (scopes_of facts) scope other (slice_get (scope_facts (facts_at types facts)) scope) (slice_get (scopes_of facts) scope) refl (scopes_seen types facts scope) (parameters_are types facts other)
 
+pub classes_are : (types : List CxxType) (facts : List Fact) (n : ℕ) → is_class_in (slice_get (scopes_of facts) n) ≡ is_class_scope (facts_at types facts) n
+classes_are types facts n = by (slice_get (scopes_of facts) n) (kinds_are types facts n)
+  where
+    of_kind : (noted : Noted) (k : ScopeKind) → slice_get (scope_kinds (facts_at types facts)) n ≡ Some k → is_class_in (Some (record noted { kind = k })) ≡ is_class_scope (facts_at types facts) n
+    of_kind noted kind.Space e = rw e refl
+    of_kind noted (kind.Class class) e = rw e refl
+    of_kind noted (kind.Block function) e = rw e refl
+    of_kind noted kind.Parameters e = rw e refl
+
+    by : (o : Option Noted) → slice_get (scope_kinds (facts_at types facts)) n ≡ option_map (λ noted. noted.kind) o → is_class_in o ≡ is_class_scope (facts_at types facts) n
+    by None e = rw e refl
+    by (Some noted) e = of_kind noted noted.kind e
+
 -- ---- the test of two declarations
 
-together : (graph : CxxGraph) (m n : ℕ) (one two : CxxFact) → is_using one.what ≡ false → is_using two.what ≡ false → stand_together graph m one n two ≡ may_stand (is_closed graph.facts one.scope || is_closed graph.facts two.scope) (standing graph one.what) (standing graph two.what)
-together graph m n one two e f = rw (e, f) refl
-
-pub clash_is : (types : List CxxType) (graph : Graph) (scopes : List Noted) (number : ℕ) (old new : Fact) (one named first second stands : Bool) → scopes ≡ scopes_of graph.facts → is_using (declares_at types old.what) ≡ false → is_using (declares_at types new.what) ≡ false
-    → one ≡ is_one_scope_in scopes old.scope.0 new.scope.0 → named ≡ of_one_name (fact_at types old) (fact_at types new) → first ≡ are_parameters_in (slice_get scopes old.scope.0) → second ≡ are_parameters_in (slice_get scopes new.scope.0)
-    → ((closed : Bool) → stands ≡ may_stand closed (standing (graph_at types graph) (declares_at types old.what)) (standing (graph_at types graph) (declares_at types new.what)))
-    → (one && (named && ((first || second) || not stands))) ≡ conflicts (graph_at types graph) number (fact_at types old) (fact_at types new)
-clash_is types graph scopes number old new one named first second stands s u v p q r t w =
+pub clash_is : (types : List CxxType) (graph : Graph) (scopes : List Noted) (number : ℕ) (scope : ScopeId) (old new : Fact) (one named first second in_class stands : Bool) → scopes ≡ scopes_of graph.facts
+    → one ≡ is_one_scope_in scopes scope.0 new.scope.0 → named ≡ of_one_name (fact_at types old) (fact_at types new) → first ≡ are_parameters_in (slice_get scopes scope.0) → second ≡ are_parameters_in (slice_get scopes new.scope.0)
+    → in_class ≡ (is_class_in (slice_get scopes scope.0) || is_class_in (slice_get scopes new.scope.0))
+    → ((closed : Bool) → stands ≡ stand_in (graph_at types graph) in_class closed number (declares_at types old.what) (length graph.facts) (declares_at types new.what))
+    → (one && (named && ((first || second) || not stands))) ≡ conflicts (graph_at types graph) number (rescoped scope.0 (fact_at types old)) (fact_at types new)
+clash_is types graph scopes number scope old new one named first second in_class stands s p q r t c w =
     let all = facts_at types graph.facts in
-    ap (λ b. b && (named && ((first || second) || not stands))) (p ∙ (ap (λ xs. is_one_scope_in xs old.scope.0 new.scope.0) s ∙ one_scope_is types graph.facts old.scope.0 new.scope.0))
-    ∙ (ap (λ b. is_one_scope all old.scope.0 new.scope.0 && (b && ((first || second) || not stands))) q
-    ∙ (ap (λ b. is_one_scope all old.scope.0 new.scope.0 && (of_one_name (fact_at types old) (fact_at types new) && ((b || second) || not stands))) (r ∙ (ap (λ xs. are_parameters_in (slice_get xs old.scope.0)) s ∙ parameters_are types graph.facts old.scope.0))
-    ∙ (ap (λ b. is_one_scope all old.scope.0 new.scope.0 && (of_one_name (fact_at types old) (fact_at types new) && ((are_parameters (slice_get (scope_kinds all) old.scope.0) || b) || not stands))) (t ∙ (ap (λ xs. are_parameters_in (slice_get xs new.scope.0)) s ∙ parameters_are types graph.facts new.scope.0))
-    ∙ ap (λ b. is_one_scope all old.scope.0 new.scope.0 && (of_one_name (fact_at types old) (fact_at types new) && ((are_parameters (slice_get (scope_kinds all) old.scope.0) || are_parameters (slice_get (scope_kinds all) new.scope.0)) || not b))) (w (is_closed all old.scope.0 || is_closed all new.scope.0) ∙ sym (together (graph_at types graph) number (length all) (fact_at types old) (fact_at types new) u v)))))
+    let named_too = of_one_name (fact_at types old) (fact_at types new) in
+    let classes : in_class ≡ (is_class_scope all scope.0 || is_class_scope all new.scope.0) = c ∙ (ap (λ xs. is_class_in (slice_get xs scope.0) || is_class_in (slice_get xs new.scope.0)) s ∙ (ap (λ b. b || is_class_in (slice_get (scopes_of graph.facts) new.scope.0)) (classes_are types graph.facts scope.0) ∙ ap (λ b. is_class_scope all scope.0 || b) (classes_are types graph.facts new.scope.0))) in
+    let closed = is_closed all scope.0 || is_closed all new.scope.0 in
+    let together : stands ≡ stand_together (graph_at types graph) number (rescoped scope.0 (fact_at types old)) (length all) (fact_at types new) =
+    w closed
+    ∙ (ap (λ k. stand_in (graph_at types graph) in_class closed number (declares_at types old.what) k (declares_at types new.what)) (sym (facts_length types graph.facts))
+    ∙ ap (λ b. stand_in (graph_at types graph) b closed number (declares_at types old.what) (length all) (declares_at types new.what)) classes) in
+    ap (λ b. b && (named && ((first || second) || not stands))) (p ∙ (ap (λ xs. is_one_scope_in xs scope.0 new.scope.0) s ∙ one_scope_is types graph.facts scope.0 new.scope.0))
+    ∙ (ap (λ b. is_one_scope all scope.0 new.scope.0 && (b && ((first || second) || not stands))) q
+    ∙ (ap (λ b. is_one_scope all scope.0 new.scope.0 && (named_too && ((b || second) || not stands))) (r ∙ (ap (λ xs. are_parameters_in (slice_get xs scope.0)) s ∙ parameters_are types graph.facts scope.0))
+    ∙ (ap (λ b. is_one_scope all scope.0 new.scope.0 && (named_too && ((are_parameters (slice_get (scope_kinds all) scope.0) || b) || not stands))) (t ∙ (ap (λ xs. are_parameters_in (slice_get xs new.scope.0)) s ∙ parameters_are types graph.facts new.scope.0))
+    ∙ ap (λ b. is_one_scope all scope.0 new.scope.0 && (named_too && ((are_parameters (slice_get (scope_kinds all) scope.0) || are_parameters (slice_get (scope_kinds all) new.scope.0)) || not b))) together)))
 
 -- ---- one number after another
 
@@ -397,18 +418,9 @@ fact_below count [] number fact below at = absurd cc
 fact_below count (one ∷ facts) zero fact below at = (let same : one ≡ fact = cc in subst (λ f. IsFactBelow count f) same below.0)
 fact_below count (one ∷ facts) (suc number) fact below at = fact_below count facts number fact below.1 at
 
-using_alike : (types : List CxxType) (what : Entity) → is_using (declares_at types what) ≡ is_using (declares_at [] what)
-using_alike types (entity.Using target) = refl
-using_alike types _ = refl
-
-pub not_brought : (types : List CxxType) (facts : List Fact) (number : ℕ) (fact : Fact) → NoneBrought facts → slice_get facts number ≡ Some fact → is_using (declares_at types fact.what) ≡ false
-not_brought types [] number fact none at = absurd cc
-not_brought types (one ∷ facts) zero fact none at = (let same : one ≡ fact = cc in using_alike types fact.what ∙ subst (λ f. is_using (declares_at [] f.what) ≡ false) same none.0)
-not_brought types (one ∷ facts) (suc number) fact none at = not_brought types facts number fact none.1 at
-
-pub plain_not_brought : (types : List CxxType) (what : Entity) → IsPlainEntity what → is_using (declares_at types what) ≡ false
-plain_not_brought types (entity.Using target) plain = absurd plain
-plain_not_brought types _ plain = refl
+pub plain_untemplated : (what : Entity) → IsPlainEntity what → IsNoTemplate what
+plain_untemplated (entity.Template template member defaults is_explicit first) plain = absurd plain
+plain_untemplated _ plain = tt
 
 drop_at : (numbers : List FactId) (i : ℕ) (d : FactId) → i < length numbers → drop i numbers ≡ get_or numbers i d ∷ drop (i + 1) numbers
 drop_at numbers i d h = rw (add-one, drop-cons numbers i d) refl
@@ -418,6 +430,28 @@ pub conflict_step : (graph : CxxGraph) (new : CxxFact) (types : List CxxType) (f
     → conflict_in graph new (looked_up types facts (drop i numbers)) ≡ cond t (Some (get_or numbers i d).0) (conflict_in graph new (looked_up types facts (drop (i + 1) numbers)))
 conflict_step graph new types facts numbers i d t h e = ap (λ ns. conflict_in graph new (looked_up types facts ns)) (drop_at numbers i d h) ∙ conflict_more graph new types facts (get_or numbers i d) (drop (i + 1) numbers) t e
 
-pub none_brought_more : (facts : List Fact) (fact : Fact) → NoneBrought facts → is_using (declares_at [] fact.what) ≡ false → NoneBrought (facts ++ fact ∷ [])
-none_brought_more [] fact none e = (e, tt)
-none_brought_more (one ∷ facts) fact none e = (none.0, none_brought_more facts fact none.1 e)
+-- the same of those that stand in the scope of the new one
+here_more : (graph : CxxGraph) (new : CxxFact) (types : List CxxType) (facts : List Fact) (number : FactId) (numbers : List FactId) (t : Bool)
+    → cond t (Some number.0) None ≡ clash_among graph new (looked_up types facts (number ∷ [])) → clash_among graph new (looked_up types facts (number ∷ numbers)) ≡ cond t (Some number.0) (clash_among graph new (looked_up types facts numbers))
+here_more graph new types facts number numbers t e = by (slice_get facts number.0) e
+  where
+    clear : (t : Bool) (c : Bool) (later : Option ℕ) → cond t (Some number.0) None ≡ cond c (Some number.0) None → cond c (Some number.0) later ≡ cond t (Some number.0) later
+    clear true true later e = refl
+    clear true false later e = absurd (cc)
+    clear false true later e = absurd (cc)
+    clear false false later e = refl
+
+    by : (o : Option Fact) → cond t (Some number.0) None ≡ clash_among graph new (seen_by types number [] o) → clash_among graph new (seen_by types number (looked_up types facts numbers) o) ≡ cond t (Some number.0) (clash_among graph new (looked_up types facts numbers))
+    by None e = clear t false (clash_among graph new (looked_up types facts numbers)) e
+    by (Some fact) e = clear t (conflicts graph number.0 (rescoped new.scope (fact_at types fact)) new) (clash_among graph new (looked_up types facts numbers)) e
+
+pub here_step : (graph : CxxGraph) (new : CxxFact) (types : List CxxType) (facts : List Fact) (numbers : List FactId) (i : ℕ) (d : FactId) (t : Bool) → i < length numbers
+    → cond t (Some (get_or numbers i d).0) None ≡ clash_among graph new (looked_up types facts (get_or numbers i d ∷ []))
+    → clash_among graph new (looked_up types facts (drop i numbers)) ≡ cond t (Some (get_or numbers i d).0) (clash_among graph new (looked_up types facts (drop (i + 1) numbers)))
+here_step graph new types facts numbers i d t h e = ap (λ ns. clash_among graph new (looked_up types facts ns)) (drop_at numbers i d h) ∙ here_more graph new types facts (get_or numbers i d) (drop (i + 1) numbers) t e
+
+-- ---- templates
+
+pub no_templates_more : (facts : List Fact) (fact : Fact) → NoTemplates facts → IsNoTemplate fact.what → NoTemplates (facts ++ fact ∷ [])
+no_templates_more [] fact none e = (e, tt)
+no_templates_more (one ∷ facts) fact none e = (none.0, no_templates_more facts fact none.1 e)

@@ -2,7 +2,10 @@ pub mod Clashing
 pub mod Counting
 pub mod Known
 pub mod Looking
+pub mod Meanings
 pub mod Noting
+pub mod Openings
 pub mod Pairs
+pub mod Plain
 pub mod Templates
 pub mod Types

@@ -27,7 +27,9 @@ use Rattle.cxx_names.specs.Filed.{row, those_in, AreSame, IsMoreBy}
 use Rattle.cxx_names.specs.declared.words.Words.{Words}
 use Rattle.cxx_names.specs.Words.{same_spelling, number_among, numbered_row, word_declared_by, IsNumbered, HasMet, HasWord}
 use Rattle.cxx_names.proofs.Known.{same_text, one_name, sound_met, row_met, sound_more}
-use Rattle.cxx_names.specs.Index.{same_scope, same_enumeration, filed_by, noted_by, value_by, is_outermost_kind, block_by, scopes_of, blocks_from, numbers_in, Keeps, Notes, HasKept, HasNoted, AreSameKept, AreSameNames}
+use Rattle.cxx_names.specs.declared.entry.SpaceEntry.{SpaceEntry}
+use Rattle.cxx_names.specs.declared.spaces.Spaces.{Spaces}
+use Rattle.cxx_names.specs.Index.{under, directive_by, directives_of, opening_by, openings_from, unnamed_by, unnamed_of, KeepsSpaces, HasSpaces, AreSameSpaces, same_scope, same_enumeration, filed_by, noted_by, value_by, is_outermost_kind, block_by, scopes_of, blocks_from, numbers_in, Keeps, Notes, HasKept, HasNoted, AreSameKept, AreSameNames}
 
 -- ---- declarations of a name
 
@@ -192,13 +194,76 @@ module _ (types : List CxxType) (old new : List (EnumId × Vec ℤ)) (facts : Li
       same true e = ap (λ vs. vs ++ one.1 ∷ []) (ap of_number (eqb-true one.0.0 number.0 e) ∙ kept number)
       same false e = kept number ∙ sym (append-nil _)
 
-keeps_more : (old new : Kept) (one : Entry) (facts : List Fact) (fact : Fact) → one.noted ≡ noted_by fact.scope fact.what → one.block ≡ block_by (length (scopes_of facts)) (noted_by fact.scope fact.what) → one.value ≡ value_by fact.what → one.is_enumeration ≡ is_enumeration fact.what
+-- ---- what is filed under scopes
+
+under_append : {V : Type 0} (scope : ScopeId) (xs ys : List (ScopeId × V)) → under scope (xs ++ ys) ≡ under scope xs ++ under scope ys
+under_append scope [] ys = refl
+under_append scope (x ∷ xs) ys = by (nat_eq x.0.0 scope.0) (under_append scope xs ys)
+  where
+    by : (t : Bool) → under scope (xs ++ ys) ≡ under scope xs ++ under scope ys → cond t (x.1 ∷ under scope (xs ++ ys)) (under scope (xs ++ ys)) ≡ cond t (x.1 ∷ under scope xs) (under scope xs) ++ under scope ys
+    by true e = ap (λ vs. x.1 ∷ vs) e
+    by false e = e
+
+module _ {V : Type 0} (old new : List (ScopeId × Vec V)) (entries : List (ScopeId × V)) (kept : (scope : ScopeId) → row same_scope old scope ≡ under scope entries) where
+  abbrev in_scope : ℕ → List V
+  in_scope m = those_in (lookup (λ k. nat_eq m k.0) old)
+
+  rows_noted : (one : Option (ScopeId × V)) → IsMoreBy same_scope old new one → (scope : ScopeId) → row same_scope new scope ≡ under scope (entries ++ option_to_list one)
+  rows_noted None more scope = more scope ∙ kept scope ∙ ap (under scope) (sym (append-nil entries))
+  rows_noted (Some one) more scope = more scope ∙ same (nat_eq one.0.0 scope.0) refl ∙ sym (under_append scope entries (one ∷ []))
+    where
+      same : (t : Bool) → nat_eq one.0.0 scope.0 ≡ t → cond t (row same_scope old one.0 ++ one.1 ∷ []) (row same_scope old scope) ≡ under scope entries ++ cond t (one.1 ∷ []) []
+      same true e = ap (λ vs. vs ++ one.1 ∷ []) (ap in_scope (eqb-true one.0.0 scope.0 e) ∙ kept scope)
+      same false e = kept scope ∙ sym (append-nil _)
+
+directives_more : (facts : List Fact) (fact : Fact) → directives_of (facts ++ fact ∷ []) ≡ directives_of facts ++ option_to_list (directive_by fact.scope fact.what)
+directives_more [] fact = append-nil _
+directives_more (one ∷ facts) fact = ap (λ xs. option_to_list (directive_by one.scope one.what) ++ xs) (directives_more facts fact) ∙ sym (append_assoc (option_to_list (directive_by one.scope one.what)) (directives_of facts) (option_to_list (directive_by fact.scope fact.what)))
+
+unnamed_more : (facts : List Fact) (fact : Fact) → unnamed_of (facts ++ fact ∷ []) ≡ unnamed_of facts ++ option_to_list (unnamed_by fact.scope fact.name fact.what)
+unnamed_more [] fact = append-nil _
+unnamed_more (one ∷ facts) fact = ap (λ xs. option_to_list (unnamed_by one.scope one.name one.what) ++ xs) (unnamed_more facts fact) ∙ sym (append_assoc (option_to_list (unnamed_by one.scope one.name one.what)) (unnamed_of facts) (option_to_list (unnamed_by fact.scope fact.name fact.what)))
+
+openings_more : (n : ℕ) (facts : List Fact) (fact : Fact) → openings_from n (facts ++ fact ∷ []) ≡ openings_from n facts ++ option_to_list (opening_by (record { 0 = n + length facts }) fact.what)
+openings_more n [] fact = append-nil _ ∙ ap (λ (k : ℕ). option_to_list (opening_by (record { 0 = k }) fact.what)) place
+  where
+    place : n ≡ n + 0
+    place = omega arith
+openings_more n (one ∷ facts) fact =
+    ap (λ xs. option_to_list (opening_by (record { 0 = n }) one.what) ++ xs) (openings_more (suc n) facts fact ∙ ap (λ (k : ℕ). openings_from (suc n) facts ++ option_to_list (opening_by (record { 0 = k }) fact.what)) place)
+    ∙ sym (append_assoc (option_to_list (opening_by (record { 0 = n }) one.what)) (openings_from (suc n) facts) (option_to_list (opening_by (record { 0 = n + length (one ∷ facts) }) fact.what)))
+  where
+    place : suc n + length facts ≡ n + length (one ∷ facts)
+    place = omega arith
+
+spaces_more : (old new : Spaces) (one : SpaceEntry) (facts : List Fact) (fact : Fact) (number : FactId) → number.0 ≡ length facts
+    → one.directive ≡ directive_by fact.scope fact.what → one.opening ≡ opening_by number fact.what → one.unnamed ≡ unnamed_by fact.scope fact.name fact.what
+    → KeepsSpaces old facts → HasSpaces old new one → KeepsSpaces new (facts ++ fact ∷ [])
+spaces_more old new one facts fact number n directive opening unnamed kept has = record {
+  directives = λ scope. rows_noted old.directives.rows.entries new.directives.rows.entries (directives_of facts) kept.directives (directive_by fact.scope fact.what) (subst (λ o. IsMoreBy same_scope old.directives.rows.entries new.directives.rows.entries o) directive has.directives) scope ∙ ap (under scope) (sym (directives_more facts fact));
+  openings = λ scope. rows_noted old.openings.rows.entries new.openings.rows.entries (openings_from zero facts) kept.openings (opening_by number fact.what) (subst (λ o. IsMoreBy same_scope old.openings.rows.entries new.openings.rows.entries o) opening has.openings) scope ∙ (ap (λ (k : ℕ). under scope (openings_from zero facts ++ option_to_list (opening_by (record { 0 = k }) fact.what))) (n ∙ place) ∙ ap (under scope) (sym (openings_more zero facts fact)));
+  unnamed = λ scope. rows_noted old.unnamed.rows.entries new.unnamed.rows.entries (unnamed_of facts) kept.unnamed (unnamed_by fact.scope fact.name fact.what) (subst (λ o. IsMoreBy same_scope old.unnamed.rows.entries new.unnamed.rows.entries o) unnamed has.unnamed) scope ∙ ap (under scope) (sym (unnamed_more facts fact));
+}
+  where
+    place : length facts ≡ zero + length facts
+    place = omega arith
+
+spaces_same : (old new : Spaces) (facts : List Fact) → KeepsSpaces old facts → AreSameSpaces old new → KeepsSpaces new facts
+spaces_same old new facts kept same = record {
+  directives = λ scope. same.directives scope ∙ kept.directives scope;
+  openings = λ scope. same.openings scope ∙ kept.openings scope;
+  unnamed = λ scope. same.unnamed scope ∙ kept.unnamed scope;
+}
+
+keeps_more : (old new : Kept) (one : Entry) (facts : List Fact) (fact : Fact) (number : FactId) → number.0 ≡ length facts → one.noted ≡ noted_by fact.scope fact.what → one.block ≡ block_by (length (scopes_of facts)) (noted_by fact.scope fact.what) → one.value ≡ value_by fact.what → one.is_enumeration ≡ is_enumeration fact.what
+    → one.space.directive ≡ directive_by fact.scope fact.what → one.space.opening ≡ opening_by number fact.what → one.space.unnamed ≡ unnamed_by fact.scope fact.name fact.what
     → Keeps old facts → HasKept old new one → Keeps new (facts ++ fact ∷ [])
-keeps_more old new one facts fact noted block value counts kept has = record {
+keeps_more old new one facts fact number n noted block value counts directive opening unnamed kept has = record {
   scopes = has.scopes ∙ (ap (λ xs. xs ++ option_to_list one.noted) kept.scopes ∙ (ap (λ o. scopes_of facts ++ option_to_list o) noted ∙ sym (scopes_more facts fact)));
   blocks = λ scope. blocks_noted old.blocks.rows.entries new.blocks.rows.entries (scopes_of facts) kept.blocks (noted_by fact.scope fact.what) (subst (λ o. IsMoreBy same_scope old.blocks.rows.entries new.blocks.rows.entries o) block has.blocks) scope ∙ ap (blocks_from zero scope.0) (sym (scopes_more facts fact));
   enumerations = has.enumerations ∙ (ap (λ b. counted b old.enumerations) counts ∙ (ap (counted (is_enumeration fact.what)) kept.enumerations ∙ sym (count_more facts fact)));
   values = λ number types. values_noted types old.values.rows.entries new.values.rows.entries facts (λ n. kept.values n types) (value_by fact.what) (subst (λ o. IsMoreBy same_enumeration old.values.rows.entries new.values.rows.entries o) value has.values) number ∙ sym (values_more types number.0 facts fact);
+  spaces = spaces_more old.spaces new.spaces one.space facts fact number n directive opening unnamed kept.spaces has.spaces;
 }
 
 keeps_same : (old new : Kept) (facts : List Fact) → Keeps old facts → AreSameKept old new → Keeps new facts
@@ -207,6 +272,7 @@ keeps_same old new facts kept same = record {
   blocks = λ scope. same.blocks scope ∙ kept.blocks scope;
   enumerations = same.enumerations ∙ kept.enumerations;
   values = λ number types. same.values number ∙ kept.values number types;
+  spaces = spaces_same old.spaces new.spaces facts kept.spaces same.spaces;
 }
 
 -- ---- all of it
@@ -222,13 +288,14 @@ notes_met old words facts notes met = record {
 pub notes_more : (old new : Names) (one : Entry) (facts : List Fact) (fact : Fact) (name : Option Spelling) (number : FactId) (scopes : ℕ) → number.0 ≡ length facts → scopes ≡ length (scopes_of facts) → IsNumbered old.words.spellings.keys fact name
     → one.name ≡ filed_by number name
     → one.noted ≡ noted_by fact.scope fact.what → one.block ≡ block_by scopes (noted_by fact.scope fact.what) → one.value ≡ value_by fact.what → one.is_enumeration ≡ is_enumeration fact.what
+    → one.space.directive ≡ directive_by fact.scope fact.what → one.space.opening ≡ opening_by number fact.what → one.space.unnamed ≡ unnamed_by fact.scope fact.name fact.what
     → Notes old facts → HasNoted old new one → Notes new (facts ++ fact ∷ [])
-notes_more old new one facts fact name number scopes n m is filed noted block value counts notes has =
+notes_more old new one facts fact name number scopes n m is filed noted block value counts directive opening unnamed notes has =
     let has_word : HasWord old.words new.words (filed_by number name) = subst (λ o. HasWord old.words new.words o) filed has.words in
     record {
       sound = sound_more old.words new.words fact.scope (word_declared_by fact) name number notes.sound is has_word;
       words = λ scope word types. ap (λ ks. numbered_row new.words.rows.rows.entries scope (number_among ks word)) has_word.spellings ∙ names_noted types old.words.spellings.keys old.words.rows.rows.entries new.words.rows.rows.entries facts fact name number n is (λ s w. notes.words s w types) has_word.rows scope word;
-      kept = keeps_more old.kept new.kept one facts fact noted (block ∙ ap (λ k. block_by k (noted_by fact.scope fact.what)) m) value counts notes.kept has.kept;
+      kept = keeps_more old.kept new.kept one facts fact number n noted (block ∙ ap (λ k. block_by k (noted_by fact.scope fact.what)) m) value counts directive opening unnamed notes.kept has.kept;
     }
 
 numbered_same : (old new : List (Spelling × Vec FactId)) → AreSame same_spelling old new → (scope : ScopeId) (o : Option ℕ) → numbered_row new scope o ≡ numbered_row old scope o

@@ -4,6 +4,8 @@ use Rattle.std.specs.Option.{option_to_list}
 use Rattle.cxx_model.specs.declared.facts.Entity.{Entity}
 use Rattle.cxx_model.specs.declared.facts.Entity.TheVariants as entity
 use Rattle.cxx_model.specs.declared.facts.Fact.{Fact}
+use Rattle.cxx_model.specs.declared.facts.Name.{Name}
+use Rattle.cxx_model.specs.declared.facts.Name.TheVariants as name
 use Rattle.cxx_model.specs.declared.facts.ScopeKind.{ScopeKind}
 use Rattle.cxx_model.specs.declared.facts.ScopeKind.TheVariants as kind
 use Rattle.cxx_model.specs.declared.types.EnumId.{EnumId}
@@ -21,6 +23,8 @@ use Rattle.cxx_names.specs.declared.entry.Noted.{Noted}
 use Rattle.cxx_names.specs.declared.entry.Spelling.{Spelling}
 use Rattle.cxx_names.specs.declared.kept.Kept.{Kept}
 use Rattle.cxx_names.specs.declared.names.Names.{Names}
+use Rattle.cxx_names.specs.declared.entry.SpaceEntry.{SpaceEntry}
+use Rattle.cxx_names.specs.declared.spaces.Spaces.{Spaces}
 
 -- ---- keys
 
@@ -54,7 +58,44 @@ abbrev pub block_by : ℕ → Option Noted → Option (ScopeId × ScopeId)
 block_by number None = None
 block_by number (Some noted) = if is_outermost_kind noted.kind then Some (noted.parent, record { 0 = number }) else None
 
+-- 7.3.4: the namespace that a directive nominates, under the scope of the directive
+abbrev pub directive_by : ScopeId → Entity → Option (ScopeId × ScopeId)
+directive_by scope (entity.Directive nominated) = Some (scope, nominated)
+directive_by scope _ = None
+
+-- 7.3.1: a declaration of a namespace with a number, under the scope of the namespace
+abbrev pub opening_by : FactId → Entity → Option (ScopeId × FactId)
+opening_by number (entity.Namespace inner) = Some (inner, number)
+opening_by number _ = None
+
+-- 7.3.1.1: the scope of an unnamed namespace, under the one that holds it
+abbrev pub unnamed_space : ScopeId → Entity → Option (ScopeId × ScopeId)
+unnamed_space scope (entity.Namespace inner) = Some (scope, inner)
+unnamed_space scope _ = None
+
+abbrev pub unnamed_by : ScopeId → Name → Entity → Option (ScopeId × ScopeId)
+unnamed_by scope name.Unnamed what = unnamed_space scope what
+unnamed_by scope _ what = None
+
 -- ---- what is kept of all facts
+
+-- the values of those pairs that have a scope, in order
+abbrev pub under : {V : Type 0} → ScopeId → List (ScopeId × V) → List V
+under scope [] = []
+under scope (one ∷ others) = if same_scope one.0 scope then one.1 ∷ under scope others else under scope others
+
+abbrev pub directives_of : List Fact → List (ScopeId × ScopeId)
+directives_of [] = []
+directives_of (fact ∷ facts) = option_to_list (directive_by fact.scope fact.what) ++ directives_of facts
+
+-- the declarations of namespaces, where the first fact has a number
+abbrev pub openings_from : ℕ → List Fact → List (ScopeId × FactId)
+openings_from number [] = []
+openings_from number (fact ∷ facts) = option_to_list (opening_by (record { 0 = number }) fact.what) ++ openings_from (suc number) facts
+
+abbrev pub unnamed_of : List Fact → List (ScopeId × ScopeId)
+unnamed_of [] = []
+unnamed_of (fact ∷ facts) = option_to_list (unnamed_by fact.scope fact.name fact.what) ++ unnamed_of facts
 
 abbrev pub scopes_of : List Fact → List Noted
 scopes_of [] = []
@@ -72,12 +113,19 @@ number_of one = record { 0 = one.number }
 abbrev pub numbers_in : List Numbered → List FactId
 numbers_in all = map number_of all
 
+-- What is kept of namespaces and directives is that of exactly these facts.
+pub record KeepsSpaces (spaces : Spaces) (facts : List Fact) : Type 0 where
+  pub directives : (scope : ScopeId) → row same_scope spaces.directives.rows.entries scope ≡ under scope (directives_of facts)
+  pub openings : (scope : ScopeId) → row same_scope spaces.openings.rows.entries scope ≡ under scope (openings_from zero facts)
+  pub unnamed : (scope : ScopeId) → row same_scope spaces.unnamed.rows.entries scope ≡ under scope (unnamed_of facts)
+
 -- What is kept of scopes and enumerations is that of exactly these facts.
 pub record Keeps (kept : Kept) (facts : List Fact) : Type 0 where
   pub scopes : kept.scopes.items ≡ scopes_of facts
   pub blocks : (scope : ScopeId) → row same_scope kept.blocks.rows.entries scope ≡ blocks_from zero scope.0 (scopes_of facts)
   pub enumerations : kept.enumerations ≡ enumerations facts
   pub values : (number : EnumId) (types : List CxxType) → row same_enumeration kept.values.rows.entries number ≡ values_in number.0 (facts_at types facts)
+  pub spaces : KeepsSpaces kept.spaces facts
 
 -- Exactly these facts were noted.
 pub record Notes (names : Names) (facts : List Fact) : Type 0 where
@@ -87,11 +135,22 @@ pub record Notes (names : Names) (facts : List Fact) : Type 0 where
 
 -- ---- what one more fact changes
 
+pub record HasSpaces (old new : Spaces) (one : SpaceEntry) : Type 0 where
+  pub directives : IsMoreBy same_scope old.directives.rows.entries new.directives.rows.entries one.directive
+  pub openings : IsMoreBy same_scope old.openings.rows.entries new.openings.rows.entries one.opening
+  pub unnamed : IsMoreBy same_scope old.unnamed.rows.entries new.unnamed.rows.entries one.unnamed
+
+pub record AreSameSpaces (old new : Spaces) : Type 0 where
+  pub directives : AreSame same_scope old.directives.rows.entries new.directives.rows.entries
+  pub openings : AreSame same_scope old.openings.rows.entries new.openings.rows.entries
+  pub unnamed : AreSame same_scope old.unnamed.rows.entries new.unnamed.rows.entries
+
 pub record HasKept (old new : Kept) (one : Entry) : Type 0 where
   pub scopes : new.scopes.items ≡ old.scopes.items ++ option_to_list one.noted
   pub blocks : IsMoreBy same_scope old.blocks.rows.entries new.blocks.rows.entries one.block
   pub enumerations : new.enumerations ≡ counted one.is_enumeration old.enumerations
   pub values : IsMoreBy same_enumeration old.values.rows.entries new.values.rows.entries one.value
+  pub spaces : HasSpaces old.spaces new.spaces one.space
 
 -- The same is kept.
 pub record AreSameKept (old new : Kept) : Type 0 where
@@ -99,6 +158,7 @@ pub record AreSameKept (old new : Kept) : Type 0 where
   pub blocks : AreSame same_scope old.blocks.rows.entries new.blocks.rows.entries
   pub enumerations : new.enumerations ≡ old.enumerations
   pub values : AreSame same_enumeration old.values.rows.entries new.values.rows.entries
+  pub spaces : AreSameSpaces old.spaces new.spaces
 
 pub record HasNoted (old new : Names) (one : Entry) : Type 0 where
   pub words : HasWord old.words new.words one.name

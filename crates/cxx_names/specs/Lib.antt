@@ -3,4 +3,5 @@ pub mod Filed
 pub mod Index
 pub mod Looked
 pub mod Meant
+pub mod Plain
 pub mod Words

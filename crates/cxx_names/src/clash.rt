@@ -1,19 +1,21 @@
 //! The first declaration with which a new one conflicts (3.3), among those of its name.
 
-ghost use Rattle.std.specs.Prelude.{◌≡◌, ◌&&◌, ◌||◌, not, ℕ, [], ◌∷◌, length, false, None, Some, option_map, if◌then◌else◌};
+ghost use Rattle.std.specs.Prelude.{◌≡◌, ◌&&◌, ◌||◌, not, [], ◌∷◌, length, None, Some, option_map, if◌then◌else◌};
 ghost use Rattle.std.specs.Option.{option_to_list};
 ghost use Rattle.cxx_model.specs.declared.facts.Name.TheVariants.{Spelled as SpelledName};
-ghost use Rattle.cxx_model.specs.Facts.Conflicts.{conflicts, first_conflict as first_conflict_of, is_using};
-ghost use Rattle.cxx_model.specs.Facts.Declarations.{declares_at, fact_at, graph_at, spelled};
-ghost use Rattle.cxx_model.specs.Facts.Fitted.{IsEntityBelow, IsFactBelow, IsGraphBelow};
-ghost use Rattle.cxx_reading.specs.Seen.{declared_in as declared_by};
-ghost use Rattle.cxx_names.specs.Clashes.{IsPlain, NoneBrought, conflict_in, conflict_in_scopes, number_in, sooner as sooner_of};
+ghost use Rattle.cxx_model.specs.Facts.Conflicts.{conflicts, first_conflict as first_conflict_of};
+ghost use Rattle.cxx_model.specs.Facts.Declarations.{fact_at, graph_at, spelled};
+ghost use Rattle.cxx_model.specs.Facts.Fitted.{IsFactBelow, IsGraphBelow};
+ghost use Rattle.cxx_reading.specs.Linked.{clash_among, rescoped};
+ghost use Rattle.cxx_reading.specs.Seen.{declared_in as declared_by, fact_numbers, numbered_at};
+ghost use Rattle.cxx_names.specs.Clashes.{IsPlain, NoTemplates, conflict_in, conflict_in_scopes, number_in, sooner as sooner_of};
 ghost use Rattle.cxx_names.specs.Index.{Notes};
 ghost use Rattle.cxx_names.specs.Looked.{looked_up};
 
 use crate::looked::fact_of;
+use crate::meant::Meaning;
 use crate::names::Names;
-use crate::pair::{of_one_name, stand};
+use crate::pair::{of_one_name, stand_together};
 use cxx_graph::Graph;
 use cxx_model::{Fact, FactId, Name, ScopeId};
 use cxx_types::TypeTable;
@@ -50,36 +52,111 @@ fn either(one: bool, two: bool) -> bool
 }
 
 impl Names {
-    // Whether a new declaration conflicts with another.
-    fn clashes(&self, graph: &Graph, types: &TypeTable, old: &Fact, new: &Fact) -> bool
+    // Whether a new declaration conflicts with another with a number, as if that stood in some scope.
+    fn clashes(
+        &self,
+        graph: &Graph,
+        types: &TypeTable,
+        number: FactId,
+        scope: ScopeId,
+        old: &Fact,
+        new: &Fact,
+    ) -> bool
         requires noted { Notes self.now graph.now.facts }
+        requires below { IsGraphBelow (length types.now) graph.now }
         requires old { IsFactBelow (length types.now) old.now }
         requires new { IsFactBelow (length types.now) new.now }
         requires plain { IsPlain new.now }
-        requires own { is_using (declares_at types.now old.now.what) ≡ false }
-        ensures { (number : ℕ) → result ≡ conflicts (graph_at types.now graph.now) number (fact_at types.now old.now) (fact_at types.now new.now) }
+        requires templates { NoTemplates graph.now.facts }
+        ensures { result ≡ conflicts (graph_at types.now graph.now) number.0 (rescoped scope.0 (fact_at types.now old.now)) (fact_at types.now new.now) }
     {
-        let first = self.kept.is_parameters(old.scope);
+        let first = self.kept.is_parameters(scope);
         let second = self.kept.is_parameters(new.scope);
-        let stands = stand(graph, types, old.what, new.what);
+        let in_class = either(self.kept.is_class(scope), self.kept.is_class(new.scope));
+        let earlier = Meaning {
+            number,
+            what: old.what,
+        };
+        let later = Meaning {
+            number: FactId(graph.length()),
+            what: new.what,
+        };
+        let stands = stand_together(graph, types, in_class, earlier, later);
         let named = of_one_name(old, new);
-        let one = self.kept.is_one_scope(old.scope, new.scope);
+        let one = self.kept.is_one_scope(scope, new.scope);
         is_clash(one, named, either(first, second), stands)
     }
 
-    #[tactic(auto, using(crate::proofs::Clashing::fact_below, crate::proofs::Clashing::not_brought))]
+    #[tactic(auto, using(crate::proofs::Clashing::fact_below))]
     fn clashes_at(&self, graph: &Graph, types: &TypeTable, number: FactId, new: &Fact) -> bool
         requires noted { Notes self.now graph.now.facts }
         requires below { IsGraphBelow (length types.now) graph.now }
         requires new { IsFactBelow (length types.now) new.now }
         requires plain { IsPlain new.now }
-        requires own { NoneBrought graph.now.facts }
+        requires templates { NoTemplates graph.now.facts }
         ensures { (if result then Some number.0 else None) ≡ conflict_in (graph_at types.now graph.now) (fact_at types.now new.now) (looked_up types.now graph.now.facts (number ∷ [])) }
     {
         match fact_of(graph, number) {
-            Some(fact) => self.clashes(graph, types, fact, new),
+            Some(fact) => self.clashes(graph, types, number, fact.scope, fact, new),
             None => false,
         }
+    }
+
+    #[tactic(auto, using(crate::proofs::Clashing::fact_below))]
+    fn clashes_here(&self, graph: &Graph, types: &TypeTable, number: FactId, new: &Fact) -> bool
+        requires noted { Notes self.now graph.now.facts }
+        requires below { IsGraphBelow (length types.now) graph.now }
+        requires new { IsFactBelow (length types.now) new.now }
+        requires plain { IsPlain new.now }
+        requires templates { NoTemplates graph.now.facts }
+        ensures { (if result then Some number.0 else None) ≡ clash_among (graph_at types.now graph.now) (fact_at types.now new.now) (looked_up types.now graph.now.facts (number ∷ [])) }
+    {
+        match fact_of(graph, number) {
+            Some(fact) => self.clashes(graph, types, number, new.scope, fact, new),
+            None => false,
+        }
+    }
+
+    // The first of some declarations with which a new one conflicts, as if they stood in its scope.
+    fn first_here(
+        &self,
+        graph: &Graph,
+        types: &TypeTable,
+        numbers: &[FactId],
+        new: &Fact,
+    ) -> Option<FactId>
+        requires noted { Notes self.now graph.now.facts }
+        requires below { IsGraphBelow (length types.now) graph.now }
+        requires new { IsFactBelow (length types.now) new.now }
+        requires plain { IsPlain new.now }
+        requires templates { NoTemplates graph.now.facts }
+        ensures { option_map number_in result ≡ clash_among (graph_at types.now graph.now) (fact_at types.now new.now) (looked_up types.now graph.now.facts numbers.now) }
+    {
+        for number in numbers {
+            if self.clashes_here(graph, types, *number, new) {
+                return Some(*number);
+            }
+        }
+        None
+    }
+
+    /// The first of some declarations with which a new one conflicts, as if they stood in its scope (3.5).
+    #[tactic(auto, using(crate::proofs::Looking::numbered_is))]
+    pub fn clash_among(
+        &self,
+        graph: &Graph,
+        types: &TypeTable,
+        numbers: &[FactId],
+        new: &Fact,
+    ) -> Option<FactId>
+        requires noted { Notes self.now graph.now.facts }
+        requires below { IsGraphBelow (length types.now) graph.now }
+        requires new { IsFactBelow (length types.now) new.now }
+        requires plain { IsPlain new.now }
+        requires templates { NoTemplates graph.now.facts }
+        ensures { option_map number_in result ≡ clash_among (graph_at types.now graph.now) (fact_at types.now new.now) (numbered_at (graph_at types.now graph.now) (fact_numbers numbers.now)) }
+    {
+        self.first_here(graph, types, numbers, new)
     }
 
     // The first of some declarations with which a new one conflicts.
@@ -94,7 +171,7 @@ impl Names {
         requires below { IsGraphBelow (length types.now) graph.now }
         requires new { IsFactBelow (length types.now) new.now }
         requires plain { IsPlain new.now }
-        requires own { NoneBrought graph.now.facts }
+        requires templates { NoTemplates graph.now.facts }
         ensures { option_map number_in result ≡ conflict_in (graph_at types.now graph.now) (fact_at types.now new.now) (looked_up types.now graph.now.facts numbers.now) }
     {
         for number in numbers {
@@ -119,7 +196,7 @@ impl Names {
         requires below { IsGraphBelow (length types.now) graph.now }
         requires new { IsFactBelow (length types.now) new.now }
         requires plain { IsPlain new.now }
-        requires own { NoneBrought graph.now.facts }
+        requires templates { NoTemplates graph.now.facts }
         ensures { option_map number_in result ≡ sooner_of (option_map number_in best) (conflict_in (graph_at types.now graph.now) (fact_at types.now new.now) (declared_by (graph_at types.now graph.now) scope.0 (spelled word.now))) }
     {
         let here = self.declared_in(graph, scope, word);
@@ -141,7 +218,7 @@ impl Names {
         requires below { IsGraphBelow (length types.now) graph.now }
         requires new { IsFactBelow (length types.now) new.now }
         requires plain { IsPlain new.now }
-        requires own { NoneBrought graph.now.facts }
+        requires templates { NoTemplates graph.now.facts }
         ensures { option_map number_in result ≡ conflict_in_scopes (graph_at types.now graph.now) (fact_at types.now new.now) (spelled word.now) scopes.now (option_map number_in best) }
     {
         let mut best = best;
@@ -165,7 +242,7 @@ impl Names {
         requires below { IsGraphBelow (length types.now) graph.now }
         requires new { IsFactBelow (length types.now) new.now }
         requires plain { IsPlain new.now }
-        requires own { NoneBrought graph.now.facts }
+        requires templates { NoTemplates graph.now.facts }
         ensures { option_map number_in result ≡ conflict_in_scopes (graph_at types.now graph.now) (fact_at types.now new.now) (spelled word.now) (option_to_list scope) (option_map number_in best) }
     {
         match scope {
@@ -186,7 +263,7 @@ impl Names {
         requires below { IsGraphBelow (length types.now) graph.now }
         requires new { IsFactBelow (length types.now) new.now }
         requires plain { IsPlain new.now }
-        requires own { NoneBrought graph.now.facts }
+        requires templates { NoTemplates graph.now.facts }
         requires named { new.now.name ≡ SpelledName word.now }
         ensures { option_map number_in result ≡ first_conflict_of (graph_at types.now graph.now) (fact_at types.now new.now) }
     {
@@ -198,15 +275,14 @@ impl Names {
         self.soonest_in(graph, types, blocks, word, new, held)
     }
 
-    /// The first declaration with which a new one conflicts (3.3). The new one is outside classes, and no declaration so
-    /// far is a using-declaration.
+    /// The first declaration with which a new one conflicts (3.3). The new one is outside classes.
     #[tactic(auto, using(crate::proofs::Clashing::unnamed_nothing))]
     pub fn first_conflict(&self, graph: &Graph, types: &TypeTable, new: &Fact) -> Option<FactId>
         requires noted { Notes self.now graph.now.facts }
         requires below { IsGraphBelow (length types.now) graph.now }
         requires new { IsFactBelow (length types.now) new.now }
         requires plain { IsPlain new.now }
-        requires own { NoneBrought graph.now.facts }
+        requires templates { NoTemplates graph.now.facts }
         ensures { option_map number_in result ≡ first_conflict_of (graph_at types.now graph.now) (fact_at types.now new.now) }
     {
         match &new.name {

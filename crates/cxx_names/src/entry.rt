@@ -4,7 +4,7 @@ ghost use Rattle.cxx_model.specs.Facts.Conflicts.{declares_name as declares_a_na
 ghost use Rattle.cxx_model.specs.Facts.Declarations.{declares_at};
 ghost use Rattle.cxx_model.specs.Facts.Graph.{is_enumeration as is_one_enumeration};
 ghost use Rattle.cxx_model.specs.Types.Trees.{CxxType};
-ghost use Rattle.cxx_names.specs.Index.{block_by, filed_by, is_outermost_kind, noted_by, value_by};
+ghost use Rattle.cxx_names.specs.Index.{block_by, directive_by, filed_by, is_outermost_kind, noted_by, opening_by, unnamed_by, unnamed_space, value_by};
 ghost use Rattle.cxx_names.specs.Words.{word_declared_by};
 
 use cxx_model::{Entity, EnumId, Fact, FactId, Name, ScopeId, ScopeKind};
@@ -23,6 +23,17 @@ pub(crate) struct Noted {
     pub(crate) parent: ScopeId,
 }
 
+/// What is kept of a declaration of a namespace, or of a using-directive.
+#[derive(Clone, Copy)]
+pub(crate) struct SpaceEntry {
+    // 7.3.4: the namespace that a directive nominates, under the scope of the directive.
+    pub(crate) directive: Option<(ScopeId, ScopeId)>,
+    // 7.3.1: a declaration of a namespace, under the scope of the namespace.
+    pub(crate) opening: Option<(ScopeId, FactId)>,
+    // 7.3.1.1: the scope of an unnamed namespace, under the one that holds it.
+    pub(crate) unnamed: Option<(ScopeId, ScopeId)>,
+}
+
 /// What is kept of one fact.
 #[derive(Clone, Copy)]
 pub(crate) struct Entry {
@@ -32,6 +43,7 @@ pub(crate) struct Entry {
     pub(crate) block: Option<(ScopeId, ScopeId)>,
     pub(crate) value: Option<(EnumId, i128)>,
     pub(crate) is_enumeration: bool,
+    pub(crate) space: SpaceEntry,
 }
 
 /// Whether a fact declares a name.
@@ -117,6 +129,56 @@ fn filed_name(name: Option<Spelling>, number: FactId) -> Option<(Spelling, FactI
     }
 }
 
+fn directive_in(scope: ScopeId, what: Entity) -> Option<(ScopeId, ScopeId)>
+    ensures { result ≡ directive_by scope what }
+{
+    match what {
+        Entity::Directive { nominated } => Some((scope, nominated)),
+        _ => None,
+    }
+}
+
+fn opening_in(number: FactId, what: Entity) -> Option<(ScopeId, FactId)>
+    ensures { result ≡ opening_by number what }
+{
+    match what {
+        Entity::Namespace { inner } => Some((inner, number)),
+        _ => None,
+    }
+}
+
+fn unnamed_space_in(scope: ScopeId, what: Entity) -> Option<(ScopeId, ScopeId)>
+    ensures { result ≡ unnamed_space scope what }
+{
+    match what {
+        Entity::Namespace { inner } => Some((scope, inner)),
+        _ => None,
+    }
+}
+
+fn unnamed_in(scope: ScopeId, name: &Name, what: Entity) -> Option<(ScopeId, ScopeId)>
+    ensures { result ≡ unnamed_by scope name.now what }
+{
+    match name {
+        Name::Unnamed => unnamed_space_in(scope, what),
+        _ => None,
+    }
+}
+
+impl SpaceEntry {
+    fn of(fact: &Fact, number: FactId) -> SpaceEntry
+        ensures directive { result.directive ≡ directive_by fact.now.scope fact.now.what }
+        ensures opening { result.opening ≡ opening_by number fact.now.what }
+        ensures unnamed { result.unnamed ≡ unnamed_by fact.now.scope fact.now.name fact.now.what }
+    {
+        SpaceEntry {
+            directive: directive_in(fact.scope, fact.what),
+            opening: opening_in(number, fact.what),
+            unnamed: unnamed_in(fact.scope, &fact.name, fact.what),
+        }
+    }
+}
+
 impl Entry {
     /// What is kept of a fact with a number, which declares a spelled name or none, where there are so many scopes.
     pub(crate) fn of(fact: &Fact, name: Option<Spelling>, number: FactId, scopes: u32) -> Entry
@@ -125,6 +187,9 @@ impl Entry {
         ensures block { result.block ≡ block_by scopes (noted_by fact.now.scope fact.now.what) }
         ensures value { result.value ≡ value_by fact.now.what }
         ensures enumeration { result.is_enumeration ≡ is_one_enumeration fact.now.what }
+        ensures directive { result.space.directive ≡ directive_by fact.now.scope fact.now.what }
+        ensures opening { result.space.opening ≡ opening_by number fact.now.what }
+        ensures unnamed { result.space.unnamed ≡ unnamed_by fact.now.scope fact.now.name fact.now.what }
     {
         let noted = noted_in(fact.scope, fact.what);
         Entry {
@@ -133,6 +198,7 @@ impl Entry {
             block: block_in(ScopeId(scopes), noted),
             value: value_in(fact.what),
             is_enumeration: is_enumeration(fact.what),
+            space: SpaceEntry::of(fact, number),
         }
     }
 }

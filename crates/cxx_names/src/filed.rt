@@ -1,4 +1,4 @@
-ghost use Rattle.std.specs.Prelude.{◌≡◌, [], List, OnOk, OnErr};
+ghost use Rattle.std.specs.Prelude.{◌≡◌, [], List, OnOk, OnErr, true};
 ghost use Rattle.std.specs.Global.{Vec as List_in_memory};
 ghost use Rattle.cxx_names.specs.Filed.{AreSame, IsMore, IsMoreBy, row as row_of};
 
@@ -33,6 +33,14 @@ impl<K: Eq + Hash + Copy, V: Copy> Filed<K, V> {
             Some(values) => values.as_slice(),
             None => &[],
         }
+    }
+
+    /// Whether nothing is filed at all.
+    #[tactic(auto, using(crate::proofs::Openings::nothing_filed))]
+    pub(crate) fn is_empty(&self) -> bool
+        ensures { result ≡ true → (key : K) → row_of K.eq self.now.rows.entries key ≡ [] }
+    {
+        self.rows.is_empty()
     }
 
     /// Files one more value, behind those of its key. An `Err` changes nothing of what is filed.

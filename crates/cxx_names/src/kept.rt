@@ -3,12 +3,14 @@ ghost use Rattle.std.specs.List.{slice_get};
 ghost use Rattle.std.specs.Option.{option_to_list};
 ghost use Rattle.cxx_names.specs.declared.entry.Noted.{Noted as NotedBefore};
 ghost use Rattle.cxx_model.specs.Facts.Graph.{counted};
-ghost use Rattle.cxx_names.specs.Clashes.{are_parameters_in, is_block_in, is_one_scope_in, holder_of_block as holder_of_a_block};
+ghost use Rattle.cxx_names.specs.Clashes.{are_parameters_in, is_block_in, is_class_in, is_one_scope_in, holder_of_block as holder_of_a_block};
 ghost use Rattle.cxx_names.specs.Index.{AreSameKept, HasKept, Keeps};
+ghost use Rattle.cxx_names.specs.Looked.{is_space_in, outer_in};
 ghost use Rattle.cxx_names.specs.declared.kept.Kept.{Kept as KeptBefore};
 
 use crate::entry::{Entry, Noted, is_outermost};
 use crate::filed::Filed;
+use crate::spaces::Spaces;
 use cxx_hash::Key;
 use cxx_model::{EnumId, OutOfMemory, ScopeId, ScopeKind};
 use std::alloc::Global;
@@ -22,6 +24,7 @@ pub(crate) struct Kept {
     pub(crate) enumerations: u64,
     // The values of the enumerators of each enumeration.
     pub(crate) values: Filed<EnumId, i128>,
+    pub(crate) spaces: Spaces,
 }
 
 fn one_more(is_one: bool, count: u64) -> u64
@@ -68,6 +71,7 @@ impl Kept {
             blocks: Filed::new(alloc, key),
             enumerations: 0,
             values: Filed::new(alloc, key),
+            spaces: Spaces::new(alloc, key),
         }
     }
 
@@ -91,6 +95,42 @@ impl Kept {
                 _ => false,
             },
             None => false,
+        }
+    }
+
+    /// Whether a scope is that of a namespace.
+    pub(crate) fn is_space(&self, scope: ScopeId) -> bool
+        ensures { result ≡ is_space_in (slice_get self.now.scopes.items scope.0) }
+    {
+        match self.noted(scope) {
+            Some(noted) => match noted.kind {
+                ScopeKind::Space => true,
+                _ => false,
+            },
+            None => false,
+        }
+    }
+
+    /// Whether a scope is that of a class.
+    pub(crate) fn is_class(&self, scope: ScopeId) -> bool
+        ensures { result ≡ is_class_in (slice_get self.now.scopes.items scope.0) }
+    {
+        match self.noted(scope) {
+            Some(noted) => match noted.kind {
+                ScopeKind::Class(_) => true,
+                _ => false,
+            },
+            None => false,
+        }
+    }
+
+    /// The scope that holds a scope, or that of the unit.
+    pub(crate) fn outer(&self, scope: ScopeId) -> ScopeId
+        ensures { result.0 ≡ outer_in (slice_get self.now.scopes.items scope.0) }
+    {
+        match self.noted(scope) {
+            Some(noted) => noted.parent,
+            None => ScopeId(0),
         }
     }
 
@@ -138,6 +178,12 @@ impl Kept {
             pop_some(&mut self.scopes, one.noted);
             return Err(fault);
         }
+        if let Err(fault) = self.spaces.note(one.space) {
+            self.values.take_back(one.value);
+            self.blocks.take_back(one.block);
+            pop_some(&mut self.scopes, one.noted);
+            return Err(fault);
+        }
         self.enumerations = one_more(one.is_enumeration, self.enumerations);
         Ok(())
     }
@@ -149,6 +195,7 @@ impl Kept {
         pop_some(&mut self.scopes, one.noted);
         self.blocks.take_back(one.block);
         self.values.take_back(one.value);
+        self.spaces.take_back(one.space);
         self.enumerations = one_less(one.is_enumeration, self.enumerations);
     }
 }

@@ -8,9 +8,14 @@ mod filed;
 mod found;
 mod kept;
 mod looked;
+mod meant;
 mod named;
 mod names;
+mod opened;
 mod pair;
+mod spaces;
 mod words;
 
+pub use found::{first_enumeration, first_function, first_object, first_space, kind_of_found};
+pub use named::type_in;
 pub use names::Names;

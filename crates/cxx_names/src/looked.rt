@@ -9,12 +9,13 @@ ghost use Rattle.cxx_model.specs.Types.Numbers.{type_at};
 ghost use Rattle.cxx_model.specs.Types.Trees.{CxxType};
 ghost use Rattle.cxx_meaning.specs.Lookups.Wanted.{hides_types as hides_a_type, is_function as is_a_function, is_of_functions as is_one_of_functions, names_type as names_a_type};
 ghost use Rattle.cxx_reading.specs.Declaring.{enumeration_in, first_function, first_object, is_object as is_an_object, is_same_function as is_one_function};
-ghost use Rattle.cxx_reading.specs.Seen.{any_hides, kept, kind_of_found};
-ghost use Rattle.cxx_names.specs.Looked.{any_wanted, enumeration_number, first_number, looked_up, wanted_by};
+ghost use Rattle.cxx_reading.specs.Seen.{any_hides, any_type, kind_of_found};
+ghost use Rattle.cxx_reading.specs.Spaces.{first_space};
+ghost use Rattle.cxx_names.specs.Looked.{enumeration_number, looked_up, scope_number};
 
 use crate::alike::same_parameters;
 use cxx_graph::Graph;
-use cxx_model::{Entity, EnumId, Fact, FactId, Kind, Pattern, TemplateId, TypeId};
+use cxx_model::{Entity, EnumId, Fact, FactId, Kind, Pattern, ScopeId, TemplateId, TypeId};
 use cxx_types::TypeTable;
 
 pub(crate) fn fact_of(graph: &Graph, number: FactId) -> Option<&Fact>
@@ -40,7 +41,8 @@ pub(crate) fn is_of_functions(graph: &Graph, template: TemplateId) -> bool
     }
 }
 
-fn is_function(graph: &Graph, what: Entity) -> bool
+/// Whether a declaration is one of a function or of a function template.
+pub(crate) fn is_function(graph: &Graph, what: Entity) -> bool
     ensures { (types : List CxxType) → result ≡ is_a_function (graph_at types graph.now) (declares_at types what) }
 {
     match what {
@@ -61,8 +63,8 @@ pub(crate) fn hides_types(graph: &Graph, what: Entity) -> bool
     }
 }
 
-/// Whether a declaration names a type (3.4.4).
-pub(crate) fn names_type(graph: &Graph, what: Entity) -> bool
+// Whether a declaration names a type (3.4.4).
+fn names_type(graph: &Graph, what: Entity) -> bool
     ensures { (types : List CxxType) → result ≡ names_a_type (graph_at types graph.now) (declares_at types what) }
 {
     match what {
@@ -75,27 +77,21 @@ pub(crate) fn names_type(graph: &Graph, what: Entity) -> bool
     }
 }
 
-fn is_wanted(graph: &Graph, types_only: bool, what: Entity) -> bool
-    ensures { (types : List CxxType) → result ≡ wanted_by (graph_at types graph.now) types_only (declares_at types what) }
-{
-    !types_only || names_type(graph, what)
-}
-
-fn is_wanted_at(graph: &Graph, types_only: bool, number: FactId) -> bool
-    ensures { (types : List CxxType) → result ≡ any_wanted (graph_at types graph.now) types_only (looked_up types graph.now.facts (number ∷ [])) }
+fn is_type_at(graph: &Graph, number: FactId) -> bool
+    ensures { (types : List CxxType) → result ≡ any_type (graph_at types graph.now) (looked_up types graph.now.facts (number ∷ [])) }
 {
     match fact_of(graph, number) {
-        Some(fact) => is_wanted(graph, types_only, fact.what),
+        Some(fact) => names_type(graph, fact.what),
         None => false,
     }
 }
 
-/// Whether one of some declarations is wanted: one of a type, or any.
-pub(crate) fn has_wanted(graph: &Graph, types_only: bool, numbers: &[FactId]) -> bool
-    ensures { (types : List CxxType) → result ≡ any_wanted (graph_at types graph.now) types_only (looked_up types graph.now.facts numbers.now) }
+// Whether one of some declarations names a type.
+fn has_type(graph: &Graph, numbers: &[FactId]) -> bool
+    ensures { (types : List CxxType) → result ≡ any_type (graph_at types graph.now) (looked_up types graph.now.facts numbers.now) }
 {
     for number in numbers {
-        if is_wanted_at(graph, types_only, *number) {
+        if is_type_at(graph, *number) {
             return true;
         }
     }
@@ -123,17 +119,29 @@ fn has_hiding(graph: &Graph, numbers: &[FactId]) -> bool
     false
 }
 
-/// What declarations that were found are to a reader (3.3.7).
-pub(crate) fn kind_of(graph: &Graph, numbers: &[FactId]) -> Kind
-    ensures { (types : List CxxType) → result ≡ kind_of_found (graph_at types graph.now) (looked_up types graph.now.facts numbers.now) }
+fn kind_by(hides: bool, names_type: bool, names_space: bool) -> Kind
+    ensures { result ≡ (if hides then Kind.Value else (if names_type then Kind.OfType else (if names_space then Kind.Space else Kind.Value))) }
 {
-    if has_hiding(graph, numbers) {
+    if hides {
         Kind::Value
-    } else if has_wanted(graph, true, numbers) {
+    } else if names_type {
         Kind::OfType
+    } else if names_space {
+        Kind::Space
     } else {
         Kind::Value
     }
+}
+
+/// What declarations that were found are to a reader (3.3.7).
+#[tactic(auto, using(crate::proofs::Looking::space_some))]
+pub(crate) fn kind_of(graph: &Graph, numbers: &[FactId]) -> Kind
+    ensures { (types : List CxxType) → result ≡ kind_of_found (graph_at types graph.now) (looked_up types graph.now.facts numbers.now) }
+{
+    let hides = has_hiding(graph, numbers);
+    let of_type = has_type(graph, numbers);
+    let space = first_space_of(graph, numbers);
+    kind_by(hides, of_type, space.is_some())
 }
 
 fn is_object(what: Entity) -> bool
@@ -233,13 +241,26 @@ pub(crate) fn first_enumeration_of(graph: &Graph, numbers: &[FactId]) -> Option<
     None
 }
 
-/// The first of some declarations that names a type.
-pub(crate) fn first_type_of(graph: &Graph, numbers: &[FactId]) -> Option<FactId>
-    ensures { (types : List CxxType) → result ≡ first_number (kept (names_a_type (graph_at types graph.now)) (looked_up types graph.now.facts numbers.now)) }
+fn space_at(graph: &Graph, number: FactId) -> Option<ScopeId>
+    ensures { (types : List CxxType) → option_map scope_number result ≡ first_space (looked_up types graph.now.facts (number ∷ [])) }
+{
+    match fact_of(graph, number) {
+        Some(fact) => match fact.what {
+            Entity::Namespace { inner } => Some(inner),
+            _ => None,
+        },
+        None => None,
+    }
+}
+
+/// The first namespace among some declarations.
+#[tactic(auto, using(crate::proofs::Looking::space_more))]
+pub(crate) fn first_space_of(graph: &Graph, numbers: &[FactId]) -> Option<ScopeId>
+    ensures { (types : List CxxType) → option_map scope_number result ≡ first_space (looked_up types graph.now.facts numbers.now) }
 {
     for number in numbers {
-        if is_wanted_at(graph, true, *number) {
-            return Some(*number);
+        if let Some(found) = space_at(graph, *number) {
+            return Some(found);
         }
     }
     None

@@ -1,18 +1,16 @@
 //! The types that names mean (7.1.3).
 
 ghost use Rattle.std.specs.Prelude.{◌≡◌, ◌<◌, [], ◌∷◌, length, option_map, IfSome};
-ghost use Rattle.cxx_model.specs.Facts.Declarations.{declares_at, graph_at, spelled};
+ghost use Rattle.cxx_model.specs.Facts.Declarations.{declares_at, graph_at};
 ghost use Rattle.cxx_model.specs.Facts.Fitted.{IsEntityBelow, IsGraphBelow};
 ghost use Rattle.cxx_types.specs.Makes.{Makes};
-ghost use Rattle.cxx_reading.specs.Seen.{found as found_by, type_in, type_named_by};
-ghost use Rattle.cxx_names.specs.Index.{Notes};
+ghost use Rattle.cxx_reading.specs.Seen.{fact_numbers, numbered_at, type_in as type_in_all, type_named_by};
 ghost use Rattle.cxx_names.specs.Looked.{looked_up};
 ghost use Rattle.cxx_names.specs.Meant.{IsNamedBelow, first_named, named_at, or_void};
 
 use crate::looked::fact_of;
-use crate::names::Names;
 use cxx_graph::Graph;
-use cxx_model::{Base, ClassId, Entity, EnumId, FactId, OutOfMemory, ScopeId, TypeId};
+use cxx_model::{Base, ClassId, Entity, EnumId, FactId, OutOfMemory, TypeId};
 use cxx_types::TypeTable;
 
 /// A type that a declaration names.
@@ -77,20 +75,16 @@ fn make(types: &mut TypeTable, named: Option<NamedType>) -> Result<TypeId, OutOf
     }
 }
 
-impl Names {
-    /// The type that a name means where it stands; `void` for one that names no type.
-    pub fn type_of(
-        &self,
-        graph: &Graph,
-        types: &mut TypeTable,
-        scope: ScopeId,
-        word: &[u8],
-    ) -> Result<TypeId, OutOfMemory>
-        requires noted { Notes self.now graph.now.facts }
-        requires below { IsGraphBelow (length types.old) graph.now }
-        ensures { Makes types.old types.new result (type_in (found_by (graph_at types.old graph.now) scope.0 (spelled word.now))) }
-    {
-        let named = first_type(graph, types, self.found(graph, scope, word));
-        make(types, named)
-    }
+/// The type that declarations that were found name; `void` where they name none.
+#[tactic(auto, using(crate::proofs::Looking::type_numbered))]
+pub fn type_in(
+    graph: &Graph,
+    types: &mut TypeTable,
+    numbers: &[FactId],
+) -> Result<TypeId, OutOfMemory>
+    requires { IsGraphBelow (length types.old) graph.now }
+    ensures { Makes types.old types.new result (type_in_all (numbered_at (graph_at types.old graph.now) (fact_numbers numbers.now))) }
+{
+    let named = first_type(graph, types, numbers);
+    make(types, named)
 }

@@ -1,21 +1,23 @@
-//! Whether two declarations of one name may stand in one scope (3.3, 3.3.7, 7.1.3, 13.1), where the later one is no member
-//! of a class.
+//! Whether two declarations of one name may stand in one scope (3.3, 3.3.7, 7.1.3, 7.3.1, 7.3.3, 13.1), where the later one
+//! is no member of a class.
 
-ghost use Rattle.std.specs.Prelude.{◌≡◌, ◌<◌, Bool, List, None, length};
+ghost use Rattle.std.specs.Prelude.{◌≡◌, ◌<◌, ◌&&◌, Bool, List, None, length};
 ghost use Rattle.cxx_model.specs.declared.facts.MemberKind.TheVariants.{Free as FreeKind};
-ghost use Rattle.cxx_model.specs.Facts.Conflicts.{a_function, a_hidden_name, a_name, an_enumerator, an_object, functions_agree as functions_agree_by, is_static as is_static_kind, may_stand, objects_agree as objects_agree_by, of_one_name as of_one_name_by, same_member, standing};
+ghost use Rattle.cxx_model.specs.Facts.Conflicts.{a_function, a_hidden_name, a_name, an_enumerator, an_object, are_overloads as are_overloads_by, brought_may_stand, functions_agree as functions_agree_by, is_function as is_function_by, is_static as is_static_kind, may_stand, objects_agree as objects_agree_by, of_one_name as of_one_name_by, one_hides as one_hides_by, same_member, standing};
 ghost use Rattle.cxx_model.specs.Facts.Declarations.{CxxGraph, declares_at, fact_at, graph_at};
-ghost use Rattle.cxx_model.specs.Facts.Entities.{of_type};
-ghost use Rattle.cxx_model.specs.Facts.Fitted.{IsEntityBelow};
+ghost use Rattle.cxx_model.specs.Facts.Entities.{entity_by, of_space, of_type, same_entity};
+ghost use Rattle.cxx_model.specs.Facts.Fitted.{IsEntityBelow, IsGraphBelow};
 ghost use Rattle.cxx_model.specs.Types.Numbers.{type_at};
 ghost use Rattle.cxx_model.specs.Types.Trees.{CxxType, enumeration};
-ghost use Rattle.cxx_names.specs.Clashes.{IsPlain, IsPlainEntity, same_spelled};
+ghost use Rattle.cxx_meaning.specs.Lookups.Wanted.{is_hideable as is_a_hideable};
+ghost use Rattle.cxx_names.specs.Clashes.{IsNoTemplate, IsPlain, IsPlainEntity, NoTemplates, same_spelled, stand_in};
 
 use crate::alike::{agree, is_class, is_enumeration, same_parameters};
 use crate::entry::declares_name;
-use crate::looked::is_of_functions;
+use crate::looked::{hides_types, is_function, is_of_functions};
+use crate::meant::{Meaning, identity_of, is_using, meant, meant_plain, same_identity};
 use cxx_graph::Graph;
-use cxx_model::{Entity, EnumId, Fact, MemberKind, Name, TypeId};
+use cxx_model::{Entity, EnumId, Fact, MemberKind, Name, ScopeId, TypeId};
 use cxx_types::TypeTable;
 
 fn is_static(member: MemberKind) -> bool
@@ -141,8 +143,20 @@ fn name_stands(types: &TypeTable, old: Entity, of: TypeId) -> bool
     }
 }
 
-/// Whether two declarations of one name may stand in one scope, where neither is a using-declaration.
-pub(crate) fn stand(graph: &Graph, types: &TypeTable, old: Entity, new: Entity) -> bool
+#[tactic(auto, using(crate::proofs::Pairs::template_space))]
+fn space_stands(types: &TypeTable, old: Entity, inner: ScopeId) -> bool
+    ensures { (closed : Bool) (graph : CxxGraph) → result ≡ may_stand closed (standing graph (declares_at types.now old)) (a_name (of_space inner.0)) }
+{
+    let _ = types;
+    match old {
+        Entity::Namespace { inner: other } => other.0 == inner.0,
+        _ => false,
+    }
+}
+
+// Whether two declarations of one name may stand in one scope, where neither is a using-declaration.
+#[tactic(auto, using(crate::proofs::Pairs::alone_stands))]
+fn stand(graph: &Graph, types: &TypeTable, old: Entity, new: Entity) -> bool
     requires old { IsEntityBelow (length types.now) old }
     requires new { IsEntityBelow (length types.now) new }
     requires plain { IsPlainEntity new }
@@ -154,7 +168,128 @@ pub(crate) fn stand(graph: &Graph, types: &TypeTable, old: Entity, new: Entity) 
         Entity::Enumerator { .. } => enumerator_stands(old),
         Entity::Enumeration { number } => enumeration_stands(graph, types, old, number),
         Entity::Synonym { of } => name_stands(types, old, of),
+        Entity::Namespace { inner } => space_stands(types, old, inner),
         _ => false,
+    }
+}
+
+// ---- 7.3.3
+
+fn is_hideable(what: Entity) -> bool
+    ensures { (types : List CxxType) → result ≡ is_a_hideable (declares_at types what) }
+{
+    match what {
+        Entity::Injected { .. } => true,
+        Entity::Class { .. } => true,
+        Entity::Enumeration { .. } => true,
+        _ => false,
+    }
+}
+
+#[tactic(auto, using(crate::proofs::Meanings::hidden_is, crate::proofs::Meanings::hides_is))]
+fn one_hides(graph: &Graph, one: Entity, two: Entity) -> bool
+    ensures { (types : List CxxType) → result ≡ one_hides_by (standing (graph_at types graph.now) (declares_at types one)) (standing (graph_at types graph.now) (declares_at types two)) }
+{
+    (is_hideable(one) && hides_types(graph, two)) || (is_hideable(two) && hides_types(graph, one))
+}
+
+#[tactic(auto, using(crate::proofs::Meanings::overloads_template))]
+fn overloads(graph: &Graph, types: &TypeTable, one: Entity, of: TypeId, member: MemberKind) -> bool
+    requires one { IsEntityBelow (length types.now) one }
+    requires of { of.0 < length types.now }
+    ensures { result ≡ are_overloads_by (standing (graph_at types.now graph.now) (declares_at types.now one)) (a_function (type_at types.now of.0) member) }
+{
+    match one {
+        Entity::Function {
+            of: one,
+            member: other,
+            ..
+        } => {
+            let any = is_static(other) || is_static(member);
+            !same_parameters(types, any, one, of)
+        }
+        Entity::Template { template, .. } => is_of_functions(graph, template),
+        _ => false,
+    }
+}
+
+#[tactic(auto, using(crate::proofs::Meanings::no_overloads))]
+fn are_overloads(graph: &Graph, types: &TypeTable, one: Entity, two: Entity) -> bool
+    requires one { IsEntityBelow (length types.now) one }
+    requires two { IsEntityBelow (length types.now) two }
+    requires plain { IsNoTemplate two }
+    ensures { result ≡ are_overloads_by (standing (graph_at types.now graph.now) (declares_at types.now one)) (standing (graph_at types.now graph.now) (declares_at types.now two)) }
+{
+    match two {
+        Entity::Function { of, member, .. } => overloads(graph, types, one, of, member),
+        _ => false,
+    }
+}
+
+#[tactic(auto, using(crate::proofs::Meanings::function_is))]
+fn are_functions(graph: &Graph, one: Entity, two: Entity) -> bool
+    ensures { (types : List CxxType) → result ≡ (is_function_by (standing (graph_at types graph.now) (declares_at types one)) && is_function_by (standing (graph_at types graph.now) (declares_at types two))) }
+{
+    is_function(graph, one) && is_function(graph, two)
+}
+
+fn same_meaning(types: &TypeTable, one: Meaning, two: Meaning) -> bool
+    requires one { IsEntityBelow (length types.now) one.what }
+    requires two { IsEntityBelow (length types.now) two.what }
+    ensures { result ≡ same_entity (entity_by one.number.0 (declares_at types.now one.what)) (entity_by two.number.0 (declares_at types.now two.what)) }
+{
+    let first = identity_of(types, one);
+    let second = identity_of(types, two);
+    same_identity(types, first, second)
+}
+
+// What a using-declaration brings, beside what another declaration stands for.
+fn brought_stands(
+    graph: &Graph,
+    types: &TypeTable,
+    in_class: bool,
+    both: bool,
+    one: Meaning,
+    two: Meaning,
+) -> bool
+    requires one { IsEntityBelow (length types.now) one.what }
+    requires two { IsEntityBelow (length types.now) two.what }
+    requires plain { IsNoTemplate two.what }
+    ensures { result ≡ brought_may_stand in_class both (same_entity (entity_by one.number.0 (declares_at types.now one.what)) (entity_by two.number.0 (declares_at types.now two.what))) (standing (graph_at types.now graph.now) (declares_at types.now one.what)) (standing (graph_at types.now graph.now) (declares_at types.now two.what)) }
+{
+    if same_meaning(types, one, two) {
+        return !in_class;
+    }
+    if are_functions(graph, one.what, two.what) {
+        both || (in_class || are_overloads(graph, types, one.what, two.what))
+    } else {
+        one_hides(graph, one.what, two.what)
+    }
+}
+
+/// Whether two declarations of one name, by their numbers, may stand in one scope.
+pub(crate) fn stand_together(
+    graph: &Graph,
+    types: &TypeTable,
+    in_class: bool,
+    one: Meaning,
+    two: Meaning,
+) -> bool
+    requires below { IsGraphBelow (length types.now) graph.now }
+    requires one { IsEntityBelow (length types.now) one.what }
+    requires two { IsEntityBelow (length types.now) two.what }
+    requires plain { IsPlainEntity two.what }
+    requires templates { NoTemplates graph.now.facts }
+    ensures { (closed : Bool) → result ≡ stand_in (graph_at types.now graph.now) in_class closed one.number.0 (declares_at types.now one.what) two.number.0 (declares_at types.now two.what) }
+{
+    let old = is_using(one.what);
+    let new = is_using(two.what);
+    if old || new {
+        let first = meant(graph, types, one.number, one.what);
+        let second = meant_plain(graph, types, two.number, two.what);
+        brought_stands(graph, types, in_class, old && new, first, second)
+    } else {
+        stand(graph, types, one.what, two.what)
     }
 }
 
@@ -176,5 +311,5 @@ pub(crate) fn of_one_name(old: &Fact, new: &Fact) -> bool
     requires { IsPlain new.now }
     ensures { (types : List CxxType) → result ≡ of_one_name_by (fact_at types old.now) (fact_at types new.now) }
 {
-    declares_name(old.what) && same_spelling(&old.name, &new.name)
+    declares_name(old.what) && (declares_name(new.what) && same_spelling(&old.name, &new.name))
 }

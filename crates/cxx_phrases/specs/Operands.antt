@@ -91,9 +91,10 @@ cast_or_parenthesis asks inner = begins_cast inner >>= cast_by asks inner
 unfoldable pub called_part : {S : Type 0} → Phrases S → Inner S → Ahead → Lexeme → Reads S CxxTree
 called_part asks inner from name = called_at asks inner (codes "(") from name >>= postfixes_at asks inner from
 
--- the name of a type is not called
+-- the name of a type is not called, nor is that of a namespace
 abbrev pub called_by : {S : Type 0} → Phrases S → Inner S → Ahead → Lexeme → Kind → Reads S CxxTree
 called_by asks inner from name kind.OfType state rest = cast_or_parenthesis asks inner state from
+called_by asks inner from name kind.Space state rest = cast_or_parenthesis asks inner state from
 called_by asks inner from name _ state rest = called_part asks inner from name state rest
 
 unfoldable pub called_or_not : {S : Type 0} → Phrases S → Inner S → Ahead → Lexeme → Reads S CxxTree

@@ -71,8 +71,10 @@ type_name_at asks inner = do
   name ← taken
   functional_at asks inner from of
 
+-- the name of a namespace is no expression (7.3)
 abbrev pub named_by : {S : Type 0} → Phrases S → Inner S → Kind → Reads S CxxTree
 named_by asks inner kind.OfType = type_name_at asks inner
+named_by asks inner kind.Space = refused
 named_by asks inner _ = value_name_at asks inner
 
 -- a name without qualifiers

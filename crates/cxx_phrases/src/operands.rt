@@ -199,7 +199,7 @@ fn called_part<P: Phrases>(
     postfixes_at(phrases, state, cursor, from, first)
 }
 
-// The name of a type is not called. What is ahead of `rest` is the bracket of the arguments.
+// The name of a type is not called, nor is that of a namespace. What is ahead of `rest` is the bracket of the arguments.
 #[tactic(auto, using(cxx_syntax::proofs::Kept::later_trans, cxx_syntax::proofs::Kept::later_refl), unfolding(crate::specs::Operands::called_or_not))]
 fn called_or_not<'a, P: Phrases>(
     phrases: &P,
@@ -213,6 +213,7 @@ fn called_or_not<'a, P: Phrases>(
 {
     match phrases.kind(state, name)? {
         Kind::OfType => cast_or_parenthesis(phrases, state, cursor),
+        Kind::Space => cast_or_parenthesis(phrases, state, cursor),
         _ => {
             let from = cursor.mark();
             *cursor = rest.mark();

@@ -164,6 +164,7 @@ fn named_at<P: Phrases>(
 {
     match phrases.kind(state, name_ahead(cursor))? {
         Kind::OfType => type_name_at(phrases, state, cursor),
+        Kind::Space => Err(Stop::Fault(cursor.refused()?)),
         _ => value_name_at(phrases, state, cursor),
     }
 }

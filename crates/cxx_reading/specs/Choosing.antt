@@ -1,7 +1,5 @@
 -- Which function a call means, among functions of one scope (13.3).
 use Rattle.std.specs.Prelude.{ℕ, zero, suc, Bool, true, false, not, ◌&&◌, if◌then◌else◌, nat_lt, List, [], ◌∷◌, length, filter, filter_map, Option, Some, None, option_map, Ok}
-use Rattle.cxx_model.specs.declared.base.Base.{Base}
-use Rattle.cxx_model.specs.declared.base.Base.TheVariants as base
 use Rattle.cxx_model.specs.declared.evidence.Evidence.{Evidence}
 use Rattle.cxx_model.specs.declared.evidence.Evidence.TheVariants.{DoesNotBeat, Refused}
 use Rattle.cxx_model.specs.declared.evidence.Reason.TheVariants.{TooFewArguments, TooManyArguments, NoConversion}
@@ -14,8 +12,8 @@ use Rattle.cxx_model.specs.declared.sequence.Order.{Order}
 use Rattle.cxx_model.specs.declared.sequence.Order.TheVariants.{Same}
 use Rattle.cxx_model.specs.Choice.Better.{is_better, best, counter}
 use Rattle.cxx_model.specs.Facts.Declarations as facts
-use Rattle.cxx_model.specs.Facts.Declarations.{CxxFact, CxxGraph, Declares}
-use Rattle.cxx_model.specs.Types.Trees.{CxxType, CxxTypes, fundamental, function_of, no_types, type_then, qualified}
+use Rattle.cxx_model.specs.Facts.Declarations.{CxxGraph, Declares}
+use Rattle.cxx_model.specs.Types.Trees.{CxxType, CxxTypes, function_of, no_types, type_then}
 use Rattle.cxx_meaning.specs.Conversions.Asking.{Asked, ◌>>=◌}
 use Rattle.cxx_meaning.specs.Conversions.Order.{order_of}
 use Rattle.cxx_meaning.specs.Conversions.Standard.{CxxOperand, CxxStandard, standard_sequence}
@@ -161,31 +159,3 @@ choice_by graph all (one ∷ others) None = ambiguous (ties graph (one ∷ other
 
 unfoldable pub choice : CxxGraph → List Rated → CxxChoice
 choice graph all = choice_by graph all (viable all) (chosen graph (viable all))
-
--- ---- what is read for now
-
-abbrev pub is_arithmetic_base : Base → Bool
-is_arithmetic_base base.Void = false
-is_arithmetic_base _ = true
-
-abbrev pub is_plain_arithmetic : CxxType → Bool
-is_plain_arithmetic (fundamental of) = is_arithmetic_base of
-is_plain_arithmetic _ = false
-
--- 3.9.1: an arithmetic type, its cv words aside
-abbrev pub is_arithmetic : CxxType → Bool
-is_arithmetic (fundamental of) = is_arithmetic_base of
-is_arithmetic (qualified cv of) = is_plain_arithmetic of
-is_arithmetic _ = false
-
-abbrev pub are_arithmetic : List CxxType → Bool
-are_arithmetic [] = true
-are_arithmetic (of ∷ others) = is_arithmetic of && are_arithmetic others
-
-abbrev pub is_built : CxxCandidate → Bool
-is_built candidate = are_arithmetic candidate.parameters && not candidate.ellipsis
-
--- whether each candidate has arithmetic parameters alone, and no ellipsis
-abbrev pub are_built : List CxxCandidate → Bool
-are_built [] = true
-are_built (candidate ∷ others) = is_built candidate && are_built others

@@ -7,11 +7,13 @@ use Rattle.cxx_model.specs.declared.facts.FunctionFlags.{FunctionFlags}
 use Rattle.cxx_model.specs.declared.facts.MemberKind.TheVariants as member
 use Rattle.cxx_model.specs.declared.facts.ScopeKind.TheVariants as scope_kind
 use Rattle.cxx_model.specs.declared.fault.FaultText.TheVariants as says
+use Rattle.cxx_model.specs.declared.lookup.Found.{Found as Sought}
+use Rattle.cxx_model.specs.declared.lookup.Found.TheVariants as sought
 use Rattle.cxx_model.specs.declared.place.Place.{Place}
 use Rattle.cxx_model.specs.declared.stop.LimitKind.TheVariants.{Facts}
 use Rattle.cxx_model.specs.declared.tree.Kind.{Kind}
 use Rattle.cxx_model.specs.declared.types.FactId.{FactId}
-use Rattle.cxx_model.specs.Facts.Conflicts.{first_conflict, same_parameters, scope_facts, defined_before}
+use Rattle.cxx_model.specs.Facts.Conflicts.{same_parameters, scope_facts, defined_before}
 use Rattle.cxx_model.specs.Facts.Declarations as facts
 use Rattle.cxx_model.specs.Facts.Declarations.{CxxFact, CxxGraph, CxxName, Declares, unnamed, spelled}
 use Rattle.cxx_model.specs.Facts.Entities.{entity_by, scope_kinds}
@@ -21,9 +23,11 @@ use Rattle.cxx_model.specs.Types.Integral.{one_holds}
 use Rattle.cxx_model.specs.Types.Trees.{CxxType, enumeration}
 use Rattle.cxx_meaning.specs.Conversions.Enumerations.{values_in}
 use Rattle.cxx_reading.specs.Constants.{value_of_literal}
+use Rattle.cxx_meaning.specs.Lookups.Wanted.{types_only}
 use Rattle.cxx_reading.specs.Kinds.{Kinds}
+use Rattle.cxx_reading.specs.Linked.{first_clash, home_of, is_space_at, linked_in, sooner_fact}
 use Rattle.cxx_reading.specs.Reads.{Asks}
-use Rattle.cxx_reading.specs.Seen.{Numbered, declared_in, found, found_types, kind_of_found, type_in, parent_of}
+use Rattle.cxx_reading.specs.Seen.{Numbered, declared_in, found, kind_of_found, parent_of, set_in, sought_from, type_in}
 use Rattle.cxx_reading.specs.State.{CxxState}
 use Rattle.cxx_reading.specs.Trees.{CxxTree, CxxPath, CxxPathPart}
 
@@ -56,9 +60,13 @@ abbrev pub free_by : CxxState → CxxFact → List ℕ → Option ℕ → Answer
 free_by state fact word None = Ok tt
 free_by state fact word (Some number) = Err (conflicting_at fact.place word (place_of_fact state.graph number))
 
--- 3.3: no declaration of its scope stands in the way
+-- 3.3: no declaration stands in the way
 unfoldable pub free : CxxState → CxxFact → List ℕ → Answer (Unit {0})
-free state fact word = free_by state fact word (first_conflict state.graph fact)
+free state fact word = free_by state fact word (first_clash state false fact)
+
+-- 3.5: the same of one in a block that declares a member of its namespace
+unfoldable pub free_linked : CxxState → CxxFact → List ℕ → Answer (Unit {0})
+free_linked state fact word = free_by state fact word (first_clash state true fact)
 
 -- 3.3.1: a name is declared; what conflicts with it comes before the limit
 unfoldable pub declare : CxxFact → List ℕ → Asks CxxState ℕ
@@ -104,6 +112,18 @@ first_function of (one ∷ others) = if is_same_function of one.fact.what then S
 abbrev pub declared_here : CxxState → CxxName → List Numbered
 declared_here state name = declared_in state.graph state.here.scope name
 
+-- 7.3.1: the innermost namespace where the reader stands
+abbrev pub home_here : CxxState → ℕ
+home_here state = home_of state.graph state.here.scope
+
+-- 3.5: the first declaration of the object that is a member of a namespace and has a name, also of those in blocks
+unfoldable pub first_member_object : CxxState → ℕ → CxxName → Option FactId
+first_member_object state space name = sooner_fact (first_object (declared_in state.graph space name)) (first_object (linked_in state space name))
+
+-- 3.5, 13.1: the same of the function with these parameters
+unfoldable pub first_member_function : CxxState → ℕ → CxxName → CxxType → Option FactId
+first_member_function state space name of = sooner_fact (first_function of (declared_in state.graph space name)) (first_function of (linked_in state space name))
+
 abbrev pub no_flags : FunctionFlags
 no_flags = record { is_virtual = false; is_pure = false; is_explicit = false; is_implicit = false }
 
@@ -111,15 +131,22 @@ no_flags = record { is_virtual = false; is_pure = false; is_explicit = false; is
 unfoldable pub declare_synonym : Lexeme → CxxType → Asks CxxState ℕ
 declare_synonym name of state = declare (fact_here state (spelled name.spelling) name.place (facts.synonym of)) name.spelling state
 
--- 8.3.5
-abbrev pub function_here : CxxState → CxxName → CxxType → Declares
-function_here state name of = facts.function of member.Free no_flags zero (first_function of (declared_here state name))
-
-unfoldable pub declare_function : Lexeme → CxxType → Asks CxxState ℕ
-declare_function name of state = declare (fact_here state (spelled name.spelling) name.place (function_here state (spelled name.spelling) of)) name.spelling state
+-- 3: an object of a namespace may be declared before; one of a block is, where it is not linked, by itself
+abbrev pub first_object_here : CxxState → CxxName → Option FactId
+first_object_here state name = if is_space_at state.graph state.here.scope then first_member_object state state.here.scope name else first_object (declared_here state name)
 
 abbrev pub object_here : CxxState → CxxName → CxxType → Declares
-object_here state name of = facts.object of member.Free false None (first_object (declared_here state name))
+object_here state name of = facts.object of member.Free false None (first_object_here state name)
+
+-- 3.5: an object that a block declares with `extern`
+abbrev pub linked_object_here : CxxState → CxxName → CxxType → Declares
+linked_object_here state name of = facts.object of member.Free false None (first_member_object state (home_here state) name)
+
+abbrev pub with_linked : ℕ → CxxState → CxxState
+with_linked number state = record state { linked = state.linked ++ number ∷ [] }
+
+abbrev pub linked_as : ℕ × CxxState → ℕ × CxxState
+linked_as answer = (answer.0, with_linked answer.0 answer.1)
 
 abbrev pub undefined_by : CxxState → Place → List ℕ → Option ℕ → Answer (Unit {0})
 undefined_by state place word None = Ok tt
@@ -135,6 +162,13 @@ with_definition number state = record state { defined = state.defined ++ number 
 -- 3.1, 3.2: an object is declared, and not defined
 unfoldable pub declare_object : Lexeme → CxxType → Asks CxxState ℕ
 declare_object name of state = declare (fact_here state (spelled name.spelling) name.place (object_here state (spelled name.spelling) of)) name.spelling state
+
+-- 3.5: the same in a block, with `extern`
+unfoldable pub declare_linked_object : Lexeme → CxxType → Asks CxxState ℕ
+declare_linked_object name of state = do
+  is_free ← free_linked state (fact_here state (spelled name.spelling) name.place (linked_object_here state (spelled name.spelling) of)) name.spelling
+  answer ← added (fact_here state (spelled name.spelling) name.place (linked_object_here state (spelled name.spelling) of)) state
+  Ok (linked_as answer)
 
 abbrev pub defined_as : ℕ × CxxState → ℕ × CxxState
 defined_as answer = (answer.0, with_definition answer.0 answer.1)
@@ -334,9 +368,17 @@ elaborated_by part all (Some n) state = Ok (enumeration n, state)
 elaborated_by part [] None state = Err (undeclared_at part.place part.word)
 elaborated_by part (one ∷ others) None state = Err (Faulty (record { place = part.place; text = says.WrongKindOfName part.word; evidence = Found one.fact.place ∷ [] }))
 
+-- 3.4: two declarations of which none hides the other
+abbrev pub ambiguous_at : CxxGraph → CxxPathPart → FactId → FactId → Stopped
+ambiguous_at graph part one two = Faulty (record { place = part.place; text = says.AmbiguousName part.word; evidence = Found (place_of_fact graph one.0) ∷ Found (place_of_fact graph two.0) ∷ [] })
+
+abbrev pub elaborated_found : CxxPathPart → Sought → CxxState → Answer (CxxType × CxxState)
+elaborated_found part (sought.Ambiguous one two) state = Err (ambiguous_at state.graph part one two)
+elaborated_found part other state = elaborated_by part (set_in state.graph other) (enumeration_in (set_in state.graph other)) state
+
 -- 3.4.4, 7.1.5.3: behind `enum` stands the name of an enumeration
 unfoldable pub elaborated_here : CxxPath → Asks CxxState CxxType
-elaborated_here path state = elaborated_by (last_part path.parts) (found_types state.graph state.here.scope (name_in path)) (enumeration_in (found_types state.graph state.here.scope (name_in path))) state
+elaborated_here path state = elaborated_found (last_part path.parts) (sought_from state.graph types_only state.here.scope (name_in path)) state
 
 -- 5.19
 unfoldable pub constant_here : CxxTree → Asks CxxState ℤ

@@ -12,11 +12,13 @@ pub mod Constants
 pub mod Syntax
 pub mod State
 pub mod Seen
+pub mod Linked
 pub mod Declaring
+pub mod Spaces
+pub mod Givers
 pub mod Choosing
 pub mod Initializers
 pub mod Units
 pub mod TextOrder
-pub mod Bound
 pub mod Words
 pub mod Plain

@@ -1,5 +1,5 @@
 -- The plain form of a reading: a line for each enumeration, each function and each declaration of an object.
-use Rattle.std.specs.Prelude.{ℕ, zero, suc, ℤ, Bool, true, false, not, ◌&&◌, ◌||◌, if◌then◌else◌, nat_eq, List, [], ◌∷◌, ◌++◌, map, flat_map, Option, Some, None, codes}
+use Rattle.std.specs.Prelude.{ℕ, zero, suc, ℤ, Bool, true, false, if◌then◌else◌, nat_eq, List, [], ◌∷◌, ◌++◌, map, flat_map, Option, Some, None, codes}
 use Rattle.std.specs.List.{slice_get}
 use Rattle.cxx_model.specs.declared.base.Base.TheVariants.{Void}
 use Rattle.cxx_model.specs.Facts.Declarations as facts
@@ -11,7 +11,7 @@ use Rattle.cxx_reading.specs.State.{CxxState}
 use Rattle.cxx_reading.specs.TextOrder.{Line, enumeration_line, function_line, object_line, lines, text_order, text_name}
 use Rattle.cxx_reading.specs.Trees.{CxxTree, CxxTrees, no_trees, tree_then, Label}
 use Rattle.cxx_reading.specs.Units.{CxxReading}
-use Rattle.cxx_reading.specs.Words.{Word, Tags, line_text, keyword_word, name_word, open_word, close_word, less_word, greater_word, semicolon_word, comma_word, separated, value_words, declared, declared_each}
+use Rattle.cxx_reading.specs.Words.{Word, Tags, line_text, keyword_word, name_word, open_word, close_word, less_word, greater_word, semicolon_word, separated, value_words, declared, declared_each}
 
 -- the names of the plain form: of each declaration, by its first one, and of each enumeration
 pub record NamesOfText : Type 0 where
@@ -146,19 +146,3 @@ pub record NamedFunction : Type 0 where
 
 abbrev pub named_function : NamesOfText → List CxxFact → ℕ → NamedFunction
 named_function names all number = record { name = names.name_of number; parameters = declared_each names.tags (parameters_of (slice_get all number)) }
-
--- the arguments of a call stand before it
-abbrev pub call_of_label : NamesOfText → List CxxFact → Label → List NamedFunction
-call_of_label names all label = if nat_eq label.production production.call then named_function names all (target_or label.target) ∷ [] else []
-
-abbrev pub calls_in : NamesOfText → List CxxFact → CxxTrees → List NamedFunction
-calls_in names all no_trees = []
-calls_in names all (tree_then label children next) = calls_in names all children ++ (call_of_label names all label ++ calls_in names all next)
-
-abbrev pub calls_on : NamesOfText → List CxxFact → Line → List NamedFunction
-calls_on names all (object_line tree number) = calls_in names all tree.children
-calls_on names all _ = []
-
--- in the order of the text
-unfoldable pub functions_of_text : CxxReading → List NamedFunction
-functions_of_text reading = flat_map (calls_on (names_of_text reading.state) reading.state.graph.facts) (lines reading.state)

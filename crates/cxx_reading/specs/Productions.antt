@@ -12,6 +12,18 @@ empty_declaration = 2
 abbrev pub linkage : ℕ
 linkage = 3
 
+-- 7.3.1
+abbrev pub namespace_definition : ℕ
+namespace_definition = 4
+
+-- 7.3.2
+abbrev pub namespace_alias : ℕ
+namespace_alias = 5
+
+-- 7.3.4
+abbrev pub using_directive : ℕ
+using_directive = 6
+
 -- clause 7
 abbrev pub simple_declaration : ℕ
 simple_declaration = 8

@@ -1,15 +1,19 @@
--- What a name means among the declarations of the unit and of the parameters round it (3.3, 3.4.1), as long as there are
--- no other scopes.
-use Rattle.std.specs.Prelude.{ℕ, zero, suc, Bool, true, ◌&&◌, nat_eq, if◌then◌else◌, List, [], ◌∷◌, Option, Some, None}
+-- What a name means among the declarations so far (3.3, 3.4.1).
+use Rattle.std.specs.Prelude.{ℕ, zero, suc, Bool, ◌&&◌, nat_eq, if◌then◌else◌, List, [], ◌∷◌, length, Option, Some, None, Ok, Err}
 use Rattle.std.specs.List.{slice_get, list_any}
 use Rattle.cxx_model.specs.declared.base.Base.TheVariants.{Void}
+use Rattle.cxx_model.specs.declared.lookup.Found.{Found}
+use Rattle.cxx_model.specs.declared.lookup.Found.TheVariants as looked
 use Rattle.cxx_model.specs.declared.tree.Kind.{Kind}
 use Rattle.cxx_model.specs.declared.tree.Kind.TheVariants as kind
+use Rattle.cxx_model.specs.declared.types.FactId.{FactId}
 use Rattle.cxx_model.specs.Facts.Conflicts.{declares_name, has_name, same_name, scope_facts}
 use Rattle.cxx_model.specs.Facts.Declarations as facts
 use Rattle.cxx_model.specs.Facts.Declarations.{CxxFact, CxxGraph, CxxName, Declares, unnamed, spelled}
 use Rattle.cxx_model.specs.Types.Trees.{CxxType, fundamental, class_type, enumeration}
-use Rattle.cxx_meaning.specs.Lookups.Wanted.{hides_types, names_type}
+use Rattle.cxx_meaning.specs.Lookups.Ordinary.{ordinary}
+use Rattle.cxx_meaning.specs.Lookups.Pending.{Asked}
+use Rattle.cxx_meaning.specs.Lookups.Wanted.{Wanted, any_name, hides_types, names_space, names_type, types_only}
 
 -- a declaration, with its number
 pub record Numbered : Type 0 where
@@ -32,6 +36,21 @@ declared_from scope name number (fact ∷ others) =
 unfoldable pub declared_in : CxxGraph → ℕ → CxxName → List Numbered
 declared_in graph scope name = declared_from scope name zero graph.facts
 
+-- ---- by numbers
+
+abbrev pub numbered_by : ℕ → Option CxxFact → List Numbered → List Numbered
+numbered_by number None later = later
+numbered_by number (Some fact) later = record { number = number; fact = fact } ∷ later
+
+-- the declarations with some numbers
+abbrev pub numbered_at : CxxGraph → List ℕ → List Numbered
+numbered_at graph [] = []
+numbered_at graph (number ∷ others) = numbered_by number (slice_get graph.facts number) (numbered_at graph others)
+
+abbrev pub fact_numbers : List FactId → List ℕ
+fact_numbers [] = []
+fact_numbers (fact ∷ others) = fact.0 ∷ fact_numbers others
+
 -- ---- outward
 
 abbrev pub scope_of_option : ℕ → Option CxxFact → ℕ
@@ -42,30 +61,33 @@ scope_of_option scope (Some fact) = fact.scope
 abbrev pub parent_of : CxxGraph → ℕ → ℕ
 parent_of graph scope = scope_of_option scope (slice_get (scope_facts graph.facts) scope)
 
-abbrev pub or_outside : List Numbered → List Numbered → List Numbered
-or_outside [] outside = outside
-or_outside (one ∷ others) outside = one ∷ others
-
 -- what is wanted among declarations
 abbrev pub kept : (Declares → Bool) → List Numbered → List Numbered
 kept wanted [] = []
 kept wanted (one ∷ others) = if wanted one.fact.what then one ∷ kept wanted others else kept wanted others
 
--- 3.4.1: in the innermost scope that declares the name; at most so many scopes further out
-unfoldable pub found_from : CxxGraph → (Declares → Bool) → CxxName → ℕ → ℕ → List Numbered
-found_from graph wanted name zero scope = kept wanted (declared_in graph scope name)
-found_from graph wanted name (suc room) scope = or_outside (kept wanted (declared_in graph scope name)) (found_from graph wanted name room (parent_of graph scope))
+-- ---- lookups (3.4)
 
-abbrev pub any_declaration : Declares → Bool
-any_declaration what = true
+-- a unit without classes asks for none
+abbrev pub found_or_none : Asked Found → Found
+found_or_none (Ok one) = one
+found_or_none (Err class) = looked.Empty
 
--- the declarations that a name means in a scope; a scope is held by an earlier one
+-- 3.4.1, 7.3.4: what a name means, from a scope, among all that is declared so far
+unfoldable pub sought_from : CxxGraph → Wanted → ℕ → CxxName → Found
+sought_from graph wanted scope name = found_or_none (ordinary graph wanted (record { 0 = scope }) name (length graph.facts))
+
+abbrev pub set_in : CxxGraph → Found → List Numbered
+set_in graph (looked.Set facts) = numbered_at graph (fact_numbers facts)
+set_in graph _ = []
+
+-- The entities that a name means in a scope, by their first declarations; none where it is not declared or ambiguous.
 unfoldable pub found : CxxGraph → ℕ → CxxName → List Numbered
-found graph scope name = found_from graph any_declaration name scope scope
+found graph scope name = set_in graph (sought_from graph any_name scope name)
 
 -- 3.4.4: the same for names of types alone
 unfoldable pub found_types : CxxGraph → ℕ → CxxName → List Numbered
-found_types graph scope name = found_from graph (names_type graph) name scope scope
+found_types graph scope name = set_in graph (sought_from graph types_only scope name)
 
 -- ---- kinds
 
@@ -75,9 +97,16 @@ any_hides graph all = list_any (λ one. hides_types graph one.fact.what) all
 abbrev pub any_type : CxxGraph → List Numbered → Bool
 any_type graph all = list_any (λ one. names_type graph one.fact.what) all
 
+abbrev pub any_space : List Numbered → Bool
+any_space all = list_any (λ one. names_space one.fact.what) all
+
 -- 3.3.7: what a name is to a reader; a type that is hidden in its scope is none
 abbrev pub kind_of_found : CxxGraph → List Numbered → Kind
-kind_of_found graph all = if any_hides graph all then kind.Value else (if any_type graph all then kind.OfType else kind.Value)
+kind_of_found graph all =
+    if any_hides graph all then kind.Value else (
+    if any_type graph all then kind.OfType else (
+    if any_space all then kind.Space else
+    kind.Value))
 
 -- the type that a declaration names
 abbrev pub type_named_by : Declares → Option CxxType

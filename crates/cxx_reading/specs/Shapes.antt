@@ -9,7 +9,7 @@ use Rattle.cxx_model.specs.declared.tree.Kind.TheVariants as kind
 use Rattle.cxx_model.specs.Stops.{Answer}
 use Rattle.cxx_reading.specs.Declarators.{type_word, TypeWord}
 use Rattle.cxx_reading.specs.Kinds.{Kinds, Readers}
-use Rattle.cxx_reading.specs.Reads.{Reads, Got, Ahead, Turn, More, Done, ◌>>=◌, got, give, ask, looked, taken, tokens, kind_ahead, count_ahead, behind, repeat}
+use Rattle.cxx_reading.specs.Reads.{Reads, Got, Ahead, Turn, More, Done, ◌>>=◌, got, give, ask, tokens, kind_ahead, count_ahead, behind, repeat}
 use Rattle.cxx_reading.specs.Specifiers.{storage_word, is_some_storage, is_of_members, begins_class}
 use Rattle.cxx_reading.specs.Tokens.{is_punct, is_keyword, is_name, is_end, is_qualified, path_ahead}
 

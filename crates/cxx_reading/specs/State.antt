@@ -58,6 +58,8 @@ pub record CxxState : Type 0 where
   pub here : CxxHere
   -- 3.2: the declarations that are definitions, by their numbers
   pub defined : List ℕ
+  -- 3.5: the declarations in blocks of functions, and of objects with `extern`, by their numbers
+  pub linked : List ℕ
   -- 8.3.6: the default arguments that are given
   pub given : List CxxGiven
   -- those that were read in the part that is being read, and whether one is being read
@@ -86,6 +88,7 @@ first_state = record {
   graph = record { facts = unit_scope ∷ []; classes = []; patterns = [] };
   here = at_unit;
   defined = [];
+  linked = [];
   given = [];
   offered = [];
   in_default = false;

@@ -1,20 +1,10 @@
 //! What a reader expects of the definitions, as contracts of functions that do nothing.
-ghost use Rattle.std.specs.Prelude.{◌≡◌, List, None, Ok};
-ghost use Rattle.cxx_model.specs.Text.Lexemes.{Lexeme};
-ghost use Rattle.cxx_model.specs.declared.options.Options.{Options};
+ghost use Rattle.std.specs.Prelude.{◌≡◌, List, None};
 ghost use Rattle.cxx_model.specs.Types.Trees.{CxxType};
-ghost use Rattle.cxx_reading.specs.Bound.{EachCallIsBest};
 ghost use Rattle.cxx_reading.specs.Declarators.{HaveParts, Layer, declared_type, forbidden, refused_in};
-ghost use Rattle.cxx_reading.specs.Units.{CxxReading, unit_reading};
 
 /// A declared type has a part that there is not (8.3.1 to 8.3.5) exactly where a layer of its declarator is refused, and
 /// the first such part is that of this layer: the type of the specifiers and the parameters were asked before.
 pub fn forbidden_types_are_refused()
     ensures { (layers : List Layer) (of : CxxType) → forbidden of ≡ None → HaveParts layers → forbidden (declared_type layers of) ≡ refused_in layers of }
-{}
-
-/// Each call of a whole reading means the viable function of its name, declared before it, that is better than every
-/// other (13.3.3); its candidates are all functions of that name, and what the call keeps of them is so.
-pub fn each_call_is_best()
-    ensures { (options : Options) (tokens : List Lexeme) (reading : CxxReading) → unit_reading options tokens ≡ Ok reading → EachCallIsBest reading }
 {}

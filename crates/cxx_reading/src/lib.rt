@@ -9,6 +9,6 @@ mod laws;
 mod role;
 mod specifier;
 
-pub use laws::{each_call_is_best, forbidden_types_are_refused};
+pub use laws::forbidden_types_are_refused;
 pub use role::Role;
 pub use specifier::{CoreWord, Naming, SignWord, SizeWord, SpecifierPlace, StorageWord, TypeWords};

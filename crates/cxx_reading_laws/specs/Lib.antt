@@ -1,5 +1,2 @@
--- What holds of every whole reading, in the words of the standard.
-pub mod Parts
-pub mod Declared
+-- What holds of the definitions of a reading, in the words of the standard.
 pub mod Derived
-pub mod Covering

@@ -1,10 +1,9 @@
 -- Which of some default arguments is that of a parameter.
-use Rattle.std.proofs.Common.{◌≡◌, ◌<◌, ◌+◌, ℕ, zero, suc, Bool, true, false, cond, List, [], ◌∷◌, drop, length, get_or, arith, Option, Some, None, option_map, refl, subst}
+use Rattle.std.proofs.Common.{◌≡◌, ◌<◌, ◌+◌, ℕ, zero, suc, cond, List, [], ◌∷◌, drop, length, get_or, arith, Option, Some, option_map, refl, subst}
 use Rattle.std.specs.List.{slice_get}
 use Rattle.cxx_model.specs.declared.facts.Fact.{Fact}
 use Rattle.cxx_model.specs.Facts.Declarations.{CxxFact, fact_at, facts_at}
 use Rattle.cxx_model.specs.Types.Trees.{CxxType}
-use Rattle.cxx_reading.specs.State.{CxxGiven}
 use Rattle.cxx_reading.specs.Trees.{CxxTree}
 use Rattle.cxx_tree.specs.declared.kept.Fallback.{Fallback}
 use Rattle.cxx_tree.specs.Defaults.{first_given, is_given}
@@ -16,9 +15,9 @@ stored types (fact ∷ facts) zero = refl
 stored types (fact ∷ facts) (suc n) = stored types facts n
 
 -- the first of one or of others
-pub given_more : (all : List CxxFact) (function index : ℕ) (trees : List CxxTree) (one : Fallback) (others : List Fallback)
-    → first_given all function index (fallbacks_at trees (one ∷ others)) ≡ cond (is_given all function index (fallback_at trees one)) (Some (fallback_at trees one)) (first_given all function index (fallbacks_at trees others))
-given_more all function index trees one others = refl
+pub given_more : (all : List CxxFact) (scope function index : ℕ) (trees : List CxxTree) (one : Fallback) (others : List Fallback)
+    → first_given all scope function index (fallbacks_at trees (one ∷ others)) ≡ cond (is_given all scope function index (fallback_at trees one)) (Some (fallback_at trees one)) (first_given all scope function index (fallbacks_at trees others))
+given_more all scope function index trees one others = refl
 
 below_next : (count i : ℕ) (all : List Fallback) → AreFallbacksBelow count (drop i all) → AreFallbacksBelow count (drop (suc i) all)
 below_next count zero [] below = tt
@@ -35,10 +34,10 @@ below_at count zero (one ∷ all) none within below = below.0
 below_at count (suc i) (one ∷ all) none within below = below_at count i all none (omega (arith, within)) below
 
 -- what a state answers of those that it keeps
-pub given_is : (seen held : Held) (function index : ℕ) (result : Option Fallback) (fallbacks : List Fallback) → held ≡ seen → fallbacks ≡ held.fallbacks
-    → ((types : List CxxType) (all : List CxxTree) → option_map (fallback_at all) result ≡ first_given (facts_at types held.graph.facts) function index (fallbacks_at all fallbacks))
-    → option_map (fallback_at (trees seen)) result ≡ first_given (meaning seen).graph.facts function index (meaning seen).given
+pub given_is : (seen held : Held) (scope function index : ℕ) (result : Option Fallback) (fallbacks : List Fallback) → held ≡ seen → fallbacks ≡ held.fallbacks
+    → ((types : List CxxType) (all : List CxxTree) → option_map (fallback_at all) result ≡ first_given (facts_at types held.graph.facts) scope function index (fallbacks_at all fallbacks))
+    → option_map (fallback_at (trees seen)) result ≡ first_given (meaning seen).graph.facts scope function index (meaning seen).given
 unfolding meaning
-given_is seen held function index result fallbacks same is holds =
-    subst (λ (h : Held). option_map (fallback_at (trees h)) result ≡ first_given (facts_at h.types h.graph.facts) function index (fallbacks_at (trees h) h.fallbacks)) same
-    (subst (λ fs. option_map (fallback_at (trees held)) result ≡ first_given (facts_at held.types held.graph.facts) function index (fallbacks_at (trees held) fs)) is (holds held.types (trees held)))
+given_is seen held scope function index result fallbacks same is holds =
+    subst (λ (h : Held). option_map (fallback_at (trees h)) result ≡ first_given (facts_at h.types h.graph.facts) scope function index (fallbacks_at (trees h) h.fallbacks)) same
+    (subst (λ fs. option_map (fallback_at (trees held)) result ≡ first_given (facts_at held.types held.graph.facts) scope function index (fallbacks_at (trees held) fs)) is (holds held.types (trees held)))

@@ -1,5 +1,5 @@
 -- What a graph is after one more fact, and what its facts name.
-use Rattle.std.specs.Prelude.{ℕ, zero, suc, ◌≡◌, ◌<◌, ◌+◌, Bool, true, false, if◌then◌else◌, List, [], ◌∷◌, ◌++◌, length, Option, Some, None, option_map, refl}
+use Rattle.std.specs.Prelude.{ℕ, zero, suc, ◌≡◌, ◌<◌, ◌+◌, Bool, true, false, List, [], ◌∷◌, ◌++◌, length, Option, Some, None, option_map, refl}
 use Rattle.std.specs.List.{slice_get}
 use Rattle.std.proofs.Common.{ap, sym, subst, ◌∙◌, arith, append_assoc}
 use Rattle.cxx_model.specs.declared.facts.Entity.{Entity}
@@ -9,15 +9,14 @@ use Rattle.cxx_model.specs.declared.place.Place.{Place}
 use Rattle.cxx_model.specs.declared.types.ScopeId.{ScopeId}
 use Rattle.cxx_model.specs.Facts.Conflicts.{scope_facts}
 use Rattle.cxx_model.specs.Facts.Declarations as facts
-use Rattle.cxx_model.specs.Facts.Declarations.{CxxFact, CxxGraph, CxxName, Declares, classes_at, declares_at, fact_at, facts_at, graph_at}
+use Rattle.cxx_model.specs.Facts.Declarations.{CxxFact, CxxGraph, Declares, classes_at, declares_at, fact_at, facts_at, graph_at}
 use Rattle.cxx_model.specs.Facts.Fitted.{AreFactsBelow, Fitted, IsEntityBelow}
 use Rattle.cxx_model.specs.Facts.Graph.{EachMayFollow, Graph, InRange, IsEntityInRange, IsTypeInRange, IsUnitScope, MayFollow, count, counted, enumerations, scopes}
 use Rattle.cxx_model.specs.declared.facts.Specialisation.{Specialisation}
 use Rattle.cxx_model.specs.Types.Trees.{CxxType}
 use Rattle.cxx_model.specs.Types.Numbers.{type_at}
-use Rattle.cxx_meaning.specs.Lookups.Wanted.{names_type}
 use Rattle.cxx_reading.specs.Declaring.{enumeration_in, place_in, place_of_scope}
-use Rattle.cxx_reading.specs.Seen.{Numbered, any_declaration, declared_from, declared_in, declares_in, found, found_from, found_types, kept, or_next, or_outside, parent_of, scope_of_option, type_in, type_named_by}
+use Rattle.cxx_reading.specs.Seen.{Numbered, numbered_at, numbered_by, or_next, parent_of, scope_of_option, type_in, type_named_by}
 use Rattle.cxx_tree.specs.Whole.{place_by, scope_places}
 
 -- ---- one more fact
@@ -238,33 +237,22 @@ fact_named graph types (entity.Directive nominated) names below there = tt
 fact_named graph types (entity.Using target) names below there = tt
 fact_named graph types (entity.Friend number target) names below there = tt
 
-declared_named : (graph : Graph) (types : List CxxType) (scope : ℕ) (name : CxxName) (number : ℕ) (facts : List Fact) → ((i : ℕ) → i < length types → IsTypeInRange graph (type_at types i)) → AreFactsBelow (length types) facts → AreThere graph facts → AreNamed graph (declared_from scope name number (facts_at types facts))
-declared_named graph types scope name number [] names below there = tt
-declared_named graph types scope name number (one ∷ others) names below there = by (declares_in scope name (fact_at types one)) (declared_named graph types scope name (suc number) others names below.1 there.1)
+abbrev IsNamedAt : Graph → Option CxxFact → Type 0
+IsNamedAt graph None = Unit {0}
+IsNamedAt graph (Some fact) = IsNamed graph fact.what
+
+stored_named : (graph : Graph) (types : List CxxType) (facts : List Fact) (n : ℕ) → ((i : ℕ) → i < length types → IsTypeInRange graph (type_at types i)) → AreFactsBelow (length types) facts → AreThere graph facts → IsNamedAt graph (slice_get (facts_at types facts) n)
+stored_named graph types [] n names below there = tt
+stored_named graph types (one ∷ others) zero names below there = fact_named graph types one.what names below.0.what there.0.named
+stored_named graph types (one ∷ others) (suc n) names below there = stored_named graph types others n names below.1 there.1
+
+numbered_named : (graph : Graph) (types : List CxxType) (numbers : List ℕ) → Fitted graph types → AreThere graph graph.facts → AreNamed graph (numbered_at (graph_at types graph) numbers)
+numbered_named graph types [] fitted there = tt
+numbered_named graph types (number ∷ others) fitted there = by (slice_get (facts_at types graph.facts) number) (stored_named graph types graph.facts number fitted.names fitted.numbers.facts there) (numbered_named graph types others fitted there)
   where
-    by : (b : Bool) → AreNamed graph (declared_from scope name (suc number) (facts_at types others)) → AreNamed graph (if b then record { number = number; fact = fact_at types one } ∷ declared_from scope name (suc number) (facts_at types others) else declared_from scope name (suc number) (facts_at types others))
-    by true later = (fact_named graph types one.what names below.0.what there.0.named, later)
-    by false later = later
-
-kept_named : (graph : Graph) (wanted : Declares → Bool) (all : List Numbered) → AreNamed graph all → AreNamed graph (kept wanted all)
-kept_named graph wanted [] ok = tt
-kept_named graph wanted (one ∷ others) ok = by (wanted one.fact.what) (kept_named graph wanted others ok.1)
-  where
-    by : (b : Bool) → AreNamed graph (kept wanted others) → AreNamed graph (if b then one ∷ kept wanted others else kept wanted others)
-    by true later = (ok.0, later)
-    by false later = later
-
-outside_named : (graph : Graph) (one two : List Numbered) → AreNamed graph one → AreNamed graph two → AreNamed graph (or_outside one two)
-outside_named graph [] two first second = second
-outside_named graph (x ∷ xs) two first second = first
-
-found_named : (graph : Graph) (types : List CxxType) (wanted : Declares → Bool) (name : CxxName) (room scope : ℕ) → Fitted graph types → AreThere graph graph.facts → AreNamed graph (found_from (graph_at types graph) wanted name room scope)
-unfolding declared_in found_from
-found_named graph types wanted name zero scope fitted there = kept_named graph wanted (declared_in (graph_at types graph) scope name) (declared_named graph types scope name zero graph.facts fitted.names fitted.numbers.facts there)
-found_named graph types wanted name (suc room) scope fitted there =
-    outside_named graph (kept wanted (declared_in (graph_at types graph) scope name)) (found_from (graph_at types graph) wanted name room (parent_of (graph_at types graph) scope))
-    (kept_named graph wanted (declared_in (graph_at types graph) scope name) (declared_named graph types scope name zero graph.facts fitted.names fitted.numbers.facts there))
-    (found_named graph types wanted name room (parent_of (graph_at types graph) scope) fitted there)
+    by : (o : Option CxxFact) → IsNamedAt graph o → AreNamed graph (numbered_at (graph_at types graph) others) → AreNamed graph (numbered_by number o (numbered_at (graph_at types graph) others))
+    by None one later = later
+    by (Some fact) one later = (one, later)
 
 named_range : (graph : Graph) (what : Declares) (later : CxxType) → IsNamed graph what → IsTypeInRange graph later → IsTypeInRange graph (or_next (type_named_by what) later)
 named_range graph (facts.scope parent kind) later ok rest = rest
@@ -289,9 +277,8 @@ type_in_range : (graph : Graph) (all : List Numbered) → AreNamed graph all →
 type_in_range graph [] ok = tt
 type_in_range graph (one ∷ others) ok = named_range graph one.fact.what (type_in others) ok.0 (type_in_range graph others ok.1)
 
-pub found_range : (graph : Graph) (types : List CxxType) (scope : ℕ) (name : CxxName) → Fitted graph types → InRange graph → IsTypeInRange graph (type_in (found (graph_at types graph) scope name))
-unfolding found
-found_range graph types scope name fitted ok = type_in_range graph (found (graph_at types graph) scope name) (found_named graph types any_declaration name scope scope fitted (are_there graph ok))
+pub numbered_range : (graph : Graph) (types : List CxxType) (numbers : List ℕ) → Fitted graph types → InRange graph → IsTypeInRange graph (type_in (numbered_at (graph_at types graph) numbers))
+numbered_range graph types numbers fitted ok = type_in_range graph (numbered_at (graph_at types graph) numbers) (numbered_named graph types numbers fitted (are_there graph ok))
 
 enumeration_there : (graph : Graph) (all : List Numbered) (n : ℕ) → AreNamed graph all → enumeration_in all ≡ Some n → n < enumerations graph.facts
 enumeration_there graph [] n ok is = absurd (cc)
@@ -316,10 +303,9 @@ enumeration_there graph (one ∷ others) n ok is = by one.fact.what ok.0 is (λ 
     by (facts.using target) ok is later = later is
     by (facts.friend class target) ok is later = later is
 
--- 3.4.4: an enumeration that a name means is there
-pub enumeration_found : (graph : Graph) (types : List CxxType) (scope : ℕ) (name : CxxName) (n : ℕ) → Fitted graph types → InRange graph → enumeration_in (found_types (graph_at types graph) scope name) ≡ Some n → n < enumerations graph.facts
-unfolding found_types
-enumeration_found graph types scope name n fitted ok is = enumeration_there graph (found_types (graph_at types graph) scope name) n (found_named graph types (names_type (graph_at types graph)) name scope scope fitted (are_there graph ok)) is
+-- 7.2: an enumeration among declarations that were found is there
+pub enumeration_found : (graph : Graph) (types : List CxxType) (numbers : List ℕ) (n : ℕ) → Fitted graph types → InRange graph → enumeration_in (numbered_at (graph_at types graph) numbers) ≡ Some n → n < enumerations graph.facts
+enumeration_found graph types numbers n fitted ok is = enumeration_there graph (numbered_at (graph_at types graph) numbers) n (numbered_named graph types numbers fitted (are_there graph ok)) is
 
 -- ---- a place by the places of scopes
 

@@ -4,11 +4,14 @@ use Rattle.std.specs.List.{slice_get}
 use Rattle.std.specs.Borrow.{Bor}
 use Rattle.std.specs.Option.{option_copied}
 use Rattle.std.proofs.Math.Seq.{take-append_seam}
-use Rattle.std.proofs.Common.{ap, sym, subst, ◌∙◌, arith, length-append, append-nil}
+use Rattle.std.proofs.Common.{◌⊎◌, inl, inr, ap, sym, subst, ◌∙◌, arith, length-append, append-nil}
 use Rattle.std.proofs.lemmas.Bool.{eq-eqb, eqb-true}
 use Rattle.cxx_defined.proofs.Owning.{defines_later}
 use Rattle.cxx_defined.specs.Defined.{Defines}
 use Rattle.cxx_defined.specs.declared.defined.Definitions.{Definitions}
+use Rattle.cxx_linked.proofs.Filing.{links_later}
+use Rattle.cxx_linked.specs.Links.{Links}
+use Rattle.cxx_linked.specs.declared.linkages.Linkages.{Linkages}
 use Rattle.cxx_graph.specs.declared.graph.AddFault.{AddFault}
 use Rattle.cxx_graph.specs.declared.graph.AddFault.TheVariants as fault
 use Rattle.cxx_graph.proofs.Fitting.{fitted-fact, graph-kept}
@@ -19,7 +22,7 @@ use Rattle.cxx_model.specs.declared.facts.Entity.TheVariants as entity
 use Rattle.cxx_model.specs.declared.facts.Fact.{Fact}
 use Rattle.cxx_model.specs.declared.facts.Pattern.{Pattern}
 use Rattle.cxx_model.specs.declared.facts.ScopeKind.{ScopeKind}
-use Rattle.cxx_model.specs.declared.facts.ScopeKind.TheVariants.{Block, Parameters}
+use Rattle.cxx_model.specs.declared.facts.ScopeKind.TheVariants.{Block, Parameters, Space}
 use Rattle.cxx_model.specs.declared.facts.Specialisation.{Specialisation}
 use Rattle.cxx_model.specs.declared.memory.OutOfMemory.{OutOfMemory}
 use Rattle.cxx_model.specs.declared.place.Place.{Place}
@@ -30,25 +33,26 @@ use Rattle.cxx_model.specs.declared.types.EnumId.{EnumId}
 use Rattle.cxx_model.specs.declared.types.FactId.{FactId}
 use Rattle.cxx_model.specs.declared.types.ScopeId.{ScopeId}
 use Rattle.cxx_model.specs.declared.types.TypeId.{TypeId}
-use Rattle.cxx_model.specs.Facts.Conflicts.{is_using}
 use Rattle.cxx_model.specs.Stops.{Answer, Limited, Stops, ◌>>=◌}
 use Rattle.cxx_model.specs.Types.Numbers.{Keeps}
 use Rattle.cxx_model.specs.Types.Trees.{CxxType, enumeration}
-use Rattle.cxx_model.specs.Facts.Declarations.{CxxFact, CxxGraph, classes_at, declares_at, fact_at, facts_at, graph_at, spelled}
+use Rattle.cxx_model.specs.Facts.Declarations.{CxxFact, CxxGraph, classes_at, fact_at, facts_at, graph_at}
 use Rattle.cxx_model.specs.Facts.Fitted.{Fitted, IsFactBelow}
 use Rattle.cxx_model.specs.Facts.Graph.{Graph, InRange, IsEntityInRange, IsKindInRange, IsTypeInRange, MayFollow, appended, enumerations, scopes}
-use Rattle.cxx_names.proofs.Clashing.{none_brought_more, plain_not_brought}
-use Rattle.cxx_names.specs.Clashes.{IsPlain, IsPlainEntity, NoneBrought}
+use Rattle.cxx_names.proofs.Plain.{plain_more, plain_scope_more}
+use Rattle.cxx_names.specs.Clashes.{IsNoTemplate, IsPlain, IsPlainEntity, NoTemplates}
 use Rattle.cxx_names.specs.declared.names.Names.{Names}
 use Rattle.cxx_names.specs.Index.{Notes}
-use Rattle.cxx_reading.specs.Declaring.{added, at_scope, enter_block, enter_parameters, entered_as, entered_block, in_enumeration, leave_block, leave_parameters, place_of_scope, scope_count, with_definition, with_fact}
-use Rattle.cxx_reading.specs.Seen.{found, parent_of, type_in}
+use Rattle.cxx_names.specs.Plain.{ArePlain, IsPlainKind, IsPlainScope}
+use Rattle.cxx_reading.specs.Declaring.{added, at_scope, enter_block, enter_parameters, entered_as, entered_block, in_enumeration, leave_block, leave_parameters, place_of_scope, scope_count, with_definition, with_fact, with_linked}
+use Rattle.cxx_reading.specs.Seen.{numbered_at, parent_of, type_in}
+use Rattle.cxx_reading.specs.Spaces.{close_space}
 use Rattle.cxx_reading.specs.State.{CxxState, first_state}
 use Rattle.cxx_sizes.specs.declared.layouts.Layouts.{Layouts}
 use Rattle.cxx_sizes.specs.Noted.{Notes as Measures}
 use Rattle.cxx_model.specs.declared.tree.Node.{Node}
 use Rattle.cxx_model.specs.Text.Lexemes.{first_place}
-use Rattle.cxx_tree.specs.Answered.{AnyKnown, IsAnswered, IsFactKnown, fact_number, itself, scope_number}
+use Rattle.cxx_tree.specs.Answered.{AnyKnown, IsAnswered, IsFactKnown, IsScopeKnown, fact_number, itself, scope_number}
 use Rattle.cxx_tree.specs.Held.{Held, IsSound, enumeration_of_option, meaning, numbers_at, trees}
 use Rattle.cxx_tree.specs.Later.{Later, MakesType}
 use Rattle.cxx_tree.specs.declared.kept.Binding.{Binding}
@@ -56,7 +60,7 @@ use Rattle.cxx_tree.specs.declared.kept.Decided.{Decided}
 use Rattle.cxx_tree.specs.declared.kept.Fallback.{Fallback}
 use Rattle.cxx_tree.specs.declared.kept.Offer.{Offer}
 use Rattle.cxx_tree.specs.declared.kept.Piece.{Piece}
-use Rattle.cxx_tree.specs.Whole.{IsFunctionBelow, IsWhole, entered_scope, left_scope, place_by, scope_fact, scope_places, scope_within, stopped_as, unit_fact, unit_graph}
+use Rattle.cxx_tree.specs.Whole.{IsFunctionBelow, IsWhole, added_space, entered_scope, left_scope, place_by, scope_at, scope_fact, scope_places, scope_within, stopped_as, unit_fact, unit_graph}
 use Rattle.cxx_tree.proofs.Arenas.{KeepsTrees_refl}
 use Rattle.cxx_tree.proofs.Graphs.{facts_more, length_classes, length_facts, opened_at, opened_nowhere, parent_there, places_more, scope_next, scopes_later}
 use Rattle.cxx_tree.proofs.Steps.{Later_refl, Later_trans, fitted_by, makes_type, sound_types}
@@ -67,29 +71,31 @@ abbrev pub AreMeasured : Option Layouts → List CxxFact → Type 0
 AreMeasured layouts all = IfSome layouts (λ kept. Measures kept all)
 
 -- the graph and what is defined stay
-pub still : (names : Names) (definitions : Definitions) (openings : List Place) (layouts : Option Layouts) (held new : Held) → IsWhole names definitions openings layouts held → new.graph ≡ held.graph → new.types ≡ held.types → new.defined ≡ held.defined → IsSound new → IsWhole names definitions openings layouts new
-still names definitions openings layouts held new whole same types defined sound = record {
+pub still : (names : Names) (definitions : Definitions) (linkages : Linkages) (openings : List Place) (layouts : Option Layouts) (held new : Held) → IsWhole names definitions linkages openings layouts held → new.graph ≡ held.graph → new.types ≡ held.types → new.defined ≡ held.defined → new.linked ≡ held.linked → IsSound new → IsWhole names definitions linkages openings layouts new
+still names definitions linkages openings layouts held new whole same types defined linked sound = record {
   sound = sound;
   noted = subst (λ (g : Graph). Notes names g.facts) (sym same) whole.noted;
-  own = subst (λ (g : Graph). NoneBrought g.facts) (sym same) whole.own;
+  plain = subst (λ (g : Graph). ArePlain g.facts) (sym same) whole.plain;
   defines = subst (λ ds. Defines definitions new.graph.facts (numbers_at ds)) (sym defined) (subst (λ (g : Graph). Defines definitions g.facts (numbers_at held.defined)) (sym same) whole.defines);
+  links = subst (λ ls. Links linkages new.graph.facts ls) (sym linked) (subst (λ (g : Graph). Links linkages g.facts held.linked) (sym same) whole.links);
   opened = subst (λ (g : Graph). openings ≡ scope_places g.facts) (sym same) whole.opened;
   measured = subst (λ (g : Graph). AreMeasured layouts (graph_at new.types g).facts) (sym same) (subst (λ (ts : List CxxType). AreMeasured layouts (graph_at ts held.graph).facts) (sym types) whole.measured);
 }
 
 -- types are made
-pub whole_types : (names : Names) (definitions : Definitions) (openings : List Place) (layouts : Option Layouts) (held : Held) (new : List CxxType) → IsWhole names definitions openings layouts held → Keeps held.types new → Fitted held.graph new → IsWhole names definitions openings layouts (record held { types = new })
-whole_types names definitions openings layouts held new whole keeps fitted = record {
+pub whole_types : (names : Names) (definitions : Definitions) (linkages : Linkages) (openings : List Place) (layouts : Option Layouts) (held : Held) (new : List CxxType) → IsWhole names definitions linkages openings layouts held → Keeps held.types new → Fitted held.graph new → IsWhole names definitions linkages openings layouts (record held { types = new })
+whole_types names definitions linkages openings layouts held new whole keeps fitted = record {
   sound = sound_types held new whole.sound keeps fitted;
   noted = whole.noted;
-  own = whole.own;
+  plain = whole.plain;
   defines = whole.defines;
+  links = whole.links;
   opened = whole.opened;
   measured = subst (λ (g : CxxGraph). AreMeasured layouts g.facts) (sym (graph-kept held.types new held.graph keeps whole.sound.fitted.numbers)) whole.measured;
 }
 
-pub whole_type : (names : Names) (definitions : Definitions) (openings : List Place) (layouts : Option Layouts) (held : Held) (new : List CxxType) (result : Result TypeId OutOfMemory) (t : CxxType) → IsWhole names definitions openings layouts held → table.Makes held.types new result t → IsTypeInRange held.graph t → IsWhole names definitions openings layouts (record held { types = new })
-whole_type names definitions openings layouts held new result t whole makes range = whole_types names definitions openings layouts held new whole makes.keeps (fitted_by held new result t whole.sound makes range)
+pub whole_type : (names : Names) (definitions : Definitions) (linkages : Linkages) (openings : List Place) (layouts : Option Layouts) (held : Held) (new : List CxxType) (result : Result TypeId OutOfMemory) (t : CxxType) → IsWhole names definitions linkages openings layouts held → table.Makes held.types new result t → IsTypeInRange held.graph t → IsWhole names definitions linkages openings layouts (record held { types = new })
+whole_type names definitions linkages openings layouts held new result t whole makes range = whole_types names definitions linkages openings layouts held new whole makes.keeps (fitted_by held new result t whole.sound makes range)
 
 -- ---- one more fact
 
@@ -186,16 +192,17 @@ fact_answered seen held new fact what r result same is stopped number appends st
 
 -- ---- what is kept beside one more fact
 
-module _ (names : Names) (definitions : Definitions) (openings : List Place) (layouts : Option Layouts) (held : Held) (fact : Fact) (whole : IsWhole names definitions openings layouts held) (below : IsFactBelow (length held.types) fact) (plain : is_using (declares_at [] fact.what) ≡ false) where
+module _ (names : Names) (definitions : Definitions) (linkages : Linkages) (openings : List Place) (layouts : Option Layouts) (held : Held) (fact : Fact) (whole : IsWhole names definitions linkages openings layouts held) (below : IsFactBelow (length held.types) fact) (plain : ArePlain (held.graph.facts ++ fact ∷ [])) where
   abbrev grown : Held
   grown = record held { graph = appended held.graph fact }
 
-  pub whole_more : (names' : Names) (layouts' : Option Layouts) → Notes names' (held.graph.facts ++ fact ∷ []) → AreMeasured layouts' (graph_at held.types (appended held.graph fact)).facts → IsWhole names' definitions (openings ++ place_by fact.place fact.what) layouts' grown
+  pub whole_more : (names' : Names) (layouts' : Option Layouts) → Notes names' (held.graph.facts ++ fact ∷ []) → AreMeasured layouts' (graph_at held.types (appended held.graph fact)).facts → IsWhole names' definitions linkages (openings ++ place_by fact.place fact.what) layouts' grown
   whole_more names' layouts' noted measured = record {
     sound = sound_fact held fact whole.sound below;
     noted = noted;
-    own = none_brought_more held.graph.facts fact whole.own plain;
+    plain = plain;
     defines = defines_later definitions held.graph.facts (fact ∷ []) (numbers_at held.defined) whole.defines;
+    links = links_later linkages held.graph.facts (fact ∷ []) held.linked whole.links;
     opened = ap (λ ps. ps ++ place_by fact.place fact.what) whole.opened ∙ sym (places_more held.graph.facts fact);
     measured = measured;
   }
@@ -214,31 +221,31 @@ no_place place (entity.Class number is_union) ok = absurd ok
 no_place place (entity.Complete number) ok = absurd ok
 no_place place (entity.Passed number) ok = absurd ok
 no_place place (entity.Ancestor number parent index access) ok = absurd ok
-no_place place (entity.Namespace inner) ok = absurd ok
-no_place place (entity.Directive nominated) ok = absurd ok
-no_place place (entity.Using target) ok = absurd ok
+no_place place (entity.Namespace inner) ok = refl
+no_place place (entity.Directive nominated) ok = refl
+no_place place (entity.Using target) ok = refl
 no_place place (entity.Friend number target) ok = absurd ok
 
-whole_plain : (names names' : Names) (definitions : Definitions) (openings : List Place) (layouts layouts' : Option Layouts) (held : Held) (fact : Fact) → IsWhole names definitions openings layouts held → IsFactBelow (length held.types) fact → IsPlain fact → Notes names' (held.graph.facts ++ fact ∷ [])
-    → AreMeasured layouts' (graph_at held.types (appended held.graph fact)).facts → IsWhole names' definitions openings layouts' (record held { graph = appended held.graph fact })
-whole_plain names names' definitions openings layouts layouts' held fact whole below plain noted measured =
-    subst (λ ps. IsWhole names' definitions ps layouts' (record held { graph = appended held.graph fact })) (ap (λ ps. openings ++ ps) (no_place fact.place fact.what plain.what) ∙ append-nil openings)
-    (whole_more names definitions openings layouts held fact whole below (plain_not_brought [] fact.what plain.what) names' layouts' noted measured)
+whole_plain : (names names' : Names) (definitions : Definitions) (linkages : Linkages) (openings : List Place) (layouts layouts' : Option Layouts) (held : Held) (fact : Fact) → IsWhole names definitions linkages openings layouts held → IsFactBelow (length held.types) fact → IsPlain fact → Notes names' (held.graph.facts ++ fact ∷ [])
+    → AreMeasured layouts' (graph_at held.types (appended held.graph fact)).facts → IsWhole names' definitions linkages openings layouts' (record held { graph = appended held.graph fact })
+whole_plain names names' definitions linkages openings layouts layouts' held fact whole below plain noted measured =
+    subst (λ ps. IsWhole names' definitions linkages ps layouts' (record held { graph = appended held.graph fact })) (ap (λ ps. openings ++ ps) (no_place fact.place fact.what plain.what) ∙ append-nil openings)
+    (whole_more names definitions linkages openings layouts held fact whole below (plain_more held.graph.facts fact whole.plain plain) names' layouts' noted measured)
 
-whole_same : (names names' : Names) (definitions : Definitions) (openings : List Place) (layouts : Option Layouts) (held : Held) → IsWhole names definitions openings layouts held → Notes names' held.graph.facts → IsWhole names' definitions openings layouts held
-whole_same names names' definitions openings layouts held whole noted = record { sound = whole.sound; noted = noted; own = whole.own; defines = whole.defines; opened = whole.opened; measured = whole.measured }
+whole_same : (names names' : Names) (definitions : Definitions) (linkages : Linkages) (openings : List Place) (layouts : Option Layouts) (held : Held) → IsWhole names definitions linkages openings layouts held → Notes names' held.graph.facts → IsWhole names' definitions linkages openings layouts held
+whole_same names names' definitions linkages openings layouts held whole noted = record { sound = whole.sound; noted = noted; plain = whole.plain; defines = whole.defines; links = whole.links; opened = whole.opened; measured = whole.measured }
 
 -- nothing was added
-pub whole_full : (names names' : Names) (definitions : Definitions) (openings : List Place) (layouts : Option Layouts) (held : Held) (new : Graph) → IsWhole names definitions openings layouts held → new ≡ held.graph → Notes names' new.facts → IsWhole names' definitions openings layouts (record held { graph = new })
-whole_full names names' definitions openings layouts held new whole stays noted =
-    subst (λ (g : Graph). IsWhole names' definitions openings layouts (record held { graph = g })) (sym stays)
-    (whole_same names names' definitions openings layouts held whole (subst (λ (g : Graph). Notes names' g.facts) stays noted))
+pub whole_full : (names names' : Names) (definitions : Definitions) (linkages : Linkages) (openings : List Place) (layouts : Option Layouts) (held : Held) (new : Graph) → IsWhole names definitions linkages openings layouts held → new ≡ held.graph → Notes names' new.facts → IsWhole names' definitions linkages openings layouts (record held { graph = new })
+whole_full names names' definitions linkages openings layouts held new whole stays noted =
+    subst (λ (g : Graph). IsWhole names' definitions linkages openings layouts (record held { graph = g })) (sym stays)
+    (whole_same names names' definitions linkages openings layouts held whole (subst (λ (g : Graph). Notes names' g.facts) stays noted))
 
-pub whole_fact : (names names' : Names) (definitions : Definitions) (openings : List Place) (layouts layouts' : Option Layouts) (seen held : Held) (new : Graph) (fact : Fact) → held ≡ seen → IsWhole names definitions openings layouts held → IsFactBelow (length seen.types) fact → IsPlain fact
-    → new ≡ appended held.graph fact → Notes names' new.facts → AreMeasured layouts' (graph_at held.types new).facts → IsWhole names' definitions openings layouts' (record held { graph = new })
-whole_fact names names' definitions openings layouts layouts' seen held new fact same whole below plain appends noted measured =
-    subst (λ (g : Graph). IsWhole names' definitions openings layouts' (record held { graph = g })) (sym appends)
-    (whole_plain names names' definitions openings layouts layouts' held fact whole (below_here seen held fact same below) plain (subst (λ (g : Graph). Notes names' g.facts) appends noted) (subst (λ (g : Graph). AreMeasured layouts' (graph_at held.types g).facts) appends measured))
+pub whole_fact : (names names' : Names) (definitions : Definitions) (linkages : Linkages) (openings : List Place) (layouts layouts' : Option Layouts) (seen held : Held) (new : Graph) (fact : Fact) → held ≡ seen → IsWhole names definitions linkages openings layouts held → IsFactBelow (length seen.types) fact → IsPlain fact
+    → new ≡ appended held.graph fact → Notes names' new.facts → AreMeasured layouts' (graph_at held.types new).facts → IsWhole names' definitions linkages openings layouts' (record held { graph = new })
+whole_fact names names' definitions linkages openings layouts layouts' seen held new fact same whole below plain appends noted measured =
+    subst (λ (g : Graph). IsWhole names' definitions linkages openings layouts' (record held { graph = g })) (sym appends)
+    (whole_plain names names' definitions linkages openings layouts layouts' held fact whole (below_here seen held fact same below) plain (subst (λ (g : Graph). Notes names' g.facts) appends noted) (subst (λ (g : Graph). AreMeasured layouts' (graph_at held.types g).facts) appends measured))
 
 -- ---- what is kept before the last fact is noted
 
@@ -252,8 +259,8 @@ facts_before types graph fact n is =
     ∙ ap (λ (fs : List CxxFact). take (length all) fs) (facts_more types graph.facts fact)
     ∙ take-append_seam all (fact_at types fact ∷ [])
 
-pub measured_before : (names : Names) (definitions : Definitions) (openings : List Place) (layouts taken : Option Layouts) (held : Held) (new : Graph) (fact : Fact) (n : ℕ) → IsWhole names definitions openings layouts held → taken ≡ layouts → n ≡ length held.graph.facts → new ≡ appended held.graph fact → AreMeasured taken (take n (graph_at held.types new).facts)
-measured_before names definitions openings layouts taken held new fact n whole is at appends =
+pub measured_before : (names : Names) (definitions : Definitions) (linkages : Linkages) (openings : List Place) (layouts taken : Option Layouts) (held : Held) (new : Graph) (fact : Fact) (n : ℕ) → IsWhole names definitions linkages openings layouts held → taken ≡ layouts → n ≡ length held.graph.facts → new ≡ appended held.graph fact → AreMeasured taken (take n (graph_at held.types new).facts)
+measured_before names definitions linkages openings layouts taken held new fact n whole is at appends =
     subst (λ (kept : Option Layouts). AreMeasured kept (take n (graph_at held.types new).facts)) (sym is)
     (subst (λ (g : Graph). AreMeasured layouts (take n (graph_at held.types g).facts)) (sym appends)
     (subst (λ (all : List CxxFact). AreMeasured layouts all) (sym (facts_before held.types held.graph fact n at)) whole.measured))
@@ -279,19 +286,19 @@ may_follow graph fact within ok = may_follow_by graph.facts graph.classes graph.
 pub scope_in_range : (seen held : Held) (kind : ScopeKind) (place : Place) → held ≡ seen → IsSound held → InRange held.graph → IsKindInRange seen.graph kind → InRange (appended held.graph (scope_fact kind place held.scope))
 scope_in_range seen held kind place same sound range ok = appended-in-range held.graph (scope_fact kind place held.scope) range (may_follow held.graph (scope_fact kind place held.scope) sound.scope (refl, subst (λ (h : Held). IsKindInRange h.graph kind) (sym same) ok))
 
-pub scope_is : (seen held : Held) (kind : ScopeKind) (place : Place) → held ≡ seen → place ≡ place_of_scope (meaning seen).graph seen.scope.0 → fact_at held.types (scope_fact kind place held.scope) ≡ scope_within kind (meaning held)
+pub scope_is : (seen held : Held) (kind : ScopeKind) (place : Place) → held ≡ seen → fact_at held.types (scope_fact kind place held.scope) ≡ scope_at kind place (meaning seen)
 unfolding meaning
-scope_is seen held kind place same is = ap (λ (p : Place). fact_at held.types (scope_fact kind p held.scope)) (subst (λ (h : Held). place ≡ place_of_scope (graph_at h.types h.graph) h.scope.0) (sym same) is)
+scope_is seen held kind place same = subst (λ (h : Held). fact_at held.types (scope_fact kind place held.scope) ≡ scope_at kind place (meaning h)) same refl
 
 pub scope_below : (count : ℕ) (kind : ScopeKind) (place : Place) (scope : ScopeId) → IsFactBelow count (scope_fact kind place scope)
 scope_below count kind place scope = record { name = tt; what = tt }
 
-pub whole_scope : (names names' : Names) (definitions : Definitions) (openings : List Place) (layouts layouts' : Option Layouts) (held : Held) (new : Graph) (opened : List Place) (kind : ScopeKind) (place : Place) → IsWhole names definitions openings layouts held
-    → new ≡ appended held.graph (scope_fact kind place held.scope) → opened ≡ openings ++ place ∷ [] → Notes names' new.facts → AreMeasured layouts' (graph_at held.types new).facts → IsWhole names' definitions opened layouts' (record held { graph = new })
-whole_scope names names' definitions openings layouts layouts' held new opened kind place whole appends opens noted measured =
-    subst (λ ps. IsWhole names' definitions ps layouts' (record held { graph = new })) (sym opens)
-    (subst (λ (g : Graph). IsWhole names' definitions (openings ++ place ∷ []) layouts' (record held { graph = g })) (sym appends)
-    (whole_more names definitions openings layouts held (scope_fact kind place held.scope) whole (scope_below (length held.types) kind place held.scope) refl names' layouts' (subst (λ (g : Graph). Notes names' g.facts) appends noted) (subst (λ (g : Graph). AreMeasured layouts' (graph_at held.types g).facts) appends measured)))
+pub whole_scope : (names names' : Names) (definitions : Definitions) (linkages : Linkages) (openings : List Place) (layouts layouts' : Option Layouts) (held : Held) (new : Graph) (opened : List Place) (kind : ScopeKind) (place : Place) → IsPlainKind kind → IsWhole names definitions linkages openings layouts held
+    → new ≡ appended held.graph (scope_fact kind place held.scope) → opened ≡ openings ++ place ∷ [] → Notes names' new.facts → AreMeasured layouts' (graph_at held.types new).facts → IsWhole names' definitions linkages opened layouts' (record held { graph = new })
+whole_scope names names' definitions linkages openings layouts layouts' held new opened kind place plain whole appends opens noted measured =
+    subst (λ ps. IsWhole names' definitions linkages ps layouts' (record held { graph = new })) (sym opens)
+    (subst (λ (g : Graph). IsWhole names' definitions linkages (openings ++ place ∷ []) layouts' (record held { graph = g })) (sym appends)
+    (whole_more names definitions linkages openings layouts held (scope_fact kind place held.scope) whole (scope_below (length held.types) kind place held.scope) (plain_scope_more held.graph.facts (scope_fact kind place held.scope) whole.plain plain) names' layouts' (subst (λ (g : Graph). Notes names' g.facts) appends noted) (subst (λ (g : Graph). AreMeasured layouts' (graph_at held.types g).facts) appends measured)))
 
 -- ---- a definition
 
@@ -299,13 +306,14 @@ numbers_more : (numbers : List FactId) (number : FactId) → numbers_at (numbers
 numbers_more [] number = refl
 numbers_more (one ∷ others) number = ap (λ ns. one.0 ∷ ns) (numbers_more others number)
 
-pub whole_definition : (names : Names) (definitions definitions' : Definitions) (openings : List Place) (layouts : Option Layouts) (held : Held) (new : List FactId) (number : FactId) → IsWhole names definitions openings layouts held → new ≡ held.defined ++ number ∷ []
-    → Defines definitions' held.graph.facts (numbers_at held.defined ++ number.0 ∷ []) → IsWhole names definitions' openings layouts (record held { defined = new })
-whole_definition names definitions definitions' openings layouts held new number whole is defines = record {
+pub whole_definition : (names : Names) (definitions definitions' : Definitions) (linkages : Linkages) (openings : List Place) (layouts : Option Layouts) (held : Held) (new : List FactId) (number : FactId) → IsWhole names definitions linkages openings layouts held → new ≡ held.defined ++ number ∷ []
+    → Defines definitions' held.graph.facts (numbers_at held.defined ++ number.0 ∷ []) → IsWhole names definitions' linkages openings layouts (record held { defined = new })
+whole_definition names definitions definitions' linkages openings layouts held new number whole is defines = record {
   sound = record { fitted = whole.sound.fitted; nodes = whole.sound.nodes; children = whole.sound.children; fallbacks = whole.sound.fallbacks; offers = whole.sound.offers; pieces = whole.sound.pieces; calls = whole.sound.calls; scope = whole.sound.scope; result = whole.sound.result };
   noted = whole.noted;
-  own = whole.own;
+  plain = whole.plain;
   defines = subst (λ ns. Defines definitions' held.graph.facts (numbers_at ns)) (sym is) (subst (λ ns. Defines definitions' held.graph.facts ns) (sym (numbers_more held.defined number)) defines);
+  links = whole.links;
   opened = whole.opened;
   measured = whole.measured;
 }
@@ -316,6 +324,34 @@ definition_added seen held new number same is = subst (λ (h : Held). meaning (r
   where
     make : List ℕ → CxxState
     make defined = record (meaning held) { defined = defined }
+
+-- ---- a declaration that is linked
+
+pub whole_linked : (names : Names) (definitions : Definitions) (linkages linkages' : Linkages) (openings : List Place) (layouts : Option Layouts) (held : Held) (new : List FactId) (number : FactId) → IsWhole names definitions linkages openings layouts held → new ≡ held.linked ++ number ∷ []
+    → Links linkages' held.graph.facts (held.linked ++ number ∷ []) → IsWhole names definitions linkages' openings layouts (record held { linked = new })
+whole_linked names definitions linkages linkages' openings layouts held new number whole is links = record {
+  sound = record { fitted = whole.sound.fitted; nodes = whole.sound.nodes; children = whole.sound.children; fallbacks = whole.sound.fallbacks; offers = whole.sound.offers; pieces = whole.sound.pieces; calls = whole.sound.calls; scope = whole.sound.scope; result = whole.sound.result };
+  noted = whole.noted;
+  plain = whole.plain;
+  defines = whole.defines;
+  links = subst (λ ns. Links linkages' held.graph.facts ns) (sym is) links;
+  opened = whole.opened;
+  measured = whole.measured;
+}
+
+-- what was linked is filed otherwise, and is the same
+pub whole_relinked : (names : Names) (definitions : Definitions) (linkages linkages' : Linkages) (openings : List Place) (layouts : Option Layouts) (held : Held) → IsWhole names definitions linkages openings layouts held → Links linkages' held.graph.facts held.linked → IsWhole names definitions linkages' openings layouts held
+whole_relinked names definitions linkages linkages' openings layouts held whole links = record { sound = whole.sound; noted = whole.noted; plain = whole.plain; defines = whole.defines; links = links; opened = whole.opened; measured = whole.measured }
+
+pub linked_added : (seen held : Held) (new : List FactId) (number : FactId) → held ≡ seen → new ≡ held.linked ++ number ∷ [] → meaning (record held { linked = new }) ≡ with_linked number.0 (meaning seen)
+unfolding meaning
+linked_added seen held new number same is = subst (λ (h : Held). meaning (record held { linked = new }) ≡ with_linked number.0 (meaning h)) same (ap make (ap numbers_at is ∙ numbers_more held.linked number))
+  where
+    make : List ℕ → CxxState
+    make linked = record (meaning held) { linked = linked }
+
+pub known_here : (seen held : Held) (number : FactId) → held ≡ seen → number.0 < length seen.graph.facts → number.0 < length held.graph.facts
+known_here seen held number same within = subst (λ (h : Held). number.0 < length h.graph.facts) (sym same) within
 
 -- ---- where the reader stands
 
@@ -349,13 +385,49 @@ pub enumeration_there : (seen held : Held) (number : EnumId) → held ≡ seen �
 enumeration_there seen held number same within = subst (λ (h : Held). number.0 < enumerations h.graph.facts) (sym same) within
 
 abbrev named_in : List ℕ → Held → CxxType
-named_in word held = type_in (found (graph_at held.types held.graph) held.scope.0 (spelled word))
+named_in numbers held = type_in (numbered_at (graph_at held.types held.graph) numbers)
 
-pub named_made : (seen held : Held) (new : List CxxType) (result : Result TypeId OutOfMemory) (word : List ℕ) → held ≡ seen → IsSound held → table.Makes held.types new result (type_in (found (graph_at held.types held.graph) held.scope.0 (spelled word))) → MakesType seen (record held { types = new }) result (type_in (found (meaning seen).graph seen.scope.0 (spelled word)))
+pub named_made : (seen held : Held) (new : List CxxType) (result : Result TypeId OutOfMemory) (numbers : List ℕ) → held ≡ seen → IsSound held → table.Makes held.types new result (type_in (numbered_at (graph_at held.types held.graph) numbers)) → MakesType seen (record held { types = new }) result (type_in (numbered_at (meaning seen).graph numbers))
 unfolding meaning
-named_made seen held new result word same sound makes = type_made_by seen held new result (named_in word) same sound makes
+named_made seen held new result numbers same sound makes = type_made_by seen held new result (named_in numbers) same sound makes
+
+-- ---- the scope of a namespace
+
+pub space_added : (old new : Held) (place : Place) (number : ScopeId) (fact : FactId) → IsAnswered fact_number IsFactKnown old new (Ok fact) (added (scope_at Space place (meaning old)) (meaning old)) → number.0 ≡ scope_count (graph_at old.types old.graph) → number.0 < scopes new.graph.facts
+    → IsAnswered scope_number IsScopeKnown old new (Ok number) (added_space place (meaning old))
+unfolding meaning
+space_added old new place number fact answered is within = record {
+  is = (
+    ap (λ (a : Answer (ℕ × CxxState)). a >>= λ answer. Ok (scope_count (graph_at old.types old.graph), answer.1)) answered.is.0 ∙ ap (λ n. Ok (n, meaning new)) (sym is),
+    within,
+  );
+  later = answered.later;
+}
+
+pub space_not_added : (old new : Held) (place : Place) (why : Stop) → IsAnswered fact_number IsFactKnown old new (Err why) (added (scope_at Space place (meaning old)) (meaning old)) → IsAnswered scope_number IsScopeKnown old new (Err why) (added_space place (meaning old))
+space_not_added old new place why answered = record { is = by why answered.is; later = answered.later }
+  where
+    go : ℕ × CxxState → Answer (ℕ × CxxState)
+    go answer = Ok (scope_count (meaning old).graph, answer.1)
+
+    by : (s : Stop) → Stops s (added (scope_at Space place (meaning old)) (meaning old)) → Stops s (added (scope_at Space place (meaning old)) (meaning old) >>= go)
+    by stop.OutOfMemory e = tt
+    by (stop.Fault f) e = ap (λ (a : Answer (ℕ × CxxState)). a >>= go) e
+    by (stop.Limit k) e = ap (λ (a : Answer (ℕ × CxxState)). a >>= go) e
+
+pub space_closed : (old new : Held) → meaning new ≡ left_scope (meaning old) → close_space (meaning old) ≡ Ok (tt, meaning new)
+unfolding close_space
+space_closed old new is = ap (λ (s : CxxState). Ok (tt, s)) (sym is)
 
 -- ---- a scope that begins
+
+-- the scope is at the place of the one where the reader stands
+pub placed_here : (seen held : Held) (place : Place) → held ≡ seen → place ≡ place_of_scope (meaning seen).graph held.scope.0 → place ≡ place_of_scope (meaning seen).graph (meaning seen).here.scope
+unfolding meaning
+placed_here seen held place same is = subst (λ (h : Held). place ≡ place_of_scope (meaning seen).graph h.scope.0) same is
+
+pub answered_placed : (old new : Held) (kind : ScopeKind) (place : Place) (result : Result FactId Stop) → place ≡ place_of_scope (meaning old).graph (meaning old).here.scope → IsAnswered fact_number IsFactKnown old new result (added (scope_at kind place (meaning old)) (meaning old)) → IsAnswered fact_number IsFactKnown old new result (added (scope_within kind (meaning old)) (meaning old))
+answered_placed old new kind place result is answered = subst (λ p. IsAnswered fact_number IsFactKnown old new result (added (scope_at kind p (meaning old)) (meaning old))) is answered
 
 pub entered : (old middle new : Held) (kind : ScopeKind) (number : ScopeId) (fact : FactId) → IsAnswered fact_number IsFactKnown old middle (Ok fact) (added (scope_within kind (meaning old)) (meaning old)) → number.0 ≡ scope_count (graph_at old.types old.graph) → Later middle new → meaning new ≡ at_scope number.0 (meaning middle)
     → IsAnswered scope_number AnyKnown old new (Ok number) (entered_scope kind (meaning old))
@@ -455,22 +527,48 @@ pub opened_nowhere_here : (seen held : Held) (openings : List Place) (n : ℕ) �
 unfolding meaning
 opened_nowhere_here seen held openings n same opened at = subst (λ (h : Held). record { line = 0; column = 0 } ≡ place_of_scope (graph_at h.types h.graph) n) same (opened_nowhere held.graph held.types n (ap (λ ps. slice_get ps n) (sym opened) ∙ at))
 
+-- ---- templates
+
+plain_untemplated : (what : Entity) → IsPlainEntity what → IsNoTemplate what
+plain_untemplated (entity.Object of member is_mutable value first) ok = tt
+plain_untemplated (entity.Function of member flags defaults first) ok = tt
+plain_untemplated (entity.Enumeration number) ok = tt
+plain_untemplated (entity.Enumerator number value) ok = tt
+plain_untemplated (entity.Synonym of) ok = tt
+plain_untemplated (entity.Namespace inner) ok = tt
+plain_untemplated (entity.Directive nominated) ok = tt
+plain_untemplated (entity.Using target) ok = tt
+plain_untemplated _ ok = absurd ok
+
+scope_untemplated : (what : Entity) → IsPlainScope what → IsNoTemplate what
+scope_untemplated (entity.Scope parent kind) ok = tt
+scope_untemplated _ ok = absurd ok
+
+pub no_templates : (facts : List Fact) → ArePlain facts → NoTemplates facts
+no_templates [] all = tt
+no_templates (fact ∷ facts) all = (one all.0, no_templates facts all.1)
+  where
+    one : (IsPlainScope fact.what ⊎ IsPlain fact) → IsNoTemplate fact.what
+    one (inl ok) = scope_untemplated fact.what ok
+    one (inr ok) = plain_untemplated fact.what ok.what
+
 -- ---- the beginning
 
-module _ (names : Names) (definitions : Definitions) (graph : Graph) (types : List CxxType) (nodes : List Node) (defined : List FactId) (fallbacks : List Fallback) (offers : List Offer) (calls : List Decided) (pieces : List Piece) (uses : List Binding)
-    (g : graph ≡ unit_graph) (t : types ≡ []) (n : nodes ≡ []) (d : defined ≡ []) (f : fallbacks ≡ []) (o : offers ≡ []) (c : calls ≡ []) (p : pieces ≡ []) (u : uses ≡ []) where
-  abbrev begun : Graph → List CxxType → List Node → List FactId → List Fallback → List Offer → List Decided → List Piece → List Binding → Held
-  begun graph types nodes defined fallbacks offers calls pieces uses = record { graph = graph; types = types; nodes = nodes; scope = record { 0 = 0 }; enumeration = None; defined = defined; fallbacks = fallbacks; offers = offers; in_default = false; result = None; tested = None; in_step = false; calls = calls; pieces = pieces; uses = uses }
+module _ (names : Names) (definitions : Definitions) (linkages : Linkages) (graph : Graph) (types : List CxxType) (nodes : List Node) (defined linked : List FactId) (fallbacks : List Fallback) (offers : List Offer) (calls : List Decided) (pieces : List Piece) (uses : List Binding)
+    (g : graph ≡ unit_graph) (t : types ≡ []) (n : nodes ≡ []) (d : defined ≡ []) (l : linked ≡ []) (f : fallbacks ≡ []) (o : offers ≡ []) (c : calls ≡ []) (p : pieces ≡ []) (u : uses ≡ []) where
+  abbrev begun : Graph → List CxxType → List Node → List FactId → List FactId → List Fallback → List Offer → List Decided → List Piece → List Binding → Held
+  begun graph types nodes defined linked fallbacks offers calls pieces uses = record { graph = graph; types = types; nodes = nodes; scope = record { 0 = 0 }; enumeration = None; defined = defined; linked = linked; fallbacks = fallbacks; offers = offers; in_default = false; result = None; tested = None; in_step = false; calls = calls; pieces = pieces; uses = uses }
 
-  is_begun : begun graph types nodes defined fallbacks offers calls pieces uses ≡ begun unit_graph [] [] [] [] [] [] [] []
+  is_begun : begun graph types nodes defined linked fallbacks offers calls pieces uses ≡ begun unit_graph [] [] [] [] [] [] [] [] []
   is_begun =
-      ap (λ x. begun x types nodes defined fallbacks offers calls pieces uses) g ∙ (ap (λ x. begun unit_graph x nodes defined fallbacks offers calls pieces uses) t
-      ∙ (ap (λ x. begun unit_graph [] x defined fallbacks offers calls pieces uses) n ∙ (ap (λ x. begun unit_graph [] [] x fallbacks offers calls pieces uses) d
-      ∙ (ap (λ x. begun unit_graph [] [] [] x offers calls pieces uses) f ∙ (ap (λ x. begun unit_graph [] [] [] [] x calls pieces uses) o
-      ∙ (ap (λ x. begun unit_graph [] [] [] [] [] x pieces uses) c
-      ∙ (ap (λ x. begun unit_graph [] [] [] [] [] [] x uses) p ∙ ap (λ x. begun unit_graph [] [] [] [] [] [] [] x) u)))))))
+      ap (λ x. begun x types nodes defined linked fallbacks offers calls pieces uses) g ∙ (ap (λ x. begun unit_graph x nodes defined linked fallbacks offers calls pieces uses) t
+      ∙ (ap (λ x. begun unit_graph [] x defined linked fallbacks offers calls pieces uses) n ∙ (ap (λ x. begun unit_graph [] [] x linked fallbacks offers calls pieces uses) d
+      ∙ (ap (λ x. begun unit_graph [] [] [] x fallbacks offers calls pieces uses) l
+      ∙ (ap (λ x. begun unit_graph [] [] [] [] x offers calls pieces uses) f ∙ (ap (λ x. begun unit_graph [] [] [] [] [] x calls pieces uses) o
+      ∙ (ap (λ x. begun unit_graph [] [] [] [] [] [] x pieces uses) c
+      ∙ (ap (λ x. begun unit_graph [] [] [] [] [] [] [] x uses) p ∙ ap (λ x. begun unit_graph [] [] [] [] [] [] [] [] x) u))))))))
 
-  sound_first : IsSound (begun unit_graph [] [] [] [] [] [] [] [])
+  sound_first : IsSound (begun unit_graph [] [] [] [] [] [] [] [] [])
   sound_first = record {
     fitted = record { numbers = record { facts = (record { name = tt; what = tt }, tt); classes = tt; patterns = tt }; names = λ i within. absurd (omega arith) };
     nodes = tt;
@@ -483,17 +581,18 @@ module _ (names : Names) (definitions : Definitions) (graph : Graph) (types : Li
     result = tt;
   }
 
-  pub whole_first : (openings : List Place) (layouts : Option Layouts) → openings ≡ first_place ∷ [] → Notes names graph.facts → ((facts : List Fact) → Defines definitions facts []) → AreMeasured layouts (graph_at types graph).facts → IsWhole names definitions openings layouts (begun graph types nodes defined fallbacks offers calls pieces uses)
-  whole_first openings layouts opens noted defines measured =
-      subst (λ (h : Held). IsWhole names definitions openings layouts h) (sym is_begun) (record {
+  pub whole_first : (openings : List Place) (layouts : Option Layouts) → openings ≡ first_place ∷ [] → Notes names graph.facts → ((facts : List Fact) → Defines definitions facts []) → ((facts : List Fact) → Links linkages facts []) → AreMeasured layouts (graph_at types graph).facts → IsWhole names definitions linkages openings layouts (begun graph types nodes defined linked fallbacks offers calls pieces uses)
+  whole_first openings layouts opens noted defines links measured =
+      subst (λ (h : Held). IsWhole names definitions linkages openings layouts h) (sym is_begun) (record {
         sound = sound_first;
         noted = subst (λ (x : Graph). Notes names x.facts) g noted;
-        own = (refl, tt);
+        plain = (inl tt, tt);
         defines = defines (unit_fact ∷ []);
+        links = links (unit_fact ∷ []);
         opened = opens;
         measured = subst (λ (h : Held). AreMeasured layouts (graph_at h.types h.graph).facts) is_begun measured;
       })
 
-  pub meaning_first : meaning (begun graph types nodes defined fallbacks offers calls pieces uses) ≡ first_state
+  pub meaning_first : meaning (begun graph types nodes defined linked fallbacks offers calls pieces uses) ≡ first_state
   unfolding meaning
   meaning_first = ap meaning is_begun

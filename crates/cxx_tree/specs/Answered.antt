@@ -3,6 +3,7 @@ use Rattle.std.specs.Prelude.{ℕ, ◌≡◌, ◌<◌, length, Option, Some, Non
 use Rattle.cxx_model.specs.declared.stop.Stop.{Stop}
 use Rattle.cxx_model.specs.declared.types.FactId.{FactId}
 use Rattle.cxx_model.specs.declared.types.ScopeId.{ScopeId}
+use Rattle.cxx_model.specs.Facts.Graph.{scopes}
 use Rattle.cxx_model.specs.Stops.{Answer, Stops}
 use Rattle.cxx_reading.specs.State.{CxxState}
 use Rattle.cxx_tree.specs.Held.{Held, meaning}
@@ -38,3 +39,6 @@ scope_of_option (Some scope) = Some scope.0
 
 abbrev pub IsFactKnown : Held → FactId → Type 0
 IsFactKnown held number = number.0 < length held.graph.facts
+
+abbrev pub IsScopeKnown : Held → ScopeId → Type 0
+IsScopeKnown held scope = scope.0 < scopes held.graph.facts

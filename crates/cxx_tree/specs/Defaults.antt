@@ -5,6 +5,7 @@ use Rattle.cxx_model.specs.Facts.Declarations as facts
 use Rattle.cxx_model.specs.Facts.Declarations.{CxxFact, Declares}
 use Rattle.cxx_model.specs.Facts.Entities.{first_or}
 use Rattle.cxx_reading.specs.Declaring.{declares_by}
+use Rattle.cxx_reading.specs.Givers.{scope_in}
 use Rattle.cxx_reading.specs.State.{CxxGiven, CxxState}
 use Rattle.cxx_reading.specs.Trees.{CxxTree}
 
@@ -31,11 +32,12 @@ abbrev pub first_declared : ℕ → Declares → ℕ
 first_declared number (facts.function of member flags defaults first) = first_or number first
 first_declared number _ = number
 
--- whether one is that of the parameter with an index of the function with a first declaration
-abbrev pub is_given : List CxxFact → ℕ → ℕ → CxxGiven → Bool
-is_given all function index given = nat_eq given.index index && nat_eq (first_declared given.declaration (declares_by (slice_get all given.declaration))) function
+-- whether one is that of the parameter with an index of the function with a first declaration, given in a scope: those of
+-- declarations in different scopes are told apart
+abbrev pub is_given : List CxxFact → ℕ → ℕ → ℕ → CxxGiven → Bool
+is_given all scope function index given = nat_eq given.index index && (nat_eq (scope_in (slice_get all given.declaration)) scope && nat_eq (first_declared given.declaration (declares_by (slice_get all given.declaration))) function)
 
--- the first that is that of a parameter of a function
-abbrev pub first_given : List CxxFact → ℕ → ℕ → List CxxGiven → Option CxxGiven
-first_given all function index [] = None
-first_given all function index (given ∷ others) = if is_given all function index given then Some given else first_given all function index others
+-- the first that is that of a parameter of a function, of those that are given in a scope
+abbrev pub first_given : List CxxFact → ℕ → ℕ → ℕ → List CxxGiven → Option CxxGiven
+first_given all scope function index [] = None
+first_given all scope function index (given ∷ others) = if is_given all scope function index given then Some given else first_given all scope function index others

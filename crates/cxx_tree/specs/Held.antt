@@ -33,6 +33,7 @@ pub record Held : Type 0 where
   pub scope : ScopeId
   pub enumeration : Option EnumId
   pub defined : List FactId
+  pub linked : List FactId
   pub fallbacks : List Fallback
   pub offers : List Offer
   pub in_default : Bool
@@ -122,6 +123,7 @@ state_over types all held = record {
   graph = graph_at types held.graph;
   here = here_in types held.scope held.enumeration held.result;
   defined = numbers_at held.defined;
+  linked = numbers_at held.linked;
   given = fallbacks_at all held.fallbacks;
   offered = offers_at all held.offers;
   in_default = held.in_default;

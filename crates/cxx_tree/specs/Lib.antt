@@ -3,5 +3,6 @@ pub mod Arena
 pub mod Defaults
 pub mod Held
 pub mod Later
+pub mod Members
 pub mod Uses
 pub mod Whole

@@ -20,14 +20,17 @@ use Rattle.cxx_model.specs.Facts.Declarations.{CxxFact, graph_at, unnamed}
 use Rattle.cxx_model.specs.Facts.Graph.{Graph}
 use Rattle.cxx_model.specs.Stops.{◌>>=◌}
 use Rattle.cxx_model.specs.Text.Lexemes.{first_place}
-use Rattle.cxx_names.specs.Clashes.{NoneBrought}
 use Rattle.cxx_defined.specs.Defined.{Defines}
 use Rattle.cxx_defined.specs.declared.defined.Definitions.{Definitions}
+use Rattle.cxx_linked.specs.declared.linkages.Linkages.{Linkages}
+use Rattle.cxx_linked.specs.Links.{Links}
 use Rattle.cxx_names.specs.declared.names.Names.{Names}
 use Rattle.cxx_names.specs.Index.{Notes}
+use Rattle.cxx_names.specs.Plain.{ArePlain}
 use Rattle.cxx_reading.specs.Declaring.{added, at_scope, entered_as, place_of_scope, scope_count}
 use Rattle.cxx_reading.specs.Reads.{Asks}
 use Rattle.cxx_reading.specs.Seen.{parent_of}
+use Rattle.cxx_reading.specs.Spaces.{new_space}
 use Rattle.cxx_reading.specs.State.{CxxState}
 use Rattle.cxx_sizes.specs.declared.layouts.Layouts.{Layouts}
 use Rattle.cxx_sizes.specs.Noted.{Notes as Measures}
@@ -54,20 +57,30 @@ abbrev pub scope_fact : ScopeKind → Place → ScopeId → Fact
 scope_fact kind place scope = record { place = place; scope = scope; name = Unnamed; access = Public; what = entity.Scope (Some scope) kind }
 
 -- the same in the scope where the reader stands
-abbrev pub scope_within : ScopeKind → CxxState → CxxFact
-scope_within kind state = record {
-  place = place_of_scope state.graph state.here.scope;
+abbrev pub scope_at : ScopeKind → Place → CxxState → CxxFact
+scope_at kind place state = record {
+  place = place;
   scope = state.here.scope;
   name = unnamed;
   access = Public;
   what = facts.scope (Some (record { 0 = state.here.scope })) kind;
 }
 
+-- at the place of that
+abbrev pub scope_within : ScopeKind → CxxState → CxxFact
+scope_within kind state = scope_at kind (place_of_scope state.graph state.here.scope) state
+
 -- it begins, and the reader stands in it then
 abbrev pub entered_scope : ScopeKind → Asks CxxState ℕ
 entered_scope kind state = do
   answer ← added (scope_within kind state) state
   Ok (entered_as (scope_count state.graph) answer)
+
+-- 7.3.1: the scope of a namespace is added, and the reader stays where it is: the number of the scope
+abbrev pub added_space : Place → Asks CxxState ℕ
+added_space place state = do
+  answer ← added (new_space state place) state
+  Ok (scope_count state.graph, answer.1)
 
 -- the scope where the reader stands ends
 abbrev pub left_scope : CxxState → CxxState
@@ -78,12 +91,14 @@ abbrev pub IsFunctionBelow : ℕ → Option FactId → Type 0
 IsFunctionBelow count None = Unit {0}
 IsFunctionBelow count (Some function) = function.0 < count
 
--- The names, the definitions, the places of scopes and what sizes need are kept of the state.
-pub record IsWhole (names : Names) (definitions : Definitions) (openings : List Place) (layouts : Option Layouts) (held : Held) : Type 0 where
+-- The names, the definitions, what is linked, the places of scopes and what sizes need are kept of the state. Each
+-- declaration stands outside classes.
+pub record IsWhole (names : Names) (definitions : Definitions) (linkages : Linkages) (openings : List Place) (layouts : Option Layouts) (held : Held) : Type 0 where
   pub sound : IsSound held
   pub noted : Notes names held.graph.facts
-  pub own : NoneBrought held.graph.facts
+  pub plain : ArePlain held.graph.facts
   pub defines : Defines definitions held.graph.facts (numbers_at held.defined)
+  pub links : Links linkages held.graph.facts held.linked
   pub opened : openings ≡ scope_places held.graph.facts
   pub measured : IfSome layouts (λ kept. Measures kept (graph_at held.types held.graph).facts)
 

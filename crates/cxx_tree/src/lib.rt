@@ -7,7 +7,9 @@
 mod bodies;
 mod given;
 mod kept;
+mod linked;
 mod maker;
+mod spaces;
 mod state;
 mod trees;
 

@@ -1,21 +1,23 @@
 ghost use Rattle.std.specs.Prelude.{ℕ, List, ◌≡◌, ◌<◌, ◌+◌, take, ◌++◌, length, Ok, Err, Some, [], ◌∷◌, IfOk, IfSome, OnOk, OnErr, option_map};
 ghost use Rattle.std.specs.List.{slice_get};
 ghost use Rattle.std.specs.Option.{option_copied};
-ghost use Rattle.cxx_model.specs.Facts.Declarations.{fact_at, graph_at, spelled};
+ghost use Rattle.cxx_model.specs.Facts.Declarations.{fact_at, graph_at};
 ghost use Rattle.cxx_model.specs.Facts.Fitted.{Fitted, IsFactBelow};
 ghost use Rattle.cxx_model.specs.Facts.Graph.{IsKindInRange, IsUnitScope, MayFollow, appended, enumerations, scopes};
 ghost use Rattle.cxx_model.specs.Types.Numbers.{AreTypesBelow, IsBoundBelow, bound_at, type_at, types_at};
 ghost use Rattle.cxx_model.specs.Types.Trees as definition;
 ghost use Rattle.cxx_model.specs.Types.Trees.{CxxType, decayed, fundamental};
-ghost use Rattle.cxx_names.specs.Clashes.{IsPlain, NoneBrought};
+ghost use Rattle.cxx_names.specs.Clashes.{IsPlain, NoTemplates};
 ghost use Rattle.cxx_defined.specs.Defined.{Defines, IsOwn};
 ghost use Rattle.cxx_names.specs.Index.{Notes};
+ghost use Rattle.cxx_names.specs.Plain.{ArePlain, IsPlainKind};
+ghost use Rattle.cxx_linked.specs.Links.{Links};
 ghost use Rattle.cxx_types.specs.Parameters.{adjusted_types};
 ghost use Rattle.cxx_reading.specs.Declarators.{no_cv};
 ghost use Rattle.cxx_reading.specs.Declaring as declaring;
-ghost use Rattle.cxx_reading.specs.Declaring.{added, at_scope, in_enumeration, with_definition};
+ghost use Rattle.cxx_reading.specs.Declaring.{added, at_scope, in_enumeration, with_definition, with_linked};
 ghost use Rattle.cxx_reading.specs.Initializers.{with_call};
-ghost use Rattle.cxx_reading.specs.Seen.{found, type_in};
+ghost use Rattle.cxx_reading.specs.Seen.{fact_numbers, numbered_at, type_in};
 ghost use Rattle.cxx_reading.specs.State.{first_state};
 ghost use Rattle.cxx_reading.specs.Units.{with_part};
 ghost use Rattle.cxx_tree.specs.Answered.{AnyKnown, IsAnswered, IsFactKnown, fact_number, scope_number};
@@ -25,7 +27,7 @@ ghost use Rattle.cxx_tree.specs.Held.{AreCallsBelow, AreFallbacksBelow, AreOffer
 ghost use Rattle.cxx_tree.specs.Later.{Later, MakesTree, MakesType};
 ghost use Rattle.cxx_sizes.specs.Noted.{Notes as Measures};
 ghost use Rattle.cxx_tree.specs.Uses.{with_use};
-ghost use Rattle.cxx_tree.specs.Whole.{entered_scope, left_scope, scope_fact, scope_within, stopped_as};
+ghost use Rattle.cxx_tree.specs.Whole.{entered_scope, left_scope, scope_at, scope_fact, stopped_as};
 
 use crate::given::first_given;
 use crate::kept::{
@@ -37,11 +39,12 @@ use crate::trees::Trees;
 use cxx_defined::Definitions;
 use cxx_graph::{AddFault, Graph};
 use cxx_hash::Key;
+use cxx_linked::Linkages;
 use cxx_model::{
     Access, Base, Bound, Cv, Entity, EnumId, Fact, FactId, LimitKind, Listed, Name, Node,
     OutOfMemory, Place, ScopeId, ScopeKind, Stop, TreeId, TypeId,
 };
-use cxx_names::Names;
+use cxx_names::{Names, type_in as type_of_found};
 use cxx_sizes::Layouts;
 use cxx_types::TypeTable;
 use std::alloc::Global;
@@ -54,10 +57,11 @@ const MOST_CALLS: usize = 4_294_967_295;
 /// The state of a reading: what is declared so far, where the reader stands, and what the reading keeps.
 #[derive(Drop)]
 pub struct State {
-    graph: Graph,
+    pub(crate) graph: Graph,
     types: TypeTable,
-    names: Names,
+    pub(crate) names: Names,
     definitions: Definitions,
+    pub(crate) linkages: Linkages,
     // Where the scopes stand, in order.
     openings: Vec<Place>,
     // What sizes need, unless there was no memory for it.
@@ -66,6 +70,7 @@ pub struct State {
     scope: ScopeId,
     enumeration: Option<EnumId>,
     defined: Vec<FactId>,
+    pub(crate) linked: Vec<FactId>,
     fallbacks: FallbackList,
     offers: OfferList,
     in_default: bool,
@@ -78,7 +83,7 @@ pub struct State {
     calls: DecidedList,
     pieces: PieceList,
     uses: BindingList,
-    alloc: Global,
+    pub(crate) alloc: Global,
 }
 
 impl Model for State {
@@ -93,9 +98,9 @@ impl Model for State {
 
     ghost coded = { Prim.hlevel (codes, coded_type, formula.the_row.coded, tree.the_row.coded) };
 
-    ghost view = { λ state. record { graph = state.graph; types = state.types; nodes = state.trees; scope = state.scope; enumeration = state.enumeration; defined = state.defined.items; fallbacks = state.fallbacks; offers = state.offers; in_default = state.in_default; result = state.result; tested = state.tested; in_step = state.in_step; calls = state.calls; pieces = state.pieces; uses = state.uses } };
+    ghost view = { λ state. record { graph = state.graph; types = state.types; nodes = state.trees; scope = state.scope; enumeration = state.enumeration; defined = state.defined.items; linked = state.linked.items; fallbacks = state.fallbacks; offers = state.offers; in_default = state.in_default; result = state.result; tested = state.tested; in_step = state.in_step; calls = state.calls; pieces = state.pieces; uses = state.uses } };
 
-    ghost invariant = { λ state. IsWhole state.names state.definitions state.openings.items state.layouts (record { graph = state.graph; types = state.types; nodes = state.trees; scope = state.scope; enumeration = state.enumeration; defined = state.defined.items; fallbacks = state.fallbacks; offers = state.offers; in_default = state.in_default; result = state.result; tested = state.tested; in_step = state.in_step; calls = state.calls; pieces = state.pieces; uses = state.uses }) };
+    ghost invariant = { λ state. IsWhole state.names state.definitions state.linkages state.openings.items state.layouts (record { graph = state.graph; types = state.types; nodes = state.trees; scope = state.scope; enumeration = state.enumeration; defined = state.defined.items; linked = state.linked.items; fallbacks = state.fallbacks; offers = state.offers; in_default = state.in_default; result = state.result; tested = state.tested; in_step = state.in_step; calls = state.calls; pieces = state.pieces; uses = state.uses }) };
 }
 
 fn place_at(places: &[Place], scope: ScopeId) -> Option<&Place>
@@ -187,12 +192,14 @@ impl State {
             types,
             names,
             definitions: Definitions::new(alloc, key),
+            linkages: Linkages::new(alloc, key),
             openings,
             layouts,
             trees: Trees::new(alloc),
             scope: ScopeId(0),
             enumeration: None,
             defined: Vec::new(alloc),
+            linked: Vec::new(alloc),
             fallbacks: Listed::new(alloc),
             offers: Listed::new(alloc),
             in_default: false,
@@ -222,7 +229,8 @@ impl State {
     /// The index of the names of what is declared so far.
     pub fn names(&self) -> &Names
         ensures noted { Notes result.now (self.now).graph.facts }
-        ensures own { NoneBrought (self.now).graph.facts }
+        ensures plain { ArePlain (self.now).graph.facts }
+        ensures templates { NoTemplates (self.now).graph.facts }
     {
         &self.names
     }
@@ -232,6 +240,13 @@ impl State {
         ensures { Defines result.now (self.now).graph.facts (numbers_at (self.now).defined) }
     {
         &self.definitions
+    }
+
+    /// The index of the declarations that are linked (3.5).
+    pub fn linkages(&self) -> &Linkages
+        ensures { Links result.now (self.now).graph.facts (self.now).linked }
+    {
+        &self.linkages
     }
 
     /// What is kept of the declarations so far for sizes (5.3.3); none where there was no memory for it.
@@ -292,6 +307,13 @@ impl State {
         self.defined.as_slice()
     }
 
+    /// The declarations that are linked, in order (3.5).
+    pub fn linked(&self) -> &[FactId]
+        ensures { result.now ≡ (self.now).linked }
+    {
+        self.linked.as_slice()
+    }
+
     /// What was read by itself so far, in order.
     pub fn pieces(&self) -> &[Piece]
         ensures is { result.now ≡ (self.now).pieces }
@@ -316,13 +338,19 @@ impl State {
         self.fallbacks.as_slice()
     }
 
-    /// The first default argument that is given to the parameter with an index of the function with a first declaration
-    /// (8.3.6).
-    pub fn first_given(&self, function: FactId, index: u32) -> Option<Fallback>
-        ensures is { option_map (fallback_at (trees self.now)) result ≡ first_given_of (meaning self.now).graph.facts function.0 index (meaning self.now).given }
+    /// The first default argument that is given to the parameter with an index of the function with a first declaration, of
+    /// those that are given in a scope (8.3.6).
+    pub fn first_given(&self, scope: ScopeId, function: FactId, index: u32) -> Option<Fallback>
+        ensures is { option_map (fallback_at (trees self.now)) result ≡ first_given_of (meaning self.now).graph.facts scope.0 function.0 index (meaning self.now).given }
         ensures below { IfSome result (λ one. one.tree.0 < length (trees self.now)) }
     {
-        first_given(&self.graph, function, index, self.fallbacks.as_slice())
+        first_given(
+            &self.graph,
+            scope,
+            function,
+            index,
+            self.fallbacks.as_slice(),
+        )
     }
 
     /// The default arguments that were read in the part that is being read, in order (8.3.6).
@@ -366,11 +394,11 @@ impl State {
         Ok(number)
     }
 
-    // Adds a scope of a kind in the scope where the reader stands.
-    fn add_scope(&mut self, kind: ScopeKind, place: Place) -> Result<FactId, Stop>
+    // Adds a scope of a kind, at a place, in the scope where the reader stands.
+    pub(crate) fn add_scope(&mut self, kind: ScopeKind, place: Place) -> Result<FactId, Stop>
         requires kind { IsKindInRange (self.old).graph kind }
-        requires place { place ≡ declaring.place_of_scope (meaning self.old).graph (self.old).scope.0 }
-        ensures answered { IsAnswered fact_number IsFactKnown self.old self.new result (added (scope_within kind (meaning self.old)) (meaning self.old)) }
+        requires plain { IsPlainKind kind }
+        ensures answered { IsAnswered fact_number IsFactKnown self.old self.new result (added (scope_at kind place (meaning self.old)) (meaning self.old)) }
         ensures held { OnOk result (self.new ≡ record self.old { graph = appended (self.old).graph (scope_fact kind place (self.old).scope) }) }
     {
         let scope = self.scope;
@@ -395,7 +423,8 @@ impl State {
 
     // A scope of a kind begins, where there is room for it. The reader stands in it then.
     pub(crate) fn enter_scope(&mut self, kind: ScopeKind) -> Result<ScopeId, Stop>
-        requires { IsKindInRange (self.old).graph kind }
+        requires kind { IsKindInRange (self.old).graph kind }
+        requires plain { IsPlainKind kind }
         ensures { IsAnswered scope_number AnyKnown self.old self.new result (entered_scope kind (meaning self.old)) }
     {
         let number = self.names.scopes(&self.graph);
@@ -441,6 +470,20 @@ impl State {
         self.defined.reserve(1)?;
         self.definitions.add(&self.graph, number)?;
         self.defined.push(number)?;
+        Ok(())
+    }
+
+    /// Notes that a declaration is linked (3.5). An `Err` changes nothing.
+    pub fn add_linked(&mut self, number: FactId) -> Result<(), OutOfMemory>
+        requires { number.0 < length (self.old).graph.facts }
+        ensures held { OnOk result (self.new ≡ record self.old { linked = (self.old).linked ++ number ∷ [] }) }
+        ensures unchanged { OnErr result (self.new ≡ self.old) }
+        ensures later { Later self.old self.new }
+        ensures is { OnOk result (meaning self.new ≡ with_linked number.0 (meaning self.old)) }
+    {
+        self.linked.reserve(1)?;
+        self.linkages.add(&self.graph, number)?;
+        self.linked.push(number)?;
         Ok(())
     }
 
@@ -588,13 +631,12 @@ impl State {
         self.types.enumeration(number)
     }
 
-    /// The type that a name means where the reader stands (7.1.3); `void` for one that names no type.
-    pub fn named_type(&mut self, word: &[u8]) -> Result<TypeId, OutOfMemory>
-        ensures { MakesType self.old self.new result (type_in (found (meaning self.old).graph (self.old).scope.0 (spelled word.now))) }
+    /// The type that declarations that were found name (7.1.3); `void` where they name none.
+    pub fn type_named(&mut self, numbers: &[FactId]) -> Result<TypeId, OutOfMemory>
+        ensures { MakesType self.old self.new result (type_in (numbered_at (meaning self.old).graph (fact_numbers numbers.now))) }
     {
         self.graph.in_range();
-        self.names
-            .type_of(&self.graph, &mut self.types, self.scope, word)
+        type_of_found(&self.graph, &mut self.types, numbers)
     }
 
     /// A fundamental type (3.9.1).

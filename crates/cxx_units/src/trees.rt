@@ -95,6 +95,21 @@ pub fn empty_tree(state: &mut State, from: &Cursor<'_>) -> Result<TreeId, Stop>
     push(state, node)
 }
 
+/// What holds parts and says nothing else, by the number of its production.
+pub fn part_tree(
+    state: &mut State,
+    number: u8,
+    inside: TreeIdList,
+    from: &Cursor<'_>,
+    to: &Cursor<'_>,
+) -> Result<TreeId, Stop>
+    requires { AreTreesHeld state.old inside }
+    ensures { GrowsTree state.old state.new result (tree_of (label_from number [] from.now to.now) (trees_held state.old inside)) }
+{
+    let node = node_from(number, Listed::new(from.alloc()), from, to, inside);
+    push(state, node)
+}
+
 /// A specification of linkage with its declarations (7.5).
 pub fn linkage_tree(
     state: &mut State,
@@ -105,14 +120,7 @@ pub fn linkage_tree(
     requires { AreTreesHeld state.old inside }
     ensures { GrowsTree state.old state.new result (definition.linkage_tree (trees_held state.old inside) from.now to.now) }
 {
-    let node = node_from(
-        production::LINKAGE,
-        Listed::new(from.alloc()),
-        from,
-        to,
-        inside,
-    );
-    push(state, node)
+    part_tree(state, production::LINKAGE, inside, from, to)
 }
 
 /// A declarator of a declaration (8), spelled `extern` where its declaration counts as if it had that word.

@@ -9,4 +9,4 @@ returns-then-are_too_many c = record {
 }
 
 pub returns : goal.returns
-returns c = few_enough c.args.state.now c.called.new.state c.called.result c.args.place c.args.brackets.now c.args.word.now c.args.functions.now c.args.operands c.as_slice.result.now c.are_too_many.result c.as_slice.ensures c.are_too_many.ensures c.if-are_too_many.false c.called.ensures
+returns c = few_enough c.args.state.now c.called_here.new.state c.called_here.result c.args.place c.args.brackets.now c.args.word.now c.args.functions.now c.args.operands c.as_slice.result.now c.are_too_many.result c.as_slice.ensures c.are_too_many.ensures c.if-are_too_many.false c.called_here.ensures

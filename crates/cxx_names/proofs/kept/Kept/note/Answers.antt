@@ -7,4 +7,14 @@ returns-in-Err-add-clause-same c = record {
   blocks = c.take_back.ensures c.args.self.now.blocks.rows.entries c.in_default.ensures.more;
   enumerations = refl;
   values = c.in-Err-add.ensures.same;
+  spaces = record { directives = λ scope. refl; openings = λ scope. refl; unnamed = λ scope. refl };
+}
+
+pub returns-in-Err-note-clause-same : goal.returns-in-Err-note-clause-same
+returns-in-Err-note-clause-same c = record {
+  scopes = c.pop_some-in-Err-note.ensures c.args.self.now.scopes.items c.in_ok-push_some.ensures.more;
+  blocks = c.take_back-in-Err-note-2.ensures c.args.self.now.blocks.rows.entries c.in_default.ensures.more;
+  enumerations = refl;
+  values = c.take_back-in-Err-note.ensures c.args.self.now.values.rows.entries c.in_default-add.ensures.more;
+  spaces = c.in-Err-note.ensures.same;
 }

@@ -6,4 +6,5 @@ returns c = λ before has. record {
   blocks = c.take_back.ensures before.blocks.rows.entries has.blocks;
   enumerations = c.one_less-self.ensures before.enumerations has.enumerations;
   values = c.take_back-2.ensures before.values.rows.entries has.values;
+  spaces = c.take_back-3.ensures before.spaces has.spaces;
 }

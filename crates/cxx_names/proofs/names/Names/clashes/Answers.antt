@@ -1,10 +1,19 @@
 use Rattle.std.proofs.Common.{ap, ◌∙◌, ◌&&◌, ◌||◌, not}
-use Rattle.cxx_names.proofs.Clashing.{clash_is, plain_not_brought}
+use Rattle.std.specs.List.{slice_get}
+use Rattle.cxx_model.specs.Facts.Declarations.{declares_at, graph_at}
+use Rattle.cxx_names.specs.Clashes.{is_class_in, stand_in}
+use Rattle.cxx_names.proofs.Clashing.{clash_is}
 use Rattle.cxx_names.proofs.names.Names.clashes.Goals as goal
 
 pub returns : goal.returns
-returns c = λ number.
+returns c =
+    let types = c.args.types.now in
+    let graph = graph_at types c.args.graph.now in
+    let scopes = c.args.self.now.kept.scopes.items in
+    let in_class = c.either-in_class.result in
     c.is_clash.ensures
-    ∙ (ap (λ b. c.is_one_scope-one.result && (c.of_one_name-named.result && (b || not c.stand-stands.result))) c.either.ensures
-    ∙ clash_is c.args.types.now c.args.graph.now c.args.self.now.kept.scopes.items number c.args.old.now c.args.new.now c.is_one_scope-one.result c.of_one_name-named.result c.is_parameters-first.result c.is_parameters-second.result c.stand-stands.result
-    c.requires.noted.kept.scopes c.requires.own (plain_not_brought c.args.types.now c.args.new.now.what c.requires.plain.what) c.is_one_scope-one.ensures (c.of_one_name-named.ensures c.args.types.now) c.is_parameters-first.ensures c.is_parameters-second.ensures c.stand-stands.ensures)
+    ∙ (ap (λ b. c.is_one_scope-one.result && (c.of_one_name-named.result && (b || not c.stand_together-stands.result))) c.either.ensures
+    ∙ clash_is types c.args.graph.now scopes c.args.number.0 c.args.scope c.args.old.now c.args.new.now c.is_one_scope-one.result c.of_one_name-named.result c.is_parameters-first.result c.is_parameters-second.result in_class c.stand_together-stands.result
+    c.requires.noted.kept.scopes c.is_one_scope-one.ensures (c.of_one_name-named.ensures types) c.is_parameters-first.ensures c.is_parameters-second.ensures
+    (c.either-in_class.ensures ∙ (ap (λ b. b || c.is_class-2.result) c.is_class.ensures ∙ ap (λ b. is_class_in (slice_get scopes c.args.scope.0) || b) c.is_class-2.ensures))
+    (λ closed. c.stand_together-stands.ensures closed ∙ ap (λ k. stand_in graph in_class closed c.args.number.0 (declares_at types c.args.old.now.what) k (declares_at types c.args.new.now.what)) c.length.ensures.count))

@@ -1,6 +1,6 @@
 use Rattle.std.proofs.Common.{◌∙◌}
 use Rattle.cxx_model.specs.Facts.Declarations.{spelled}
-use Rattle.cxx_names.proofs.Looking.{declared_looked, declared_numbers}
+use Rattle.cxx_names.proofs.Looking.{declared_looked, declared_numbers, numbered_is}
 use Rattle.cxx_names.proofs.names.Names.declared_in.Goals as goal
 
 pub returns-clause-numbers : goal.returns-clause-numbers
@@ -8,3 +8,6 @@ returns-clause-numbers c = λ types. declared_numbers types c.args.graph.now c.a
 
 pub returns-clause-facts : goal.returns-clause-facts
 returns-clause-facts c = λ types. declared_looked types c.args.graph.now c.args.scope.0 (spelled c.args.word.now) c.row.result.now (c.row.ensures ∙ c.requires.words c.args.scope c.args.word.now types)
+
+pub returns-clause-numbered : goal.returns-clause-numbered
+returns-clause-numbered c = λ types. numbered_is types c.args.graph.now c.row.result.now ∙ declared_looked types c.args.graph.now c.args.scope.0 (spelled c.args.word.now) c.row.result.now (c.row.ensures ∙ c.requires.words c.args.scope c.args.word.now types)

@@ -13,7 +13,7 @@ pub function_to-requires-clause-below : goal.function_to-requires-clause-below
 function_to-requires-clause-below c = all_within _ _ c.args.parameters.now c.self.view_is c.requires.below
 
 pub invariant_of-self : goal.invariant_of-self
-invariant_of-self c = whole_type _ _ _ _ _ _ c.function_to.result _ c.self.invariant c.function_to.ensures (function_range _ c.args.returned.0 c.args.parameters.now c.self.invariant.sound (within _ _ c.args.returned.0 c.self.view_is c.requires.known) (all_within _ _ c.args.parameters.now c.self.view_is c.requires.below))
+invariant_of-self c = whole_type _ _ _ _ _ _ _ c.function_to.result _ c.self.invariant c.function_to.ensures (function_range _ c.args.returned.0 c.args.parameters.now c.self.invariant.sound (within _ _ c.args.returned.0 c.self.view_is c.requires.known) (all_within _ _ c.args.parameters.now c.self.view_is c.requires.below))
 
 pub returns : goal.returns
 returns c = type_made _ _ _ c.function_to.result (λ types. function_of (type_at types c.args.returned.0) (adjusted_types (types_at types c.args.parameters.now)) c.args.ellipsis no_cv) c.self.view_is c.self.invariant.sound c.function_to.ensures

@@ -8,7 +8,7 @@ pub reference_to-requires : goal.reference_to-requires
 reference_to-requires c = within _ _ c.args.of.0 c.self.view_is c.requires
 
 pub invariant_of-self : goal.invariant_of-self
-invariant_of-self c = whole_type _ _ _ _ _ _ c.reference_to.result _ c.self.invariant c.reference_to.ensures (type_range _ c.args.of.0 c.self.invariant.sound (within _ _ c.args.of.0 c.self.view_is c.requires))
+invariant_of-self c = whole_type _ _ _ _ _ _ _ c.reference_to.result _ c.self.invariant c.reference_to.ensures (type_range _ c.args.of.0 c.self.invariant.sound (within _ _ c.args.of.0 c.self.view_is c.requires))
 
 pub returns : goal.returns
 returns c = type_made _ _ _ c.reference_to.result (λ types. reference_to (type_at types c.args.of.0)) c.self.view_is c.self.invariant.sound c.reference_to.ensures

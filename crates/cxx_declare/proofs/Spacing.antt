@@ -1,0 +1,383 @@
+-- Namespaces.
+use Rattle.std.specs.Prelude.{ℕ, zero, suc, ◌≡◌, ◌<◌, ◌++◌, Bool, true, false, if◌then◌else◌, not, ◌&&◌, nat_eq, List, [], ◌∷◌, length, Option, Some, None, option_map, Result, Ok, Err, IfSome, refl}
+use Rattle.std.specs.List.{slice_get}
+use Rattle.std.proofs.Common.{ap, sym, subst, ◌∙◌, append_assoc}
+use Rattle.cxx_model.specs.declared.facts.Entity.{Entity}
+use Rattle.cxx_model.specs.declared.facts.Entity.TheVariants as entity
+use Rattle.cxx_model.specs.declared.facts.Fact.{Fact}
+use Rattle.cxx_model.specs.declared.facts.Name.{Name}
+use Rattle.cxx_model.specs.declared.facts.Name.TheVariants as name
+use Rattle.cxx_model.specs.declared.facts.ScopeKind.TheVariants.{Space}
+use Rattle.cxx_model.specs.declared.lookup.Found.{Found}
+use Rattle.cxx_model.specs.declared.place.Place.{Place}
+use Rattle.cxx_model.specs.declared.stop.Stop.{Stop}
+use Rattle.cxx_model.specs.declared.token.TokenKind.{TokenKind}
+use Rattle.cxx_model.specs.declared.types.FactId.{FactId}
+use Rattle.cxx_model.specs.declared.types.ScopeId.{ScopeId}
+use Rattle.cxx_model.specs.Facts.Conflicts.{has_name}
+use Rattle.cxx_model.specs.Facts.Declarations as facts
+use Rattle.cxx_model.specs.Facts.Declarations.{CxxFact, CxxGraph, CxxName, Declares, declares_at, fact_at, facts_at, graph_at, spelled, unnamed}
+use Rattle.cxx_model.specs.Facts.Fitted.{IsEntityBelow, IsFactBelow, IsNameBelow}
+use Rattle.cxx_model.specs.Facts.Graph.{EachMayFollow, Graph, InRange, IsEntityInRange, IsUnitScope, MayFollow, appended, scopes}
+use Rattle.cxx_model.specs.declared.stop.Stop.TheVariants as stop
+use Rattle.cxx_model.specs.Types.Trees.{CxxType}
+use Rattle.cxx_model.specs.Stops.{Answer, Stops, undeclared_at, ◌>>=◌}
+use Rattle.cxx_meaning.specs.Lookups.Wanted.{namespaces_only}
+use Rattle.cxx_names.specs.Clashes.{IsPlain, IsPlainEntity, IsPlainName}
+use Rattle.cxx_names.specs.Looked.{scope_number as number_of_scope}
+use Rattle.cxx_reading.specs.Declaring.{added, at_scope, declare, free, scope_count}
+use Rattle.cxx_reading.specs.Seen.{Numbered, declared_from, declared_in, declares_in, numbered_at, numbered_by, sought_from}
+use Rattle.cxx_reading.specs.Spaces.{close_space, declare_alias, declare_directive, declare_unnamed, directive_fact, first_opening, first_space, is_original_by, new_space, new_unnamed, open_again, open_by, open_new, open_space, open_unnamed, opened_among, opened_before, or_later, original_by, space_fact, space_found, space_here, space_in, told, unnamed_among, unnamed_before, unnamed_by, unnamed_opened, within}
+use Rattle.cxx_reading.specs.Specifiers.{path_of}
+use Rattle.cxx_reading.specs.State.{CxxState}
+use Rattle.cxx_declare.specs.Asked.{part_of}
+use Rattle.cxx_declare.specs.Made.{IsReady, made, token, word_in}
+use Rattle.cxx_declare.specs.Opened.{IsFirst, added_within, declared_within, opened_first, space_added, told_declared}
+use Rattle.cxx_declare.proofs.Making.{stopped_on}
+use Rattle.cxx_tree.specs.Answered.{AnyKnown, IsAnswered, IsFactKnown, IsScopeKnown, fact_number, itself, scope_number}
+use Rattle.cxx_tree.specs.Held.{Held, meaning}
+use Rattle.cxx_tree.specs.Later.{Later}
+use Rattle.cxx_tree.specs.Whole.{added_space, scope_fact}
+use Rattle.cxx_tree.proofs.Graphs.{scope_next, scopes_later}
+use Rattle.cxx_tree.proofs.Steps.{Later_refl, Later_trans}
+use Rattle.cxx_tree.proofs.Wholes.{may_follow}
+
+-- ---- the scope of a namespace is there
+
+abbrev IsSpaceThere : ℕ → Entity → Type 0
+IsSpaceThere count (entity.Namespace inner) = inner.0 < count
+IsSpaceThere count _ = Unit {0}
+
+abbrev AreSpacesThere : ℕ → List Fact → Type 0
+AreSpacesThere count [] = Unit {0}
+AreSpacesThere count (fact ∷ others) = IsSpaceThere count fact.what × AreSpacesThere count others
+
+space_earlier : (graph : Graph) (before others : List Fact) (fact : Fact) (what : Entity) → graph.facts ≡ before ++ fact ∷ others → IsEntityInRange (record graph { facts = before }) fact what → IsSpaceThere (scopes graph.facts) what
+space_earlier graph before others fact (entity.Namespace inner) is ok = subst (λ fs. inner.0 < scopes fs) (sym is) (scopes_later before (fact ∷ others) inner.0 ok)
+space_earlier graph before others fact _ is ok = tt
+
+space_follows : (graph : Graph) (before others : List Fact) (fact : Fact) → graph.facts ≡ before ++ fact ∷ others → MayFollow (record graph { facts = before }) fact → IsSpaceThere (scopes graph.facts) fact.what
+space_follows graph [] others fact is ok = subst (λ w. IsSpaceThere (scopes graph.facts) w) (sym ok.0) tt
+space_follows graph (one ∷ before) others fact is ok = space_earlier graph (one ∷ before) others fact fact.what is ok.1
+
+spaces_follow : (graph : Graph) (before facts : List Fact) → graph.facts ≡ before ++ facts → EachMayFollow graph before facts → AreSpacesThere (scopes graph.facts) facts
+spaces_follow graph before [] is ok = tt
+spaces_follow graph before (one ∷ others) is ok = (space_follows graph before others one is ok.0, spaces_follow graph (before ++ one ∷ []) others (is ∙ sym (append_assoc before (one ∷ []) others)) ok.1)
+
+spaces_there : (graph : Graph) → InRange graph → AreSpacesThere (scopes graph.facts) graph.facts
+spaces_there graph ok = spaces_follow graph [] graph.facts refl ok.facts
+
+-- the same of what facts stand for
+abbrev IsBelow : ℕ → Option ℕ → Type 0
+IsBelow count None = Unit {0}
+IsBelow count (Some n) = n < count
+
+abbrev AreFactsSpaced : ℕ → List CxxFact → Type 0
+AreFactsSpaced count [] = Unit {0}
+AreFactsSpaced count (fact ∷ others) = IsBelow count (space_in fact.what) × AreFactsSpaced count others
+
+abbrev AreSpaced : ℕ → List Numbered → Type 0
+AreSpaced count [] = Unit {0}
+AreSpaced count (one ∷ others) = IsBelow count (space_in one.fact.what) × AreSpaced count others
+
+space_below : (types : List CxxType) (count : ℕ) (what : Entity) → IsSpaceThere count what → IsBelow count (space_in (declares_at types what))
+space_below types count (entity.Namespace inner) ok = ok
+space_below types count (entity.Scope parent kind) ok = tt
+space_below types count (entity.Object of member is_mutable value first) ok = tt
+space_below types count (entity.Function of member flags defaults first) ok = tt
+space_below types count (entity.Template number member defaults is_explicit first) ok = tt
+space_below types count (entity.Parameter depth index of) ok = tt
+space_below types count (entity.Injected number) ok = tt
+space_below types count (entity.Class number is_union) ok = tt
+space_below types count (entity.Complete number) ok = tt
+space_below types count (entity.Passed number) ok = tt
+space_below types count (entity.Ancestor number parent index access) ok = tt
+space_below types count (entity.Enumeration number) ok = tt
+space_below types count (entity.Enumerator number value) ok = tt
+space_below types count (entity.Synonym of) ok = tt
+space_below types count (entity.Directive nominated) ok = tt
+space_below types count (entity.Using target) ok = tt
+space_below types count (entity.Friend number target) ok = tt
+
+facts_spaced : (types : List CxxType) (count : ℕ) (facts : List Fact) → AreSpacesThere count facts → AreFactsSpaced count (facts_at types facts)
+facts_spaced types count [] ok = tt
+facts_spaced types count (one ∷ others) ok = (space_below types count one.what ok.0, facts_spaced types count others ok.1)
+
+abbrev IsSpaced : ℕ → Option CxxFact → Type 0
+IsSpaced count None = Unit {0}
+IsSpaced count (Some fact) = IsBelow count (space_in fact.what)
+
+spaced_at : (count : ℕ) (facts : List CxxFact) (n : ℕ) → AreFactsSpaced count facts → IsSpaced count (slice_get facts n)
+spaced_at count [] n ok = tt
+spaced_at count (one ∷ others) zero ok = ok.0
+spaced_at count (one ∷ others) (suc n) ok = spaced_at count others n ok.1
+
+numbered_spaced : (count : ℕ) (graph : CxxGraph) (numbers : List ℕ) → AreFactsSpaced count graph.facts → AreSpaced count (numbered_at graph numbers)
+numbered_spaced count graph [] ok = tt
+numbered_spaced count graph (n ∷ others) ok = by (slice_get graph.facts n) (spaced_at count graph.facts n ok) (numbered_spaced count graph others ok)
+  where
+    by : (o : Option CxxFact) → IsSpaced count o → AreSpaced count (numbered_at graph others) → AreSpaced count (numbered_by n o (numbered_at graph others))
+    by None one later = later
+    by (Some fact) one later = (one, later)
+
+declared_spaced : (count scope : ℕ) (word : CxxName) (n : ℕ) (facts : List CxxFact) → AreFactsSpaced count facts → AreSpaced count (declared_from scope word n facts)
+declared_spaced count scope word n [] ok = tt
+declared_spaced count scope word n (one ∷ others) ok = by (declares_in scope word one) (declared_spaced count scope word (suc n) others ok.1)
+  where
+    by : (b : Bool) → AreSpaced count (declared_from scope word (suc n) others) → AreSpaced count (if b then record { number = n; fact = one } ∷ declared_from scope word (suc n) others else declared_from scope word (suc n) others)
+    by true later = (ok.0, later)
+    by false later = later
+
+-- ---- what is found is there
+
+later_below : (count : ℕ) (one later : Option ℕ) → IsBelow count one → IsBelow count later → IsBelow count (or_later one later)
+later_below count None later p q = q
+later_below count (Some n) later p q = p
+
+first_below : (count : ℕ) (all : List Numbered) → AreSpaced count all → IsBelow count (first_space all)
+first_below count [] ok = tt
+first_below count (one ∷ others) ok = later_below count (space_in one.fact.what) (first_space others) ok.0 (first_below count others ok.1)
+
+original_below : (count : ℕ) (graph : CxxGraph) (scope : ℕ) (word : CxxName) (one later : Option ℕ) → IsBelow count one → IsBelow count later → IsBelow count (original_by graph scope word one later)
+original_below count graph scope word None later p q = q
+original_below count graph scope word (Some n) later p q = by (is_original_by scope word (first_opening n graph.facts))
+  where
+    by : (b : Bool) → IsBelow count (if b then Some n else later)
+    by true = p
+    by false = q
+
+opened_below : (count : ℕ) (graph : CxxGraph) (scope : ℕ) (word : CxxName) (all : List Numbered) → AreSpaced count all → IsBelow count (opened_among graph scope word all)
+opened_below count graph scope word [] ok = tt
+opened_below count graph scope word (one ∷ others) ok = original_below count graph scope word (space_in one.fact.what) (opened_among graph scope word others) ok.0 (opened_below count graph scope word others ok.1)
+
+unnamed_below : (count scope : ℕ) (facts : List CxxFact) → AreFactsSpaced count facts → IsBelow count (unnamed_among scope facts)
+unnamed_below count scope [] ok = tt
+unnamed_below count scope (one ∷ others) ok = by (nat_eq one.scope scope && not (has_name one.name)) (unnamed_below count scope others ok.1)
+  where
+    by : (b : Bool) → IsBelow count (unnamed_among scope others) → IsBelow count (if b then or_later (space_in one.what) (unnamed_among scope others) else unnamed_among scope others)
+    by true later = later_below count (space_in one.what) (unnamed_among scope others) ok.0 later
+    by false later = later
+
+some_below : (count : ℕ) (r : Option ScopeId) (o : Option ℕ) → option_map number_of_scope r ≡ o → IsBelow count o → IfSome r (λ inner. inner.0 < count)
+some_below count None o is ok = tt
+some_below count (Some inner) o is ok = subst (λ x. IsBelow count x) (sym is) ok
+
+held_spaced : (held : Held) (graph : Graph) → graph ≡ held.graph → InRange graph → AreFactsSpaced (scopes held.graph.facts) (facts_at held.types held.graph.facts)
+held_spaced held graph same ok = facts_spaced held.types (scopes held.graph.facts) held.graph.facts (spaces_there held.graph (subst (λ (g : Graph). InRange g) same ok))
+
+pub found_there : (held : Held) (graph : Graph) (numbers : List ℕ) (r : Option ScopeId) → graph ≡ held.graph → InRange graph → option_map number_of_scope r ≡ first_space (numbered_at (meaning held).graph numbers) → IfSome r (λ inner. inner.0 < scopes held.graph.facts)
+unfolding meaning
+found_there held graph numbers r same ok is = some_below (scopes held.graph.facts) r (first_space (numbered_at (graph_at held.types held.graph) numbers)) is (first_below (scopes held.graph.facts) (numbered_at (graph_at held.types held.graph) numbers) (numbered_spaced (scopes held.graph.facts) (graph_at held.types held.graph) numbers (held_spaced held graph same ok)))
+
+pub opened_there : (held : Held) (graph : Graph) (word : List ℕ) (r : Option ScopeId) → graph ≡ held.graph → InRange graph → option_map number_of_scope r ≡ opened_before (meaning held).graph (meaning held).here.scope (spelled word) → IfSome r (λ inner. inner.0 < scopes held.graph.facts)
+unfolding meaning opened_before declared_in
+opened_there held graph word r same ok is =
+    some_below (scopes held.graph.facts) r (opened_among (graph_at held.types held.graph) held.scope.0 (spelled word) (declared_from held.scope.0 (spelled word) zero (facts_at held.types held.graph.facts))) is
+    (opened_below (scopes held.graph.facts) (graph_at held.types held.graph) held.scope.0 (spelled word) (declared_from held.scope.0 (spelled word) zero (facts_at held.types held.graph.facts)) (declared_spaced (scopes held.graph.facts) held.scope.0 (spelled word) zero (facts_at held.types held.graph.facts) (held_spaced held graph same ok)))
+
+pub unnamed_there : (held : Held) (graph : Graph) (r : Option ScopeId) → graph ≡ held.graph → InRange graph → option_map number_of_scope r ≡ unnamed_before (meaning held).graph (meaning held).here.scope → IfSome r (λ inner. inner.0 < scopes held.graph.facts)
+unfolding meaning unnamed_before
+unnamed_there held graph r same ok is = some_below (scopes held.graph.facts) r (unnamed_among held.scope.0 (facts_at held.types held.graph.facts)) is (unnamed_below (scopes held.graph.facts) held.scope.0 (facts_at held.types held.graph.facts) (held_spaced held graph same ok))
+
+-- ---- declarations of namespaces
+
+name_below : (count : ℕ) (n : Name) → IsPlainName n → IsNameBelow count n
+name_below count name.Unnamed ok = tt
+name_below count (name.Spelled word) ok = tt
+name_below count (name.Operator o) ok = tt
+name_below count (name.Conversion of) ok = absurd ok
+name_below count name.Destructor ok = tt
+
+pub space_ready : (held : Held) (place : Place) (n : Name) (inner : ScopeId) (scope : ScopeId) (fact : Fact) → scope.0 < scopes held.graph.facts → inner.0 < scopes held.graph.facts → IsPlainName n → fact ≡ made scope place n (entity.Namespace inner) → IsReady held fact
+space_ready held place n inner scope fact there within plain is = subst (λ (f : Fact). IsReady held f) (sym is) (record { follows = may_follow held.graph (made scope place n (entity.Namespace inner)) there within; below = record { name = name_below (length held.types) n plain; what = tt }; plain = record { name = plain; what = tt } })
+
+pub directive_ready : (held : Held) (place : Place) (inner : ScopeId) (scope : ScopeId) (fact : Fact) → scope.0 < scopes held.graph.facts → inner.0 < scopes held.graph.facts → fact ≡ made scope place name.Unnamed (entity.Directive inner) → IsReady held fact
+directive_ready held place inner scope fact there within is = subst (λ (f : Fact). IsReady held f) (sym is) (record { follows = may_follow held.graph (made scope place name.Unnamed (entity.Directive inner)) there within; below = record { name = tt; what = tt }; plain = record { name = tt; what = tt } })
+
+-- one more fact leaves the scopes there
+pub scope_still : (old new : Held) (fact : Fact) (n : ℕ) → new ≡ record old { graph = appended old.graph fact } → n < scopes old.graph.facts → n < scopes new.graph.facts
+scope_still old new fact n is there = subst (λ (h : Held). n < scopes h.graph.facts) (sym is) (scopes_later old.graph.facts (fact ∷ []) n there)
+
+pub first_plain : (held : Held) (inner : ScopeId) (fact : Fact) → IsFirst held inner fact → IsPlain fact
+first_plain held inner fact first = record { name = first.plain; what = subst (λ w. IsPlainEntity w) (sym first.what) tt }
+
+pub first_below_types : (held : Held) (inner : ScopeId) (fact : Fact) → IsFirst held inner fact → IsFactBelow (length held.types) fact
+first_below_types held inner fact first = record { name = name_below (length held.types) fact.name first.plain; what = subst (λ w. IsEntityBelow (length held.types) w) (sym first.what) tt }
+
+pub first_is : (held : Held) (place : Place) (word : List ℕ) (inner : ScopeId) (fact : Fact) → held.scope.0 < scopes held.graph.facts → inner.0 ≡ scopes held.graph.facts → fact ≡ made held.scope place (name.Spelled word) (entity.Namespace inner) → IsFirst held inner fact
+first_is held place word inner fact there next is = subst (λ (f : Fact). IsFirst held inner f) (sym is) (record { scope = refl; what = refl; plain = tt; there = there; next = next })
+
+next_there : (old new : Held) (place : Place) (n : ℕ) → new ≡ record old { graph = appended old.graph (scope_fact Space place old.scope) } → n ≡ scopes old.graph.facts → n < scopes new.graph.facts
+next_there old new place n is next = subst (λ (h : Held). n < scopes h.graph.facts) (sym is) (subst (λ m. m < scopes (old.graph.facts ++ scope_fact Space place old.scope ∷ [])) (sym next) (scope_next old.graph.facts (scope_fact Space place old.scope) (Some old.scope) Space refl))
+
+pub first_there : (old new : Held) (place : Place) (inner : ScopeId) (fact : Fact) → IsFirst old inner fact → new ≡ record old { graph = appended old.graph (scope_fact Space place old.scope) } → inner.0 < scopes new.graph.facts
+first_there old new place inner fact first is = next_there old new place inner.0 is first.next
+
+pub first_ready : (old new : Held) (place : Place) (inner : ScopeId) (fact : Fact) → IsFirst old inner fact → new ≡ record old { graph = appended old.graph (scope_fact Space place old.scope) } → IsReady new fact
+first_ready old new place inner fact first is = record {
+  follows = may_follow new.graph fact
+      (scope_still old new (scope_fact Space place old.scope) fact.scope.0 is (subst (λ (s : ScopeId). s.0 < scopes old.graph.facts) (sym first.scope) first.there))
+      (subst (λ w. IsEntityInRange new.graph fact w) (sym first.what) (first_there old new place inner fact first is));
+  below = subst (λ (h : Held). IsFactBelow (length h.types) fact) (sym is) (first_below_types old inner fact first);
+  plain = first_plain old inner fact first;
+}
+
+-- ---- the answers
+
+pub within_answered : (old middle new : Held) (inner : ScopeId) (number : FactId) (reply : Answer (ℕ × CxxState)) → IsAnswered fact_number IsFactKnown old middle (Ok number) reply → Later middle new → meaning new ≡ at_scope inner.0 (meaning middle) → IsAnswered itself AnyKnown old new (Ok tt) (reply >>= λ answer. Ok (within inner.0 answer))
+within_answered old middle new inner number reply answered later is = record {
+  is = (ap (λ (a : Answer (ℕ × CxxState)). a >>= λ answer. Ok (within inner.0 answer)) answered.is.0 ∙ ap (λ (s : CxxState). Ok (tt, s)) (sym is), tt);
+  later = Later_trans old middle new answered.later later;
+}
+
+-- what follows an answer that is not asked
+pub free_then : (held : Held) (fact : CxxFact) (word : List ℕ) (go : Answer (Unit {0} × CxxState)) (new : Held) (r : Result (Unit {0}) Stop) (u : Unit {0}) → free (meaning held) fact word ≡ Ok u → IsAnswered itself AnyKnown held new r go → IsAnswered itself AnyKnown held new r (free (meaning held) fact word >>= λ is_free. go)
+free_then held fact word go new r u e answered = subst (λ reply. IsAnswered itself AnyKnown held new r reply) (sym (ap (λ (a : Answer (Unit {0})). a >>= λ is_free. go) e)) answered
+
+pub free_stopped : (held : Held) (fact : CxxFact) (word : List ℕ) (go : Answer (Unit {0} × CxxState)) (why : Stop) → Stops why (free (meaning held) fact word) → IsAnswered itself AnyKnown held held (Err why) (free (meaning held) fact word >>= λ is_free. go)
+free_stopped held fact word go why e = record { is = stopped_on why (free (meaning held) fact word) (λ is_free. go) e; later = Later_refl held }
+
+pub opened_again : (old new : Held) (kind : TokenKind) (place : Place) (word : List ℕ) (inner : ScopeId) (fact : Fact) (r : Result (Unit {0}) Stop) → fact ≡ made old.scope place (name.Spelled word) (entity.Namespace inner) → IsAnswered itself AnyKnown old new r (declared_within inner.0 (fact_at old.types fact) (word_in fact.name) (meaning old)) → IsAnswered itself AnyKnown old new r (open_again (token kind place word) inner.0 (meaning old))
+unfolding open_again meaning
+opened_again old new kind place word inner fact r is answered = subst (λ (f : Fact). IsAnswered itself AnyKnown old new r (declared_within inner.0 (fact_at old.types f) (word_in f.name) (meaning old))) is answered
+
+-- the scope is added first
+abbrev counted : CxxState → Answer (ℕ × CxxState) → Answer (ℕ × CxxState)
+counted state reply = reply >>= λ answer. Ok (scope_count state.graph, answer.1)
+
+abbrev state_or : CxxState → Answer (ℕ × CxxState) → CxxState
+state_or other (Ok both) = both.1
+state_or other (Err why) = other
+
+abbrev number_or : ℕ → Answer (ℕ × CxxState) → ℕ
+number_or n (Ok both) = both.0
+number_or n (Err why) = n
+
+space_then : {B : Type 0} (state : CxxState) (place : Place) (n : ℕ) (s : CxxState) (go : CxxState → Answer B) → added_space place state ≡ Ok (n, s) → (added (new_space state place) state >>= λ opened. go opened.1) ≡ go s
+space_then state place n s go e = by (added (new_space state place) state) e
+  where
+    by : (a : Answer (ℕ × CxxState)) → counted state a ≡ Ok (n, s) → (a >>= λ opened. go opened.1) ≡ go s
+    by (Err why) f = absurd (cc)
+    by (Ok both) f = ap go (ap (state_or both.1) f)
+
+space_stops : {B : Type 0} (state : CxxState) (place : Place) (why : Stop) (go : ℕ × CxxState → Answer B) → Stops why (added_space place state) → Stops why (added (new_space state place) state >>= go)
+space_stops state place why go e = stopped_on why (added (new_space state place) state) go (before why (added (new_space state place) state) e)
+  where
+    before : (w : Stop) (a : Answer (ℕ × CxxState)) → Stops w (counted state a) → Stops w a
+    before w (Err x) f = f
+    before stop.OutOfMemory (Ok both) f = tt
+    before (stop.Fault g) (Ok both) f = absurd (cc)
+    before (stop.Limit k) (Ok both) f = absurd (cc)
+
+longer : (old middle new : Held) (r : Result (Unit {0}) Stop) (reply : Answer (Unit {0} × CxxState)) → Later old middle → IsAnswered itself AnyKnown middle new r reply → IsAnswered itself AnyKnown old new r reply
+longer old middle new (Ok u) reply later answered = record { is = answered.is; later = Later_trans old middle new later answered.later }
+longer old middle new (Err why) reply later answered = record { is = answered.is; later = Later_trans old middle new later answered.later }
+
+pub space_answered : (old middle new : Held) (place : Place) (scope : ScopeId) (r : Result (Unit {0}) Stop) (go : CxxState → Answer (Unit {0} × CxxState)) → IsAnswered scope_number IsScopeKnown old middle (Ok scope) (added_space place (meaning old)) → IsAnswered itself AnyKnown middle new r (go (meaning middle)) → IsAnswered itself AnyKnown old new r (added (new_space (meaning old) place) (meaning old) >>= λ opened. go opened.1)
+space_answered old middle new place scope r go one two =
+    subst (λ reply. IsAnswered itself AnyKnown old new r reply) (sym (space_then (meaning old) place scope.0 (meaning middle) go one.is.0)) (longer old middle new r (go (meaning middle)) one.later two)
+
+pub space_stopped : (old new : Held) (place : Place) (why : Stop) (go : ℕ × CxxState → Answer (Unit {0} × CxxState)) → IsAnswered scope_number IsScopeKnown old new (Err why) (added_space place (meaning old)) → IsAnswered itself AnyKnown old new (Err why) (added (new_space (meaning old) place) (meaning old) >>= go)
+space_stopped old new place why go one = record { is = space_stops (meaning old) place why go one.is; later = one.later }
+
+pub first_added : (old middle new : Held) (place : Place) (inner scope : ScopeId) (fact : Fact) (r : Result (Unit {0}) Stop) → middle ≡ record old { graph = appended old.graph (scope_fact Space place old.scope) } → IsAnswered scope_number IsScopeKnown old middle (Ok scope) (added_space place (meaning old))
+    → IsAnswered itself AnyKnown middle new r (added_within inner.0 (fact_at middle.types fact) (meaning middle)) → IsAnswered itself AnyKnown old new r (space_added place inner.0 (fact_at old.types fact) (meaning old))
+first_added old middle new place inner scope fact r is one two =
+    space_answered old middle new place scope r (added_within inner.0 (fact_at old.types fact)) one
+    (subst (λ (h : Held). IsAnswered itself AnyKnown middle new r (added_within inner.0 (fact_at h.types fact) (meaning middle))) is two)
+
+pub first_not_added : (old new : Held) (place : Place) (inner : ScopeId) (fact : CxxFact) (why : Stop) → IsAnswered scope_number IsScopeKnown old new (Err why) (added_space place (meaning old)) → IsAnswered itself AnyKnown old new (Err why) (space_added place inner.0 fact (meaning old))
+first_not_added old new place inner fact why one = space_stopped old new place why (λ opened. added_within inner.0 fact opened.1) one
+
+here_counted : (held : Held) → scope_count (graph_at held.types held.graph) ≡ scope_count (meaning held).graph
+unfolding meaning
+here_counted held = refl
+
+pub opened_newly : (old new : Held) (kind : TokenKind) (place : Place) (word : List ℕ) (inner : ScopeId) (fact : Fact) (r : Result (Unit {0}) Stop) → inner.0 ≡ scope_count (graph_at old.types old.graph) → fact ≡ made old.scope place (name.Spelled word) (entity.Namespace inner)
+    → IsAnswered itself AnyKnown old new r (opened_first place inner.0 (fact_at old.types fact) (word_in fact.name) (meaning old)) → IsAnswered itself AnyKnown old new r (open_new (token kind place word) (meaning old))
+unfolding open_new meaning
+opened_newly old new kind place word inner fact r count is answered =
+    subst (λ n. IsAnswered itself AnyKnown old new r (opened_first place n (space_fact (meaning old) (spelled word) place n) word (meaning old))) count
+    (subst (λ (f : Fact). IsAnswered itself AnyKnown old new r (opened_first place inner.0 (fact_at old.types f) (word_in f.name) (meaning old))) is answered)
+
+pub space_opened : (old new : Held) (kind : TokenKind) (place : Place) (word : List ℕ) (inner : Option ℕ) (r : Result (Unit {0}) Stop) → inner ≡ opened_before (meaning old).graph (meaning old).here.scope (spelled word) → IsAnswered itself AnyKnown old new r (open_by (token kind place word) inner (meaning old)) → IsAnswered itself AnyKnown old new r (open_space (token kind place word) (meaning old))
+unfolding open_space
+space_opened old new kind place word inner r is answered = subst (λ o. IsAnswered itself AnyKnown old new r (open_by (token kind place word) o (meaning old))) is answered
+
+-- ---- an unnamed one
+
+fact_then : (old middle new : Held) (number : FactId) (r : Result (Unit {0}) Stop) (reply : Answer (ℕ × CxxState)) (go : CxxState → Answer (Unit {0} × CxxState)) → IsAnswered fact_number IsFactKnown old middle (Ok number) reply → IsAnswered itself AnyKnown middle new r (go (meaning middle)) → IsAnswered itself AnyKnown old new r (reply >>= λ answer. go answer.1)
+fact_then old middle new number r reply go one two =
+    subst (λ a. IsAnswered itself AnyKnown old new r a) (sym (ap (λ (a : Answer (ℕ × CxxState)). a >>= λ answer. go answer.1) one.is.0)) (longer old middle new r (go (meaning middle)) one.later two)
+
+pub unnamed_declared : (old middle new : Held) (place : Place) (inner scope : ScopeId) (number : FactId) (one two : Fact) (r : Result (Unit {0}) Stop) → scope ≡ old.scope → one ≡ made scope place name.Unnamed (entity.Namespace inner) → two ≡ made scope place name.Unnamed (entity.Directive inner) → middle ≡ record old { graph = appended old.graph one }
+    → IsAnswered fact_number IsFactKnown old middle (Ok number) (added (fact_at old.types one) (meaning old)) → IsAnswered itself AnyKnown middle new r (added_within inner.0 (fact_at middle.types two) (meaning middle)) → IsAnswered itself AnyKnown old new r (declare_unnamed place inner.0 (meaning old))
+unfolding declare_unnamed meaning
+unnamed_declared old middle new place inner scope number one two r here one_is two_is is first second =
+    fact_then old middle new number r (added (space_fact (meaning old) unnamed place inner.0) (meaning old)) (added_within inner.0 (directive_fact (meaning old) place inner.0))
+    (subst (λ (s : ScopeId). IsAnswered fact_number IsFactKnown old middle (Ok number) (added (fact_at old.types (made s place name.Unnamed (entity.Namespace inner))) (meaning old))) here
+    (subst (λ (f : Fact). IsAnswered fact_number IsFactKnown old middle (Ok number) (added (fact_at old.types f) (meaning old))) one_is first))
+    (subst (λ (s : ScopeId). IsAnswered itself AnyKnown middle new r (added_within inner.0 (fact_at old.types (made s place name.Unnamed (entity.Directive inner))) (meaning middle))) here
+    (subst (λ (f : Fact). IsAnswered itself AnyKnown middle new r (added_within inner.0 (fact_at old.types f) (meaning middle))) two_is
+    (subst (λ (h : Held). IsAnswered itself AnyKnown middle new r (added_within inner.0 (fact_at h.types two) (meaning middle))) is second)))
+
+pub unnamed_not_declared : (old new : Held) (place : Place) (inner scope : ScopeId) (one : Fact) (why : Stop) → scope ≡ old.scope → one ≡ made scope place name.Unnamed (entity.Namespace inner) → IsAnswered fact_number IsFactKnown old new (Err why) (added (fact_at old.types one) (meaning old)) → IsAnswered itself AnyKnown old new (Err why) (declare_unnamed place inner.0 (meaning old))
+unfolding declare_unnamed meaning
+unnamed_not_declared old new place inner scope one why here one_is answered =
+    let first = subst (λ (s : ScopeId). IsAnswered fact_number IsFactKnown old new (Err why) (added (fact_at old.types (made s place name.Unnamed (entity.Namespace inner))) (meaning old))) here
+    (subst (λ (f : Fact). IsAnswered fact_number IsFactKnown old new (Err why) (added (fact_at old.types f) (meaning old))) one_is answered) in
+    record { is = stopped_on why (added (space_fact (meaning old) unnamed place inner.0) (meaning old)) (λ named. added_within inner.0 (directive_fact (meaning old) place inner.0) named.1) first.is; later = first.later }
+
+space_number : (state : CxxState) (place : Place) (n : ℕ) (s : CxxState) → added_space place state ≡ Ok (n, s) → n ≡ scope_count state.graph
+space_number state place n s e = by (added (new_space state place) state) e
+  where
+    by : (a : Answer (ℕ × CxxState)) → counted state a ≡ Ok (n, s) → n ≡ scope_count state.graph
+    by (Err why) f = absurd (cc)
+    by (Ok both) f = sym (ap (number_or n) f)
+
+pub unnamed_newly : (old middle new : Held) (place : Place) (scope : ScopeId) (r : Result (Unit {0}) Stop) → IsAnswered scope_number IsScopeKnown old middle (Ok scope) (added_space place (meaning old)) → IsAnswered itself AnyKnown middle new r (declare_unnamed place scope.0 (meaning middle)) → IsAnswered itself AnyKnown old new r (new_unnamed place (meaning old))
+unfolding new_unnamed
+unnamed_newly old middle new place scope r one two =
+    space_answered old middle new place scope r (declare_unnamed place (scope_count (meaning old).graph)) one
+    (subst (λ n. IsAnswered itself AnyKnown middle new r (declare_unnamed place n (meaning middle))) (space_number (meaning old) place scope.0 (meaning middle) one.is.0) two)
+
+pub unnamed_not_newly : (old new : Held) (place : Place) (why : Stop) → IsAnswered scope_number IsScopeKnown old new (Err why) (added_space place (meaning old)) → IsAnswered itself AnyKnown old new (Err why) (new_unnamed place (meaning old))
+unfolding new_unnamed
+unnamed_not_newly old new place why one = space_stopped old new place why (λ opened. declare_unnamed place (scope_count (meaning old).graph) opened.1) one
+
+pub unnamed_answered : (old new : Held) (place : Place) (inner : Option ℕ) (r : Result (Unit {0}) Stop) → inner ≡ unnamed_before (meaning old).graph (meaning old).here.scope → IsAnswered itself AnyKnown old new r (unnamed_opened place inner (meaning old)) → IsAnswered itself AnyKnown old new r (open_unnamed place (meaning old))
+unfolding open_unnamed
+unnamed_answered old new place inner r is answered = subst (λ o. IsAnswered itself AnyKnown old new r (unnamed_opened place o (meaning old))) is answered
+
+pub closed : (old new : Held) → Later old new → close_space (meaning old) ≡ Ok (tt, meaning new) → IsAnswered itself AnyKnown old new (Ok tt) (close_space (meaning old))
+closed old new later is = record { is = (is, tt); later = later }
+
+-- ---- other names and directives
+
+pub alias_declared : (old new : Held) (kind : TokenKind) (place : Place) (word : List ℕ) (inner : ScopeId) (fact : Fact) (r : Result (Unit {0}) Stop) → fact ≡ made old.scope place (name.Spelled word) (entity.Namespace inner) → IsAnswered itself AnyKnown old new r (told_declared (fact_at old.types fact) (word_in fact.name) (meaning old)) → IsAnswered itself AnyKnown old new r (declare_alias (token kind place word) inner.0 (meaning old))
+unfolding declare_alias meaning
+alias_declared old new kind place word inner fact r is answered = subst (λ (f : Fact). IsAnswered itself AnyKnown old new r (told_declared (fact_at old.types f) (word_in f.name) (meaning old))) is answered
+
+directive_is : (held : Held) (place : Place) (inner scope : ScopeId) (fact : Fact) → scope ≡ held.scope → fact ≡ made scope place name.Unnamed (entity.Directive inner) → fact_at held.types fact ≡ directive_fact (meaning held) place inner.0
+unfolding meaning
+directive_is held place inner scope fact here is = ap (fact_at held.types) is ∙ ap (λ (s : ScopeId). fact_at held.types (made s place name.Unnamed (entity.Directive inner))) here
+
+pub directive_declared : (old new : Held) (place : Place) (inner scope : ScopeId) (fact : Fact) (number : FactId) → scope ≡ old.scope → fact ≡ made scope place name.Unnamed (entity.Directive inner) → IsAnswered fact_number IsFactKnown old new (Ok number) (added (fact_at old.types fact) (meaning old)) → IsAnswered itself AnyKnown old new (Ok tt) (declare_directive place inner.0 (meaning old))
+unfolding declare_directive
+directive_declared old new place inner scope fact number here is answered = record {
+  is = (ap (λ (f : CxxFact). added f (meaning old) >>= λ answer. Ok (told answer)) (sym (directive_is old place inner scope fact here is)) ∙ ap (λ (a : Answer (ℕ × CxxState)). a >>= λ answer. Ok (told answer)) answered.is.0, tt);
+  later = answered.later;
+}
+
+pub directive_not_declared : (old new : Held) (place : Place) (inner scope : ScopeId) (fact : Fact) (why : Stop) → scope ≡ old.scope → fact ≡ made scope place name.Unnamed (entity.Directive inner) → IsAnswered fact_number IsFactKnown old new (Err why) (added (fact_at old.types fact) (meaning old)) → IsAnswered itself AnyKnown old new (Err why) (declare_directive place inner.0 (meaning old))
+unfolding declare_directive
+directive_not_declared old new place inner scope fact why here is answered = record {
+  is = subst (λ (f : CxxFact). Stops why (added f (meaning old) >>= λ answer. Ok (told answer))) (directive_is old place inner scope fact here is) (stopped_on why (added (fact_at old.types fact) (meaning old)) (λ answer. Ok (told answer)) answered.is);
+  later = answered.later;
+}
+
+-- ---- names of namespaces
+
+pub space_answer : (held : Held) (kind : TokenKind) (place : Place) (word : List ℕ) (one : Found) (r : Result ScopeId Stop) → one ≡ sought_from (meaning held).graph namespaces_only (meaning held).here.scope (spelled word) → IsAnswered scope_number IsScopeKnown held held r (space_found (part_of place word) one (meaning held)) → IsAnswered scope_number IsScopeKnown held held r (space_here (path_of (token kind place word)) (meaning held))
+unfolding space_here
+space_answer held kind place word one r is answered = subst (λ (f : Found). IsAnswered scope_number IsScopeKnown held held r (space_found (part_of place word) f (meaning held))) is answered

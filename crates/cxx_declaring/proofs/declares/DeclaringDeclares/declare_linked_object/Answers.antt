@@ -1,0 +1,9 @@
+use Rattle.cxx_reading.specs.Declaring as definition
+use Rattle.cxx_syntax.specs.Views.{name_at}
+use Rattle.cxx_tree.specs.Answered.{IsFactKnown, fact_number}
+use Rattle.cxx_tree.specs.Held.{meaning, type_of}
+use Rattle.cxx_declaring.proofs.Answering.{named_asked}
+use Rattle.cxx_declaring.proofs.declares.DeclaringDeclares.declare_linked_object.Goals as goal
+
+pub returns : goal.returns
+returns c = named_asked fact_number IsFactKnown c.args.state.now c.declare_linked_object.new.state c.declare_linked_object.result (λ name. definition.declare_linked_object name (type_of c.args.state.now c.args.of) (meaning c.args.state.now)) (name_at c.args.name.now) c.as_slice.result.now c.as_slice.ensures c.declare_linked_object.ensures

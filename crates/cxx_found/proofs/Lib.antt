@@ -1,0 +1,10 @@
+pub mod Alone
+pub mod Chained
+pub mod Facts
+pub mod Here
+pub mod Outer
+pub mod Outside
+pub mod Rows
+pub mod Searching
+pub mod Shows
+pub mod Together

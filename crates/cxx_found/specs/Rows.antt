@@ -1,0 +1,21 @@
+-- The declarations with some numbers, as a lookup sees them.
+use Rattle.std.specs.Prelude.{ℕ, Bool, true, false, List, [], ◌∷◌, Option, Some, None}
+use Rattle.std.specs.List.{slice_get}
+use Rattle.cxx_model.specs.declared.types.FactId.{FactId}
+use Rattle.cxx_model.specs.Facts.Declarations.{CxxFact, CxxGraph}
+use Rattle.cxx_meaning.specs.Lookups.Gathered.{before}
+use Rattle.cxx_meaning.specs.Lookups.Sightings.{Sighting, sighting_of, wanted_one}
+use Rattle.cxx_meaning.specs.Lookups.Wanted.{Wanted}
+
+abbrev pub sighted : CxxGraph → Wanted → ℕ → Option CxxFact → Option Sighting
+sighted graph wanted number None = None
+sighted graph wanted number (Some fact) = wanted_one graph wanted (sighting_of graph.facts number fact)
+
+-- those of what is wanted
+abbrev pub sighted_in : CxxGraph → Wanted → List FactId → List Sighting
+sighted_in graph wanted [] = []
+sighted_in graph wanted (number ∷ others) = before (sighted graph wanted number.0 (slice_get graph.facts number.0)) (sighted_in graph wanted others)
+
+abbrev pub has_one : List Sighting → Bool
+has_one [] = false
+has_one (one ∷ others) = true

@@ -1,0 +1,164 @@
+//! Other names of namespaces (7.3.2) and using-directives (7.3.4).
+
+ghost use Rattle.std.specs.Prelude.{◌≡◌, []};
+ghost use Rattle.cxx_language.specs.Spaces as definition;
+ghost use Rattle.cxx_language.specs.Views.{IsSpaceKnown, space_of};
+ghost use Rattle.cxx_syntax.specs.Asking.{IsTreeKnown};
+ghost use Rattle.cxx_syntax.specs.Making.{GrowsTree};
+ghost use Rattle.cxx_syntax.specs.Reading.{IsRead};
+ghost use Rattle.cxx_syntax.specs.Views.{lexeme_at};
+ghost use Rattle.cxx_tree.specs.Held.{meaning, tree};
+
+use crate::declares::Declares;
+use cxx_model::{Listed, Place, ScopeId, Stop, TreeId, keyword, punct};
+use cxx_syntax::{Cursor, Spelled, is_keyword, is_name, is_punct};
+use cxx_tree::State;
+use cxx_units::trees::part_tree;
+
+/// The numbers of the productions.
+mod production {
+    pub const NAMESPACE_ALIAS: u8 = 5;
+
+    pub const USING_DIRECTIVE: u8 = 6;
+}
+
+/// A namespace that is named, and the place of its name.
+#[derive(Clone, Copy)]
+pub(crate) struct NamedSpace {
+    pub place: Place,
+    pub inner: ScopeId,
+}
+
+// A name of a namespace (3.4.6); one with qualifiers is not read yet.
+#[tactic(auto, using(cxx_syntax::proofs::Kept::later_refl, cxx_syntax::proofs::Kept::later_trans), unfolding(crate::specs::Spaces::space_name_at))]
+fn space_name_at<D: Declares>(
+    declares: &D,
+    state: &mut State,
+    cursor: &mut Cursor<'_>,
+) -> Result<NamedSpace, Stop>
+    ensures { IsRead space_of IsSpaceKnown state.old state.new cursor.new result (definition.space_name_at (meaning state.old) cursor.old) }
+{
+    if cursor.is_qualified() {
+        return Err(Stop::Fault(cursor.not_built()?));
+    }
+    if !is_name(cursor.kind()) {
+        return Err(Stop::Fault(cursor.refused()?));
+    }
+    let name = cursor.token();
+    let inner = declares.space_here(state, name)?;
+    Ok(NamedSpace {
+        place: name.place,
+        inner,
+    })
+}
+
+// The tree of what holds no parts.
+fn bare_tree(
+    state: &mut State,
+    number: u8,
+    from: &Cursor<'_>,
+    to: &Cursor<'_>,
+) -> Result<TreeId, Stop>
+    ensures { GrowsTree state.old state.new result (definition.part_tree number [] from.now to.now) }
+{
+    part_tree(state, number, Listed::new(from.alloc()), from, to)
+}
+
+// Another name of a namespace, from the `=` on.
+#[tactic(auto, using(cxx_syntax::proofs::Kept::later_refl, cxx_syntax::proofs::Kept::later_trans), unfolding(crate::specs::Spaces::alias_at))]
+fn alias_at<D: Declares>(
+    declares: &D,
+    state: &mut State,
+    cursor: &mut Cursor<'_>,
+    from: &Cursor<'_>,
+    name: Spelled<'_>,
+) -> Result<TreeId, Stop>
+    ensures { IsRead tree IsTreeKnown state.old state.new cursor.new result (definition.alias_at from.now (lexeme_at name.entry) (meaning state.old) cursor.old) }
+{
+    cursor.advance();
+    let space = space_name_at(declares, state, cursor)?;
+    declares.declare_alias(state, name, space.inner)?;
+    cursor.punct(punct::SEMICOLON)?;
+    bare_tree(state, production::NAMESPACE_ALIAS, from, cursor)
+}
+
+/// Behind `namespace` and a name: another name of a namespace, from its `=` on (7.3.2).
+#[tactic(auto, using(cxx_syntax::proofs::Kept::later_refl))]
+pub fn alias_or_not<D: Declares>(
+    declares: &D,
+    state: &mut State,
+    cursor: &mut Cursor<'_>,
+    from: &Cursor<'_>,
+    name: Spelled<'_>,
+) -> Result<TreeId, Stop>
+    ensures { IsRead tree IsTreeKnown state.old state.new cursor.new result (definition.alias_or_not from.now (lexeme_at name.entry) (meaning state.old) cursor.old) }
+{
+    if is_punct(punct::EQUALS, cursor.kind()) {
+        return alias_at(declares, state, cursor, from, name);
+    }
+    Err(Stop::Fault(cursor.refused()?))
+}
+
+// Behind the word in a block, where no namespace is defined (7.3).
+#[tactic(auto, using(cxx_syntax::proofs::Kept::later_refl), unfolding(crate::specs::Spaces::behind_word))]
+fn behind_word<D: Declares>(
+    declares: &D,
+    state: &mut State,
+    cursor: &mut Cursor<'_>,
+    from: &Cursor<'_>,
+) -> Result<TreeId, Stop>
+    ensures { IsRead tree IsTreeKnown state.old state.new cursor.new result (definition.behind_word from.now (meaning state.old) cursor.old) }
+{
+    if is_name(cursor.kind()) {
+        let name = cursor.token();
+        return alias_or_not(declares, state, cursor, from, name);
+    }
+    Err(Stop::Fault(cursor.refused()?))
+}
+
+/// Another name of a namespace in a block, from the word `namespace` on.
+#[tactic(auto, unfolding(crate::specs::Spaces::local_alias_at))]
+pub(crate) fn local_alias_at<D: Declares>(
+    declares: &D,
+    state: &mut State,
+    cursor: &mut Cursor<'_>,
+) -> Result<TreeId, Stop>
+    ensures { IsRead tree IsTreeKnown state.old state.new cursor.new result (definition.local_alias_at (meaning state.old) cursor.old) }
+{
+    let from = cursor.mark();
+    cursor.advance();
+    behind_word(declares, state, cursor, &from)
+}
+
+// A using-directive, from the word `using` on.
+#[tactic(auto, using(cxx_syntax::proofs::Kept::later_refl, cxx_syntax::proofs::Kept::later_trans), unfolding(crate::specs::Spaces::directive_at))]
+fn directive_at<D: Declares>(
+    declares: &D,
+    state: &mut State,
+    cursor: &mut Cursor<'_>,
+) -> Result<TreeId, Stop>
+    ensures { IsRead tree IsTreeKnown state.old state.new cursor.new result (definition.directive_at (meaning state.old) cursor.old) }
+{
+    let from = cursor.mark();
+    cursor.advance();
+    cursor.advance();
+    let space = space_name_at(declares, state, cursor)?;
+    declares.declare_directive(state, space.place, space.inner)?;
+    cursor.punct(punct::SEMICOLON)?;
+    bare_tree(state, production::USING_DIRECTIVE, &from, cursor)
+}
+
+/// What begins with the word `using` (7.3.4); a using-declaration is not read yet (7.3.3).
+#[tactic(auto, using(cxx_syntax::proofs::Kept::later_refl), unfolding(crate::specs::Spaces::using_at))]
+pub fn using_at<D: Declares>(
+    declares: &D,
+    state: &mut State,
+    cursor: &mut Cursor<'_>,
+) -> Result<TreeId, Stop>
+    ensures { IsRead tree IsTreeKnown state.old state.new cursor.new result (definition.using_at (meaning state.old) cursor.old) }
+{
+    if is_keyword(keyword::NAMESPACE, cursor.kind_behind()) {
+        return directive_at(declares, state, cursor);
+    }
+    Err(Stop::Fault(cursor.not_built()?))
+}

@@ -1,0 +1,6 @@
+//! Which declarations in blocks declare members of namespaces (3.5), by their names.
+#![tactic(auto)]
+
+mod linkages;
+
+pub use linkages::Linkages;

@@ -1,8 +1,0 @@
-use Rattle.std.proofs.Common.{◌≡◌, List, drop}
-use Rattle.cxx_model.specs.Facts.Declarations.{graph_at}
-use Rattle.cxx_model.specs.Types.Trees.{CxxType}
-use Rattle.cxx_names.specs.Looked.{any_wanted, looked_up}
-use Rattle.cxx_names.proofs.looked.has_wanted.Given as goal
-
-abbrev pub invariant-loop-number : goal.invariant-loop-number
-invariant-loop-number l = (types : List CxxType) → any_wanted (graph_at types l.graph) l.types_only (looked_up types l.graph.facts (drop l.number-index l.numbers)) ≡ any_wanted (graph_at types l.graph) l.types_only (looked_up types l.graph.facts l.numbers)

@@ -1,0 +1,3 @@
+-- The declarations of namespaces, in the code.
+pub mod Parts
+pub mod Views

@@ -1,0 +1,39 @@
+-- What stands behind the declarator of a function, in a namespace that has begun, and behind specifications of linkage.
+use Rattle.std.specs.Prelude.{ℕ, Bool, if◌then◌else◌, List, [], Option}
+use Rattle.cxx_model.specs.declared.fault.FaultText.TheVariants as says
+use Rattle.cxx_model.specs.declared.fault.LeftOut.TheVariants as form
+use Rattle.cxx_model.specs.declared.keyword.TheConstants as keyword
+use Rattle.cxx_model.specs.declared.punct.TheConstants as punct
+use Rattle.cxx_model.specs.Text.Lexemes.{Lexeme}
+use Rattle.cxx_model.specs.Types.Trees.{CxxType}
+use Rattle.cxx_reading.specs.Productions as production
+use Rattle.cxx_reading.specs.Reads.{Reads, Ahead, ◌>>=◌, got, ask, fault_at, kind_ahead, place_ahead, taken}
+use Rattle.cxx_reading.specs.Spaces.{close_space}
+use Rattle.cxx_reading.specs.State.{CxxState}
+use Rattle.cxx_reading.specs.Tokens.{is_punct, is_keyword, refused}
+use Rattle.cxx_reading.specs.Trees.{CxxTree}
+use Rattle.cxx_reading.specs.Units.{ends_declarator, linkages_passed, one_tree}
+use Rattle.cxx_language.specs.Bodies.{function_body}
+use Rattle.cxx_language.specs.Spaces.{give_part}
+use Rattle.cxx_language.specs.Units.{linkage_by, not_ended}
+
+-- 8.4: behind the declarator of the function with a declaration, which has a list of parameters with a scope
+abbrev pub body_or_not : ℕ → Lexeme → CxxType → ℕ → ℕ → Reads CxxState (List CxxTree)
+body_or_not room name of number list state ahead =
+    if is_punct punct.LEFT_BRACE (kind_ahead ahead) then (function_body room name of number list >>= one_tree) state ahead else (
+    if is_keyword keyword.TRY (kind_ahead ahead) then fault_at (place_ahead ahead) (says.LeftOut form.Exception) state ahead else
+    refused state ahead)
+
+-- the same where it is not known whether it has one
+abbrev pub function_end : ℕ → Bool → Lexeme → CxxType → ℕ → Option ℕ → Reads CxxState (List CxxTree)
+function_end room is_first name of number list state ahead =
+    if ends_declarator (kind_ahead ahead) then got [] state ahead else
+    not_ended room is_first name of number list state ahead
+
+-- 7.3.1: from the `{` on, where it has begun
+abbrev pub behind_begin : Reads CxxState (List CxxTree) → Ahead → Reads CxxState CxxTree
+behind_begin inside from = taken >>= λ opened. inside >>= λ trees. ask close_space >>= λ closed. give_part production.namespace_definition from trees
+
+-- 7.5: a declaration with specifications of linkage, or without
+abbrev pub linkages_at : ℕ → Reads CxxState (List CxxTree) → Reads CxxState CxxTree
+linkages_at room inside state ahead = (linkages_passed >>= linkage_by room inside ahead) state ahead

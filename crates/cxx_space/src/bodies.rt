@@ -1,0 +1,123 @@
+//! What stands behind the declarator of a function (8.4).
+
+ghost use Rattle.std.specs.Prelude.{◌≡◌, ◌<◌, length};
+ghost use Rattle.cxx_space.specs.Parts.{body_or_not, function_end};
+ghost use Rattle.cxx_language.specs.Units as units;
+ghost use Rattle.cxx_space.specs.Views.{IsBodyKnown, IsDeclaredKnown, body_of, declares_of};
+ghost use Rattle.cxx_syntax.specs.Reading.{IsRead};
+ghost use Rattle.cxx_syntax.specs.Views.{name_at};
+ghost use Rattle.cxx_tree.specs.Answered.{scope_of_option};
+ghost use Rattle.cxx_tree.specs.Held.{meaning, type_of};
+ghost use Rattle.cxx_units.specs.Said.{IsListed, IsListedTurn, listed_of, listed_turn};
+
+use crate::space::{Defines, Space};
+use cxx_model::{
+    FactId, FaultText, LeftOut, ScopeId, Stop, TreeId, TreeIdList, TypeId, keyword, punct,
+};
+use cxx_syntax::{Cursor, NameToken, Turn, is_keyword, is_punct};
+use cxx_tree::State;
+use cxx_units::declarator_ended;
+use cxx_units::ends::ends_declarator;
+use cxx_units::said::Listed as ListedTrees;
+use cxx_units::trees::with_tree;
+
+/// What a declarator leads to: its tree, and the body of the function that it defines.
+#[derive(Clone, Copy)]
+pub(crate) struct Declared {
+    pub tree: TreeId,
+    pub body: Option<TreeId>,
+}
+
+impl<D: Defines> Space<'_, D> {
+    // A body, or what may not stand there.
+    #[tactic(auto, using(cxx_syntax::proofs::Kept::later_refl, cxx_syntax::proofs::Kept::later_trans))]
+    fn body_or_not(
+        &self,
+        state: &mut State,
+        cursor: &mut Cursor<'_>,
+        name: &NameToken,
+        of: TypeId,
+        number: FactId,
+        list: ScopeId,
+    ) -> Result<Option<TreeId>, Stop>
+        requires { of.0 < length (state.old).types }
+        ensures { IsRead body_of IsBodyKnown state.old state.new cursor.new result (body_or_not self.now.room (name_at name.now) (type_of state.old of) number.0 list.0 (meaning state.old) cursor.old) }
+    {
+        if is_punct(punct::LEFT_BRACE, cursor.kind()) {
+            let body = self
+                .declares
+                .body(state, cursor, name, of, number, list, self.room)?;
+            return Ok(Some(body));
+        }
+        if is_keyword(keyword::TRY, cursor.kind()) {
+            let form = FaultText::LeftOut(LeftOut::Exception);
+            return Err(Stop::Fault(cursor.faulty(form)?));
+        }
+        Err(Stop::Fault(cursor.refused()?))
+    }
+
+    // Where a declarator has its own list of parameters, a body may stand behind it.
+    #[tactic(auto, using(cxx_syntax::proofs::Kept::later_refl))]
+    fn behind_list(
+        &self,
+        state: &mut State,
+        cursor: &mut Cursor<'_>,
+        name: &NameToken,
+        of: TypeId,
+        number: FactId,
+        list: Option<ScopeId>,
+    ) -> Result<Option<TreeId>, Stop>
+        requires { of.0 < length (state.old).types }
+        ensures { IsRead body_of IsBodyKnown state.old state.new cursor.new result (units.behind_list self.now.room (name_at name.now) (type_of state.old of) number.0 (scope_of_option list) (meaning state.old) cursor.old) }
+    {
+        match list {
+            None => Err(Stop::Fault(cursor.refused()?)),
+            Some(list) => self.body_or_not(state, cursor, name, of, number, list),
+        }
+    }
+
+    /// Behind the declarator of the function with a declaration: its body, where it has one.
+    #[tactic(auto, using(cxx_syntax::proofs::Kept::later_refl))]
+    pub(crate) fn function_ended(
+        &self,
+        state: &mut State,
+        cursor: &mut Cursor<'_>,
+        is_first: bool,
+        name: &NameToken,
+        of: TypeId,
+        number: FactId,
+        list: Option<ScopeId>,
+    ) -> Result<Option<TreeId>, Stop>
+        requires { of.0 < length (state.old).types }
+        ensures { IsRead body_of IsBodyKnown state.old state.new cursor.new result (function_end self.now.room is_first (name_at name.now) (type_of state.old of) number.0 (scope_of_option list) (meaning state.old) cursor.old) }
+    {
+        if ends_declarator(cursor.kind()) {
+            return Ok(None);
+        }
+        if is_first {
+            return self.behind_list(state, cursor, name, of, number, list);
+        }
+        Err(Stop::Fault(cursor.refused()?))
+    }
+}
+
+/// Behind a body a declaration has ended; else its end or another declarator follows.
+#[tactic(auto, using(cxx_syntax::proofs::Kept::trees_append, cxx_syntax::proofs::Kept::trees_below_append, cxx_syntax::proofs::Kept::later_refl))]
+pub(crate) fn ended_by(
+    state: &State,
+    cursor: &mut Cursor<'_>,
+    so_far: ListedTrees,
+    one: Declared,
+) -> Result<Turn<ListedTrees, TreeIdList>, Stop>
+    requires listed { IsListed state.now so_far }
+    requires known { IsDeclaredKnown state.now one }
+    ensures { IsRead listed_turn IsListedTurn state.now state.now cursor.new result (units.ended_by (listed_of state.now so_far) (declares_of state.now one) (meaning state.now) cursor.old) }
+{
+    match one.body {
+        None => declarator_ended(state, cursor, so_far, one.tree),
+        Some(body) => {
+            let all = with_tree(so_far.trees, one.tree)?;
+            Ok(Turn::Done(with_tree(all, body)?))
+        }
+    }
+}

@@ -1,0 +1,115 @@
+//! The declarators of a declaration (8).
+
+ghost use Rattle.std.specs.Prelude.{◌≡◌, ◌<◌, length};
+ghost use Rattle.cxx_language.specs.Units as units;
+ghost use Rattle.cxx_space.specs.Views.{IsDeclaredKnown, declares_of};
+ghost use Rattle.cxx_syntax.specs.Reading.{IsRead};
+ghost use Rattle.cxx_syntax.specs.Views.{AreSpecifiers, AreTreesHeld, IsDeclarator, declarator_of, specifiers_of, trees_held};
+ghost use Rattle.cxx_tree.specs.Held.{meaning};
+ghost use Rattle.cxx_units.specs.Said.{IsListed, IsListedTurn, IsSaid, listed_of, listed_turn, said_of};
+
+use crate::bodies::{Declared, ended_by};
+use crate::space::{Defines, Space};
+use cxx_model::{Stop, TreeIdList, punct};
+use cxx_syntax::{Cursor, Declarator, Specifiers, Turn, declared, is_punct};
+use cxx_tree::State;
+use cxx_units::ends::nothing_declared;
+use cxx_units::said::{Listed as ListedTrees, Said, said_by};
+use cxx_units::{declared_fits, no_declarators};
+
+impl<D: Defines> Space<'_, D> {
+    // A declarator that fits, with the type that it declares.
+    #[tactic(auto, using(cxx_syntax::proofs::Kept::layers_kept, cxx_syntax::proofs::Kept::layers_later, cxx_syntax::proofs::Kept::trees_kept, cxx_syntax::proofs::Kept::trees_later, cxx_syntax::proofs::Kept::type_kept, cxx_syntax::proofs::Kept::type_later, cxx_syntax::proofs::Kept::later_refl, cxx_syntax::proofs::Kept::later_trans))]
+    fn declared_as(
+        &self,
+        state: &mut State,
+        cursor: &mut Cursor<'_>,
+        said: Said,
+        is_first: bool,
+        from: &Cursor<'_>,
+        declarator: Declarator,
+    ) -> Result<Declared, Stop>
+        requires said { IsSaid state.old said }
+        requires declarator { IsDeclarator state.old declarator }
+        ensures { IsRead declares_of IsDeclaredKnown state.old state.new cursor.new result (units.declared_by self.now.room (said_of state.old said) is_first from.now (declarator_of state.old declarator) (meaning state.old) cursor.old) }
+    {
+        match declared(state, declarator.layers.as_slice(), said.of) {
+            Ok(of) => self.declared_by(state, cursor, said, is_first, from, declarator, of),
+            Err(_) => Err(Stop::OutOfMemory),
+        }
+    }
+
+    #[tactic(auto, using(cxx_syntax::proofs::Kept::type_kept, cxx_syntax::proofs::Kept::type_later, cxx_syntax::proofs::Kept::later_refl, cxx_syntax::proofs::Kept::later_trans), unfolding(cxx_language::specs::Units::init_declarator_at))]
+    fn init_declarator_at(
+        &self,
+        state: &mut State,
+        cursor: &mut Cursor<'_>,
+        said: Said,
+        is_first: bool,
+    ) -> Result<Declared, Stop>
+        requires { IsSaid state.old said }
+        ensures { IsRead declares_of IsDeclaredKnown state.old state.new cursor.new result (units.init_declarator_at self.now.room (said_of state.old said) is_first (meaning state.old) cursor.old) }
+    {
+        let from = cursor.mark();
+        let declarator = self.declares.declarator(state, cursor, self.room)?;
+        declared_fits(state, cursor, said, &declarator)?;
+        self.declared_as(state, cursor, said, is_first, &from, declarator)
+    }
+
+    // A declarator, and what separates it from the next.
+    #[tactic(auto, using(cxx_syntax::proofs::Kept::trees_kept, cxx_syntax::proofs::Kept::trees_later, cxx_syntax::proofs::Kept::later_refl, cxx_syntax::proofs::Kept::later_trans), unfolding(cxx_language::specs::Units::declarator_step))]
+    fn declarator_step(
+        &self,
+        state: &mut State,
+        cursor: &mut Cursor<'_>,
+        said: Said,
+        so_far: ListedTrees,
+    ) -> Result<Turn<ListedTrees, TreeIdList>, Stop>
+        requires said { IsSaid state.old said }
+        requires listed { IsListed state.old so_far }
+        ensures { IsRead listed_turn IsListedTurn state.old state.new cursor.new result (units.declarator_step self.now.room (said_of state.old said) (listed_of state.old so_far) (meaning state.old) cursor.old) }
+    {
+        let one = self.init_declarator_at(state, cursor, said, so_far.is_first)?;
+        ended_by(state, cursor, so_far, one)
+    }
+
+    // All declarators, with the end of their declaration.
+    #[tactic(auto, using(cxx_syntax::proofs::Loops::turn, cxx_syntax::proofs::Loops::no_turn, cxx_syntax::proofs::Kept::type_kept, cxx_syntax::proofs::Kept::type_later, cxx_syntax::proofs::Kept::later_refl, cxx_syntax::proofs::Kept::later_trans), unfolding(cxx_language::specs::Units::declarators_at))]
+    fn declarators_at(
+        &self,
+        state: &mut State,
+        cursor: &mut Cursor<'_>,
+        said: Said,
+    ) -> Result<TreeIdList, Stop>
+        requires { IsSaid state.old said }
+        ensures { IsRead trees_held AreTreesHeld state.old state.new cursor.new result (units.declarators_at self.now.room (said_of state.old said) (meaning state.old) cursor.old) }
+    {
+        let mut so_far = no_declarators(cursor.alloc());
+        for _turn in 0..cursor.count() {
+            match self.declarator_step(state, cursor, said, so_far)? {
+                Turn::More(next) => so_far = next,
+                Turn::Done(all) => return Ok(all),
+            }
+        }
+        Ok(so_far.trees)
+    }
+
+    /// The declarators that stand behind specifiers, with the end of their declaration (clause 7).
+    #[tactic(auto, using(cxx_syntax::proofs::Kept::later_refl, cxx_syntax::proofs::Kept::later_trans), unfolding(cxx_language::specs::Units::declarators_of))]
+    pub(crate) fn declarators_of(
+        &self,
+        state: &mut State,
+        cursor: &mut Cursor<'_>,
+        counts_as_extern: bool,
+        specifiers: &Specifiers,
+    ) -> Result<TreeIdList, Stop>
+        requires { AreSpecifiers state.old specifiers.now }
+        ensures { IsRead trees_held AreTreesHeld state.old state.new cursor.new result (units.declarators_of self.now.room counts_as_extern (specifiers_of state.old specifiers.now) (meaning state.old) cursor.old) }
+    {
+        if is_punct(punct::SEMICOLON, cursor.kind()) {
+            return nothing_declared(state, cursor, specifiers);
+        }
+        let said = said_by(state, counts_as_extern, specifiers)?;
+        self.declarators_at(state, cursor, said)
+    }
+}

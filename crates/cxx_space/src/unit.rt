@@ -1,0 +1,77 @@
+//! The unit (2.1, 3.5).
+
+ghost use Rattle.std.specs.Prelude.{◌≡◌, ◌<◌, ◌^◌, length};
+ghost use Rattle.cxx_language.specs.Units as definition;
+ghost use Rattle.cxx_model.specs.Stops.{Gives};
+ghost use Rattle.cxx_model.specs.Text.Lexemes.{lexemes};
+ghost use Rattle.cxx_reading.specs.Reads.{count_ahead, give, repeat};
+ghost use Rattle.cxx_syntax.specs.Asking.{AnyKnown, itself};
+ghost use Rattle.cxx_syntax.specs.Reading.{IsRead};
+ghost use Rattle.cxx_tree.specs.Held.{meaning};
+ghost use Rattle.cxx_units.specs.Read.{nothing_turn, reading_of};
+
+use crate::space::{Defines, Space};
+use cxx_model::limits::MOST_NESTING;
+use cxx_model::{Options, Stop, Token};
+use cxx_syntax::{Cursor, Turn, is_end};
+use cxx_tree::State;
+use cxx_units::{begun, first_place, part_added, whole};
+use std::alloc::Global;
+
+// A declaration of the unit, or its end.
+#[tactic(auto, using(cxx_syntax::proofs::Kept::later_refl, cxx_syntax::proofs::Kept::later_trans), unfolding(cxx_language::specs::Units::unit_step))]
+fn unit_step<D: Defines>(
+    declares: &D,
+    state: &mut State,
+    cursor: &mut Cursor<'_>,
+) -> Result<Turn<(), ()>, Stop>
+    ensures { IsRead nothing_turn AnyKnown state.old state.new cursor.new result (definition.unit_step (tt {0}) (meaning state.old) cursor.old) }
+{
+    if is_end(cursor.kind()) {
+        return Ok(Turn::Done(()));
+    }
+    let space = Space {
+        declares,
+        room: MOST_NESTING,
+    };
+    let number = space.declaration_at(state, cursor)?;
+    part_added(state, number)?;
+    Ok(Turn::More(()))
+}
+
+// All declarations up to the end of the unit.
+#[tactic(auto, using(cxx_syntax::proofs::Loops::turn, cxx_syntax::proofs::Loops::no_turn, cxx_syntax::proofs::Kept::later_refl, cxx_syntax::proofs::Kept::later_trans))]
+fn unit_steps<D: Defines>(
+    declares: &D,
+    state: &mut State,
+    cursor: &mut Cursor<'_>,
+) -> Result<(), Stop>
+    ensures { IsRead itself AnyKnown state.old state.new cursor.new result (repeat definition.unit_step give (count_ahead cursor.old) (tt {0}) (meaning state.old) cursor.old) }
+{
+    for _turn in 0..cursor.count() {
+        match unit_step(declares, state, cursor)? {
+            Turn::More(()) => {}
+            Turn::Done(()) => return Ok(()),
+        }
+    }
+    Ok(())
+}
+
+/// Reads a unit whose initializers, bounds and enumerators are expressions (2.1, 3.5): its reading, the first fault, or the
+/// limit that is passed first, of the tokens with the bytes that spell them.
+#[tactic(auto, unfolding(cxx_language::specs::Units::unit_reading))]
+pub fn read_unit<D: Defines>(
+    alloc: Global,
+    declares: &D,
+    bytes: &[u8],
+    tokens: &[Token],
+    options: Options,
+) -> Result<State, Stop>
+    requires { length tokens.now < 2 ^ 32 }
+    ensures { Gives (reading_of options) result (definition.unit_reading options (lexemes bytes.now tokens.now)) }
+{
+    let mut state = begun(alloc, bytes)?;
+    let mut cursor = Cursor::new(alloc, bytes, tokens, first_place());
+    let ended = unit_steps(declares, &mut state, &mut cursor);
+    whole(options, state, ended)
+}

@@ -1,0 +1,12 @@
+use Rattle.std.proofs.Common.{ap, ◌∙◌, ◌++◌, ◌∷◌, []}
+use Rattle.cxx_tree.proofs.Wholes.{known_here, linked_added, whole_linked}
+use Rattle.cxx_tree.proofs.state.State.add_linked.Goals as goal
+
+pub add-requires : goal.add-requires
+add-requires c = known_here _ _ c.args.number c.self.view_is c.requires
+
+pub invariant_of-self-2 : goal.invariant_of-self-2
+invariant_of-self-2 c = whole_linked _ _ _ _ _ _ _ _ c.args.number c.self.invariant (c.in_ok-push.ensures.items ∙ ap (λ ns. ns ++ c.args.number ∷ []) c.reserve.ensures.items) (c.in_ok-add.ensures.more _ c.self.invariant.links)
+
+pub returns-clause-is : goal.returns-clause-is
+returns-clause-is c = linked_added _ _ _ c.args.number c.self.view_is (c.in_ok-push.ensures.items ∙ ap (λ ns. ns ++ c.args.number ∷ []) c.reserve.ensures.items)
