@@ -10,7 +10,7 @@ use Rattle.cxx_model.specs.declared.place.Place.{Place}
 use Rattle.cxx_model.specs.declared.stop.LimitKind.TheVariants.{Arguments}
 use Rattle.cxx_model.specs.declared.types.ClassId.{ClassId}
 use Rattle.cxx_model.specs.declared.types.FactId.{FactId}
-use Rattle.cxx_model.specs.Facts.Declarations.{CxxGraph, spelled}
+use Rattle.cxx_model.specs.Facts.Declarations.{CxxGraph, CxxName, spelled}
 use Rattle.cxx_model.specs.Stops.{Answer, Stopped, Limited, ◌>>=◌, fault, not_built_at, undeclared_at}
 use Rattle.cxx_model.specs.Text.Lexemes.{nowhere}
 use Rattle.cxx_model.specs.Types.Trees.{CxxType}
@@ -22,14 +22,16 @@ use Rattle.cxx_meaning.specs.Conversions.Standard.{CxxOperand}
 use Rattle.cxx_meaning.specs.Lookups.Associated.{adl, associated}
 use Rattle.cxx_meaning.specs.Lookups.Wanted.{any_name}
 use Rattle.cxx_constant.specs.Constants.{CxxFault, CxxValue, not_constant, overflow, divide_by_zero, constant}
-use Rattle.cxx_reading.specs.Declaring.{ambiguous_at, is_object, last_part, name_in}
+use Rattle.cxx_reading.specs.declared.region.Region.{Region}
+use Rattle.cxx_reading.specs.Declaring.{is_object}
 use Rattle.cxx_reading.specs.Givers.{giver, with_givers}
 use Rattle.cxx_reading.specs.Initializers.{with_call}
 use Rattle.cxx_reading.specs.Linked.{is_space_at}
+use Rattle.cxx_reading.specs.Paths.{ambiguous_at, found_in, name_in, region_of, scope_of_region, sought_in}
 use Rattle.cxx_reading.specs.Reads.{Asks}
-use Rattle.cxx_reading.specs.Seen.{Numbered, found, numbered_at, sought_from}
+use Rattle.cxx_reading.specs.Seen.{Numbered, numbered_at}
 use Rattle.cxx_reading.specs.State.{CxxGiven, CxxState}
-use Rattle.cxx_reading.specs.Trees.{CxxTree, CxxPath, CxxPathPart}
+use Rattle.cxx_reading.specs.Trees.{CxxTree, CxxPath, CxxPathPart, last_part}
 use Rattle.cxx_overload.specs.Calls.{CxxDecision, decided}
 use Rattle.cxx_tree.specs.Defaults.{first_given}
 use Rattle.cxx_tree.specs.Uses.{with_use}
@@ -45,10 +47,10 @@ abbrev pub names_local : CxxGraph → List Numbered → Bool
 names_local graph [] = false
 names_local graph (one ∷ others) = is_local graph one || names_local graph others
 
--- what a name means where the reader stands, where it is not ambiguous: its entities by their first declarations, and
+-- what a name means that is looked up in a region, where it is not ambiguous: its entities by their first declarations, and
 -- behind them the declarations of functions that tell their default arguments there (8.3.6)
-abbrev pub meant_here : CxxPath → CxxState → List Numbered
-meant_here path state = with_givers state.graph state.here.scope (found state.graph state.here.scope (name_in path))
+abbrev pub meant_in : CxxGraph → Region → CxxName → List Numbered
+meant_in graph where_ name = with_givers graph (scope_of_region where_) (found_in graph where_ name)
 
 abbrev pub unambiguous : CxxGraph → CxxPathPart → Sought → Answer (Unit {0})
 unambiguous graph part (sought.Ambiguous one two) = Err (ambiguous_at graph part one two)
@@ -65,15 +67,19 @@ names_tested tested scope (one ∷ others) = is_tested tested scope one || names
 
 -- 8.3.6: a default argument means no local object. 6.5.3: What a `for` does behind each turn does not name the object that its
 -- condition declares, which stands in the scope of the `for` itself.
-abbrev pub name_meant : CxxPath → Asks CxxState (List Numbered)
-name_meant path state =
-    if state.in_default && names_local state.graph (meant_here path state) then Err (fault (last_part path.parts).place says.OperandsDoNotFit) else (
-    if state.in_step && names_tested state.tested state.here.scope (meant_here path state) then Err (fault (last_part path.parts).place (says.LeftOut form.ConditionNameInStep)) else
-    Ok (meant_here path state, state))
+abbrev pub name_meant : CxxPathPart → List Numbered → Asks CxxState (List Numbered)
+name_meant part all state =
+    if state.in_default && names_local state.graph all then Err (fault part.place says.OperandsDoNotFit) else (
+    if state.in_step && names_tested state.tested state.here.scope all then Err (fault part.place (says.LeftOut form.ConditionNameInStep)) else
+    Ok (all, state))
 
 -- 3.4: what it may mean is told apart
+abbrev pub name_in_region : CxxPath → Region → Asks CxxState (List Numbered)
+name_in_region path where_ state = unambiguous state.graph (last_part path.parts) (sought_in state.graph any_name where_ (name_in path)) >>= λ is_one. name_meant (last_part path.parts) (meant_in state.graph where_ (name_in path)) state
+
+-- its qualifiers first
 unfoldable pub name_here : CxxPath → Asks CxxState (List Numbered)
-name_here path state = unambiguous state.graph (last_part path.parts) (sought_from state.graph any_name state.here.scope (name_in path)) >>= λ is_one. name_meant path state
+name_here path state = region_of state.graph state.here.scope path >>= λ where_. name_in_region path where_ state
 
 unfoldable pub bound_here : Place → ℕ → Asks CxxState (Unit {0})
 bound_here place target state = Ok (tt, with_use place target state)
@@ -175,9 +181,10 @@ abbrev pub scope_of_giver : Option Numbered → ℕ
 scope_of_giver None = zero
 scope_of_giver (Some one) = one.fact.scope
 
--- that of the parameter with an index, as a declaration gave it in the scope that tells the default arguments here
-unfoldable pub fallback_here : ℕ → ℕ → Asks CxxState CxxTree
-fallback_here function index state = fallback_by state (first_given state.graph.facts (scope_of_giver (giver state.graph state.here.scope function)) function index state.given)
+-- that of the parameter with an index, as a declaration gave it in the scope that tells the default arguments where the
+-- called name is looked up
+unfoldable pub fallback_here : CxxPath → ℕ → ℕ → Asks CxxState CxxTree
+fallback_here path function index state = region_of state.graph state.here.scope path >>= λ where_. fallback_by state (first_given state.graph.facts (scope_of_giver (giver state.graph (scope_of_region where_) function)) function index state.given)
 
 -- ---- all questions
 

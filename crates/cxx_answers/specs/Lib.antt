@@ -3,7 +3,7 @@ pub mod Answers
 pub mod Bare
 pub mod Besides
 pub mod Defaults
-pub mod Nowhere
+pub mod Named
 pub mod Ruled
 pub mod Told
 pub mod Typed

@@ -9,13 +9,14 @@ use Rattle.cxx_tree.specs.Held.{Held, trees}
 use Rattle.cxx_expr.specs.Asking.{◌>>=◌, give}
 use Rattle.cxx_expr.specs.Calls.{chosen_tree, fallbacks}
 use Rattle.cxx_expr.specs.Converting.{convert_each}
+use Rattle.cxx_expr.specs.Names.{path_in}
 use Rattle.cxx_expr.specs.Making.{AreTreesHeld, trees_held}
 use Rattle.cxx_expr.specs.Questions.{CxxChosen, Questions}
 
 -- a call of a function, once its arguments are converted
 unfoldable pub filled : Questions → CxxTree → ℕ → CxxChosen → List CxxTree → Asks CxxState CxxTree
 filled q tree count chosen given = do
-  all ← fallbacks q chosen.target count given (length chosen.parameters - count)
+  all ← fallbacks q (path_in tree.label) chosen.target count given (length chosen.parameters - count)
   give (chosen_tree tree chosen all)
 
 -- a call of a function, once that is noted

@@ -9,7 +9,8 @@ use Rattle.cxx_model.specs.Stops.{Answer, ◌>>=◌}
 use Rattle.cxx_model.specs.Text.Lexemes.{Lexeme}
 use Rattle.cxx_model.specs.Types.Trees.{CxxType, function_of}
 use Rattle.cxx_reading.specs.Choosing.{each_type}
-use Rattle.cxx_reading.specs.Declaring.{added, conflicting_at, fact_here, first_member_function, free, free_linked, home_here, linked_as, no_flags, place_of_fact}
+use Rattle.cxx_reading.specs.Declaring.{added, conflicting_at, fact_here, first_member_function, free, free_linked, home_here, linked_as, no_flags}
+use Rattle.cxx_reading.specs.Paths.{place_of_fact}
 use Rattle.cxx_reading.specs.Linked.{is_space_at}
 use Rattle.cxx_reading.specs.Reads.{Asks}
 use Rattle.cxx_reading.specs.State.{CxxGiven, CxxOffered, CxxState}

@@ -1,4 +1,5 @@
-pub mod Asked
+pub mod Agreed
+pub mod Brought
 pub mod Functions
 pub mod Given
 pub mod Made

@@ -49,10 +49,6 @@ pub record IsReady (held : Held) (fact : Fact) : Type 0 where
   pub below : IsFactBelow (length held.types) fact
   pub plain : IsPlain fact
 
-abbrev pub place_held : Option Fact → Place
-place_held None = nowhere
-place_held (Some fact) = fact.place
-
 -- a declaration outside classes
 abbrev pub made : ScopeId → Place → Name → Entity → Fact
 made scope place name what = record { place = place; scope = scope; name = name; access = Public; what = what }

@@ -12,7 +12,7 @@ use Rattle.cxx_reading.specs.Initializers.{operand_of}
 use Rattle.cxx_reading.specs.Reads.{Asks}
 use Rattle.cxx_reading.specs.Seen.{Numbered}
 use Rattle.cxx_reading.specs.State.{CxxState}
-use Rattle.cxx_reading.specs.Trees.{CxxTree, Label, children_of, tree_of}
+use Rattle.cxx_reading.specs.Trees.{CxxPath, CxxTree, Label, children_of, is_plain_path, tree_of}
 use Rattle.cxx_expr.specs.declared.production.TheConstants as production
 use Rattle.cxx_expr.specs.Asking.{◌>>=◌, give}
 use Rattle.cxx_expr.specs.Converting.{convert_each}
@@ -24,17 +24,17 @@ use Rattle.cxx_expr.specs.Questions.{CxxChosen, CxxQuestion, Questions}
 -- ---- default arguments
 
 -- one more behind other arguments
-unfoldable pub fallback_more : Questions → ℕ → ℕ → List CxxTree → Asks CxxState (List CxxTree)
-fallback_more q target index done = do
-  next ← q.fallback target index
+unfoldable pub fallback_more : Questions → CxxPath → ℕ → ℕ → List CxxTree → Asks CxxState (List CxxTree)
+fallback_more q path target index done = do
+  next ← q.fallback path target index
   give (done ++ next ∷ [])
 
--- 8.3.6: the default arguments of so many parameters, the first of which has an index
-unfoldable pub fallbacks : Questions → ℕ → ℕ → List CxxTree → ℕ → Asks CxxState (List CxxTree)
-fallbacks q target index done zero = give done
-fallbacks q target index done (suc count) = do
-  more ← fallback_more q target index done
-  fallbacks q target (index + 1) more count
+-- 8.3.6: the default arguments of so many parameters, the first of which has an index, in a call by a name
+unfoldable pub fallbacks : Questions → CxxPath → ℕ → ℕ → List CxxTree → ℕ → Asks CxxState (List CxxTree)
+fallbacks q path target index done zero = give done
+fallbacks q path target index done (suc count) = do
+  more ← fallback_more q path target index done
+  fallbacks q path target (index + 1) more count
 
 -- ---- a call of a function by its name (13.3.1.1.1)
 
@@ -46,20 +46,24 @@ unfoldable pub chosen_call : Questions → CxxTree → List CxxTree → CxxChose
 chosen_call q tree arguments chosen = do
   noted ← q.bound tree.label.place chosen.target
   given ← convert_each q tree.label.place chosen.parameters [] arguments
-  all ← fallbacks q chosen.target (length arguments) given (length chosen.parameters - length arguments)
+  all ← fallbacks q (path_in tree.label) chosen.target (length arguments) given (length chosen.parameters - length arguments)
   give (chosen_tree tree chosen all)
 
 abbrev pub is_none_left : {A : Type 0} → List A → Bool
 is_none_left [] = true
 is_none_left (x ∷ xs) = false
 
--- 3.4.2: the name, where it does not stand in brackets
-abbrev pub bare_word : List ℕ → List ℕ → Option (List ℕ)
-bare_word [] word = Some word
-bare_word (b ∷ brackets) word = None
+-- 3.4.2: whether the called name stands in no brackets and has no qualifiers
+abbrev pub is_bare : Label → Bool
+is_bare label = is_none_left label.spelling && is_plain_path (path_in label)
+
+-- 3.4.2: the name, where it is bare
+abbrev pub bare_word : Bool → List ℕ → Option (List ℕ)
+bare_word true word = Some word
+bare_word false word = None
 
 abbrev pub question : Questions → Label → List Numbered → List CxxTree → CxxState → CxxQuestion
-question q label functions arguments state = record { place = label.place; word = bare_word label.spelling (word_in label).word; functions = functions; operands = judged_each q arguments state }
+question q label functions arguments state = record { place = label.place; word = bare_word (is_bare label) (word_in label).word; functions = functions; operands = judged_each q arguments state }
 
 unfoldable pub function_call : Questions → CxxTree → List Numbered → List CxxTree → Asks CxxState CxxTree
 function_call q tree functions arguments state = (q.call (question q tree.label functions arguments state) >>= chosen_call q tree arguments) state
@@ -130,9 +134,9 @@ value_call q tree all arguments = do
   callee ← named q (called_label tree.label arguments) all
   through q (without_name tree) callee arguments
 
--- 3.4.2: whether a name without brackets round it means nothing where it stands
+-- 3.4.2: whether a bare name means nothing where it stands
 abbrev pub is_asked_for : Label → List Numbered → Bool
-is_asked_for label [] = is_none_left label.spelling
+is_asked_for label [] = is_bare label
 is_asked_for label (one ∷ others) = false
 
 abbrev pub called_first : Questions → CxxTree → List Numbered → List CxxTree → List Numbered → Asks CxxState CxxTree

@@ -2,7 +2,6 @@
 use Rattle.std.specs.Prelude.{ℕ, ℤ, Bool, true, false, ◌&&◌, nat_eq, if◌then◌else◌, ◌-◌, List, [], ◌∷◌, length, Option, Some, None, Ok, Err}
 use Rattle.std.specs.List.{slice_get}
 use Rattle.cxx_model.specs.declared.base.Base.{Base}
-use Rattle.cxx_model.specs.declared.evidence.Evidence.TheVariants.{Found}
 use Rattle.cxx_model.specs.declared.fault.FaultText.TheVariants as says
 use Rattle.cxx_model.specs.declared.fault.LeftOut.TheVariants as form
 use Rattle.cxx_model.specs.declared.place.Place.{Place}
@@ -10,17 +9,17 @@ use Rattle.cxx_model.specs.declared.sequence.ConstantKind.TheVariants as constan
 use Rattle.cxx_model.specs.Facts.Declarations as facts
 use Rattle.cxx_model.specs.Facts.Declarations.{CxxFact, CxxGraph, Declares}
 use Rattle.cxx_model.specs.Facts.Entities.{first_or}
-use Rattle.cxx_model.specs.Stops.{Stopped, Faulty, fault, undeclared_at}
+use Rattle.cxx_model.specs.Stops.{Stopped, fault, undeclared_at}
 use Rattle.cxx_model.specs.Types.Integral.{promoted_of_values}
 use Rattle.cxx_model.specs.Types.Trees.{CxxType, enumeration, fundamental}
 use Rattle.cxx_meaning.specs.Conversions.Sizes.{referred}
 use Rattle.cxx_meaning.specs.Conversions.Standard.{CxxOperand}
 use Rattle.cxx_meaning.specs.Lookups.Wanted.{hides_types}
-use Rattle.cxx_reading.specs.Declaring.{no_part}
+use Rattle.cxx_reading.specs.Paths.{wrong_kind_at}
 use Rattle.cxx_reading.specs.Reads.{Asks}
 use Rattle.cxx_reading.specs.Seen.{Numbered, kept}
 use Rattle.cxx_reading.specs.State.{CxxState}
-use Rattle.cxx_reading.specs.Trees.{CxxPath, CxxPathPart, CxxTree, Label, tree_of}
+use Rattle.cxx_reading.specs.Trees.{CxxPath, CxxPathPart, CxxTree, Label, no_part, tree_of}
 use Rattle.cxx_expr.specs.Asking.{◌>>=◌, give, stop}
 use Rattle.cxx_expr.specs.Operands.{object_operand}
 use Rattle.cxx_expr.specs.Questions.{Questions}
@@ -88,9 +87,6 @@ several_at place = fault place (says.LeftOut form.AddressOfSeveralFunctions)
 -- 3.3.7: what hides the types of its scope
 abbrev pub values_among : CxxGraph → List Numbered → List Numbered
 values_among graph all = kept (hides_types graph) all
-
-abbrev pub wrong_kind_at : CxxPathPart → Place → Stopped
-wrong_kind_at part other = Faulty (record { place = part.place; text = says.WrongKindOfName part.word; evidence = Found other ∷ [] })
 
 -- why a name means no value, by its declarations
 abbrev pub no_value_at : CxxPathPart → List Numbered → Stopped

@@ -10,8 +10,8 @@ use Rattle.cxx_reading.specs.State.{CxxState}
 use Rattle.cxx_reading.specs.Trees.{CxxPath, CxxTree}
 
 -- 13.3: The question of a call: where it stands, the name that is called, the functions that the name means, and the
--- operands of the arguments. Where the name stands in brackets it is not said, so that the types of the arguments find
--- no functions besides (3.4.2).
+-- operands of the arguments. Where the name stands in brackets or has qualifiers it is not said, so that the types of the
+-- arguments find no functions besides (3.4.2).
 pub record CxxQuestion : Type 0 where
   pub place : Place
   pub word : Option (List ℕ)
@@ -33,8 +33,9 @@ pub record Questions : Type 0 where
   pub bound : Place → ℕ → Asks CxxState (Unit {0})
   -- 13.3: which function a call means
   pub call : CxxQuestion → Asks CxxState CxxChosen
-  -- 8.3.6: the default argument of a parameter, of the function with this first declaration, as it is converted
-  pub fallback : ℕ → ℕ → Asks CxxState CxxTree
+  -- 8.3.6: the default argument of a parameter, of the function with this first declaration, which a call by this name
+  -- means, as it is converted
+  pub fallback : CxxPath → ℕ → ℕ → Asks CxxState CxxTree
   -- 5.3.3
   pub size : CxxType → Asks CxxState (Result ℕ SizeReason)
   -- 5.19: whether an expression is an integral constant with the value zero

@@ -12,7 +12,7 @@ use Rattle.cxx_reading.specs.Kinds.{Kinds, Readers}
 use Rattle.cxx_reading.specs.Reads.{Reads, Ahead, Turn, More, Done, ◌>>=◌, got, give, tokens, kind_ahead, count_ahead, behind, repeat}
 use Rattle.cxx_reading.specs.Shapes.{Run, no_type, a_type, surely, look, past, returned, brackets_passed, give_false, is_cv, is_specifier, run_passed}
 use Rattle.cxx_reading.specs.Specifiers.{is_some_storage, storage_word}
-use Rattle.cxx_reading.specs.Tokens.{is_punct, is_keyword, is_name, is_plain_name, is_qualified}
+use Rattle.cxx_reading.specs.Tokens.{is_punct, is_keyword, is_name, is_plain_name}
 
 -- ---- up to the name of a declarator (8)
 
@@ -115,11 +115,11 @@ declarator_begins inner = tokens name_passed >>= declared_by inner
 abbrev pub begins_list : Ahead → Bool
 begins_list ahead = is_punct punct.LEFT_BRACE (kind_ahead ahead) || (is_name (kind_ahead ahead) && is_punct punct.LEFT_BRACE (kind_ahead (behind ahead)))
 
--- A list in the specifiers is met when it is read, and so is a name with qualifiers where a type may stand.
+-- A list in the specifiers is met when it is read.
 abbrev pub specified_by : {S : Type 0} → Readers S → Run → Reads S Bool
 specified_by inner no_type state ahead = got false state ahead
 specified_by inner a_type state ahead = declarator_begins inner state ahead
-specified_by inner surely state ahead = got (is_qualified ahead || begins_list ahead) state ahead
+specified_by inner surely state ahead = got (begins_list ahead) state ahead
 
 unfoldable pub specifiers_begin : {S : Type 0} → Kinds S → Readers S → Reads S Bool
 specifiers_begin asks inner = run_passed asks >>= specified_by inner
@@ -183,12 +183,12 @@ named_by inner (Some shape) = suffixes_passed inner shape >>= initialized_by
 unfoldable pub initializer_follows : {S : Type 0} → Readers S → Reads S Bool
 initializer_follows inner = tokens name_passed >>= named_by inner
 
--- no type is defined in a condition; a name with qualifiers is met when it is read
+-- no type is defined in a condition
 abbrev pub typed_by : {S : Type 0} → Readers S → Run → Bool → Reads S Bool
 typed_by inner run false state ahead = got false state ahead
 typed_by inner no_type true state ahead = got false state ahead
 typed_by inner a_type true state ahead = initializer_follows inner state ahead
-typed_by inner surely true state ahead = got (is_qualified ahead) state ahead
+typed_by inner surely true state ahead = got false state ahead
 
 -- what is read from an earlier token
 abbrev pub look_from : {S A : Type 0} → Ahead → Reads S A → Reads S A

@@ -1,6 +1,7 @@
 -- What the readers of expressions ask, answered by the declarations so far (3.4, 5.19).
 use Rattle.std.specs.Prelude.{ℕ}
 use Rattle.cxx_reading.specs.Declaring.{kind_here, type_here, elaborated_here, declare_enumeration, declare_enumerator, end_enumeration, enter_parameters, declare_parameter, leave_parameters}
+use Rattle.cxx_reading.specs.Members.{enter_member}
 use Rattle.cxx_reading.specs.State.{CxxState}
 use Rattle.cxx_expr.specs.Elaborating.{elaborate}
 use Rattle.cxx_answers.specs.Answers.{constant_here, questions}
@@ -13,6 +14,7 @@ asking room = record {
     kind = kind_here;
     type_named = type_here;
     elaborated = elaborated_here;
+    entered = enter_member;
     enumeration = declare_enumeration;
     enumerator = declare_enumerator;
     enumerated = end_enumeration;

@@ -1,4 +1,4 @@
--- Namespaces (7.3.1), their other names (7.3.2) and using-directives (7.3.4).
+-- Namespaces (7.3.1), their other names (7.3.2), using-declarations (7.3.3) and using-directives (7.3.4).
 use Rattle.std.specs.Prelude.{ℕ, if◌then◌else◌, List, [], ◌∷◌}
 use Rattle.cxx_model.specs.declared.keyword.TheConstants as keyword
 use Rattle.cxx_model.specs.declared.place.Place.{Place}
@@ -8,10 +8,10 @@ use Rattle.cxx_reading.specs.Labels.{label_from}
 use Rattle.cxx_reading.specs.Productions as production
 use Rattle.cxx_reading.specs.Reads.{Reads, Asks, Ahead, ◌>>=◌, give, ask, looked, taken, tokens, kind_ahead, place_ahead, behind}
 use Rattle.cxx_reading.specs.Spaces.{close_space, declare_alias, declare_directive, open_space, open_unnamed, space_here}
-use Rattle.cxx_reading.specs.Specifiers.{path_of}
 use Rattle.cxx_reading.specs.State.{CxxState}
-use Rattle.cxx_reading.specs.Tokens.{is_punct, is_keyword, is_name, is_qualified, not_built, refused, token_taken, punct_taken}
-use Rattle.cxx_reading.specs.Trees.{CxxTree, tree_of}
+use Rattle.cxx_reading.specs.Tokens.{is_punct, is_keyword, is_name, begins_name, is_plain_name, not_built, path_taken, refused, token_taken, punct_taken}
+use Rattle.cxx_reading.specs.Trees.{CxxPath, CxxTree, last_part, tree_of}
+use Rattle.cxx_reading.specs.Usings.{bring_here}
 
 abbrev pub part_tree : ℕ → List CxxTree → Ahead → Ahead → CxxTree
 part_tree number inside from to = tree_of (label_from number [] from to) inside
@@ -26,15 +26,11 @@ pub record NamedSpace : Type 0 where
   pub place : Place
   pub inner : ℕ
 
-abbrev pub named_space : Lexeme → Reads CxxState NamedSpace
-named_space name = ask (space_here (path_of name)) >>= λ inner. give (record { place = name.place; inner = inner })
+abbrev pub named_space : CxxPath → Reads CxxState NamedSpace
+named_space path = ask (space_here path) >>= λ inner. give (record { place = (last_part path.parts).place; inner = inner })
 
--- a name with qualifiers is not read yet
 unfoldable pub space_name_at : Reads CxxState NamedSpace
-space_name_at state ahead =
-    if is_qualified ahead then not_built state ahead else (
-    if is_name (kind_ahead ahead) then (token_taken >>= named_space) state ahead else
-    refused state ahead)
+space_name_at state ahead = if begins_name ahead then (path_taken >>= named_space) state ahead else refused state ahead
 
 -- ---- aliases
 
@@ -100,6 +96,28 @@ directive_at = do
   ended ← tokens (punct_taken punct.SEMICOLON)
   give_part production.using_directive from []
 
--- from the word `using` on; a using-declaration is not read yet (7.3.3)
+-- ---- using-declarations (7.3.3)
+
+-- its name has a qualifier
+abbrev pub qualified_taken : Reads CxxState CxxPath
+qualified_taken state ahead = if is_plain_name ahead then refused state (behind ahead) else path_taken state ahead
+
+-- behind `typename` a name is not read yet (14.6)
+unfoldable pub brought_name_at : Reads CxxState CxxPath
+brought_name_at state ahead =
+    if begins_name ahead then qualified_taken state ahead else (
+    if is_keyword keyword.TYPENAME (kind_ahead ahead) then not_built state ahead else
+    refused state ahead)
+
+unfoldable pub using_declaration_at : Reads CxxState CxxTree
+using_declaration_at = do
+  from ← looked
+  using ← taken
+  path ← brought_name_at
+  declared ← ask (bring_here path)
+  ended ← tokens (punct_taken punct.SEMICOLON)
+  give_part production.using_declaration from []
+
+-- from the word `using` on
 unfoldable pub using_at : Reads CxxState CxxTree
-using_at state ahead = if is_keyword keyword.NAMESPACE (kind_ahead (behind ahead)) then directive_at state ahead else not_built state ahead
+using_at state ahead = if is_keyword keyword.NAMESPACE (kind_ahead (behind ahead)) then directive_at state ahead else using_declaration_at state ahead

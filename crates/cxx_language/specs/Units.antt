@@ -14,6 +14,7 @@ use Rattle.cxx_reading.specs.declared.specifier.Naming.TheVariants as naming
 use Rattle.cxx_reading.specs.declared.specifier.SpecifierPlace.TheVariants as where_
 use Rattle.cxx_reading.specs.Declarators.{Specifiers, Declarator, declared_type, is_function_type, own_parameters}
 use Rattle.cxx_reading.specs.Labels.{label_from}
+use Rattle.cxx_reading.specs.Members.{agree_here, stand_in}
 use Rattle.cxx_reading.specs.Productions as production
 use Rattle.cxx_reading.specs.Reads.{Reads, Ahead, Turn, More, Done, ◌>>=◌, got, give, ask, fault_at, limited, looked, kind_ahead, place_ahead, count_ahead, behind, repeat}
 use Rattle.cxx_reading.specs.Specifiers.{specifiers_at}
@@ -25,7 +26,7 @@ use Rattle.cxx_reading.specs.Units.{CxxReading, Said, Listed, read_as, part_adde
 use Rattle.cxx_declare.specs.Functions.{declare_function}
 use Rattle.cxx_statements.specs.Productions as statement
 use Rattle.cxx_language.specs.Asked.{asked, inner_at}
-use Rattle.cxx_language.specs.Bodies.{function_body}
+use Rattle.cxx_language.specs.Bodies.{function_body, standing}
 use Rattle.cxx_language.specs.Made.{defined_object, extern_object}
 use Rattle.cxx_language.specs.Spaces.{namespace_at, using_at}
 
@@ -71,12 +72,22 @@ declared_by room said is_first from declarator =
     if said.is_extern then extern_object room said declarator from >>= alone else
     defined_object room said declarator from >>= alone))
 
+-- 8.3: what has qualifiers was declared before
+abbrev pub member_agrees : Said → Declarator → Reads CxxState (Unit {0})
+member_agrees said declarator state ahead =
+    if declarator.is_qualified then ask (agree_here said.is_typedef (name_in declarator) (declared_type declarator.layers said.of)) state ahead else got tt state ahead
+
+-- Behind it the reader stands where it stood before.
 unfoldable pub init_declarator_at : ℕ → Said → Bool → Reads CxxState Declares
 init_declarator_at room said is_first = do
+  outside ← standing
   from ← looked
-  declarator ← declarator_at (asked room).kinds (inner_at room).types naming.Required
+  declarator ← declarator_at (asked room).kinds (inner_at room).types naming.Qualified
   fits ← declared_fits said declarator
-  declared_by room said is_first from declarator
+  agrees ← member_agrees said declarator
+  one ← declared_by room said is_first from declarator
+  left ← ask (stand_in outside)
+  give one
 
 -- ---- simple declarations (clause 7)
 

@@ -9,6 +9,7 @@ use Rattle.cxx_model.specs.declared.token.TokenKind.{TokenKind}
 use Rattle.cxx_model.specs.Stops.{Faulty}
 use Rattle.cxx_model.specs.Text.Lexemes.{Lexeme}
 use Rattle.cxx_model.specs.Types.Trees.{CxxType}
+use Rattle.cxx_reading.specs.declared.specifier.Naming.{Naming}
 use Rattle.cxx_reading.specs.declared.specifier.Naming.TheVariants as naming
 use Rattle.cxx_reading.specs.declared.specifier.SpecifierPlace.{SpecifierPlace}
 use Rattle.cxx_reading.specs.declared.specifier.SpecifierPlace.TheVariants as where_
@@ -46,9 +47,9 @@ Gives read state ahead value after rest = read state ahead ≡ got value after r
 abbrev pub specifiers_of : ℕ → SpecifierPlace → Reads CxxState Specifiers
 specifiers_of room place = specifiers_at (asked room).kinds (inner_at room).types place
 
--- 8.3: a declarator with a name
-abbrev pub declarator_of : ℕ → Reads CxxState Declarator
-declarator_of room = declarator_at (asked room).kinds (inner_at room).types naming.Required
+-- 8.3: a declarator with a name, which may have qualifiers or not
+abbrev pub declarator_of : ℕ → Naming → Reads CxxState Declarator
+declarator_of room naming = declarator_at (asked room).kinds (inner_at room).types naming
 
 -- 8.5: the initializer of an object that has this name, this type and this declaration
 abbrev pub initializer_of : ℕ → Lexeme → CxxType → ℕ → Reads CxxState (List CxxTree)
@@ -95,8 +96,8 @@ pub data Part : Type 0 where
   a_namespace : ℕ → Part
   -- 7.3.2: another name of a namespace, from its `=` on
   an_alias : Ahead → Lexeme → Part
-  -- 7.3.4: from the word `using` on
-  a_directive : Part
+  -- 7.3.3, 7.3.4: from the word `using` on
+  a_using : Part
   -- clause 7: a declaration that is no linkage, and whether it counts as if it had the word `extern`
   a_simple_declaration : ℕ → Bool → Part
   -- clause 8: the declarators behind specifiers
@@ -104,7 +105,7 @@ pub data Part : Type 0 where
   -- 7.1: specifiers, with the values of the enumerators in them
   some_specifiers : ℕ → SpecifierPlace → Part
   -- 8.3: a declarator, with bounds and parameters
-  a_declarator : ℕ → Part
+  a_declarator : ℕ → Naming → Part
   -- 8.5: an initializer, from `=` or `(` on
   an_initializer : ℕ → Lexeme → CxxType → ℕ → Part
   -- 8.4: the statements of the body of a function, behind its `{`, with its end
@@ -133,9 +134,9 @@ pub data Part : Type 0 where
 -- it has no part in turn: expressions stand in it, or the name of a namespace
 abbrev pub IsInnermost : Part → Type 0
 IsInnermost (an_alias from name) = Unit {0}
-IsInnermost a_directive = Unit {0}
+IsInnermost a_using = Unit {0}
 IsInnermost (some_specifiers room place) = Unit {0}
-IsInnermost (a_declarator room) = Unit {0}
+IsInnermost (a_declarator room naming) = Unit {0}
 IsInnermost (an_initializer room name of number) = Unit {0}
 IsInnermost (an_expression room purpose.Whole) = Unit {0}
 IsInnermost (an_expression room purpose.Constant) = Unit {0}
@@ -153,11 +154,11 @@ IsStopped (a_declaration room) state ahead fault = declaration_at room state ahe
 IsStopped (some_declarations room so_far) state ahead fault = IsStoppedIn (inside_step (declaration_at room)) give so_far state ahead fault
 IsStopped (a_namespace room) state ahead fault = namespace_at (linkage_opened room) state ahead ≡ Err (Faulty fault)
 IsStopped (an_alias from name) state ahead fault = alias_at from name state ahead ≡ Err (Faulty fault)
-IsStopped a_directive state ahead fault = using_at state ahead ≡ Err (Faulty fault)
+IsStopped a_using state ahead fault = using_at state ahead ≡ Err (Faulty fault)
 IsStopped (a_simple_declaration room as_extern) state ahead fault = simple_declaration_at room as_extern state ahead ≡ Err (Faulty fault)
 IsStopped (some_declarators room said so_far) state ahead fault = IsStoppedIn (declarator_step room said) give_trees so_far state ahead fault
 IsStopped (some_specifiers room place) state ahead fault = specifiers_of room place state ahead ≡ Err (Faulty fault)
-IsStopped (a_declarator room) state ahead fault = declarator_of room state ahead ≡ Err (Faulty fault)
+IsStopped (a_declarator room naming) state ahead fault = declarator_of room naming state ahead ≡ Err (Faulty fault)
 IsStopped (an_initializer room name of number) state ahead fault = initializer_of room name of number state ahead ≡ Err (Faulty fault)
 IsStopped (a_body room) state ahead fault = body_of room state ahead ≡ Err (Faulty fault)
 IsStopped (some_statements room so_far) state ahead fault = IsStoppedIn (statement_step_of room) never_ended so_far state ahead fault
@@ -172,13 +173,13 @@ IsStopped (some_local_declarators room said so_far) state ahead fault = IsStoppe
 IsStopped (a_declared_condition room) state ahead fault = declared_condition_at room state ahead ≡ Err (Faulty fault)
 IsStopped (a_condition_initializer room name of number) state ahead fault = condition_initializer_of room name of number state ahead ≡ Err (Faulty fault)
 
--- 7.3: neither a namespace nor a directive is ahead
+-- 7.3: neither a namespace nor a directive or a using-declaration is ahead
 pub record IsNoSpace (ahead : Ahead) : Type 0 where
   pub no_namespace : is_keyword keyword.NAMESPACE (kind_ahead ahead) ≡ false
   pub no_using : is_keyword keyword.USING (kind_ahead ahead) ≡ false
 
--- 7.3.4: a directive is ahead
-pub record IsDirective (ahead : Ahead) : Type 0 where
+-- 7.3.3, 7.3.4: a using-declaration or a directive is ahead
+pub record IsUsing (ahead : Ahead) : Type 0 where
   pub no_namespace : is_keyword keyword.NAMESPACE (kind_ahead ahead) ≡ false
   pub is_using : is_keyword keyword.USING (kind_ahead ahead) ≡ true
 
@@ -253,7 +254,7 @@ pub record BeginsFor (state : CxxState) (ahead : Ahead) (entered : Unit {0} × C
 pub data Leads : Part → CxxState → Ahead → Part → CxxState → Ahead → Type 0 where
   -- 7.3: a namespace, another name of one, or a directive
   to_namespace : {room : ℕ} {state : CxxState} {ahead : Ahead} → is_keyword keyword.NAMESPACE (kind_ahead ahead) ≡ true → Leads (a_declaration room) state ahead (a_namespace room) state ahead
-  to_directive : {room : ℕ} {state : CxxState} {ahead : Ahead} → IsDirective ahead → Leads (a_declaration room) state ahead a_directive state ahead
+  to_using : {room : ℕ} {state : CxxState} {ahead : Ahead} → IsUsing ahead → Leads (a_declaration room) state ahead a_using state ahead
   in_space : {room : ℕ} {state after : CxxState} {ahead rest : Ahead} → OpensSpace state ahead after rest → Leads (a_namespace (suc room)) state ahead (some_declarations room []) after rest
   in_alias : {room : ℕ} {state : CxxState} {ahead : Ahead} → IsAlias ahead → Leads (a_namespace room) state ahead (an_alias ahead (alias_name ahead)) state (behind (behind ahead))
   -- 7.5: specifications of linkage are passed, if there are any
@@ -263,7 +264,7 @@ pub data Leads : Part → CxxState → Ahead → Part → CxxState → Ahead →
       → Leads (a_declaration room) state ahead (a_simple_declaration room true) after rest
   to_linked_namespace : {room : ℕ} {state after : CxxState} {ahead rest : Ahead} → IsLinked state ahead after rest → is_keyword keyword.NAMESPACE (kind_ahead rest) ≡ true
       → Leads (a_declaration room) state ahead (a_namespace room) after rest
-  to_linked_directive : {room : ℕ} {state after : CxxState} {ahead rest : Ahead} → IsLinked state ahead after rest → IsDirective rest → Leads (a_declaration room) state ahead a_directive after rest
+  to_linked_using : {room : ℕ} {state after : CxxState} {ahead rest : Ahead} → IsLinked state ahead after rest → IsUsing rest → Leads (a_declaration room) state ahead a_using after rest
   to_braces : {room : ℕ} {state after : CxxState} {ahead rest : Ahead} → IsNoSpace ahead → Gives linkages_passed state ahead true after rest → is_punct punct.LEFT_BRACE (kind_ahead rest) ≡ true
       → Leads (a_declaration (suc room)) state ahead (some_declarations room []) after (behind rest)
   next_declaration : {room : ℕ} {so_far more : List CxxTree} {state after : CxxState} {ahead rest : Ahead} → Gives (inside_step (declaration_at room) so_far) state ahead (More more) after rest
@@ -275,13 +276,13 @@ pub data Leads : Part → CxxState → Ahead → Part → CxxState → Ahead →
       → Leads (a_simple_declaration room as_extern) state ahead (some_declarators room (said_by as_extern specifiers) no_declarators) after rest
   next_declarator : {room : ℕ} {said : Said} {so_far more : Listed} {state after : CxxState} {ahead rest : Ahead} → Gives (declarator_step room said so_far) state ahead (More more) after rest
       → Leads (some_declarators room said so_far) state ahead (some_declarators room said more) after rest
-  in_declarator : {room : ℕ} {said : Said} {so_far : Listed} {state : CxxState} {ahead : Ahead} → Leads (some_declarators room said so_far) state ahead (a_declarator room) state ahead
+  in_declarator : {room : ℕ} {said : Said} {so_far : Listed} {state : CxxState} {ahead : Ahead} → Leads (some_declarators room said so_far) state ahead (a_declarator room naming.Qualified) state ahead
   -- 8.5: the object of a whole declarator is declared, and its initializer is ahead
-  to_initializer : {room number : ℕ} {said : Said} {so_far : Listed} {declarator : Declarator} {state between after : CxxState} {ahead rest : Ahead} → Gives (declarator_of room) state ahead declarator between rest
+  to_initializer : {room number : ℕ} {said : Said} {so_far : Listed} {declarator : Declarator} {state between after : CxxState} {ahead rest : Ahead} → Gives (declarator_of room naming.Qualified) state ahead declarator between rest
       → said.is_typedef ≡ false → is_function_type (declared_type declarator.layers said.of) ≡ false → Initializes said declarator between number after → begins_initializer rest ≡ true
       → Leads (some_declarators room said so_far) state ahead (an_initializer room (name_in declarator) (declared_type declarator.layers said.of) number) after rest
   -- 8.4: the body of the function of a whole first declarator begins, and its statements are ahead
-  to_body : {room : ℕ} {said : Said} {so_far : Listed} {declarator : Declarator} {state between after : CxxState} {ahead rest : Ahead} → so_far.is_first ≡ true → Gives (declarator_of (suc room)) state ahead declarator between rest
+  to_body : {room : ℕ} {said : Said} {so_far : Listed} {declarator : Declarator} {state between after : CxxState} {ahead rest : Ahead} → so_far.is_first ≡ true → Gives (declarator_of (suc room) naming.Qualified) state ahead declarator between rest
       → said.is_typedef ≡ false → is_function_type (declared_type declarator.layers said.of) ≡ true → BeginsBody said declarator between after → is_punct punct.LEFT_BRACE (kind_ahead rest) ≡ true
       → Leads (some_declarators (suc room) said so_far) state ahead (a_body room) after (behind rest)
   -- 6.3: statements, one after another
@@ -335,23 +336,23 @@ pub data Leads : Part → CxxState → Ahead → Part → CxxState → Ahead →
   to_local_declaration : {room : ℕ} {state after : CxxState} {ahead rest : Ahead} → Gives (beginning_of room) state ahead head.Declaration after rest → Leads (a_plain_statement room) state ahead (a_local_declaration room) after rest
   -- 7.3.2, 7.3.4: another name of a namespace, or a directive
   in_local_alias : {room : ℕ} {state : CxxState} {ahead : Ahead} → is_keyword keyword.NAMESPACE (kind_ahead ahead) ≡ true → IsAlias ahead → Leads (a_local_declaration room) state ahead (an_alias ahead (alias_name ahead)) state (behind (behind ahead))
-  to_local_directive : {room : ℕ} {state : CxxState} {ahead : Ahead} → IsDirective ahead → Leads (a_local_declaration room) state ahead a_directive state ahead
+  to_local_using : {room : ℕ} {state : CxxState} {ahead : Ahead} → IsUsing ahead → Leads (a_local_declaration room) state ahead a_using state ahead
   -- 6.7: specifiers, then declarators
   in_local_specifiers : {room : ℕ} {state : CxxState} {ahead : Ahead} → IsNoSpace ahead → Leads (a_local_declaration room) state ahead (some_specifiers room where_.Block) state ahead
   to_local_declarators : {room : ℕ} {specifiers : Specifiers} {state after : CxxState} {ahead rest : Ahead} → IsNoSpace ahead → Gives (specifiers_of room where_.Block) state ahead specifiers after rest
       → Leads (a_local_declaration room) state ahead (some_local_declarators room (said_by false specifiers) no_declarators) after rest
   next_local_declarator : {room : ℕ} {said : Said} {so_far more : Listed} {state after : CxxState} {ahead rest : Ahead} → Gives (local_step room said so_far) state ahead (More more) after rest
       → Leads (some_local_declarators room said so_far) state ahead (some_local_declarators room said more) after rest
-  in_local_declarator : {room : ℕ} {said : Said} {so_far : Listed} {state : CxxState} {ahead : Ahead} → Leads (some_local_declarators room said so_far) state ahead (a_declarator room) state ahead
-  to_local_initializer : {room : ℕ} {said : Said} {so_far : Listed} {declarator : Declarator} {state between : CxxState} {answer : ℕ × CxxState} {ahead rest : Ahead} → Gives (declarator_of room) state ahead declarator between rest → said.is_typedef ≡ false
+  in_local_declarator : {room : ℕ} {said : Said} {so_far : Listed} {state : CxxState} {ahead : Ahead} → Leads (some_local_declarators room said so_far) state ahead (a_declarator room naming.Required) state ahead
+  to_local_initializer : {room : ℕ} {said : Said} {so_far : Listed} {declarator : Declarator} {state between : CxxState} {answer : ℕ × CxxState} {ahead rest : Ahead} → Gives (declarator_of room naming.Required) state ahead declarator between rest → said.is_typedef ≡ false
       → is_function_type (declared_type declarator.layers said.of) ≡ false → said.is_extern ≡ false → define_object (name_in declarator) (declared_type declarator.layers said.of) between ≡ Ok answer → begins_initializer rest ≡ true
       → Leads (some_local_declarators room said so_far) state ahead (an_initializer room (name_in declarator) (declared_type declarator.layers said.of) answer.0) answer.1 rest
   -- 6.4: a condition is an expression, or declares an object
   in_condition : {room : ℕ} {state after : CxxState} {ahead rest : Ahead} → Gives (is_declaration_of room) state ahead false after rest → Leads (an_expression room purpose.Condition) state ahead (an_expression room purpose.Whole) after rest
   to_declared_condition : {room : ℕ} {state after : CxxState} {ahead rest : Ahead} → Gives (is_declaration_of room) state ahead true after rest → Leads (an_expression room purpose.Condition) state ahead (a_declared_condition room) after rest
   in_condition_specifiers : {room : ℕ} {state : CxxState} {ahead : Ahead} → Leads (a_declared_condition room) state ahead (some_specifiers room where_.TypeId) state ahead
-  to_condition_declarator : {room : ℕ} {specifiers : Specifiers} {state after : CxxState} {ahead rest : Ahead} → Gives (specifiers_of room where_.TypeId) state ahead specifiers after rest → Leads (a_declared_condition room) state ahead (a_declarator room) after rest
-  to_condition_initializer : {room : ℕ} {specifiers : Specifiers} {declarator : Declarator} {state between after : CxxState} {answer : ℕ × CxxState} {ahead middle rest : Ahead} → Gives (specifiers_of room where_.TypeId) state ahead specifiers between middle → Gives (declarator_of room) between middle declarator after rest
+  to_condition_declarator : {room : ℕ} {specifiers : Specifiers} {state after : CxxState} {ahead rest : Ahead} → Gives (specifiers_of room where_.TypeId) state ahead specifiers after rest → Leads (a_declared_condition room) state ahead (a_declarator room naming.Required) after rest
+  to_condition_initializer : {room : ℕ} {specifiers : Specifiers} {declarator : Declarator} {state between after : CxxState} {answer : ℕ × CxxState} {ahead middle rest : Ahead} → Gives (specifiers_of room where_.TypeId) state ahead specifiers between middle → Gives (declarator_of room naming.Required) between middle declarator after rest
       → is_function_type (declared_type declarator.layers (said_by false specifiers).of) ≡ false → define_object (name_in declarator) (declared_type declarator.layers (said_by false specifiers).of) after ≡ Ok answer
       → Leads (a_declared_condition room) state ahead (a_condition_initializer room (name_in declarator) (declared_type declarator.layers (said_by false specifiers).of) answer.0) answer.1 rest
 

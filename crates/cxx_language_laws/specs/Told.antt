@@ -7,6 +7,7 @@ use Rattle.cxx_model.specs.declared.fault.FaultText.TheVariants as says
 use Rattle.cxx_model.specs.declared.limits.TheConstants as limits
 use Rattle.cxx_model.specs.declared.lookup.Found.{Found}
 use Rattle.cxx_model.specs.declared.lookup.Found.TheVariants as sought
+use Rattle.cxx_model.specs.declared.place.Place.{Place}
 use Rattle.cxx_model.specs.declared.punct.TheConstants as punct
 use Rattle.cxx_model.specs.declared.stop.Fault.{Fault}
 use Rattle.cxx_model.specs.declared.types.FactId.{FactId}
@@ -16,16 +17,20 @@ use Rattle.cxx_model.specs.Stops.{Faulty}
 use Rattle.cxx_model.specs.Text.Lexemes.{Lexeme, first_place}
 use Rattle.cxx_meaning.specs.Conversions.Standard.{CxxOperand}
 use Rattle.cxx_meaning.specs.Lookups.Directives.{reached}
+use Rattle.cxx_meaning.specs.Lookups.Qualified.{searched}
 use Rattle.cxx_meaning.specs.Lookups.Scopes.{chain}
-use Rattle.cxx_meaning.specs.Lookups.Sightings.{both_functions}
-use Rattle.cxx_meaning.specs.Lookups.Wanted.{Wanted, any_name, is_wanted, namespaces_only, types_only}
-use Rattle.cxx_reading.specs.Declaring.{place_of_fact, scope_count}
+use Rattle.cxx_meaning.specs.Lookups.Sightings.{both_functions, standing}
+use Rattle.cxx_meaning.specs.Lookups.Wanted.{Wanted, any_name, before_colons}
+use Rattle.cxx_reading.specs.declared.region.Region.{Region}
+use Rattle.cxx_reading.specs.declared.region.Region.TheVariants as region
+use Rattle.cxx_reading.specs.Declaring.{scope_count}
 use Rattle.cxx_reading.specs.Linked.{scope_id}
+use Rattle.cxx_reading.specs.Paths.{first_region, name_in, place_of_fact, region_by, region_of, sought_in}
 use Rattle.cxx_reading.specs.Reads.{Ahead, Got, kind_ahead}
-use Rattle.cxx_reading.specs.Seen.{Numbered, declared_in, kept, sought_from}
+use Rattle.cxx_reading.specs.Seen.{Numbered}
 use Rattle.cxx_reading.specs.State.{CxxState, first_state, unit_scope}
-use Rattle.cxx_reading.specs.Tokens.{is_name, is_end, is_punct}
-use Rattle.cxx_reading.specs.Trees.{CxxTree}
+use Rattle.cxx_reading.specs.Tokens.{begins_name, behind_name, is_end, is_punct, is_whole_name, path_ahead}
+use Rattle.cxx_reading.specs.Trees.{CxxPath, CxxPathPart, CxxTree, last_part}
 use Rattle.cxx_reading.specs.Units.{with_part}
 use Rattle.cxx_phrases.specs.Arguments.{arguments_at}
 use Rattle.cxx_phrases.specs.Phrases.{Phrases, Inner}
@@ -50,21 +55,21 @@ abbrev pub IsChoiceText : FaultText → Type 0
 IsChoiceText text = (text ≡ says.NoViableFunction) ⊎ (text ≡ says.AmbiguousCall)
 
 -- 5.2.2, 3.4.2: a called name stands ahead without brackets, its arguments directly behind it, or a bracket does
-abbrev pub IsCalledSo : Ahead → Lexeme → Ahead → Bool → Type 0
-IsCalledSo ahead name opened true = ahead.tokens ≡ name ∷ opened.tokens
-IsCalledSo ahead name opened false = is_punct punct.LEFT_PARENTHESIS (kind_ahead ahead) ≡ true
+abbrev pub IsCalledSo : Ahead → Ahead → Ahead → Bool → Type 0
+IsCalledSo ahead named opened true = (ahead.tokens ≡ named.tokens) × ((behind_name named).tokens ≡ opened.tokens)
+IsCalledSo ahead named opened false = is_punct punct.LEFT_PARENTHESIS (kind_ahead ahead) ≡ true
 
--- 5.2.2: A call by a name stands ahead: the name, with brackets round it or none, and behind it arguments in brackets. These
--- are read from a state, and then reading stands in another.
+-- 5.2.2: A call by a name stands ahead: the name with its qualifiers, with brackets round it or none, and behind it arguments
+-- in brackets. These are read from a state, and then reading stands in another.
 pub record IsCall {S : Type 0} (asks : Phrases S) (inner : Inner S) (before : S) (ahead : Ahead) : Type 0 where
-  pub name : Lexeme
-  pub behind : List Lexeme
-  pub stands : EndsIn ahead.tokens (name ∷ behind)
-  pub named : is_name name.kind ≡ true
+  pub named : Ahead
+  pub stands : EndsIn ahead.tokens named.tokens
+  pub begins : begins_name named ≡ true
+  pub whole : is_whole_name named ≡ true
   pub opened : Ahead
-  pub follows : EndsIn behind opened.tokens
-  pub is_bare : Bool
-  pub so : IsCalledSo ahead name opened is_bare
+  pub follows : EndsIn (behind_name named).tokens opened.tokens
+  pub is_open : Bool
+  pub so : IsCalledSo ahead named opened is_open
   pub arguments : List CxxTree
   pub at : S
   pub rest : Ahead
@@ -74,73 +79,100 @@ pub record IsCall {S : Type 0} (asks : Phrases S) (inner : Inner S) (before : S)
 abbrev pub IsUnitCall : ℕ → CxxState → Ahead → Type 0
 IsUnitCall room before ahead = IsCall (phrases_at room) (inner_at room).phrases before ahead
 
--- 3.4.1, 7.3.4: what is found of the called name where its arguments are read
-abbrev pub called : {room : ℕ} {before : CxxState} {ahead : Ahead} → IsUnitCall room before ahead → Found
-called call = sought_from call.at.graph any_name call.at.here.scope (spelled call.name.spelling)
+-- the called name, with its qualifiers
+abbrev pub called : {room : ℕ} {before : CxxState} {ahead : Ahead} → IsUnitCall room before ahead → CxxPath
+called call = path_ahead call.named
+
+-- the place of its last part
+abbrev pub place_of_call : {room : ℕ} {before : CxxState} {ahead : Ahead} → IsUnitCall room before ahead → Place
+place_of_call call = (last_part (called call).parts).place
 
 -- what its arguments give
 abbrev pub operands : {room : ℕ} {before : CxxState} {ahead : Ahead} → IsUnitCall room before ahead → List CxxOperand
 operands call = judged_each answers call.arguments call.at
 
+-- 3.4.1, 3.4.3.2, 7.3.4: where its last part is looked up once its arguments are read, and what is found of it there is clear
+pub record IsFoundClear {room : ℕ} {before : CxxState} {ahead : Ahead} (call : IsUnitCall room before ahead) : Type 0 where
+  pub where_ : Region
+  pub qualifies : region_of call.at.graph call.at.here.scope (called call) ≡ Ok where_
+  pub clear : IsClear (sought_in call.at.graph any_name where_ (name_in (called call)))
+
 -- 3.4.2: what their types find of the called name
 abbrev pub called_by_types : {room : ℕ} {before : CxxState} {ahead : Ahead} → IsUnitCall room before ahead → List FactId
-called_by_types call = functions_by_types call.at.graph call.name.spelling call.is_bare (operands call)
+called_by_types call = functions_by_types call.at.graph (called call) call.is_open (operands call)
 
 -- 13.3.1: what the call may mean, but for the types that are hidden there
-abbrev pub meant : {room : ℕ} {before : CxxState} {ahead : Ahead} → IsUnitCall room before ahead → List Numbered
-meant call = values_of_call call.at.graph call.at.here.scope call.name.spelling call.is_bare (operands call)
+abbrev pub meant : {room : ℕ} {before : CxxState} {ahead : Ahead} (call : IsUnitCall room before ahead) → IsFoundClear call → List Numbered
+meant call clear = values_of_call call.at.graph call.at.here.scope clear.where_ (called call) call.is_open (operands call)
 
 -- 13.3: A true fault of the call, with its evidence: no function that it may mean is viable, each for its reason, or some
 -- are and none is better than every other one.
 pub data IsChoiceFault (before : CxxState) (ahead : Ahead) (fault : Fault) : Type 0 where
-  no_viable_function : (room : ℕ) (call : IsUnitCall room before ahead) → IsClear (called call) → NoneViable call.name.place (operands call) call.at.graph (meant call) (Faulty fault) → IsChoiceFault before ahead fault
-  ambiguous_call : (room : ℕ) (call : IsUnitCall room before ahead) → IsClear (called call) → IsAmbiguous call.name.place (operands call) call.at.graph (meant call) (Faulty fault) → IsChoiceFault before ahead fault
+  no_viable_function : (room : ℕ) (call : IsUnitCall room before ahead) (clear : IsFoundClear call) → NoneViable (place_of_call call) (operands call) call.at.graph (meant call clear) (Faulty fault) → IsChoiceFault before ahead fault
+  ambiguous_call : (room : ℕ) (call : IsUnitCall room before ahead) (clear : IsFoundClear call) → IsAmbiguous (place_of_call call) (operands call) call.at.graph (meant call clear) (Faulty fault) → IsChoiceFault before ahead fault
 
 -- ---- the fault of one name
 
--- where the fault is stands a name with this spelling
-pub record IsNamed (token : Lexeme) (fault : Fault) (word : List ℕ) : Type 0 where
-  pub named : is_name token.kind ≡ true
-  pub spelled_so : token.spelling ≡ word
-  pub is_at : token.place ≡ fault.place
+-- 3.4.3: exactly the parts before `::` are looked up for what may stand there
+abbrev pub IsWantedBefore : Wanted → List CxxPathPart → Type 0
+IsWantedBefore before_colons [] = ⊥
+IsWantedBefore before_colons (next ∷ others) = Unit {0}
+IsWantedBefore _ [] = Unit {0}
+IsWantedBefore _ (next ∷ others) = ⊥
 
--- 3.4: a name stands ahead, and what is found of it where the reader stands, as it is wanted there
-pub record IsSought (wanted : Wanted) (finds : Found) (at : CxxState) (ahead : Ahead) (fault : Fault) (word : List ℕ) : Type 0 where
-  pub token : Lexeme
-  pub behind : List Lexeme
-  pub stands : ahead.tokens ≡ token ∷ behind
-  pub is_named : IsNamed token fault word
-  pub finds_so : sought_from at.graph wanted at.here.scope (spelled word) ≡ finds
+-- 3.4: A part of a name is looked up from a scope, the last one or one before `::`, at the place of the fault: what its
+-- qualifiers say of where it is looked up, and what is found of it there, as it is wanted.
+pub record IsSought (graph : CxxGraph) (scope : ℕ) (path : CxxPath) (wanted : Wanted) (finds : Found) (fault : Fault) (word : List ℕ) : Type 0 where
+  pub before : List CxxPathPart
+  pub part : CxxPathPart
+  pub others : List CxxPathPart
+  pub parts : path.parts ≡ before ++ part ∷ others
+  pub is_wanted_so : IsWantedBefore wanted others
+  pub spelled_so : part.word ≡ word
+  pub is_at : part.place ≡ fault.place
+  pub where_ : Region
+  pub qualifies : region_by graph (first_region scope path.global) (before ++ part ∷ []) ≡ Ok where_
+  pub finds_so : sought_in graph wanted where_ (spelled word) ≡ finds
 
--- 3.4.1, 3.4.2: a call stands ahead, and where its arguments are read nothing is found of its name, nor do their types find
--- anything
-pub record IsUnknownCall (before : CxxState) (ahead : Ahead) (fault : Fault) (word : List ℕ) : Type 0 where
+-- a name stands ahead, and a part of it is looked up where the reader stands
+pub record IsNamed (wanted : Wanted) (finds : Found) (at : CxxState) (ahead : Ahead) (fault : Fault) (word : List ℕ) : Type 0 where
+  pub begins : begins_name ahead ≡ true
+  pub whole : is_whole_name ahead ≡ true
+  pub is_sought : IsSought at.graph at.here.scope (path_ahead ahead) wanted finds fault word
+
+-- 3.4.1, 3.4.2: a call stands ahead, and where its arguments are read nothing is found of a part of its name; nor do their
+-- types find anything
+pub record IsUnknownCall (before : CxxState) (ahead : Ahead) (wanted : Wanted) (fault : Fault) (word : List ℕ) : Type 0 where
   pub room : ℕ
   pub call : IsUnitCall room before ahead
-  pub is_named : IsNamed call.name fault word
-  pub unknown : called call ≡ sought.Empty
+  pub is_sought : IsSought call.at.graph call.at.here.scope (called call) wanted sought.Empty fault word
   pub by_types : called_by_types call ≡ []
 
--- 3.4: a name that is not declared: in an expression, of a call, of a type behind `enum` (3.4.4), or of a namespace in an
--- alias or a directive (3.4.6)
+-- 3.4: a part of a name that is not declared: of a name in an expression or a using-declaration, of a type behind `enum`
+-- (3.4.4), of a namespace in an alias or a directive (3.4.6), or of a called name; any of them may stand before `::` (3.4.3)
 pub data IsUnknown (at : CxxState) (ahead : Ahead) (fault : Fault) (word : List ℕ) : Type 0 where
-  unknown_name : IsSought any_name sought.Empty at ahead fault word → IsUnknown at ahead fault word
-  unknown_call : IsUnknownCall at ahead fault word → IsUnknown at ahead fault word
-  unknown_type : IsSought types_only sought.Empty at ahead fault word → IsUnknown at ahead fault word
-  unknown_space : IsSought namespaces_only sought.Empty at ahead fault word → IsUnknown at ahead fault word
+  unknown_name : (wanted : Wanted) → IsNamed wanted sought.Empty at ahead fault word → IsUnknown at ahead fault word
+  unknown_call : (wanted : Wanted) → IsUnknownCall at ahead wanted fault word → IsUnknown at ahead fault word
 
 -- 3.4.1: No scope from one outward declares a name as it is wanted, so the scope of the unit does not (3.3.5), nor does a
--- namespace that directives of one of them reach (7.3.4).
-pub record IsNotAround (graph : CxxGraph) (wanted : Wanted) (scope : ℕ) (name : CxxName) : Type 0 where
-  pub outward : (one : ScopeId) → Contains (chain graph.facts (scope_id scope)) one → kept (is_wanted graph wanted) (declared_in graph one.0 name) ≡ []
-  pub by_directives : (one space : ScopeId) → Contains (chain graph.facts (scope_id scope)) one → Contains (reached graph.facts (length graph.facts) one) space → kept (is_wanted graph wanted) (declared_in graph space.0 name) ≡ []
-  pub in_unit : kept (is_wanted graph wanted) (declared_in graph unit_scope.scope name) ≡ []
+-- namespace that directives of one of them reach (7.3.4). A using-declaration declares what it brings (7.3.3).
+pub record IsNotAround (graph : CxxGraph) (wanted : Wanted) (scope : ScopeId) (name : CxxName) : Type 0 where
+  pub outward : (one : ScopeId) → Contains (chain graph.facts scope) one → standing graph (length graph.facts) wanted name one ≡ []
+  pub by_directives : (one space : ScopeId) → Contains (chain graph.facts scope) one → Contains (reached graph.facts (length graph.facts) one) space → standing graph (length graph.facts) wanted name space ≡ []
+  pub in_unit : standing graph (length graph.facts) wanted name (scope_id unit_scope.scope) ≡ []
+
+-- 3.4.3.2: a namespace does not declare a name as it is wanted, nor does one that is searched by its directives
+pub record IsNotInside (graph : CxxGraph) (wanted : Wanted) (space : ScopeId) (name : CxxName) : Type 0 where
+  pub itself : standing graph (length graph.facts) wanted name space ≡ []
+  pub by_directives : (one : ScopeId) → Contains (searched graph (length graph.facts) wanted name space) one → standing graph (length graph.facts) wanted name one ≡ []
+
+abbrev pub IsNotThere : CxxGraph → Wanted → Region → CxxName → Type 0
+IsNotThere graph wanted (region.Outward scope) name = IsNotAround graph wanted scope name
+IsNotThere graph wanted (region.Inside space) name = IsNotInside graph wanted space name
 
 abbrev pub IsNowhere : {at : CxxState} {ahead : Ahead} {fault : Fault} {word : List ℕ} → IsUnknown at ahead fault word → Type 0
-IsNowhere {at = at} {word = word} (unknown_name is) = IsNotAround at.graph any_name at.here.scope (spelled word)
-IsNowhere {word = word} (unknown_call is) = IsNotAround is.call.at.graph any_name is.call.at.here.scope (spelled word)
-IsNowhere {at = at} {word = word} (unknown_type is) = IsNotAround at.graph types_only at.here.scope (spelled word)
-IsNowhere {at = at} {word = word} (unknown_space is) = IsNotAround at.graph namespaces_only at.here.scope (spelled word)
+IsNowhere {at = at} {word = word} (unknown_name wanted is) = IsNotThere at.graph wanted is.is_sought.where_ (spelled word)
+IsNowhere {word = word} (unknown_call wanted is) = IsNotThere is.call.at.graph wanted is.is_sought.where_ (spelled word)
 
 -- 3.4: two different declarations, no overloads, that are found, and their places in the evidence
 pub record AreTwo (graph : CxxGraph) (one two : FactId) (fault : Fault) : Type 0 where
@@ -149,10 +181,11 @@ pub record AreTwo (graph : CxxGraph) (one two : FactId) (fault : Fault) : Type 0
   pub no_overloads : both_functions graph one two ≡ false
   pub places : fault.evidence ≡ evidence.Found (place_of_fact graph one.0) ∷ evidence.Found (place_of_fact graph two.0) ∷ []
 
--- 3.4, 7.3.4: a name is ambiguous where it stands: two entities are found that it could mean, and they are no overloads
+-- 3.4, 7.3.4: a part of a name is ambiguous where it stands: two entities are found that it could mean, and they are no
+-- overloads
 pub data IsTwofold (at : CxxState) (ahead : Ahead) (fault : Fault) (word : List ℕ) : Type 0 where
-  twofold_name : (wanted : Wanted) (one two : FactId) → IsSought wanted (sought.Ambiguous one two) at ahead fault word → AreTwo at.graph one two fault → IsTwofold at ahead fault word
-  twofold_call : (room : ℕ) (one two : FactId) (call : IsUnitCall room at ahead) → IsNamed call.name fault word → called call ≡ sought.Ambiguous one two → AreTwo call.at.graph one two fault → IsTwofold at ahead fault word
+  twofold_name : (wanted : Wanted) (one two : FactId) → IsNamed wanted (sought.Ambiguous one two) at ahead fault word → AreTwo at.graph one two fault → IsTwofold at ahead fault word
+  twofold_call : (room : ℕ) (wanted : Wanted) (one two : FactId) (call : IsUnitCall room at ahead) → IsSought call.at.graph call.at.here.scope (called call) wanted (sought.Ambiguous one two) fault word → AreTwo call.at.graph one two fault → IsTwofold at ahead fault word
 
 -- ---- the fault of a unit
 
@@ -180,9 +213,19 @@ pub record IsGrown (before at : CxxState) : Type 0 where
   pub own : List CxxFact
   pub declared : at.graph ≡ record before.graph { facts = before.graph.facts ++ own }
 
--- 3.3.2: a state stands in the same scope as another, or in one of parameters that begins later
-abbrev pub IsScopeSince : CxxState → CxxState → Type 0
-IsScopeSince before at = (at.here.scope ≡ before.here.scope) ⊎ (scope_count before.graph ≤ at.here.scope)
+-- 3.4.1, 8.3: a state stands in the namespace that the qualifiers of a name ahead of another state mean
+pub record IsInside (before : CxxState) (from : Ahead) (at : CxxState) : Type 0 where
+  pub named : Ahead
+  pub stands : EndsIn from.tokens named.tokens
+  pub begins : begins_name named ≡ true
+  pub space : ScopeId
+  pub means : region_of before.graph before.here.scope (path_ahead named) ≡ Ok (region.Inside space)
+  pub inside : at.here.scope ≡ space.0
+
+-- 3.3.2: a state stands in the same scope as another, or in one of parameters that begins later, or in a namespace whose
+-- member is declared outside of it
+abbrev pub IsScopeSince : CxxState → Ahead → CxxState → Type 0
+IsScopeSince before from at = (at.here.scope ≡ before.here.scope) ⊎ ((scope_count before.graph ≤ at.here.scope) ⊎ IsInside before from at)
 
 -- Where the reading of a unit stops: in which declaration, and in which part of that, in which state and with which tokens
 -- ahead. Within that part a place is reached in a state that keeps what was declared and may have more, and with the last of
@@ -197,7 +240,7 @@ pub record StopsAt (tokens : List Lexeme) (fault : Fault) : Type 0 where
   pub at : CxxState
   pub ahead : Ahead
   pub grown : IsGrown before at
-  pub scope : IsScopeSince before at
+  pub scope : IsScopeSince before from at
   pub part_stands : EndsIn declaration.ahead.tokens from.tokens
   pub stands : EndsIn from.tokens ahead.tokens
 

@@ -12,7 +12,6 @@ use Rattle.cxx_model.specs.declared.types.EnumId.{EnumId}
 use Rattle.cxx_model.specs.declared.types.FactId.{FactId}
 use Rattle.cxx_model.specs.declared.types.ScopeId.{ScopeId}
 use Rattle.cxx_model.specs.Facts.Declarations.{facts_at, spelled}
-use Rattle.cxx_model.specs.Facts.Graph.{counted, enumerations}
 use Rattle.cxx_model.specs.Types.Trees.{CxxType}
 use Rattle.cxx_meaning.specs.Conversions.Enumerations.{values_in}
 use Rattle.cxx_reading.specs.Seen.{Numbered, declared_from}
@@ -58,6 +57,11 @@ abbrev pub block_by : ℕ → Option Noted → Option (ScopeId × ScopeId)
 block_by number None = None
 block_by number (Some noted) = if is_outermost_kind noted.kind then Some (noted.parent, record { 0 = number }) else None
 
+-- 7.2: the scope of an enumeration
+abbrev pub enumeration_by : ScopeId → Entity → Option ScopeId
+enumeration_by scope (entity.Enumeration number) = Some scope
+enumeration_by scope _ = None
+
 -- 7.3.4: the namespace that a directive nominates, under the scope of the directive
 abbrev pub directive_by : ScopeId → Entity → Option (ScopeId × ScopeId)
 directive_by scope (entity.Directive nominated) = Some (scope, nominated)
@@ -101,6 +105,11 @@ abbrev pub scopes_of : List Fact → List Noted
 scopes_of [] = []
 scopes_of (fact ∷ facts) = option_to_list (noted_by fact.scope fact.what) ++ scopes_of facts
 
+-- 7.2: the scopes of the enumerations
+abbrev pub enumeration_scopes : List Fact → List ScopeId
+enumeration_scopes [] = []
+enumeration_scopes (fact ∷ facts) = option_to_list (enumeration_by fact.scope fact.what) ++ enumeration_scopes facts
+
 -- 3.3.2: the outermost blocks of functions that a scope holds, where the first scope of a list has a number
 abbrev pub blocks_from : ℕ → ℕ → List Noted → List ScopeId
 blocks_from number scope [] = []
@@ -123,7 +132,7 @@ pub record KeepsSpaces (spaces : Spaces) (facts : List Fact) : Type 0 where
 pub record Keeps (kept : Kept) (facts : List Fact) : Type 0 where
   pub scopes : kept.scopes.items ≡ scopes_of facts
   pub blocks : (scope : ScopeId) → row same_scope kept.blocks.rows.entries scope ≡ blocks_from zero scope.0 (scopes_of facts)
-  pub enumerations : kept.enumerations ≡ enumerations facts
+  pub enumerations : kept.enumerations.items ≡ enumeration_scopes facts
   pub values : (number : EnumId) (types : List CxxType) → row same_enumeration kept.values.rows.entries number ≡ values_in number.0 (facts_at types facts)
   pub spaces : KeepsSpaces kept.spaces facts
 
@@ -148,7 +157,7 @@ pub record AreSameSpaces (old new : Spaces) : Type 0 where
 pub record HasKept (old new : Kept) (one : Entry) : Type 0 where
   pub scopes : new.scopes.items ≡ old.scopes.items ++ option_to_list one.noted
   pub blocks : IsMoreBy same_scope old.blocks.rows.entries new.blocks.rows.entries one.block
-  pub enumerations : new.enumerations ≡ counted one.is_enumeration old.enumerations
+  pub enumerations : new.enumerations.items ≡ old.enumerations.items ++ option_to_list one.enumeration
   pub values : IsMoreBy same_enumeration old.values.rows.entries new.values.rows.entries one.value
   pub spaces : HasSpaces old.spaces new.spaces one.space
 
@@ -156,7 +165,7 @@ pub record HasKept (old new : Kept) (one : Entry) : Type 0 where
 pub record AreSameKept (old new : Kept) : Type 0 where
   pub scopes : new.scopes.items ≡ old.scopes.items
   pub blocks : AreSame same_scope old.blocks.rows.entries new.blocks.rows.entries
-  pub enumerations : new.enumerations ≡ old.enumerations
+  pub enumerations : new.enumerations.items ≡ old.enumerations.items
   pub values : AreSame same_enumeration old.values.rows.entries new.values.rows.entries
   pub spaces : AreSameSpaces old.spaces new.spaces
 

@@ -1,5 +1,5 @@
 -- The spelled names of declarations, each with its declarations by scope.
-use Rattle.std.specs.Prelude.{ℕ, ◌≡◌, ◌≤◌, Bool, true, ◌&&◌, nat_eq, List, [], ◌++◌, length, position, Option, Some, None}
+use Rattle.std.specs.Prelude.{ℕ, ◌≡◌, ◌≤◌, Bool, true, false, ◌&&◌, nat_eq, if◌then◌else◌, List, [], ◌∷◌, ◌++◌, length, position, Option, Some, None}
 use Rattle.std.specs.Global.{Vec}
 use Rattle.std.specs.Str.{bytes_eq}
 use Rattle.cxx_model.specs.declared.facts.Fact.{Fact}
@@ -36,6 +36,20 @@ IsSound words = (key : Spelling) → length words.spellings.keys ≤ key.number 
 -- each spelling keeps its number
 abbrev pub KnowsMore : List (Vec ℕ) → List (Vec ℕ) → Type 0
 KnowsMore old new = (more : List (Vec ℕ)) × (new ≡ old ++ more)
+
+-- ---- what one more declaration changes
+
+abbrev pub is_text : Name → List ℕ → Bool
+is_text (name.Spelled word) other = bytes_eq word other
+is_text _ other = false
+
+-- one more is filed under a scope and a name, where that is spelled, behind what was there
+abbrev pub Files : Words → Words → ScopeId → Name → FactId → Type 0
+Files old new scope name number = (other : ScopeId) (word : List ℕ) → word_row new other word ≡ (if nat_eq scope.0 other.0 && is_text name word then word_row old other word ++ number ∷ [] else word_row old other word)
+
+-- the same is filed under each scope and word
+abbrev pub AreSameRows : Words → Words → Type 0
+AreSameRows old new = (scope : ScopeId) (word : List ℕ) → word_row new scope word ≡ word_row old scope word
 
 -- ---- what one more fact changes
 

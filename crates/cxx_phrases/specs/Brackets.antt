@@ -1,15 +1,15 @@
 -- What a `(` begins where an operand may stand, told by what stands behind it (5.1, 5.4, 8.2, 13.3.1.1.1).
-use Rattle.std.specs.Prelude.{ℕ, suc, Bool, true, false, if◌then◌else◌, Option, Some, None}
+use Rattle.std.specs.Prelude.{ℕ, suc, Bool, true, false, ◌&&◌, if◌then◌else◌, Option, Some, None}
 use Rattle.cxx_model.specs.declared.punct.TheConstants as punct
 use Rattle.cxx_model.specs.declared.stop.LimitKind.TheVariants.{Nesting}
-use Rattle.cxx_model.specs.Text.Lexemes.{Lexeme}
 use Rattle.cxx_phrases.specs.declared.shape.TypeShape.{TypeShape}
 use Rattle.cxx_phrases.specs.declared.shape.TypeShape.TheVariants as shape
 use Rattle.cxx_phrases.specs.Operators.{begins_expression}
 use Rattle.cxx_phrases.specs.Phrases.{Inner}
 use Rattle.cxx_reading.specs.Reads.{Reads, Turn, More, Done, ◌>>=◌, got, give, limited, kind_ahead, behind, repeat}
 use Rattle.cxx_reading.specs.Shapes.{look, past}
-use Rattle.cxx_reading.specs.Tokens.{is_punct, is_plain_name, token_taken}
+use Rattle.cxx_reading.specs.Tokens.{is_punct, is_whole_name, begins_name, behind_name, path_ahead}
+use Rattle.cxx_reading.specs.Trees.{CxxPath}
 
 -- ---- a called name in brackets alone (13.3.1.1.1)
 
@@ -38,18 +38,20 @@ give_true so_far = give true
 unfoldable pub closed_passed : {S : Type 0} → ℕ → Reads S Bool
 closed_passed count = repeat closed_step give_true count tt
 
-abbrev pub called_by : {S : Type 0} → Lexeme → Bool → Reads S (Option Lexeme)
-called_by name true state ahead = got (if is_punct punct.LEFT_PARENTHESIS (kind_ahead ahead) then Some name else None) state ahead
-called_by name false state ahead = got None state ahead
+abbrev pub called_by : {S : Type 0} → CxxPath → Bool → Reads S (Option CxxPath)
+called_by path true state ahead = got (if is_punct punct.LEFT_PARENTHESIS (kind_ahead ahead) then Some path else None) state ahead
+called_by path false state ahead = got None state ahead
 
-unfoldable pub name_closed : {S : Type 0} → ℕ → Lexeme → Reads S (Option Lexeme)
-name_closed count name = closed_passed count >>= called_by name
+unfoldable pub name_closed : {S : Type 0} → ℕ → CxxPath → Reads S (Option CxxPath)
+name_closed count path = closed_passed count >>= called_by path
 
-unfoldable pub name_opened : {S : Type 0} → ℕ → Reads S (Option Lexeme)
-name_opened count state ahead = if is_plain_name ahead then (token_taken >>= name_closed count) state ahead else got None state ahead
+-- a name, with qualifiers or without
+unfoldable pub name_opened : {S : Type 0} → ℕ → Reads S (Option CxxPath)
+name_opened count state ahead =
+    if begins_name ahead && is_whole_name ahead then name_closed count (path_ahead ahead) state (behind_name ahead) else got None state ahead
 
 -- the name that stands in brackets alone before a `(`, where one does
-unfoldable pub called_name : {S : Type 0} → ℕ → Reads S (Option Lexeme)
+unfoldable pub called_name : {S : Type 0} → ℕ → Reads S (Option CxxPath)
 called_name room = opened_passed room >>= name_opened
 
 -- ---- casts (5.4)

@@ -3,15 +3,12 @@ use Rattle.std.specs.Prelude.{ℕ, List, [], ◌∷◌, ◌++◌, Option, Some, 
 use Rattle.cxx_model.specs.declared.place.Place.{Place}
 use Rattle.cxx_model.specs.declared.token.TokenKind.{TokenKind}
 use Rattle.cxx_model.specs.declared.token.TokenKind.TheVariants.{Text}
-use Rattle.cxx_model.specs.Text.Lexemes.{Lexeme}
 use Rattle.cxx_model.specs.Types.Trees.{CxxType}
 use Rattle.cxx_phrases.specs.Productions as phrase
 use Rattle.cxx_reading.specs.Labels.{label_from}
 use Rattle.cxx_reading.specs.Productions as production
 use Rattle.cxx_reading.specs.Reads.{Ahead, kind_ahead, word_ahead}
-use Rattle.cxx_reading.specs.Specifiers.{path_of}
-use Rattle.cxx_reading.specs.Tokens.{path_ahead}
-use Rattle.cxx_reading.specs.Trees.{CxxTree, tree_of}
+use Rattle.cxx_reading.specs.Trees.{CxxPath, CxxTree, last_part, tree_of}
 use Rattle.cxx_strings.specs.SideBySide.{side_by_side}
 
 -- 2.13.4: strings side by side are one
@@ -23,17 +20,17 @@ literal_text _ word = word
 abbrev pub literal_tree : Ahead → Ahead → CxxTree
 literal_tree from to = tree_of (label_from production.literal (literal_text (kind_ahead from) (word_ahead from)) from to) []
 
--- 5.1
-abbrev pub name_tree : Ahead → Ahead → CxxTree
-name_tree from to = tree_of (record (label_from phrase.name [] from to) { path = Some (path_ahead from) }) []
+-- 5.1: its place is that of its last part
+abbrev pub name_tree : CxxPath → Ahead → Ahead → CxxTree
+name_tree path from to = tree_of (record (label_from phrase.name [] from to) { place = (last_part path.parts).place; path = Some path }) []
 
 -- 5.1
 abbrev pub parenthesis_tree : CxxTree → Ahead → Ahead → CxxTree
 parenthesis_tree inside from to = tree_of (label_from phrase.parenthesis [] from to) (inside ∷ [])
 
 -- 5.2.2: a call by a name; the spelling tells whether the name stands in brackets
-abbrev pub call_tree : List ℕ → Lexeme → List CxxTree → Ahead → Ahead → CxxTree
-call_tree spelling name arguments from to = tree_of (record (label_from production.call spelling from to) { place = name.place; path = Some (path_of name) }) arguments
+abbrev pub call_tree : List ℕ → CxxPath → List CxxTree → Ahead → Ahead → CxxTree
+call_tree spelling path arguments from to = tree_of (record (label_from production.call spelling from to) { place = (last_part path.parts).place; path = Some path }) arguments
 
 -- 5.2.2: a call of what is no name
 abbrev pub called_tree : CxxTree → List CxxTree → Ahead → Ahead → CxxTree

@@ -13,7 +13,7 @@ use Rattle.cxx_reading.specs.declared.specifier.SpecifierPlace.TheVariants as wh
 use Rattle.cxx_reading.specs.Declarators.{Specifiers, Declarator, declared_type, refused_in, is_refused}
 use Rattle.cxx_reading.specs.Kinds.{Kinds, Readers}
 use Rattle.cxx_reading.specs.Reads.{Reads, Asks, ◌>>=◌, got, give, fault_at, kind_ahead, behind}
-use Rattle.cxx_reading.specs.Shapes.{Run, no_type, a_type, surely, Outline, Fits, fits, fits_not, fits_surely, run_passed, prefix_passed, suffixes_by}
+use Rattle.cxx_reading.specs.Shapes.{Run, no_type, a_type, surely, Outline, Fits, fits, fits_not, run_passed, prefix_passed, suffixes_by}
 use Rattle.cxx_reading.specs.Specifiers.{specifiers_at}
 use Rattle.cxx_reading.specs.Syntax.{declarator_at, readers, specified_type}
 use Rattle.cxx_reading.specs.Tokens.{is_punct}
@@ -44,11 +44,10 @@ type_id_at asks inner = do
 abbrev pub closed_by : {S : Type 0} → Fits → Reads S TypeShape
 closed_by fits state ahead = if is_punct punct.RIGHT_PARENTHESIS (kind_ahead ahead) then got type_shape.Closed state (behind ahead) else got type_shape.NoType state ahead
 closed_by fits_not state ahead = got type_shape.NoType state ahead
-closed_by fits_surely state ahead = got type_shape.Surely state ahead
 
 -- the declarator of a type has no name
-abbrev pub abstract_by : {S : Type 0} → Readers S → Outline × Bool → Reads S TypeShape
-abstract_by inner outline = if outline.0.is_named then give type_shape.NoType else (suffixes_by inner outline.0 outline.1 >>= closed_by)
+abbrev pub abstract_by : {S : Type 0} → Readers S → Outline → Reads S TypeShape
+abstract_by inner outline = if outline.is_named then give type_shape.NoType else (suffixes_by inner outline >>= closed_by)
 
 abbrev pub shape_by : {S : Type 0} → Kinds S → Readers S → Run → Reads S TypeShape
 shape_by asks inner no_type = give type_shape.NoType

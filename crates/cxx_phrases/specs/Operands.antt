@@ -4,7 +4,6 @@ use Rattle.cxx_model.specs.declared.keyword.TheConstants as keyword
 use Rattle.cxx_model.specs.declared.punct.TheConstants as punct
 use Rattle.cxx_model.specs.declared.tree.Kind.{Kind}
 use Rattle.cxx_model.specs.declared.tree.Kind.TheVariants as kind
-use Rattle.cxx_model.specs.Text.Lexemes.{Lexeme}
 use Rattle.cxx_model.specs.Types.Trees.{CxxType}
 use Rattle.cxx_phrases.specs.declared.level.Level.TheVariants as level
 use Rattle.cxx_phrases.specs.declared.shape.TypeShape.{TypeShape}
@@ -17,9 +16,8 @@ use Rattle.cxx_phrases.specs.Phrases.{Phrases, Inner}
 use Rattle.cxx_phrases.specs.Primary.{called_at, parenthesis_at, primary_at}
 use Rattle.cxx_reading.specs.Reads.{Reads, Ahead, Turn, More, Done, ◌>>=◌, got, give, ask, looked, taken, tokens, kind_ahead, count_ahead, repeat}
 use Rattle.cxx_reading.specs.Shapes.{look, past}
-use Rattle.cxx_reading.specs.Specifiers.{path_of}
 use Rattle.cxx_reading.specs.Tokens.{is_punct, is_keyword, punct_taken, not_built}
-use Rattle.cxx_reading.specs.Trees.{CxxTree}
+use Rattle.cxx_reading.specs.Trees.{CxxPath, CxxTree}
 
 -- ---- postfix expressions (5.2)
 
@@ -88,20 +86,20 @@ unfoldable pub cast_or_parenthesis : {S : Type 0} → Phrases S → Inner S → 
 cast_or_parenthesis asks inner = begins_cast inner >>= cast_by asks inner
 
 -- 13.3.1.1.1: a call by the name that stands in brackets from `from` on; what is ahead is the bracket of its arguments
-unfoldable pub called_part : {S : Type 0} → Phrases S → Inner S → Ahead → Lexeme → Reads S CxxTree
-called_part asks inner from name = called_at asks inner (codes "(") from name >>= postfixes_at asks inner from
+unfoldable pub called_part : {S : Type 0} → Phrases S → Inner S → Ahead → CxxPath → Reads S CxxTree
+called_part asks inner from path = called_at asks inner (codes "(") from path >>= postfixes_at asks inner from
 
 -- the name of a type is not called, nor is that of a namespace
-abbrev pub called_by : {S : Type 0} → Phrases S → Inner S → Ahead → Lexeme → Kind → Reads S CxxTree
-called_by asks inner from name kind.OfType state rest = cast_or_parenthesis asks inner state from
-called_by asks inner from name kind.Space state rest = cast_or_parenthesis asks inner state from
-called_by asks inner from name _ state rest = called_part asks inner from name state rest
+abbrev pub called_by : {S : Type 0} → Phrases S → Inner S → Ahead → CxxPath → Kind → Reads S CxxTree
+called_by asks inner from path kind.OfType state rest = cast_or_parenthesis asks inner state from
+called_by asks inner from path kind.Space state rest = cast_or_parenthesis asks inner state from
+called_by asks inner from path _ state rest = called_part asks inner from path state rest
 
-unfoldable pub called_or_not : {S : Type 0} → Phrases S → Inner S → Ahead → Lexeme → Reads S CxxTree
-called_or_not asks inner from name = ask (asks.kind (path_of name)) >>= called_by asks inner from name
+unfoldable pub called_or_not : {S : Type 0} → Phrases S → Inner S → Ahead → CxxPath → Reads S CxxTree
+called_or_not asks inner from path = ask (asks.kind path) >>= called_by asks inner from path
 
-abbrev pub bracket_by : {S : Type 0} → Phrases S → Inner S → Ahead → Option Lexeme → Reads S CxxTree
-bracket_by asks inner from (Some name) state rest = called_or_not asks inner from name state rest
+abbrev pub bracket_by : {S : Type 0} → Phrases S → Inner S → Ahead → Option CxxPath → Reads S CxxTree
+bracket_by asks inner from (Some path) state rest = called_or_not asks inner from path state rest
 bracket_by asks inner from None state rest = cast_or_parenthesis asks inner state from
 
 -- what begins with `(`

@@ -4,7 +4,6 @@ use Rattle.cxx_model.specs.declared.base.Base.{Base}
 use Rattle.cxx_model.specs.declared.punct.TheConstants as punct
 use Rattle.cxx_model.specs.declared.tree.Kind.{Kind}
 use Rattle.cxx_model.specs.declared.tree.Kind.TheVariants as kind
-use Rattle.cxx_model.specs.Text.Lexemes.{Lexeme}
 use Rattle.cxx_model.specs.Types.Trees.{CxxType, fundamental}
 use Rattle.cxx_phrases.specs.declared.level.Level.TheVariants as level
 use Rattle.cxx_phrases.specs.Arguments.{arguments_at}
@@ -13,8 +12,8 @@ use Rattle.cxx_phrases.specs.Operators.{is_literal, is_cast_word, base_of_kind}
 use Rattle.cxx_phrases.specs.Phrases.{Phrases, Inner}
 use Rattle.cxx_reading.specs.Constants.{no_expression}
 use Rattle.cxx_reading.specs.Reads.{Reads, Ahead, ◌>>=◌, give, ask, looked, taken, tokens, kind_ahead, word_ahead, behind}
-use Rattle.cxx_reading.specs.Tokens.{is_punct, is_plain_name, path_ahead, token_taken, punct_taken, refused}
-use Rattle.cxx_reading.specs.Trees.{CxxTree}
+use Rattle.cxx_reading.specs.Tokens.{is_punct, begins_name, behind_name, kind_of_name, name_taken, path_ahead, path_taken, punct_taken, refused}
+use Rattle.cxx_reading.specs.Trees.{CxxPath, CxxTree}
 
 -- 2.13
 unfoldable pub literal_part : {S : Type 0} → Phrases S → Reads S CxxTree
@@ -30,27 +29,27 @@ literal_part asks = do
 unfoldable pub name_at : {S : Type 0} → Phrases S → Reads S CxxTree
 name_at asks = do
   from ← looked
-  token ← taken
+  path ← path_taken
   to ← looked
-  ask (asks.whole (name_tree from to))
+  ask (asks.whole (name_tree path from to))
 
 -- 5.2.2: a call by a name, from its bracket on; it is asked whole, its name with it
-unfoldable pub called_at : {S : Type 0} → Phrases S → Inner S → List ℕ → Ahead → Lexeme → Reads S CxxTree
-called_at asks inner spelling from name = do
+unfoldable pub called_at : {S : Type 0} → Phrases S → Inner S → List ℕ → Ahead → CxxPath → Reads S CxxTree
+called_at asks inner spelling from path = do
   arguments ← arguments_at asks inner
   to ← looked
-  ask (asks.whole (call_tree spelling name arguments from to))
+  ask (asks.whole (call_tree spelling path arguments from to))
 
 unfoldable pub named_call : {S : Type 0} → Phrases S → Inner S → Reads S CxxTree
 named_call asks inner = do
   from ← looked
-  name ← token_taken
-  called_at asks inner [] from name
+  path ← path_taken
+  called_at asks inner [] from path
 
 -- the name of no type
 unfoldable pub value_name_at : {S : Type 0} → Phrases S → Inner S → Reads S CxxTree
 value_name_at asks inner state ahead =
-    if is_punct punct.LEFT_PARENTHESIS (kind_ahead (behind ahead)) then named_call asks inner state ahead else name_at asks state ahead
+    if is_punct punct.LEFT_PARENTHESIS (kind_ahead (behind_name ahead)) then named_call asks inner state ahead else name_at asks state ahead
 
 -- 5.2.3: behind a type
 unfoldable pub functional_cast : {S : Type 0} → Phrases S → Inner S → Ahead → CxxType → Reads S CxxTree
@@ -68,7 +67,7 @@ unfoldable pub type_name_at : {S : Type 0} → Phrases S → Inner S → Reads S
 type_name_at asks inner = do
   from ← looked
   of ← ask (asks.type_named (path_ahead from))
-  name ← taken
+  name ← name_taken
   functional_at asks inner from of
 
 -- the name of a namespace is no expression (7.3)
@@ -77,9 +76,9 @@ named_by asks inner kind.OfType = type_name_at asks inner
 named_by asks inner kind.Space = refused
 named_by asks inner _ = value_name_at asks inner
 
--- a name without qualifiers
+-- a name, with qualifiers or without
 unfoldable pub named_at : {S : Type 0} → Phrases S → Inner S → Reads S CxxTree
-named_at asks inner state ahead = (ask (asks.kind (path_ahead ahead)) >>= named_by asks inner) state ahead
+named_at asks inner = kind_of_name asks.kind >>= named_by asks inner
 
 -- a word of a type
 unfoldable pub word_at : {S : Type 0} → Phrases S → Inner S → Base → Reads S CxxTree
@@ -135,6 +134,6 @@ word_by asks inner None = no_expression
 unfoldable pub primary_at : {S : Type 0} → Phrases S → Inner S → Reads S CxxTree
 primary_at asks inner state ahead =
     if is_literal (kind_ahead ahead) then literal_part asks state ahead else (
-    if is_plain_name ahead then named_at asks inner state ahead else (
+    if begins_name ahead then named_at asks inner state ahead else (
     if is_cast_word (kind_ahead ahead) then cast_word_at asks inner state ahead else
     word_by asks inner (base_of_kind (kind_ahead ahead)) state ahead))

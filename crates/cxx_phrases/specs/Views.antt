@@ -4,16 +4,16 @@ use Rattle.cxx_model.specs.declared.types.TreeId.{TreeId}
 use Rattle.cxx_model.specs.declared.types.TypeId.{TypeId}
 use Rattle.cxx_model.specs.Facts.Declarations.{type_of_option}
 use Rattle.cxx_model.specs.Facts.Fitted.{IsTypeNumberBelow}
-use Rattle.cxx_model.specs.Text.Lexemes.{Lexeme}
 use Rattle.cxx_model.specs.Types.Trees.{CxxType}
 use Rattle.cxx_phrases.specs.declared.initializer.Initializer.{Initializer}
 use Rattle.cxx_phrases.specs.Initializers as definition
 use Rattle.cxx_reading.specs.Reads as reads
-use Rattle.cxx_reading.specs.Trees.{CxxTree}
-use Rattle.cxx_syntax.specs.declared.cursor.Spelled.{Spelled}
+use Rattle.cxx_reading.specs.Reads.{Ahead}
+use Rattle.cxx_reading.specs.Tokens.{path_ahead}
+use Rattle.cxx_reading.specs.Trees.{CxxPath, CxxTree}
 use Rattle.cxx_syntax.specs.declared.turn.Turn.{Turn}
 use Rattle.cxx_syntax.specs.Asking.{IsTreeKnown}
-use Rattle.cxx_syntax.specs.Views.{AreTreesHeld, IsTurn, lexeme_at, trees_held, turn_at}
+use Rattle.cxx_syntax.specs.Views.{AreTreesHeld, IsTurn, trees_held, turn_at}
 use Rattle.cxx_tree.specs.Held.{Held, tree, type_of}
 
 -- a type, with the trees of what it is written of
@@ -45,7 +45,7 @@ initializer_of held one = record { form = one.form; parts = trees_held held one.
 abbrev pub IsInitializer : Held → Initializer → Type 0
 IsInitializer held one = AreTreesHeld held one.parts
 
--- a name, where there is one
-abbrev pub name_in : Option Spelled → Option Lexeme
-name_in None = None
-name_in (Some name) = Some (lexeme_at name)
+-- the path of a name, where there is one, from what is ahead where it begins
+abbrev pub path_in : Option Ahead → Option CxxPath
+path_in None = None
+path_in (Some ahead) = Some (path_ahead ahead)

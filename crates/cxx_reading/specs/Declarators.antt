@@ -273,12 +273,14 @@ is_refused (Some why) = true
 
 pub record Declarator : Type 0 where
   pub name : Option Lexeme
+  -- 8.3: whether the name has qualifiers
+  pub is_qualified : Bool
   -- from the name outward
   pub layers : List Layer
   pub parts : List CxxTree
 
 abbrev pub no_declarator_yet : Declarator
-no_declarator_yet = record { name = None; layers = []; parts = [] }
+no_declarator_yet = record { name = None; is_qualified = false; layers = []; parts = [] }
 
 -- a part of a declarator that stands outside of what was read of it
 abbrev pub outward : Layer → List CxxTree → Declarator → Declarator

@@ -22,23 +22,15 @@ use Rattle.cxx_model.specs.Text.Lexemes.{Lexeme, nowhere}
 use Rattle.cxx_model.specs.Types.Integral.{one_holds}
 use Rattle.cxx_model.specs.Types.Trees.{CxxType, enumeration}
 use Rattle.cxx_meaning.specs.Conversions.Enumerations.{values_in}
-use Rattle.cxx_reading.specs.Constants.{value_of_literal}
 use Rattle.cxx_meaning.specs.Lookups.Wanted.{types_only}
-use Rattle.cxx_reading.specs.Kinds.{Kinds}
 use Rattle.cxx_reading.specs.Linked.{first_clash, home_of, is_space_at, linked_in, sooner_fact}
+use Rattle.cxx_reading.specs.Paths.{ambiguous_at, found_of, name_in, place_in, place_of_fact, region_of, sought_in, wrong_kind_at}
 use Rattle.cxx_reading.specs.Reads.{Asks}
-use Rattle.cxx_reading.specs.Seen.{Numbered, declared_in, found, kind_of_found, parent_of, set_in, sought_from, type_in}
+use Rattle.cxx_reading.specs.Seen.{Numbered, declared_in, kind_of_found, parent_of, set_in, type_in}
 use Rattle.cxx_reading.specs.State.{CxxState}
-use Rattle.cxx_reading.specs.Trees.{CxxTree, CxxPath, CxxPathPart}
+use Rattle.cxx_reading.specs.Trees.{CxxPath, CxxPathPart, last_part}
 
 -- ---- facts
-
-abbrev pub place_in : Option CxxFact → Place
-place_in None = nowhere
-place_in (Some fact) = fact.place
-
-abbrev pub place_of_fact : CxxGraph → ℕ → Place
-place_of_fact graph number = place_in (slice_get graph.facts number)
 
 -- facts and reserved classes of a unit, at most
 abbrev pub most_facts : ℕ
@@ -337,23 +329,12 @@ end_enumeration number state = Ok (tt, in_enumeration None state)
 
 -- ---- names that are read
 
-abbrev pub no_part : CxxPathPart
-no_part = record { word = []; place = nowhere; arguments = None }
-
-abbrev pub last_part : List CxxPathPart → CxxPathPart
-last_part [] = no_part
-last_part (part ∷ []) = part
-last_part (part ∷ next ∷ others) = last_part (next ∷ others)
-
-abbrev pub name_in : CxxPath → CxxName
-name_in path = spelled (last_part path.parts).word
-
--- 3.4.1
+-- 3.4
 unfoldable pub kind_here : CxxPath → Asks CxxState Kind
-kind_here path state = Ok (kind_of_found state.graph (found state.graph state.here.scope (name_in path)), state)
+kind_here path state = Ok (kind_of_found state.graph (found_of state.graph state.here.scope path), state)
 
 unfoldable pub type_here : CxxPath → Asks CxxState CxxType
-type_here path state = Ok (type_in (found state.graph state.here.scope (name_in path)), state)
+type_here path state = Ok (type_in (found_of state.graph state.here.scope path), state)
 
 abbrev pub enumeration_in : List Numbered → Option ℕ
 enumeration_in [] = None
@@ -366,11 +347,7 @@ enumeration_in (one ∷ others) = by one.fact.what (enumeration_in others)
 abbrev pub elaborated_by : CxxPathPart → List Numbered → Option ℕ → CxxState → Answer (CxxType × CxxState)
 elaborated_by part all (Some n) state = Ok (enumeration n, state)
 elaborated_by part [] None state = Err (undeclared_at part.place part.word)
-elaborated_by part (one ∷ others) None state = Err (Faulty (record { place = part.place; text = says.WrongKindOfName part.word; evidence = Found one.fact.place ∷ [] }))
-
--- 3.4: two declarations of which none hides the other
-abbrev pub ambiguous_at : CxxGraph → CxxPathPart → FactId → FactId → Stopped
-ambiguous_at graph part one two = Faulty (record { place = part.place; text = says.AmbiguousName part.word; evidence = Found (place_of_fact graph one.0) ∷ Found (place_of_fact graph two.0) ∷ [] })
+elaborated_by part (one ∷ others) None state = Err (wrong_kind_at part one.fact.place)
 
 abbrev pub elaborated_found : CxxPathPart → Sought → CxxState → Answer (CxxType × CxxState)
 elaborated_found part (sought.Ambiguous one two) state = Err (ambiguous_at state.graph part one two)
@@ -378,23 +355,4 @@ elaborated_found part other state = elaborated_by part (set_in state.graph other
 
 -- 3.4.4, 7.1.5.3: behind `enum` stands the name of an enumeration
 unfoldable pub elaborated_here : CxxPath → Asks CxxState CxxType
-elaborated_here path state = elaborated_found (last_part path.parts) (sought_from state.graph types_only state.here.scope (name_in path)) state
-
--- 5.19
-unfoldable pub constant_here : CxxTree → Asks CxxState ℤ
-constant_here tree state = Ok (value_of_literal tree, state)
-
--- what a reader asks of the declarations so far
-unfoldable pub declaring : ℕ → Kinds CxxState
-declaring room = record {
-  kind = kind_here;
-  type_named = type_here;
-  elaborated = elaborated_here;
-  enumeration = declare_enumeration;
-  enumerator = declare_enumerator;
-  enumerated = end_enumeration;
-  constant = constant_here;
-  enter_parameters = enter_parameters;
-  parameter = declare_parameter;
-  leave_parameters = leave_parameters;
-}
+elaborated_here path state = region_of state.graph state.here.scope path >>= λ where_. elaborated_found (last_part path.parts) (sought_in state.graph types_only where_ (name_in path)) state

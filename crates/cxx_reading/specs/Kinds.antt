@@ -18,6 +18,9 @@ pub record Kinds (S : Type 0) : Type 0 where
   pub type_named : CxxPath → Asks S CxxType
   -- 3.4.4, 7.1.5.3: the type that a name behind `enum` names
   pub elaborated : CxxPath → Asks S CxxType
+  -- 8.3: The name of a declarator has these qualifiers: it declares a member of their namespace, and what stands behind the
+  -- name is read there.
+  pub entered : CxxPath → Asks S (Unit {0})
   -- 7.2: An enumeration begins, with its name where it has one, and the place of that or of `enum`. It answers its number.
   pub enumeration : Option Lexeme → Place → Asks S ℕ
   -- 7.2: an enumerator of it, with the value that is written, where one is

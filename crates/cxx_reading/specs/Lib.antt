@@ -13,8 +13,11 @@ pub mod Syntax
 pub mod State
 pub mod Seen
 pub mod Linked
+pub mod Paths
 pub mod Declaring
 pub mod Spaces
+pub mod Usings
+pub mod Members
 pub mod Givers
 pub mod Choosing
 pub mod Initializers

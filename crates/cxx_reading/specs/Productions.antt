@@ -24,6 +24,10 @@ namespace_alias = 5
 abbrev pub using_directive : ℕ
 using_directive = 6
 
+-- 7.3.3
+abbrev pub using_declaration : ℕ
+using_declaration = 7
+
 -- clause 7
 abbrev pub simple_declaration : ℕ
 simple_declaration = 8

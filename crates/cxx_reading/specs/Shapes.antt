@@ -9,9 +9,9 @@ use Rattle.cxx_model.specs.declared.tree.Kind.TheVariants as kind
 use Rattle.cxx_model.specs.Stops.{Answer}
 use Rattle.cxx_reading.specs.Declarators.{type_word, TypeWord}
 use Rattle.cxx_reading.specs.Kinds.{Kinds, Readers}
-use Rattle.cxx_reading.specs.Reads.{Reads, Got, Ahead, Turn, More, Done, ◌>>=◌, got, give, ask, tokens, kind_ahead, count_ahead, behind, repeat}
+use Rattle.cxx_reading.specs.Reads.{Reads, Got, Ahead, Turn, More, Done, ◌>>=◌, got, give, tokens, kind_ahead, count_ahead, behind, repeat}
 use Rattle.cxx_reading.specs.Specifiers.{storage_word, is_some_storage, is_of_members, begins_class}
-use Rattle.cxx_reading.specs.Tokens.{is_punct, is_keyword, is_name, is_end, is_qualified, path_ahead}
+use Rattle.cxx_reading.specs.Tokens.{is_punct, is_keyword, is_end, is_plain_name, is_whole_name, begins_name, behind_name, kind_of_name}
 
 -- What is read is not taken: the tokens stay ahead.
 abbrev pub returned : {S A : Type 0} → Ahead → Answer (Got S A) → Answer (Got S A)
@@ -71,20 +71,20 @@ is_specifier n = is_some_storage (storage_word n) || (is_cv n || (n == keyword.I
 abbrev pub is_key : ℕ → Bool
 is_key n = n == keyword.ENUM || begins_class n
 
--- 7.1.5.3: behind a key; a list of members or enumerators and a name with qualifiers are met when they are read
+-- 7.1.5.3: behind a key; a list of members or enumerators, and a name that is not whole, are met when they are read
 unfoldable pub key_shape : {S : Type 0} → Reads S (Turn Bool Run)
 key_shape state ahead =
-    if is_name (kind_ahead ahead) && not (is_qualified ahead)
-    then (if is_punct punct.LEFT_BRACE (kind_ahead (behind ahead)) then got (Done surely) state ahead else got (More true) state (behind ahead))
+    if begins_name ahead && (is_whole_name ahead && not (is_punct punct.LEFT_BRACE (kind_ahead (behind_name ahead))))
+    then got (More true) state (behind_name ahead)
     else got (Done surely) state ahead
 
 abbrev pub kind_shape : {S : Type 0} → Kind → Reads S (Turn Bool Run)
-kind_shape kind.OfType state ahead = got (More true) state (behind ahead)
+kind_shape kind.OfType state ahead = got (More true) state (behind_name ahead)
 kind_shape _ state ahead = got (Done no_type) state ahead
 
 unfoldable pub name_shape : {S : Type 0} → Kinds S → Bool → Reads S (Turn Bool Run)
 name_shape asks true state ahead = got (Done a_type) state ahead
-name_shape asks false state ahead = if is_qualified ahead then got (Done surely) state ahead else (ask (asks.kind (path_ahead ahead)) >>= kind_shape) state ahead
+name_shape asks false state ahead = (kind_of_name asks.kind >>= kind_shape) state ahead
 
 abbrev pub ended : Bool → Run
 ended true = a_type
@@ -121,11 +121,11 @@ is_type_kind _ = give false
 
 abbrev pub begins_by : {S : Type 0} → Kinds S → TokenKind → Reads S Bool
 begins_by asks (Keyword n) state ahead = got (is_some_word (type_word n) || (is_cv n || is_key n)) state ahead
-begins_by asks (Punct n) state ahead = got (n == punct.SCOPE) state ahead
-begins_by asks Name state ahead = if is_qualified ahead then got true state ahead else (ask (asks.kind (path_ahead ahead)) >>= is_type_kind) state ahead
+begins_by asks (Punct n) state ahead = if n == punct.SCOPE then (kind_of_name asks.kind >>= is_type_kind) state ahead else got false state ahead
+begins_by asks Name state ahead = (kind_of_name asks.kind >>= is_type_kind) state ahead
 begins_by asks _ state ahead = got false state ahead
 
--- whether a type begins ahead; a name with qualifiers is met when it is read
+-- whether a type begins ahead
 unfoldable pub begins_type : {S : Type 0} → Kinds S → Reads S Bool
 begins_type asks state ahead = begins_by asks (kind_ahead ahead) state ahead
 
@@ -146,31 +146,25 @@ pub record Outline : Type 0 where
 pub data Fits : Type 0 where
   fits : Fits
   fits_not : Fits
-  -- a name with qualifiers is met when it is read
-  fits_surely : Fits
 
-abbrev pub opened_by : {S : Type 0} → Bool → Outline → Reads S (Turn Outline (Outline × Bool))
-opened_by true outline state ahead = got (Done (outline, false)) state ahead
+abbrev pub opened_by : {S : Type 0} → Bool → Outline → Reads S (Turn Outline Outline)
+opened_by true outline state ahead = got (Done outline) state ahead
 opened_by false outline state ahead = got (More (record outline { brackets = suc outline.brackets })) state (behind ahead)
 
--- Before the name: pointer operators with their cv words, and brackets. It answers with the outline, and whether a name
--- with qualifiers stands there.
-unfoldable pub prefix_step : {S : Type 0} → Kinds S → Outline → Reads S (Turn Outline (Outline × Bool))
+-- Before the name: pointer operators with their cv words, and brackets. The name is one identifier: no declarator whose
+-- shape is asked for has a name with qualifiers.
+unfoldable pub prefix_step : {S : Type 0} → Kinds S → Outline → Reads S (Turn Outline Outline)
 prefix_step asks outline state ahead =
     if is_punct punct.STAR (kind_ahead ahead) || (is_punct punct.AMPERSAND (kind_ahead ahead) || (is_keyword keyword.CONST (kind_ahead ahead) || is_keyword keyword.VOLATILE (kind_ahead ahead))) then got (More outline) state (behind ahead) else (
     if is_punct punct.LEFT_PARENTHESIS (kind_ahead ahead) then (is_abstract_list asks >>= λ is_list. opened_by is_list outline) state ahead else (
-    if is_qualified ahead then got (Done (outline, true)) state ahead else (
-    if is_name (kind_ahead ahead) then got (Done (record outline { is_named = true }, false)) state (behind ahead) else
-    got (Done (outline, false)) state ahead)))
-
-abbrev pub give_unqualified : {S : Type 0} → Outline → Reads S (Outline × Bool)
-give_unqualified outline = give (outline, false)
+    if is_plain_name ahead then got (Done (record outline { is_named = true })) state (behind ahead) else
+    got (Done outline) state ahead))
 
 abbrev pub no_outline : Outline
 no_outline = record { brackets = 0; is_named = false }
 
-unfoldable pub prefix_passed : {S : Type 0} → Kinds S → Reads S (Outline × Bool)
-prefix_passed asks state ahead = repeat (prefix_step asks) give_unqualified (count_ahead ahead) no_outline state ahead
+unfoldable pub prefix_passed : {S : Type 0} → Kinds S → Reads S Outline
+prefix_passed asks state ahead = repeat (prefix_step asks) give (count_ahead ahead) no_outline state ahead
 
 abbrev pub is_closed : Outline → Fits
 is_closed outline = if outline.brackets == 0 then fits else fits_not
@@ -197,13 +191,12 @@ suffix_step inner outline state ahead =
 abbrev pub give_closed : {S : Type 0} → Outline → Reads S Fits
 give_closed outline = give (is_closed outline)
 
-abbrev pub suffixes_by : {S : Type 0} → Readers S → Outline → Bool → Reads S Fits
-suffixes_by inner outline true state ahead = got fits_surely state ahead
-suffixes_by inner outline false state ahead = repeat (suffix_step inner) give_closed (count_ahead ahead) outline state ahead
+unfoldable pub suffixes_by : {S : Type 0} → Readers S → Outline → Reads S Fits
+suffixes_by inner outline state ahead = repeat (suffix_step inner) give_closed (count_ahead ahead) outline state ahead
 
 -- 8, 8.1: a declarator, with a name or without one
 unfoldable pub declarator_passed : {S : Type 0} → Kinds S → Readers S → Reads S Fits
-declarator_passed asks inner = prefix_passed asks >>= λ outline. suffixes_by inner outline.0 outline.1
+declarator_passed asks inner = prefix_passed asks >>= suffixes_by inner
 
 -- ---- parameters
 
@@ -230,7 +223,6 @@ separated state ahead =
 abbrev pub parameter_by : {S : Type 0} → Fits → Reads S (Turn (Unit {0}) Bool)
 parameter_by fits = tokens default_passed >>= λ passed. separated
 parameter_by fits_not = give (Done false)
-parameter_by fits_surely = give (Done true)
 
 abbrev pub piece_by : {S : Type 0} → Kinds S → Readers S → Run → Reads S (Turn (Unit {0}) Bool)
 piece_by asks inner no_type = give (Done false)

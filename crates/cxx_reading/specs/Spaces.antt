@@ -10,18 +10,15 @@ use Rattle.cxx_model.specs.Facts.Declarations.{CxxFact, CxxGraph, CxxName, Decla
 use Rattle.cxx_model.specs.Stops.{Answer, ◌>>=◌, undeclared_at}
 use Rattle.cxx_model.specs.Text.Lexemes.{Lexeme}
 use Rattle.cxx_meaning.specs.Lookups.Wanted.{namespaces_only}
-use Rattle.cxx_reading.specs.Declaring.{added, ambiguous_at, at_scope, declare, fact_here, free, last_part, name_in, scope_count}
+use Rattle.cxx_reading.specs.Declaring.{added, at_scope, declare, fact_here, free, scope_count}
 use Rattle.cxx_reading.specs.Linked.{scope_id}
+use Rattle.cxx_reading.specs.Paths.{ambiguous_at, first_space, name_in, or_later, region_of, sought_in, space_in}
 use Rattle.cxx_reading.specs.Reads.{Asks}
-use Rattle.cxx_reading.specs.Seen.{Numbered, declared_in, parent_of, set_in, sought_from}
+use Rattle.cxx_reading.specs.Seen.{Numbered, declared_in, parent_of, set_in}
 use Rattle.cxx_reading.specs.State.{CxxState}
-use Rattle.cxx_reading.specs.Trees.{CxxPath, CxxPathPart}
+use Rattle.cxx_reading.specs.Trees.{CxxPath, CxxPathPart, last_part}
 
 -- ---- which namespace is opened again
-
-abbrev pub space_in : Declares → Option ℕ
-space_in (facts.namespace inner) = Some inner.0
-space_in _ = None
 
 abbrev pub is_number : ℕ → Option ℕ → Bool
 is_number n None = false
@@ -47,10 +44,6 @@ opened_among graph scope name (one ∷ others) = original_by graph scope name (s
 -- 7.3.1: the namespace that has a name in a scope as its own, not as another one (7.3.2)
 unfoldable pub opened_before : CxxGraph → ℕ → CxxName → Option ℕ
 opened_before graph scope name = opened_among graph scope name (declared_in graph scope name)
-
-abbrev pub or_later : Option ℕ → Option ℕ → Option ℕ
-or_later None later = later
-or_later (Some n) later = Some n
 
 abbrev pub unnamed_by : ℕ → CxxFact → Option ℕ → Option ℕ
 unnamed_by scope fact later = if nat_eq fact.scope scope && not (has_name fact.name) then or_later (space_in fact.what) later else later
@@ -143,10 +136,6 @@ declare_directive place inner state = do
 
 -- ---- names of namespaces (3.4.6)
 
-abbrev pub first_space : List Numbered → Option ℕ
-first_space [] = None
-first_space (one ∷ others) = or_later (space_in one.fact.what) (first_space others)
-
 abbrev pub space_by : CxxPathPart → Option ℕ → CxxState → Answer (ℕ × CxxState)
 space_by part None state = Err (undeclared_at part.place part.word)
 space_by part (Some inner) state = Ok (inner, state)
@@ -157,4 +146,4 @@ space_found part other state = space_by part (first_space (set_in state.graph ot
 
 -- the namespace that a name means; what is no namespace is passed over
 unfoldable pub space_here : CxxPath → Asks CxxState ℕ
-space_here path state = space_found (last_part path.parts) (sought_from state.graph namespaces_only state.here.scope (name_in path)) state
+space_here path state = region_of state.graph state.here.scope path >>= λ where_. space_found (last_part path.parts) (sought_in state.graph namespaces_only where_ (name_in path)) state

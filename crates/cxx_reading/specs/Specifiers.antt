@@ -19,8 +19,8 @@ use Rattle.cxx_reading.specs.Declarators.{Specifiers, no_specifiers, has_type, t
 use Rattle.cxx_reading.specs.Kinds.{Kinds, Readers}
 use Rattle.cxx_reading.specs.Productions as production
 use Rattle.cxx_reading.specs.Reads.{Reads, Ahead, Turn, More, Done, ◌>>=◌, got, give, ask, looked, taken, kind_ahead, place_ahead, count_ahead, behind, repeat}
-use Rattle.cxx_reading.specs.Tokens.{is_punct, is_keyword, is_name, is_qualified, path_ahead, token_taken, refused, not_built}
-use Rattle.cxx_reading.specs.Trees.{CxxTree, CxxPath, tree_of}
+use Rattle.cxx_reading.specs.Tokens.{is_punct, is_keyword, is_name, begins_name, kind_of_name, name_taken, path_ahead, path_taken, token_taken, refused, not_built}
+use Rattle.cxx_reading.specs.Trees.{CxxTree, CxxPath, last_part, tree_of}
 use Rattle.cxx_reading.specs.Labels.{label_from}
 
 -- ---- single words
@@ -107,19 +107,23 @@ word_step word so_far state ahead = if is_some_named so_far.named then refused s
 
 -- ---- names of types
 
-abbrev pub named_by : {S : Type 0} → Kinds S → CxxPath → Specifiers → Kind → Reads S (Turn Specifiers Specifiers)
-named_by asks path so_far kind.OfType = do
-  of ← ask (asks.type_named path)
-  place ← taken
+-- the name of a type is taken; it is whole
+unfoldable pub type_name_step : {S : Type 0} → Kinds S → Specifiers → Reads S (Turn Specifiers Specifiers)
+type_name_step asks so_far = do
+  from ← looked
+  of ← ask (asks.type_named (path_ahead from))
+  name ← name_taken
   give (More (record so_far { named = Some of }))
-named_by asks path so_far _ = give (Done so_far)
+
+abbrev pub named_by : {S : Type 0} → Kinds S → Specifiers → Kind → Reads S (Turn Specifiers Specifiers)
+named_by asks so_far kind.OfType = type_name_step asks so_far
+named_by asks so_far _ = give (Done so_far)
 
 -- 7.1.5.2: A name of a type stands where no type is there yet; behind one it is the name of the declarator.
 unfoldable pub named_step : {S : Type 0} → Kinds S → Specifiers → Reads S (Turn Specifiers Specifiers)
 named_step asks so_far state ahead =
-    if has_type so_far then got (Done so_far) state ahead else (
-    if is_qualified ahead then not_built state ahead else
-    (ask (asks.kind (path_ahead ahead)) >>= named_by asks (path_ahead ahead) so_far) state ahead)
+    if has_type so_far then got (Done so_far) state ahead else
+    (kind_of_name asks.kind >>= named_by asks so_far) state ahead
 
 -- ---- enumerations (7.1.5.3, 7.2)
 
@@ -135,14 +139,15 @@ place_or place None = place
 place_or place (Some name) = name.place
 
 -- 7.1.5.3: `enum` and a name
-abbrev pub elaborated_tree : Lexeme → CxxType → Ahead → Ahead → CxxTree
-elaborated_tree name of from to = tree_of (record (label_from production.elaborated (codes "enum") from to) { place = name.place; path = Some (path_of name); of = Some of }) []
+abbrev pub elaborated_tree : CxxPath → CxxType → Ahead → Ahead → CxxTree
+elaborated_tree path of from to = tree_of (record (label_from production.elaborated (codes "enum") from to) { place = (last_part path.parts).place; path = Some path; of = Some of }) []
 
-unfoldable pub elaborated_step : {S : Type 0} → Kinds S → Ahead → Lexeme → Specifiers → Reads S (Turn Specifiers Specifiers)
-elaborated_step asks from name so_far = do
-  of ← ask (asks.elaborated (path_of name))
+unfoldable pub elaborated_step : {S : Type 0} → Kinds S → Ahead → Specifiers → Reads S (Turn Specifiers Specifiers)
+elaborated_step asks from so_far = do
+  path ← path_taken
+  of ← ask (asks.elaborated path)
   to ← looked
-  give (More (record so_far { named = Some of; parts = so_far.parts ++ elaborated_tree name of from to ∷ [] }))
+  give (More (record so_far { named = Some of; parts = so_far.parts ++ elaborated_tree path of from to ∷ [] }))
 
 abbrev pub enumeration_tree : Option Lexeme → ℕ → List CxxTree → Ahead → Ahead → CxxTree
 enumeration_tree name number values from to = tree_of (record (label_from production.enumeration_list [] from to) { place = place_or (place_ahead from) name; path = path_of_option name; of = Some (enumeration number) }) values
@@ -168,17 +173,19 @@ unfoldable pub list_step : {S : Type 0} → Kinds S → Readers S → SpecifierP
 list_step asks inner place from name so_far state ahead =
     if is_declaration place then defined_step asks inner from name so_far state ahead else refused state ahead
 
-unfoldable pub key_named_step : {S : Type 0} → Kinds S → Readers S → SpecifierPlace → Ahead → Specifiers → Lexeme → Reads S (Turn Specifiers Specifiers)
-key_named_step asks inner place from so_far name state ahead =
-    if is_punct punct.LEFT_BRACE (kind_ahead ahead) then list_step asks inner place from (Some name) so_far state ahead else
-    elaborated_step asks from name so_far state ahead
+-- 7.2: one name and its list
+abbrev pub begins_named_list : Ahead → Bool
+begins_named_list ahead = is_name (kind_ahead ahead) && is_punct punct.LEFT_BRACE (kind_ahead (behind ahead))
+
+unfoldable pub named_list_step : {S : Type 0} → Kinds S → Readers S → SpecifierPlace → Ahead → Specifiers → Reads S (Turn Specifiers Specifiers)
+named_list_step asks inner place from so_far = token_taken >>= λ name. list_step asks inner place from (Some name) so_far
 
 -- behind `enum`
 unfoldable pub key_step : {S : Type 0} → Kinds S → Readers S → SpecifierPlace → Ahead → Specifiers → Reads S (Turn Specifiers Specifiers)
 key_step asks inner place from so_far state ahead =
     if is_punct punct.LEFT_BRACE (kind_ahead ahead) then list_step asks inner place from None so_far state ahead else (
-    if is_qualified ahead then not_built state ahead else (
-    if is_name (kind_ahead ahead) then (token_taken >>= key_named_step asks inner place from so_far) state ahead else
+    if begins_named_list ahead then named_list_step asks inner place from so_far state ahead else (
+    if begins_name ahead then elaborated_step asks from so_far state ahead else
     refused state ahead))
 
 unfoldable pub enumeration_step : {S : Type 0} → Kinds S → Readers S → SpecifierPlace → Specifiers → Reads S (Turn Specifiers Specifiers)

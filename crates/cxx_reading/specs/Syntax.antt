@@ -7,6 +7,7 @@ use Rattle.cxx_model.specs.declared.limits.TheConstants as limits
 use Rattle.cxx_model.specs.declared.place.Place.{Place}
 use Rattle.cxx_model.specs.declared.punct.TheConstants as punct
 use Rattle.cxx_model.specs.declared.stop.LimitKind.TheVariants.{Arguments}
+use Rattle.cxx_model.specs.declared.token.TokenKind.TheVariants.{Name}
 use Rattle.cxx_model.specs.declared.types.Cv.{Cv}
 use Rattle.cxx_model.specs.Text.Lexemes.{Lexeme}
 use Rattle.cxx_model.specs.Types.Trees.{CxxType, CxxBound, unknown_bound, number_bound}
@@ -21,14 +22,19 @@ use Rattle.cxx_reading.specs.Productions as production
 use Rattle.cxx_reading.specs.Reads.{Reads, Ahead, Turn, More, Done, ◌>>=◌, got, give, ask, limited, fault_at, looked, taken, tokens, kind_ahead, place_ahead, count_ahead, behind, repeat}
 use Rattle.cxx_reading.specs.Shapes.{look, past, is_abstract_list, begins_type, parameters_shape}
 use Rattle.cxx_reading.specs.Specifiers.{specifiers_at, with_const, with_volatile, path_of_option, place_or}
-use Rattle.cxx_reading.specs.Tokens.{is_punct, is_keyword, is_name, is_qualified, token_taken, punct_taken, refused, not_built, no_declarator}
-use Rattle.cxx_reading.specs.Trees.{CxxTree, tree_of}
+use Rattle.cxx_reading.specs.Tokens.{is_punct, is_keyword, is_name, is_plain_name, begins_name, path_taken, token_taken, punct_taken, not_built, refused, no_declarator}
+use Rattle.cxx_reading.specs.Trees.{CxxPathPart, CxxTree, last_part, tree_of}
 
 -- ---- declarators (8.3)
 
 abbrev pub is_required : Naming → Bool
+is_required naming.Qualified = true
 is_required naming.Required = true
 is_required _ = false
+
+abbrev pub may_qualify : Naming → Bool
+may_qualify naming.Qualified = true
+may_qualify _ = false
 
 abbrev pub is_never : Naming → Bool
 is_never naming.Never = true
@@ -116,12 +122,26 @@ name_read token = record no_declarator_yet { name = Some token }
 abbrev pub named_declarator : {S : Type 0} → Readers S → Lexeme → Reads S Declarator
 named_declarator inner token = suffixes_at inner (name_read token)
 
+-- the token of a part of a name
+abbrev pub token_of : CxxPathPart → Lexeme
+token_of part = record { kind = Name; place = part.place; spelling = part.word }
+
+abbrev pub member_read : CxxPathPart → Declarator
+member_read part = record no_declarator_yet { name = Some (token_of part); is_qualified = true }
+
+-- 8.3: a name with qualifiers; it is looked up before what stands behind it is read
+unfoldable pub qualified_part : {S : Type 0} → Kinds S → Readers S → Reads S Declarator
+qualified_part asks inner = do
+  path ← path_taken
+  entered ← ask (asks.entered path)
+  suffixes_at inner (member_read (last_part path.parts))
+
 -- a name, or none where none has to stand
-unfoldable pub name_part : {S : Type 0} → Readers S → Naming → Reads S Declarator
-name_part inner naming state ahead =
+unfoldable pub name_part : {S : Type 0} → Kinds S → Readers S → Naming → Reads S Declarator
+name_part asks inner naming state ahead =
     if is_never naming then suffixes_at inner no_declarator_yet state ahead else (
-    if is_qualified ahead then not_built state ahead else (
-    if is_name (kind_ahead ahead) then (token_taken >>= named_declarator inner) state ahead else (
+    if is_plain_name ahead then (token_taken >>= named_declarator inner) state ahead else (
+    if may_qualify naming && begins_name ahead then qualified_part asks inner state ahead else (
     if is_required naming then no_declarator state ahead else
     suffixes_at inner no_declarator_yet state ahead)))
 
@@ -157,7 +177,7 @@ declarator_at asks inner naming state ahead =
     if is_punct punct.STAR (kind_ahead ahead) then star_part inner naming state ahead else (
     if is_punct punct.AMPERSAND (kind_ahead ahead) then ampersand_part inner naming state ahead else (
     if is_punct punct.LEFT_PARENTHESIS (kind_ahead ahead) then bracket_part asks inner naming state ahead else
-    name_part inner naming state ahead))
+    name_part asks inner naming state ahead))
 
 -- 8.3.1: behind `*`
 unfoldable pub pointed_at : {S : Type 0} → Kinds S → Readers S → Naming → Reads S Declarator

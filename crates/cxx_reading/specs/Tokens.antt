@@ -4,12 +4,15 @@ use Rattle.cxx_model.specs.declared.fault.FaultText.{FaultText}
 use Rattle.cxx_model.specs.declared.fault.FaultText.TheVariants as says
 use Rattle.cxx_model.specs.declared.fault.LeftOut.TheVariants as form
 use Rattle.cxx_model.specs.declared.keyword.TheConstants as keyword
+use Rattle.cxx_model.specs.declared.place.Place.{Place}
 use Rattle.cxx_model.specs.declared.punct.TheConstants as punct
 use Rattle.cxx_model.specs.declared.token.TokenKind.{TokenKind}
 use Rattle.cxx_model.specs.declared.token.TokenKind.TheVariants.{Name, Keyword, Punct, Integer, Character, End}
+use Rattle.cxx_model.specs.declared.tree.Kind.{Kind}
+use Rattle.cxx_model.specs.declared.tree.Kind.TheVariants as of_kind
 use Rattle.cxx_model.specs.Text.Lexemes.{Lexeme}
-use Rattle.cxx_reading.specs.Reads.{Reads, Ahead, got, fault_at, kind_ahead, place_ahead, word_ahead, behind}
-use Rattle.cxx_reading.specs.Trees.{CxxPath}
+use Rattle.cxx_reading.specs.Reads.{Reads, Asks, Ahead, ask, got, fault_at, kind_ahead, place_ahead, behind}
+use Rattle.cxx_reading.specs.Trees.{CxxPath, CxxPathPart}
 
 unfoldable pub is_punct : ℕ → TokenKind → Bool
 is_punct n (Punct m) = m == n
@@ -35,16 +38,52 @@ is_number _ = false
 
 -- ---- names
 
--- 3.4.3: whether a name with qualifiers stands ahead
-abbrev pub is_qualified : Ahead → Bool
-is_qualified ahead = is_punct punct.SCOPE (kind_ahead ahead) || (is_name (kind_ahead ahead) && is_punct punct.SCOPE (kind_ahead (behind ahead)))
-
+-- 3.4.1: whether a name without qualifiers stands ahead
 abbrev pub is_plain_name : Ahead → Bool
 is_plain_name ahead = is_name (kind_ahead ahead) && not (is_punct punct.SCOPE (kind_ahead (behind ahead)))
 
--- the name ahead, where it has no qualifiers
+-- 3.4.3: whether a name begins ahead, with qualifiers or without
+abbrev pub begins_name : Ahead → Bool
+begins_name ahead = is_name (kind_ahead ahead) || is_punct punct.SCOPE (kind_ahead ahead)
+
+-- What was passed of a name: its parts, what is ahead then, and whether a part stands wherever one is wanted.
+pub record Passed : Type 0 where
+  pub parts : List CxxPathPart
+  pub rest : Ahead
+  pub is_whole : Bool
+
+abbrev pub part_of : Lexeme → CxxPathPart
+part_of token = record { word = token.spelling; place = token.place; arguments = None }
+
+abbrev pub part_then : CxxPathPart → Passed → Passed
+part_then part passed = record passed { parts = part ∷ passed.parts }
+
+abbrev pub passed_to : Place → List Lexeme → Bool → Passed
+passed_to last tokens is_whole = record { parts = []; rest = record { last = last; tokens = tokens }; is_whole = is_whole }
+
+-- parts with `::` between them, as far as they go; a part is wanted first, or `::` may stand
+unfoldable pub passed_from : Bool → Place → List Lexeme → Passed
+passed_from wanted last [] = passed_to last [] (not wanted)
+passed_from true last (token ∷ tokens) =
+    if is_name token.kind then part_then (part_of token) (passed_from false token.place tokens) else passed_to last (token ∷ tokens) false
+passed_from false last (token ∷ tokens) =
+    if is_punct punct.SCOPE token.kind then passed_from true token.place tokens else passed_to last (token ∷ tokens) true
+
+-- `::` may stand before the first part
+abbrev pub passed_ahead : Ahead → Passed
+passed_ahead ahead = passed_from (not (is_punct punct.SCOPE (kind_ahead ahead))) ahead.last ahead.tokens
+
+-- 3.4.3: the name ahead, with its qualifiers
 abbrev pub path_ahead : Ahead → CxxPath
-path_ahead ahead = record { global = false; parts = record { word = word_ahead ahead; place = place_ahead ahead; arguments = None } ∷ [] }
+path_ahead ahead = record { global = is_punct punct.SCOPE (kind_ahead ahead); parts = (passed_ahead ahead).parts }
+
+-- what is ahead behind that
+abbrev pub behind_name : Ahead → Ahead
+behind_name ahead = (passed_ahead ahead).rest
+
+-- whether a part stands behind each `::` of it
+abbrev pub is_whole_name : Ahead → Bool
+is_whole_name ahead = (passed_ahead ahead).is_whole
 
 abbrev pub token_in : List Lexeme → Lexeme
 token_in [] = record { kind = End; place = record { line = 0; column = 0 }; spelling = [] }
@@ -63,6 +102,27 @@ refused state ahead = fault_at (place_ahead ahead) says.SyntaxError state ahead
 -- a form that is not read yet
 abbrev pub not_built : {S A : Type 0} → Reads S A
 not_built state ahead = fault_at (place_ahead ahead) says.NotBuilt state ahead
+
+-- 5.1, 5.3.4, 5.3.5, 14.2: what may stand behind `::` and is not read yet
+abbrev pub is_unbuilt_part : TokenKind → Bool
+is_unbuilt_part kind =
+    is_keyword keyword.TEMPLATE kind || (is_keyword keyword.OPERATOR kind || (is_punct punct.TILDE kind || (is_keyword keyword.NEW kind || is_keyword keyword.DELETE kind)))
+
+-- what stands where a part of a name is wanted
+unfoldable pub no_part_there : {S A : Type 0} → Reads S A
+no_part_there state ahead = if is_unbuilt_part (kind_ahead ahead) then not_built state ahead else refused state ahead
+
+-- the name ahead with its qualifiers, taken
+unfoldable pub path_taken : {S : Type 0} → Reads S CxxPath
+path_taken state ahead = if is_whole_name ahead then got (path_ahead ahead) state (behind_name ahead) else no_part_there state (behind_name ahead)
+
+-- the same, where it is not asked which it is
+abbrev pub name_taken : {S : Type 0} → Reads S (Unit {0})
+name_taken state ahead = got tt state (behind_name ahead)
+
+-- 3.4: what the name ahead is to a reader; one that is not whole is met when it is read
+unfoldable pub kind_of_name : {S : Type 0} → (CxxPath → Asks S Kind) → Reads S Kind
+kind_of_name kind state ahead = if is_whole_name ahead then ask (kind (path_ahead ahead)) state ahead else got of_kind.Value state ahead
 
 -- the token with a number, taken, where it stands ahead
 unfoldable pub punct_taken : {S : Type 0} → ℕ → Reads S (Unit {0})
@@ -85,8 +145,8 @@ form_of_kind kind = says.SyntaxError
 
 -- clause 7: what stands where a declaration would begin
 unfoldable pub no_declaration : {S A : Type 0} → Reads S A
-no_declaration state ahead = if is_qualified ahead then not_built state ahead else fault_at (place_ahead ahead) (form_of_kind (kind_ahead ahead)) state ahead
+no_declaration state ahead = fault_at (place_ahead ahead) (form_of_kind (kind_ahead ahead)) state ahead
 
--- clause 8: what stands where a declarator would begin: a name with qualifiers or of an operator is not read yet
+-- clause 8: what stands where a declarator would begin: the name of an operator is not read yet
 unfoldable pub no_declarator : {S A : Type 0} → Reads S A
-no_declarator state ahead = if is_qualified ahead || is_keyword keyword.OPERATOR (kind_ahead ahead) then not_built state ahead else refused state ahead
+no_declarator state ahead = if is_keyword keyword.OPERATOR (kind_ahead ahead) then not_built state ahead else refused state ahead

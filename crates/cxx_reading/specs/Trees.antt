@@ -1,6 +1,7 @@
 -- The trees of a reading: what was read, and what each part of it means. There is one kind of tree for all productions.
-use Rattle.std.specs.Prelude.{ℕ, Bool, List, [], ◌∷◌, Option}
+use Rattle.std.specs.Prelude.{ℕ, Bool, true, false, not, ◌&&◌, List, [], ◌∷◌, Option, None}
 use Rattle.cxx_model.specs.declared.place.Place.{Place}
+use Rattle.cxx_model.specs.Text.Lexemes.{nowhere}
 use Rattle.cxx_model.specs.Types.Trees.{CxxType}
 use Rattle.cxx_meaning.specs.Conversions.Standard.{CxxOperand}
 
@@ -14,6 +15,24 @@ pub record CxxPathPart : Type 0 where
 pub record CxxPath : Type 0 where
   pub global : Bool
   pub parts : List CxxPathPart
+
+-- a part without a word
+abbrev pub no_part : CxxPathPart
+no_part = record { word = []; place = nowhere; arguments = None }
+
+-- the last of some parts, which is looked up behind the others
+abbrev pub last_part : List CxxPathPart → CxxPathPart
+last_part [] = no_part
+last_part (part ∷ []) = part
+last_part (part ∷ next ∷ others) = last_part (next ∷ others)
+
+abbrev pub is_alone : List CxxPathPart → Bool
+is_alone (part ∷ []) = true
+is_alone _ = false
+
+-- 3.4.1: a name without qualifiers
+abbrev pub is_plain_path : CxxPath → Bool
+is_plain_path path = not path.global && is_alone path.parts
 
 -- What stands at the top of a tree.
 pub record Label : Type 0 where

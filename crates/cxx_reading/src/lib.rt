@@ -6,9 +6,11 @@
 #![tactic(auto)]
 
 mod laws;
+mod region;
 mod role;
 mod specifier;
 
 pub use laws::forbidden_types_are_refused;
+pub use region::Region;
 pub use role::Role;
 pub use specifier::{CoreWord, Naming, SignWord, SizeWord, SpecifierPlace, StorageWord, TypeWords};

@@ -54,7 +54,9 @@ pub enum SpecifierPlace {
 /// Whether a declarator has a name (8, 8.1, 8.3.5).
 #[derive(Clone, Copy)]
 pub enum Naming {
-    /// In a declaration.
+    /// In a declaration of a namespace, where the name may have qualifiers (8.3).
+    Qualified,
+    /// In another declaration.
     Required,
     /// In a list of parameters.
     Either,

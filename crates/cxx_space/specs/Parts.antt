@@ -1,4 +1,5 @@
--- What stands behind the declarator of a function, in a namespace that has begun, and behind specifications of linkage.
+-- A declarator that fits, and what stands behind that of a function, in a namespace that has begun, and behind specifications
+-- of linkage.
 use Rattle.std.specs.Prelude.{ℕ, Bool, if◌then◌else◌, List, [], Option}
 use Rattle.cxx_model.specs.declared.fault.FaultText.TheVariants as says
 use Rattle.cxx_model.specs.declared.fault.LeftOut.TheVariants as form
@@ -6,16 +7,17 @@ use Rattle.cxx_model.specs.declared.keyword.TheConstants as keyword
 use Rattle.cxx_model.specs.declared.punct.TheConstants as punct
 use Rattle.cxx_model.specs.Text.Lexemes.{Lexeme}
 use Rattle.cxx_model.specs.Types.Trees.{CxxType}
+use Rattle.cxx_reading.specs.Declarators.{Declarator}
 use Rattle.cxx_reading.specs.Productions as production
 use Rattle.cxx_reading.specs.Reads.{Reads, Ahead, ◌>>=◌, got, ask, fault_at, kind_ahead, place_ahead, taken}
 use Rattle.cxx_reading.specs.Spaces.{close_space}
 use Rattle.cxx_reading.specs.State.{CxxState}
 use Rattle.cxx_reading.specs.Tokens.{is_punct, is_keyword, refused}
 use Rattle.cxx_reading.specs.Trees.{CxxTree}
-use Rattle.cxx_reading.specs.Units.{ends_declarator, linkages_passed, one_tree}
+use Rattle.cxx_reading.specs.Units.{Said, ends_declarator, linkages_passed, one_tree}
 use Rattle.cxx_language.specs.Bodies.{function_body}
 use Rattle.cxx_language.specs.Spaces.{give_part}
-use Rattle.cxx_language.specs.Units.{linkage_by, not_ended}
+use Rattle.cxx_language.specs.Units.{Declares, declared_by, linkage_by, member_agrees, not_ended}
 
 -- 8.4: behind the declarator of the function with a declaration, which has a list of parameters with a scope
 abbrev pub body_or_not : ℕ → Lexeme → CxxType → ℕ → ℕ → Reads CxxState (List CxxTree)
@@ -29,6 +31,10 @@ abbrev pub function_end : ℕ → Bool → Lexeme → CxxType → ℕ → Option
 function_end room is_first name of number list state ahead =
     if ends_declarator (kind_ahead ahead) then got [] state ahead else
     not_ended room is_first name of number list state ahead
+
+-- 8.3: what a declarator declares that fits, once it is known that it agrees with what was declared before
+abbrev pub fitting_by : ℕ → Said → Bool → Ahead → Declarator → Reads CxxState Declares
+fitting_by room said is_first from declarator = member_agrees said declarator >>= λ agrees. declared_by room said is_first from declarator
 
 -- 7.3.1: from the `{` on, where it has begun
 abbrev pub behind_begin : Reads CxxState (List CxxTree) → Ahead → Reads CxxState CxxTree

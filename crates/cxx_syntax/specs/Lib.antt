@@ -9,3 +9,4 @@ pub mod Suffixes
 pub mod Outlines
 pub mod Layering
 pub mod Parameters
+pub mod Passing

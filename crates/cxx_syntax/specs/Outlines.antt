@@ -1,8 +1,11 @@
 -- What is read of shapes, as the code has it.
 use Rattle.std.specs.Prelude.{ℕ, ◌≤◌, ◌+◌, Bool}
+use Rattle.cxx_reading.specs.Kinds.{Kinds}
 use Rattle.cxx_reading.specs.Reads as reads
+use Rattle.cxx_reading.specs.Reads.{Reads, ◌>>=◌}
 use Rattle.cxx_reading.specs.Shapes as shape
-use Rattle.cxx_reading.specs.Shapes.{no_type, a_type, surely, fits, fits_not, fits_surely}
+use Rattle.cxx_reading.specs.Shapes.{no_type, a_type, surely, fits, fits_not, is_type_kind}
+use Rattle.cxx_reading.specs.Tokens.{kind_of_name}
 use Rattle.cxx_syntax.specs.declared.shapes.Fits.{Fits}
 use Rattle.cxx_syntax.specs.declared.shapes.Fits.TheVariants as fitting
 use Rattle.cxx_syntax.specs.declared.shapes.Outline.{Outline}
@@ -11,6 +14,10 @@ use Rattle.cxx_syntax.specs.declared.shapes.Run.TheVariants as run
 use Rattle.cxx_syntax.specs.declared.turn.Turn.{Turn}
 use Rattle.cxx_syntax.specs.Views.{IsTurn, turn_at}
 use Rattle.cxx_tree.specs.Held.{Held}
+
+-- whether the name ahead is one of a type
+abbrev pub names_type : {S : Type 0} → Kinds S → Reads S Bool
+names_type asks = kind_of_name asks.kind >>= is_type_kind
 
 abbrev pub run_in : Run → shape.Run
 run_in run.NoType = no_type
@@ -23,20 +30,16 @@ run_turn held = turn_at (λ typed. typed) run_in
 abbrev pub fits_of : Fits → shape.Fits
 fits_of fitting.Fits = fits
 fits_of fitting.FitsNot = fits_not
-fits_of fitting.Surely = fits_surely
 
 abbrev pub outline_of : Outline → shape.Outline
 outline_of outline = record { brackets = outline.brackets; is_named = outline.is_named }
 
-abbrev pub prefix_of : Outline × Bool → shape.Outline × Bool
-prefix_of both = (outline_of both.0, both.1)
-
-abbrev pub prefix_turn : Held → Turn Outline (Outline × Bool) → reads.Turn shape.Outline (shape.Outline × Bool)
-prefix_turn held = turn_at outline_of prefix_of
+abbrev pub prefix_turn : Held → Turn Outline Outline → reads.Turn shape.Outline shape.Outline
+prefix_turn held = turn_at outline_of outline_of
 
 abbrev pub suffix_turn : Held → Turn Outline Fits → reads.Turn shape.Outline shape.Fits
 suffix_turn held = turn_at outline_of fits_of
 
 -- one bracket more at most
-abbrev pub HasFewerPrefix : ℕ → Held → Turn Outline (Outline × Bool) → Type 0
-HasFewerPrefix count held = IsTurn (λ outline. outline.brackets ≤ count + 1) (λ both. Unit {0})
+abbrev pub HasFewerPrefix : ℕ → Held → Turn Outline Outline → Type 0
+HasFewerPrefix count held = IsTurn (λ outline. outline.brackets ≤ count + 1) (λ outline. Unit {0})

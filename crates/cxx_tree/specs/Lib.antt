@@ -3,6 +3,5 @@ pub mod Arena
 pub mod Defaults
 pub mod Held
 pub mod Later
-pub mod Members
 pub mod Uses
 pub mod Whole

@@ -1,0 +1,116 @@
+-- What names with qualifiers mean (3.4.1, 3.4.3, 3.4.3.2).
+use Rattle.std.specs.Prelude.{ℕ, Bool, true, false, List, [], ◌∷◌, length, Option, Some, None, Ok, Err}
+use Rattle.std.specs.List.{slice_get}
+use Rattle.cxx_model.specs.declared.evidence.Evidence.TheVariants.{Found}
+use Rattle.cxx_model.specs.declared.fault.FaultText.TheVariants as says
+use Rattle.cxx_model.specs.declared.lookup.Found.{Found as Sought}
+use Rattle.cxx_model.specs.declared.lookup.Found.TheVariants as sought
+use Rattle.cxx_model.specs.declared.place.Place.{Place}
+use Rattle.cxx_model.specs.declared.types.FactId.{FactId}
+use Rattle.cxx_model.specs.Facts.Declarations as facts
+use Rattle.cxx_model.specs.Facts.Declarations.{CxxFact, CxxGraph, CxxName, Declares, spelled}
+use Rattle.cxx_model.specs.Stops.{Answer, Stopped, Faulty, ◌>>=◌, undeclared_at}
+use Rattle.cxx_model.specs.Text.Lexemes.{nowhere}
+use Rattle.cxx_meaning.specs.Lookups.Qualified.{qualified}
+use Rattle.cxx_meaning.specs.Lookups.Wanted.{Wanted, any_name, before_colons}
+use Rattle.cxx_reading.specs.declared.region.Region.{Region}
+use Rattle.cxx_reading.specs.declared.region.Region.TheVariants as region
+use Rattle.cxx_reading.specs.Linked.{scope_id}
+use Rattle.cxx_reading.specs.Seen.{Numbered, found_or_none, set_in, sought_from}
+use Rattle.cxx_reading.specs.State.{unit_scope}
+use Rattle.cxx_reading.specs.Trees.{CxxPath, CxxPathPart, last_part}
+
+-- ---- faults of one name
+
+abbrev pub place_in : Option CxxFact → Place
+place_in None = nowhere
+place_in (Some fact) = fact.place
+
+abbrev pub place_of_fact : CxxGraph → ℕ → Place
+place_of_fact graph number = place_in (slice_get graph.facts number)
+
+-- 3.4: two declarations of which none hides the other
+abbrev pub ambiguous_at : CxxGraph → CxxPathPart → FactId → FactId → Stopped
+ambiguous_at graph part one two = Faulty (record { place = part.place; text = says.AmbiguousName part.word; evidence = Found (place_of_fact graph one.0) ∷ Found (place_of_fact graph two.0) ∷ [] })
+
+-- what is declared there is not what may stand here
+abbrev pub wrong_kind_at : CxxPathPart → Place → Stopped
+wrong_kind_at part other = Faulty (record { place = part.place; text = says.WrongKindOfName part.word; evidence = Found other ∷ [] })
+
+-- ---- namespaces among declarations
+
+abbrev pub space_in : Declares → Option ℕ
+space_in (facts.namespace inner) = Some inner.0
+space_in _ = None
+
+abbrev pub or_later : Option ℕ → Option ℕ → Option ℕ
+or_later None later = later
+or_later (Some n) later = Some n
+
+abbrev pub first_space : List Numbered → Option ℕ
+first_space [] = None
+first_space (one ∷ others) = or_later (space_in one.fact.what) (first_space others)
+
+-- ---- where a name is looked up
+
+-- 3.4.1, 3.4.3.2, 7.3.4: what a name means in a region, among all that is declared so far; a unit without classes asks for
+-- none
+unfoldable pub sought_in : CxxGraph → Wanted → Region → CxxName → Sought
+sought_in graph wanted (region.Outward scope) name = sought_from graph wanted scope.0 name
+sought_in graph wanted (region.Inside space) name = found_or_none (qualified graph wanted space name (length graph.facts))
+
+-- what is found of a part before `::` is a namespace
+abbrev pub held_by : CxxPathPart → Option ℕ → List Numbered → Answer ℕ
+held_by part (Some inner) all = Ok inner
+held_by part None [] = Err (undeclared_at part.place part.word)
+held_by part None (one ∷ others) = Err (wrong_kind_at part one.fact.place)
+
+abbrev pub held_among : CxxPathPart → List Numbered → Answer ℕ
+held_among part all = held_by part (first_space all) all
+
+abbrev pub holder_by : CxxGraph → CxxPathPart → Sought → Answer ℕ
+holder_by graph part (sought.Ambiguous one two) = Err (ambiguous_at graph part one two)
+holder_by graph part other = held_among part (set_in graph other)
+
+-- 3.4.3: the namespace that a part before `::` means in a region; objects, functions and enumerators are passed over
+unfoldable pub holder : CxxGraph → Region → CxxPathPart → Answer ℕ
+holder graph where_ part = holder_by graph part (sought_in graph before_colons where_ (spelled part.word))
+
+-- 3.4.3: where the last of some parts is looked up, by the region of the first
+unfoldable pub region_by : CxxGraph → Region → List CxxPathPart → Answer Region
+region_by graph where_ [] = Ok where_
+region_by graph where_ (part ∷ []) = Ok where_
+region_by graph where_ (part ∷ next ∷ others) = holder graph where_ part >>= λ inner. region_by graph (region.Inside (scope_id inner)) (next ∷ others)
+
+-- 3.4.3 p4: behind `::` alone a name is one of the scope of the unit
+abbrev pub first_region : ℕ → Bool → Region
+first_region scope false = region.Outward (scope_id scope)
+first_region scope true = region.Inside (scope_id unit_scope.scope)
+
+-- where the last part of a name is looked up that stands in a scope
+unfoldable pub region_of : CxxGraph → ℕ → CxxPath → Answer Region
+region_of graph scope path = region_by graph (first_region scope path.global) path.parts
+
+-- the scope of a region
+abbrev pub scope_of_region : Region → ℕ
+scope_of_region (region.Outward scope) = scope.0
+scope_of_region (region.Inside space) = space.0
+
+-- ---- what a name means
+
+-- the name that is looked up
+abbrev pub name_in : CxxPath → CxxName
+name_in path = spelled (last_part path.parts).word
+
+-- 3.4.1, 3.4.3.2: the entities that a name means in a region, by their first declarations; none where it is ambiguous
+abbrev pub found_in : CxxGraph → Region → CxxName → List Numbered
+found_in graph where_ name = set_in graph (sought_in graph any_name where_ name)
+
+abbrev pub found_by : CxxGraph → CxxName → Answer Region → List Numbered
+found_by graph name (Ok where_) = found_in graph where_ name
+found_by graph name (Err why) = []
+
+-- The entities that a name with its qualifiers means in a scope; none where one of its parts means nothing that may stand
+-- there.
+unfoldable pub found_of : CxxGraph → ℕ → CxxPath → List Numbered
+found_of graph scope path = found_by graph (name_in path) (region_of graph scope path)
