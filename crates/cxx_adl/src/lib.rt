@@ -15,4 +15,6 @@ mod sets;
 
 pub use adl::adl_set;
 pub use cxx_model::Associated;
+pub use numbers::add_option;
+pub use parts::{Part, reached};
 pub use sets::associated;

@@ -47,7 +47,7 @@ fn add_number(numbers: &mut Vec<u32>, number: u32) -> Result<(), AllocError>
 }
 
 /// Adds a number in its place, where there is one that is not there yet.
-pub(crate) fn add_option(numbers: &mut Vec<u32>, number: Option<u32>) -> Result<(), AllocError>
+pub fn add_option(numbers: &mut Vec<u32>, number: Option<u32>) -> Result<(), AllocError>
     ensures { OnOk result (numbers.new.items ≡ with_option number numbers.old.items) }
 {
     match number {

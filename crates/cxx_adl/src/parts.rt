@@ -4,18 +4,20 @@ ghost use Rattle.std.specs.Prelude.{◌≡◌, ◌<◌, List, ◌∷◌, [], len
 ghost use Rattle.std.specs.List.{slice_get};
 ghost use Rattle.cxx_model.specs.Types.Trees.{CxxType, class_type};
 ghost use Rattle.cxx_model.specs.Types.Numbers.{type_at, type_over, IsNodeBelow, AreArgumentsBelow, AreTypesBelow, IsArgumentBelow, arguments_at, types_at};
-ghost use Rattle.cxx_model.specs.Facts.Declarations.{declares_at};
+ghost use Rattle.cxx_model.specs.Facts.Declarations.{declares_at, graph_at};
 ghost use Rattle.cxx_model.specs.Facts.Fitted.{IsGraphBelow};
 ghost use Rattle.cxx_meaning.specs.Lookups.Associated.{arguments_for, base_before, bases_of, of_type, each_of, holds_part, leads_to, parts as parts_of, same_part as same_parts, types_among, with_part, with_parts};
 ghost use Rattle.cxx_adl.specs.Views.{base_by, base_list, given, ArePartsBelow, Becomes, IsPartBelow, facts_of, graph_of, part_at};
 
 use crate::asking::Asking;
+use cxx_graph::Graph;
 use cxx_model::{Argument, ClassId, Entity, FactId, TypeId, TypeNode};
-use std::alloc::AllocError;
+use cxx_types::TypeTable;
+use std::alloc::{AllocError, Global};
 
 /// A type that stands in those of some arguments, or a base of a class that does.
 #[derive(Clone, Copy)]
-pub(crate) enum Part {
+pub enum Part {
     Type(TypeId),
     Base(ClassId),
 }
@@ -241,6 +243,26 @@ impl Asking<'_> {
         }
         Ok(found)
     }
+}
+
+/// What the types of some arguments lead to (3.4.2), each once. No fact is looked at but those of classes.
+pub fn reached(
+    alloc: Global,
+    graph: &Graph,
+    types: &TypeTable,
+    of: &[TypeId],
+) -> Result<Vec<Part>, AllocError>
+    requires graph_below { IsGraphBelow (length types.now) graph.now }
+    requires of_below { AreTypesBelow (length types.now) of.now }
+    ensures is { IfOk result (λ parts. map (part_at types.now) parts.items ≡ parts_of (graph_at types.now graph.now) (given types.now of.now)) }
+    ensures below { IfOk result (λ parts. ArePartsBelow (length types.now) parts.items) }
+{
+    let asking = Asking {
+        alloc,
+        graph,
+        types,
+    };
+    asking.parts(of)
 }
 
 // The base that a fact names, where it is of a direct base of a class.

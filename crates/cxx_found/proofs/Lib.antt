@@ -2,8 +2,10 @@ pub mod Alone
 pub mod Chained
 pub mod Facts
 pub mod Here
+pub mod Leading
 pub mod Outer
 pub mod Outside
+pub mod Parts
 pub mod Rows
 pub mod Searching
 pub mod Shows

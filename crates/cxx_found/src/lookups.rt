@@ -8,12 +8,14 @@ ghost use Rattle.cxx_members.specs.Views.{wanted_at};
 ghost use Rattle.cxx_reading.specs.Seen.{fact_numbers, found as found_from, found_types as found_types_from, kind_of_found, numbered_at, sought_from};
 ghost use Rattle.cxx_names.specs.Index.{Notes, numbers_in};
 ghost use Rattle.cxx_names.specs.Plain.{ArePlain};
-ghost use Rattle.cxx_found.specs.Views.{IsSeeking, graph_of, name_of, wanted_of};
+ghost use Rattle.cxx_model.specs.Types.Numbers.{AreTypesBelow};
+ghost use Rattle.cxx_found.specs.Associated.{AreFoundBy, given};
+ghost use Rattle.cxx_found.specs.Views.{IsSeeking, graph_of, name_of, types_of, wanted_of};
 
 use crate::seeking::Seeking;
 use cxx_graph::Graph;
 use cxx_members::{Looking, Wanted};
-use cxx_model::{FactList, Found, Kind, OutOfMemory, ScopeId};
+use cxx_model::{FactList, Found, Kind, OutOfMemory, ScopeId, TypeId};
 use cxx_names::Names;
 use cxx_types::TypeTable;
 use std::alloc::Global;
@@ -30,6 +32,7 @@ fn seeking<'a>(
     requires below { IsGraphBelow (length types.now) graph.now }
     requires plain { ArePlain graph.now.facts }
     ensures graph { graph_of result ≡ graph_at types.now graph.now }
+    ensures types { types_of result ≡ types.now }
     ensures wanted { wanted_of result ≡ wanted_at wanted }
     ensures name { name_of result ≡ spelled word.now }
     ensures seeking { IsSeeking result }
@@ -161,4 +164,23 @@ pub fn brought(
 {
     let seeking = seeking(alloc, names, graph, types, Wanted::Any, word);
     Ok(seeking.brought(space)?)
+}
+
+/// The functions of a name that the types of arguments find, by their first declarations, ascending (3.4.2).
+pub fn found_by_types(
+    alloc: Global,
+    names: &Names,
+    graph: &Graph,
+    types: &TypeTable,
+    of: &[TypeId],
+    word: &[u8],
+) -> Result<FactList, OutOfMemory>
+    requires noted { Notes names.now graph.now.facts }
+    requires below { IsGraphBelow (length types.now) graph.now }
+    requires plain { ArePlain graph.now.facts }
+    requires of { AreTypesBelow (length types.now) of.now }
+    ensures { IfOk result (AreFoundBy (graph_at types.now graph.now) (given types.now of.now) (spelled word.now)) }
+{
+    let seeking = seeking(alloc, names, graph, types, Wanted::Any, word);
+    Ok(seeking.found_by_types(of)?)
 }

@@ -1,4 +1,4 @@
-//! Which declarations in blocks declare members of namespaces (3.5), by their names.
+//! Which declarations in blocks declare members of namespaces (3.5), by those and by their names.
 #![tactic(auto)]
 
 mod linkages;

@@ -10,7 +10,7 @@ use Rattle.cxx_model.specs.Facts.Graph.{counted, enumerations, is_enumeration, s
 use Rattle.cxx_model.specs.Types.Trees.{CxxType}
 use Rattle.cxx_reading.specs.Declaring.{enumeration_count}
 use Rattle.cxx_names.specs.declared.entry.Noted.{Noted}
-use Rattle.cxx_names.specs.Index.{noted_by, scopes_of}
+use Rattle.cxx_names.specs.Index.{enumeration_by, enumeration_scopes, noted_by, scopes_of}
 
 pub scopes_below : (facts : List Fact) → length (scopes_of facts) ≤ length facts
 scopes_below [] = omega arith
@@ -50,4 +50,12 @@ scopes_are (fact ∷ facts) = by fact.what (scopes_are facts)
   where
     by : (what : Entity) → length (scopes_of facts) ≡ scopes facts → length (option_to_list (noted_by fact.scope what) ++ scopes_of facts) ≡ scopes (record fact { what = what } ∷ facts)
     by (entity.Scope parent kind) e = omega (arith, e)
+    by _ e = e
+
+pub enumerations_are : (facts : List Fact) → length (enumeration_scopes facts) ≡ enumerations facts
+enumerations_are [] = refl
+enumerations_are (fact ∷ facts) = by fact.what (enumerations_are facts)
+  where
+    by : (what : Entity) → length (enumeration_scopes facts) ≡ enumerations facts → length (option_to_list (enumeration_by fact.scope what) ++ enumeration_scopes facts) ≡ counted (is_enumeration what) (enumerations facts)
+    by (entity.Enumeration number) e = omega (arith, e)
     by _ e = e

@@ -1,5 +1,6 @@
 -- The spellings that were met, by their numbers.
 use Rattle.std.proofs.Common.{◌≡◌, ◌≤◌, ◌<◌, ◌+◌, ℕ, suc, Bool, true, false, cond, not, ◌&&◌, nat_eq, nat_lt, List, [], ◌∷◌, ◌++◌, length, position, Option, Some, None, option_map, refl, sym, ap, ◌∙◌, subst, arith}
+use Rattle.std.specs.Prelude.{Result, Ok, Err, OnErr}
 use Rattle.std.specs.Global.{Vec}
 use Rattle.std.specs.List.{position_or_len}
 use Rattle.std.specs.Map.{lookup}
@@ -14,9 +15,9 @@ use Rattle.cxx_model.specs.declared.types.FactId.{FactId}
 use Rattle.cxx_model.specs.declared.types.ScopeId.{ScopeId}
 use Rattle.cxx_names.specs.declared.entry.Spelling.{Spelling}
 use Rattle.cxx_names.specs.declared.words.Words.{Words}
-use Rattle.cxx_names.specs.Filed.{row, those_in, IsMoreBy}
+use Rattle.cxx_names.specs.Filed.{row, those_in, AreSame, IsMoreBy}
 use Rattle.cxx_names.specs.Index.{filed_by}
-use Rattle.cxx_names.specs.Words.{same_spelling, number_among, numbered_row, word_row, spelled_word, IsSound, IsNumberOf, HasMet, HasWord}
+use Rattle.cxx_names.specs.Words.{same_spelling, number_among, numbered_row, word_row, is_text, spelled_word, AreSameRows, AreSameWords, Files, IsSound, IsNumberOf, HasMet, HasWord}
 
 -- ---- the first that passes a test
 
@@ -131,10 +132,6 @@ row_met old new sound met scope word = met_row old new sound met scope word
 
 -- ---- what is filed under a word, when a declaration was filed
 
-abbrev pub same_text : Name → List ℕ → Bool
-same_text (name.Spelled word) other = bytes_eq word other
-same_text _ other = false
-
 never : {A : Type 0} (a d : Bool) (x y : A) → cond (a && (d && false)) x y ≡ y
 never true true x y = refl
 never true false x y = refl
@@ -185,7 +182,7 @@ module _ (known : List (Vec ℕ)) (old new : List (Spelling × Vec FactId)) (sco
       ∙ ap (λ b. cond (nat_eq scope.0 other.0 && b) (row same_spelling old (record { scope = other; number = n }) ++ number ∷ []) (row same_spelling old (record { scope = other; number = n }))) (same_number known word v spelling.number n numbered at)))
 
   pub one_name : (n : Name) (d : Bool) (spelling : Option Spelling) → IsNumberOf known scope (spelled_word n d) spelling → IsMoreBy same_spelling old new (filed_by number spelling)
-      → (other : ScopeId) (word : List ℕ) → at new other word ≡ cond (nat_eq scope.0 other.0 && (d && same_text n word)) (at old other word ++ number ∷ []) (at old other word)
+      → (other : ScopeId) (word : List ℕ) → at new other word ≡ cond (nat_eq scope.0 other.0 && (d && is_text n word)) (at old other word ++ number ∷ []) (at old other word)
   one_name name.Unnamed d None is filed other word = nothing filed other (number_among known word) ∙ sym (never (nat_eq scope.0 other.0) d _ _)
   one_name name.Unnamed d (Some s) is filed other word = absurd is
   one_name (name.Operator o) d None is filed other word = nothing filed other (number_among known word) ∙ sym (never (nat_eq scope.0 other.0) d _ _)
@@ -215,3 +212,32 @@ sound_more old new scope (Some word) (Some name) number sound is has key out =
     has.rows key
     ∙ (ap (λ t. cond t (row same_spelling old.rows.rows.entries name ++ number ∷ []) (row same_spelling old.rows.rows.entries key)) (and_false (nat_eq name.scope.0 key.scope.0) (nat_eq name.number key.number) (below name.number name.number (length old.spellings.keys) refl (within old.spellings.keys word name.number is.1) key.number room))
     ∙ sound key room)
+
+-- nothing was filed
+pub sound_same : (old new : Words) → IsSound old → AreSameWords old new → IsSound new
+sound_same old new sound same key out = same.rows key ∙ sound key (subst (λ ks. length ks ≤ key.number) same.spellings out)
+
+row_same : (old new : List (Spelling × Vec FactId)) → AreSame same_spelling old new → (scope : ScopeId) (o : Option ℕ) → numbered_row new scope o ≡ numbered_row old scope o
+row_same old new same scope None = refl
+row_same old new same scope (Some n) = same (record { scope = scope; number = n })
+
+pub rows_same : (old new : Words) → AreSameWords old new → AreSameRows old new
+rows_same old new same scope word = ap (λ ks. numbered_row new.rows.rows.entries scope (number_among ks word)) same.spellings ∙ row_same old.rows.rows.entries new.rows.rows.entries same.rows scope (number_among old.spellings.keys word)
+
+-- a spelling was met, and then one more declaration was filed, or nothing was
+pub files_one : (old middle new : Words) (scope : ScopeId) (n : Name) (spelling : Option Spelling) (number : FactId) → IsSound old → HasMet old middle → IsNumberOf middle.spellings.keys scope (spelled_word n true) spelling → HasWord middle new (filed_by number spelling) → Files old new scope n number
+files_one old middle new scope n spelling number sound met is has other word =
+    ap (λ ks. numbered_row new.rows.rows.entries other (number_among ks word)) has.spellings
+    ∙ (one_name middle.spellings.keys middle.rows.rows.entries new.rows.rows.entries scope number n true spelling is has.rows other word
+    ∙ ap (λ ns. cond (nat_eq scope.0 other.0 && is_text n word) (ns ++ number ∷ []) ns) (row_met old middle sound met other word))
+
+pub files_none : (old middle new : Words) → IsSound old → HasMet old middle → AreSameWords middle new → AreSameRows old new
+files_none old middle new sound met same scope word = rows_same middle new same scope word ∙ row_met old middle sound met scope word
+
+pub on_err : {X E : Type 0} (r : Result X E) (P : Type 0) → P → OnErr r P
+on_err (Ok x) P p = tt
+on_err (Err why) P p = p
+
+pub if_err : {X E : Type 0} (r : Result X E) (P Q : Type 0) → (P → Q) → OnErr r P → OnErr r Q
+if_err (Ok x) P Q f p = tt
+if_err (Err why) P Q f p = f p

@@ -1,5 +1,6 @@
 pub mod Clashing
 pub mod Counting
+pub mod Enumerated
 pub mod Known
 pub mod Looking
 pub mod Meanings

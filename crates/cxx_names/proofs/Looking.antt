@@ -16,8 +16,8 @@ use Rattle.cxx_meaning.specs.Lookups.Wanted.{hides_types, names_space, names_typ
 use Rattle.cxx_reading.specs.Declaring.{enumeration_in, first_function, first_object, is_object, is_same_function}
 use Rattle.cxx_names.specs.Meant.{first_named, first_or, or_void}
 use Rattle.cxx_reading.specs.Seen.{type_in, type_named_by, Numbered, any_hides, any_space, any_type, declared_from, declared_in, declares_in, fact_numbers, numbered_at, numbered_by, parent_of}
-use Rattle.cxx_reading.specs.Spaces as spaces
-use Rattle.cxx_reading.specs.Spaces.{first_space, space_in}
+use Rattle.cxx_reading.specs.Paths as paths
+use Rattle.cxx_reading.specs.Paths.{first_space, space_in}
 use Rattle.cxx_names.specs.Index.{noted_by, numbers_in, scopes_of}
 use Rattle.cxx_names.specs.Looked.{holder_in, looked_up, seen_by}
 
@@ -121,15 +121,15 @@ type_more graph types facts number numbers = by (slice_get facts number.0)
     by None = refl
     by (Some fact) = or_again (names_type graph (fact_at types fact).what) (any_type graph (looked_up types facts numbers))
 
-or_once : (o later : Option ℕ) → spaces.or_later o later ≡ spaces.or_later (spaces.or_later o None) later
+or_once : (o later : Option ℕ) → paths.or_later o later ≡ paths.or_later (paths.or_later o None) later
 or_once None later = refl
 or_once (Some n) later = refl
 
 pub space_more : (types : List CxxType) (facts : List Fact) (number : FactId) (numbers : List FactId)
-    → first_space (looked_up types facts (number ∷ numbers)) ≡ spaces.or_later (first_space (looked_up types facts (number ∷ []))) (first_space (looked_up types facts numbers))
+    → first_space (looked_up types facts (number ∷ numbers)) ≡ paths.or_later (first_space (looked_up types facts (number ∷ []))) (first_space (looked_up types facts numbers))
 space_more types facts number numbers = by (slice_get facts number.0)
   where
-    by : (o : Option Fact) → first_space (seen_by types number (looked_up types facts numbers) o) ≡ spaces.or_later (first_space (seen_by types number [] o)) (first_space (looked_up types facts numbers))
+    by : (o : Option Fact) → first_space (seen_by types number (looked_up types facts numbers) o) ≡ paths.or_later (first_space (seen_by types number [] o)) (first_space (looked_up types facts numbers))
     by None = refl
     by (Some fact) = or_once (space_in (fact_at types fact).what) (first_space (looked_up types facts numbers))
 
@@ -138,7 +138,7 @@ pub space_some : (all : List Numbered) → any_space all ≡ is_some (first_spac
 space_some [] = refl
 space_some (one ∷ others) = by one.fact.what (space_some others)
   where
-    by : (what : Declares) → any_space others ≡ is_some (first_space others) → (names_space what || any_space others) ≡ is_some (spaces.or_later (space_in what) (first_space others))
+    by : (what : Declares) → any_space others ≡ is_some (first_space others) → (names_space what || any_space others) ≡ is_some (paths.or_later (space_in what) (first_space others))
     by (declares.namespace inner) e = refl
     by _ e = e
 

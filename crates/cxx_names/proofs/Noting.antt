@@ -14,7 +14,6 @@ use Rattle.cxx_model.specs.declared.types.FactId.{FactId}
 use Rattle.cxx_model.specs.declared.types.ScopeId.{ScopeId}
 use Rattle.cxx_model.specs.Facts.Conflicts.{declares_name, same_name}
 use Rattle.cxx_model.specs.Facts.Declarations.{CxxName, declares_at, fact_at, facts_at, name_at, spelled}
-use Rattle.cxx_model.specs.Facts.Graph.{counted, enumerations, is_enumeration}
 use Rattle.cxx_model.specs.Types.Trees.{CxxType}
 use Rattle.cxx_meaning.specs.Conversions.Enumerations.{values_in}
 use Rattle.cxx_reading.specs.Seen.{declared_from, declares_in}
@@ -25,11 +24,11 @@ use Rattle.cxx_names.specs.declared.kept.Kept.{Kept}
 use Rattle.cxx_names.specs.declared.names.Names.{Names}
 use Rattle.cxx_names.specs.Filed.{row, those_in, AreSame, IsMoreBy}
 use Rattle.cxx_names.specs.declared.words.Words.{Words}
-use Rattle.cxx_names.specs.Words.{same_spelling, number_among, numbered_row, word_declared_by, IsNumbered, HasMet, HasWord}
-use Rattle.cxx_names.proofs.Known.{same_text, one_name, sound_met, row_met, sound_more}
+use Rattle.cxx_names.specs.Words.{same_spelling, number_among, numbered_row, is_text, word_declared_by, IsNumbered, HasMet, HasWord}
+use Rattle.cxx_names.proofs.Known.{one_name, sound_met, row_met, sound_more}
 use Rattle.cxx_names.specs.declared.entry.SpaceEntry.{SpaceEntry}
 use Rattle.cxx_names.specs.declared.spaces.Spaces.{Spaces}
-use Rattle.cxx_names.specs.Index.{under, directive_by, directives_of, opening_by, openings_from, unnamed_by, unnamed_of, KeepsSpaces, HasSpaces, AreSameSpaces, same_scope, same_enumeration, filed_by, noted_by, value_by, is_outermost_kind, block_by, scopes_of, blocks_from, numbers_in, Keeps, Notes, HasKept, HasNoted, AreSameKept, AreSameNames}
+use Rattle.cxx_names.specs.Index.{under, enumeration_by, enumeration_scopes, directive_by, directives_of, opening_by, openings_from, unnamed_by, unnamed_of, KeepsSpaces, HasSpaces, AreSameSpaces, same_scope, same_enumeration, filed_by, noted_by, value_by, is_outermost_kind, block_by, scopes_of, blocks_from, numbers_in, Keeps, Notes, HasKept, HasNoted, AreSameKept, AreSameNames}
 
 -- ---- declarations of a name
 
@@ -76,10 +75,10 @@ declares_alike types (entity.Directive nominated) = refl
 declares_alike types (entity.Using target) = refl
 declares_alike types (entity.Friend number target) = refl
 
-named_alike : (types : List CxxType) (scope : ℕ) (word : List ℕ) (fact : Fact) → declares_in scope (spelled word) (fact_at types fact) ≡ (nat_eq fact.scope.0 scope && (declares_name (declares_at [] fact.what) && same_text fact.name word))
+named_alike : (types : List CxxType) (scope : ℕ) (word : List ℕ) (fact : Fact) → declares_in scope (spelled word) (fact_at types fact) ≡ (nat_eq fact.scope.0 scope && (declares_name (declares_at [] fact.what) && is_text fact.name word))
 named_alike types scope word fact = ap (λ b. nat_eq fact.scope.0 scope && (b && (true && same_name (name_at types fact.name) (spelled word)))) (declares_alike types fact.what) ∙ by fact.name
   where
-    by : (n : Name) → (nat_eq fact.scope.0 scope && (declares_name (declares_at [] fact.what) && (true && same_name (name_at types n) (spelled word)))) ≡ (nat_eq fact.scope.0 scope && (declares_name (declares_at [] fact.what) && same_text n word))
+    by : (n : Name) → (nat_eq fact.scope.0 scope && (declares_name (declares_at [] fact.what) && (true && same_name (name_at types n) (spelled word)))) ≡ (nat_eq fact.scope.0 scope && (declares_name (declares_at [] fact.what) && is_text n word))
     by name.Unnamed = refl
     by (name.Spelled v) = refl
     by (name.Operator o) = refl
@@ -92,7 +91,7 @@ pub names_noted : (types : List CxxType) (known : List (Vec ℕ)) (old new : Lis
     → IsMoreBy same_spelling old new (filed_by number name)
     → (scope : ScopeId) (word : List ℕ) → numbered_row new scope (number_among known word) ≡ numbers_in (declared_from scope.0 (spelled word) zero (facts_at types (facts ++ fact ∷ [])))
 names_noted types known old new facts fact name number n is kept more scope word =
-    let test : Bool = nat_eq fact.scope.0 scope.0 && (declares_name (declares_at [] fact.what) && same_text fact.name word) in
+    let test : Bool = nat_eq fact.scope.0 scope.0 && (declares_name (declares_at [] fact.what) && is_text fact.name word) in
     let before : List FactId = numbers_in (declared_from scope.0 (spelled word) zero (facts_at types facts)) in
     let place : 0 + length facts ≡ number.0 = omega (arith, n) in
     one_name known old new fact.scope number fact.name (declares_name (declares_at [] fact.what)) name is more scope word
@@ -103,7 +102,7 @@ names_noted types known old new facts fact name number n is kept more scope word
 
 -- ---- scopes and enumerations
 
-scopes_more : (facts : List Fact) (fact : Fact) → scopes_of (facts ++ fact ∷ []) ≡ scopes_of facts ++ option_to_list (noted_by fact.scope fact.what)
+pub scopes_more : (facts : List Fact) (fact : Fact) → scopes_of (facts ++ fact ∷ []) ≡ scopes_of facts ++ option_to_list (noted_by fact.scope fact.what)
 scopes_more [] fact = append-nil _
 scopes_more (one ∷ facts) fact = ap (λ xs. option_to_list (noted_by one.scope one.what) ++ xs) (scopes_more facts fact) ∙ sym (append_assoc (option_to_list (noted_by one.scope one.what)) (scopes_of facts) (option_to_list (noted_by fact.scope fact.what)))
 
@@ -148,15 +147,9 @@ module _ (old new : List (ScopeId × Vec ScopeId)) (scopes : List Noted) (kept :
   blocks_noted None more scope = more scope ∙ kept scope ∙ ap (blocks_from zero scope.0) (sym (append-nil scopes))
   blocks_noted (Some noted) more scope = one_block noted (is_outermost_kind noted.kind) refl more scope
 
-counted_more : (p q : Bool) (n : ℕ) → counted p (counted q n) ≡ counted q (counted p n)
-counted_more true true n = refl
-counted_more true false n = refl
-counted_more false true n = refl
-counted_more false false n = refl
-
-count_more : (facts : List Fact) (fact : Fact) → enumerations (facts ++ fact ∷ []) ≡ counted (is_enumeration fact.what) (enumerations facts)
-count_more [] fact = refl
-count_more (one ∷ facts) fact = ap (counted (is_enumeration one.what)) (count_more facts fact) ∙ counted_more (is_enumeration one.what) (is_enumeration fact.what) (enumerations facts)
+enumerations_more : (facts : List Fact) (fact : Fact) → enumeration_scopes (facts ++ fact ∷ []) ≡ enumeration_scopes facts ++ option_to_list (enumeration_by fact.scope fact.what)
+enumerations_more [] fact = append-nil _
+enumerations_more (one ∷ facts) fact = ap (λ xs. option_to_list (enumeration_by one.scope one.what) ++ xs) (enumerations_more facts fact) ∙ sym (append_assoc (option_to_list (enumeration_by one.scope one.what)) (enumeration_scopes facts) (option_to_list (enumeration_by fact.scope fact.what)))
 
 -- 7.2: the values of one more fact
 abbrev value_for : ℕ → Option (EnumId × ℤ) → List ℤ
@@ -255,13 +248,13 @@ spaces_same old new facts kept same = record {
   unnamed = λ scope. same.unnamed scope ∙ kept.unnamed scope;
 }
 
-keeps_more : (old new : Kept) (one : Entry) (facts : List Fact) (fact : Fact) (number : FactId) → number.0 ≡ length facts → one.noted ≡ noted_by fact.scope fact.what → one.block ≡ block_by (length (scopes_of facts)) (noted_by fact.scope fact.what) → one.value ≡ value_by fact.what → one.is_enumeration ≡ is_enumeration fact.what
+keeps_more : (old new : Kept) (one : Entry) (facts : List Fact) (fact : Fact) (number : FactId) → number.0 ≡ length facts → one.noted ≡ noted_by fact.scope fact.what → one.block ≡ block_by (length (scopes_of facts)) (noted_by fact.scope fact.what) → one.value ≡ value_by fact.what → one.enumeration ≡ enumeration_by fact.scope fact.what
     → one.space.directive ≡ directive_by fact.scope fact.what → one.space.opening ≡ opening_by number fact.what → one.space.unnamed ≡ unnamed_by fact.scope fact.name fact.what
     → Keeps old facts → HasKept old new one → Keeps new (facts ++ fact ∷ [])
 keeps_more old new one facts fact number n noted block value counts directive opening unnamed kept has = record {
   scopes = has.scopes ∙ (ap (λ xs. xs ++ option_to_list one.noted) kept.scopes ∙ (ap (λ o. scopes_of facts ++ option_to_list o) noted ∙ sym (scopes_more facts fact)));
   blocks = λ scope. blocks_noted old.blocks.rows.entries new.blocks.rows.entries (scopes_of facts) kept.blocks (noted_by fact.scope fact.what) (subst (λ o. IsMoreBy same_scope old.blocks.rows.entries new.blocks.rows.entries o) block has.blocks) scope ∙ ap (blocks_from zero scope.0) (sym (scopes_more facts fact));
-  enumerations = has.enumerations ∙ (ap (λ b. counted b old.enumerations) counts ∙ (ap (counted (is_enumeration fact.what)) kept.enumerations ∙ sym (count_more facts fact)));
+  enumerations = has.enumerations ∙ (ap (λ xs. xs ++ option_to_list one.enumeration) kept.enumerations ∙ (ap (λ o. enumeration_scopes facts ++ option_to_list o) counts ∙ sym (enumerations_more facts fact)));
   values = λ number types. values_noted types old.values.rows.entries new.values.rows.entries facts (λ n. kept.values n types) (value_by fact.what) (subst (λ o. IsMoreBy same_enumeration old.values.rows.entries new.values.rows.entries o) value has.values) number ∙ sym (values_more types number.0 facts fact);
   spaces = spaces_more old.spaces new.spaces one.space facts fact number n directive opening unnamed kept.spaces has.spaces;
 }
@@ -287,7 +280,7 @@ notes_met old words facts notes met = record {
 
 pub notes_more : (old new : Names) (one : Entry) (facts : List Fact) (fact : Fact) (name : Option Spelling) (number : FactId) (scopes : ℕ) → number.0 ≡ length facts → scopes ≡ length (scopes_of facts) → IsNumbered old.words.spellings.keys fact name
     → one.name ≡ filed_by number name
-    → one.noted ≡ noted_by fact.scope fact.what → one.block ≡ block_by scopes (noted_by fact.scope fact.what) → one.value ≡ value_by fact.what → one.is_enumeration ≡ is_enumeration fact.what
+    → one.noted ≡ noted_by fact.scope fact.what → one.block ≡ block_by scopes (noted_by fact.scope fact.what) → one.value ≡ value_by fact.what → one.enumeration ≡ enumeration_by fact.scope fact.what
     → one.space.directive ≡ directive_by fact.scope fact.what → one.space.opening ≡ opening_by number fact.what → one.space.unnamed ≡ unnamed_by fact.scope fact.name fact.what
     → Notes old facts → HasNoted old new one → Notes new (facts ++ fact ∷ [])
 notes_more old new one facts fact name number scopes n m is filed noted block value counts directive opening unnamed notes has =

@@ -21,7 +21,8 @@ use Rattle.cxx_meaning.specs.Lookups.Gathered.{before, gathered}
 use Rattle.cxx_meaning.specs.Lookups.Scopes.{first_space, parent_of, up}
 use Rattle.cxx_reading.specs.Linked.{home_of, is_space_at}
 use Rattle.cxx_reading.specs.Spaces as reading
-use Rattle.cxx_reading.specs.Spaces.{first_opening, opened_among, original_by, or_later, space_in, unnamed_among, unnamed_before}
+use Rattle.cxx_reading.specs.Paths.{or_later, space_in}
+use Rattle.cxx_reading.specs.Spaces.{first_opening, opened_among, original_by, unnamed_among, unnamed_before}
 use Rattle.cxx_names.specs.declared.entry.Noted.{Noted}
 use Rattle.cxx_names.specs.Filed.{row}
 use Rattle.cxx_names.specs.Index.{directive_by, directives_of, noted_by, opening_by, openings_from, scopes_of, under, unnamed_by, unnamed_of}

@@ -2,9 +2,8 @@ ghost use Rattle.std.specs.Prelude.{◌≡◌, List};
 ghost use Rattle.std.specs.Option.{option_copied};
 ghost use Rattle.cxx_model.specs.Facts.Conflicts.{declares_name as declares_a_name};
 ghost use Rattle.cxx_model.specs.Facts.Declarations.{declares_at};
-ghost use Rattle.cxx_model.specs.Facts.Graph.{is_enumeration as is_one_enumeration};
 ghost use Rattle.cxx_model.specs.Types.Trees.{CxxType};
-ghost use Rattle.cxx_names.specs.Index.{block_by, directive_by, filed_by, is_outermost_kind, noted_by, opening_by, unnamed_by, unnamed_space, value_by};
+ghost use Rattle.cxx_names.specs.Index.{block_by, directive_by, enumeration_by, filed_by, is_outermost_kind, noted_by, opening_by, unnamed_by, unnamed_space, value_by};
 ghost use Rattle.cxx_names.specs.Words.{word_declared_by};
 
 use cxx_model::{Entity, EnumId, Fact, FactId, Name, ScopeId, ScopeKind};
@@ -42,7 +41,8 @@ pub(crate) struct Entry {
     // The outermost block of a function, under the scope that holds it.
     pub(crate) block: Option<(ScopeId, ScopeId)>,
     pub(crate) value: Option<(EnumId, i128)>,
-    pub(crate) is_enumeration: bool,
+    // 7.2: the scope of an enumeration.
+    pub(crate) enumeration: Option<ScopeId>,
     pub(crate) space: SpaceEntry,
 }
 
@@ -111,16 +111,17 @@ fn block_in(number: ScopeId, noted: Option<Noted>) -> Option<(ScopeId, ScopeId)>
     }
 }
 
-fn is_enumeration(what: Entity) -> bool
-    ensures { result ≡ is_one_enumeration what }
+fn enumeration_in(scope: ScopeId, what: Entity) -> Option<ScopeId>
+    ensures { result ≡ enumeration_by scope what }
 {
     match what {
-        Entity::Enumeration { .. } => true,
-        _ => false,
+        Entity::Enumeration { .. } => Some(scope),
+        _ => None,
     }
 }
 
-fn filed_name(name: Option<Spelling>, number: FactId) -> Option<(Spelling, FactId)>
+/// What is filed of a declaration with a number.
+pub(crate) fn filed_name(name: Option<Spelling>, number: FactId) -> Option<(Spelling, FactId)>
     ensures { result ≡ filed_by number name }
 {
     match name {
@@ -186,7 +187,7 @@ impl Entry {
         ensures noted { result.noted ≡ noted_by fact.now.scope fact.now.what }
         ensures block { result.block ≡ block_by scopes (noted_by fact.now.scope fact.now.what) }
         ensures value { result.value ≡ value_by fact.now.what }
-        ensures enumeration { result.is_enumeration ≡ is_one_enumeration fact.now.what }
+        ensures enumeration { result.enumeration ≡ enumeration_by fact.now.scope fact.now.what }
         ensures directive { result.space.directive ≡ directive_by fact.now.scope fact.now.what }
         ensures opening { result.space.opening ≡ opening_by number fact.now.what }
         ensures unnamed { result.space.unnamed ≡ unnamed_by fact.now.scope fact.now.name fact.now.what }
@@ -197,7 +198,7 @@ impl Entry {
             noted,
             block: block_in(ScopeId(scopes), noted),
             value: value_in(fact.what),
-            is_enumeration: is_enumeration(fact.what),
+            enumeration: enumeration_in(fact.scope, fact.what),
             space: SpaceEntry::of(fact, number),
         }
     }

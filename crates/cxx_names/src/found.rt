@@ -9,9 +9,10 @@ ghost use Rattle.cxx_model.specs.Facts.Fitted.{IsGraphBelow};
 ghost use Rattle.cxx_model.specs.Types.Numbers.{type_at};
 ghost use Rattle.cxx_model.specs.Types.Trees.{CxxType};
 ghost use Rattle.cxx_meaning.specs.Conversions.Enumerations.{values_in};
+ghost use Rattle.cxx_meaning.specs.Lookups.Associated.{scope_of_enumeration as scope_of_one};
 ghost use Rattle.cxx_reading.specs.Declaring.{enumeration_in, first_function as first_function_by, first_object as first_object_by};
 ghost use Rattle.cxx_reading.specs.Seen.{fact_numbers, kind_of_found as kind_of_all, declared_in as declared_by, numbered_at, parent_of};
-ghost use Rattle.cxx_reading.specs.Spaces.{first_space as first_space_by};
+ghost use Rattle.cxx_reading.specs.Paths.{first_space as first_space_by};
 ghost use Rattle.cxx_names.specs.Index.{Notes, numbers_in};
 ghost use Rattle.cxx_names.specs.Looked.{enumeration_number, looked_up, scope_number};
 
@@ -112,6 +113,15 @@ impl Names {
     {
         let _ = graph;
         self.kept.values.row(&number)
+    }
+
+    /// The scope in which an enumeration is declared (7.2).
+    pub fn scope_of_enumeration(&self, graph: &Graph, number: EnumId) -> Option<ScopeId>
+        requires { Notes self.now graph.now.facts }
+        ensures { (types : List CxxType) → result ≡ scope_of_one (graph_at types graph.now) number.0 }
+    {
+        graph.in_range();
+        self.kept.scope_of(number)
     }
 
     /// The first declaration of the object that has a name in a scope (3).

@@ -1,8 +1,6 @@
-ghost use Rattle.std.specs.Prelude.{◌≡◌, ◌+◌, ◌<◌, ◌^◌, ◌++◌, ℕ, List, [], OnOk, OnErr};
+ghost use Rattle.std.specs.Prelude.{◌≡◌, ◌++◌, List, [], OnOk, OnErr};
 ghost use Rattle.std.specs.List.{slice_get};
 ghost use Rattle.std.specs.Option.{option_to_list};
-ghost use Rattle.cxx_names.specs.declared.entry.Noted.{Noted as NotedBefore};
-ghost use Rattle.cxx_model.specs.Facts.Graph.{counted};
 ghost use Rattle.cxx_names.specs.Clashes.{are_parameters_in, is_block_in, is_class_in, is_one_scope_in, holder_of_block as holder_of_a_block};
 ghost use Rattle.cxx_names.specs.Index.{AreSameKept, HasKept, Keeps};
 ghost use Rattle.cxx_names.specs.Looked.{is_space_in, outer_in};
@@ -21,44 +19,28 @@ pub(crate) struct Kept {
     pub(crate) scopes: Vec<Noted>,
     // The outermost blocks of functions that each scope holds.
     pub(crate) blocks: Filed<ScopeId, ScopeId>,
-    pub(crate) enumerations: u64,
+    // The scope of each enumeration, in order of their numbers.
+    pub(crate) enumerations: Vec<ScopeId>,
     // The values of the enumerators of each enumeration.
     pub(crate) values: Filed<EnumId, i128>,
     pub(crate) spaces: Spaces,
 }
 
-fn one_more(is_one: bool, count: u64) -> u64
-    requires { count + 1 < 2 ^ 64 }
-    ensures { result ≡ counted is_one count }
+fn push_some<V: Copy>(values: &mut Vec<V>, one: Option<V>) -> Result<(), OutOfMemory>
+    ensures more { OnOk result (values.new.items ≡ values.old.items ++ option_to_list one) }
+    ensures same { OnErr result (values.new.items ≡ values.old.items) }
 {
-    if is_one { count + 1 } else { count }
-}
-
-fn one_less(is_one: bool, count: u64) -> u64
-    ensures { (before : ℕ) → count ≡ counted is_one before → result ≡ before }
-{
-    if is_one && count > 0 {
-        count - 1
-    } else {
-        count
-    }
-}
-
-fn push_some(scopes: &mut Vec<Noted>, noted: Option<Noted>) -> Result<(), OutOfMemory>
-    ensures more { OnOk result (scopes.new.items ≡ scopes.old.items ++ option_to_list noted) }
-    ensures same { OnErr result (scopes.new.items ≡ scopes.old.items) }
-{
-    if let Some(noted) = noted {
-        scopes.push(noted)?;
+    if let Some(one) = one {
+        values.push(one)?;
     }
     Ok(())
 }
 
-fn pop_some(scopes: &mut Vec<Noted>, noted: Option<Noted>)
-    ensures { (before : List NotedBefore) → scopes.old.items ≡ before ++ option_to_list noted → scopes.new.items ≡ before }
+fn pop_some<V: Copy>(values: &mut Vec<V>, one: Option<V>)
+    ensures { (before : List V) → values.old.items ≡ before ++ option_to_list one → values.new.items ≡ before }
 {
-    if noted.is_some() {
-        let _ = scopes.pop();
+    if one.is_some() {
+        let _ = values.pop();
     }
 }
 
@@ -69,7 +51,7 @@ impl Kept {
         Kept {
             scopes: Vec::new(alloc),
             blocks: Filed::new(alloc, key),
-            enumerations: 0,
+            enumerations: Vec::new(alloc),
             values: Filed::new(alloc, key),
             spaces: Spaces::new(alloc, key),
         }
@@ -81,6 +63,16 @@ impl Kept {
     {
         match self.scopes.get(scope.0 as usize) {
             Some(noted) => Some(*noted),
+            None => None,
+        }
+    }
+
+    /// The scope of an enumeration.
+    pub(crate) fn scope_of(&self, number: EnumId) -> Option<ScopeId>
+        ensures { result ≡ slice_get self.now.enumerations.items number.0 }
+    {
+        match self.enumerations.get(number.0 as usize) {
+            Some(scope) => Some(*scope),
             None => None,
         }
     }
@@ -164,7 +156,6 @@ impl Kept {
 
     /// Keeps what is to be kept of one more fact. An `Err` changes nothing of what is kept.
     pub(crate) fn note(&mut self, one: Entry) -> Result<(), OutOfMemory>
-        requires { self.old.enumerations + 1 < 2 ^ 64 }
         ensures noted { OnOk result (HasKept self.old self.new one) }
         ensures same { OnErr result (AreSameKept self.old self.new) }
     {
@@ -184,7 +175,13 @@ impl Kept {
             pop_some(&mut self.scopes, one.noted);
             return Err(fault);
         }
-        self.enumerations = one_more(one.is_enumeration, self.enumerations);
+        if let Err(fault) = push_some(&mut self.enumerations, one.enumeration) {
+            self.spaces.take_back(one.space);
+            self.values.take_back(one.value);
+            self.blocks.take_back(one.block);
+            pop_some(&mut self.scopes, one.noted);
+            return Err(fault);
+        }
         Ok(())
     }
 
@@ -196,6 +193,6 @@ impl Kept {
         self.blocks.take_back(one.block);
         self.values.take_back(one.value);
         self.spaces.take_back(one.space);
-        self.enumerations = one_less(one.is_enumeration, self.enumerations);
+        pop_some(&mut self.enumerations, one.enumeration);
     }
 }

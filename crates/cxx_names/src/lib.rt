@@ -19,3 +19,4 @@ mod words;
 pub use found::{first_enumeration, first_function, first_object, first_space, kind_of_found};
 pub use named::type_in;
 pub use names::Names;
+pub use words::Words;

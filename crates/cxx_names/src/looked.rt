@@ -10,7 +10,7 @@ ghost use Rattle.cxx_model.specs.Types.Trees.{CxxType};
 ghost use Rattle.cxx_meaning.specs.Lookups.Wanted.{hides_types as hides_a_type, is_function as is_a_function, is_of_functions as is_one_of_functions, names_type as names_a_type};
 ghost use Rattle.cxx_reading.specs.Declaring.{enumeration_in, first_function, first_object, is_object as is_an_object, is_same_function as is_one_function};
 ghost use Rattle.cxx_reading.specs.Seen.{any_hides, any_type, kind_of_found};
-ghost use Rattle.cxx_reading.specs.Spaces.{first_space};
+ghost use Rattle.cxx_reading.specs.Paths.{first_space};
 ghost use Rattle.cxx_names.specs.Looked.{enumeration_number, looked_up, scope_number};
 
 use crate::alike::same_parameters;

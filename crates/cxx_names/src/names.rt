@@ -1,4 +1,4 @@
-ghost use Rattle.std.specs.Prelude.{◌≡◌, ◌+◌, ◌<◌, ◌^◌, ◌↔◌, [], List, length, Err, IfOk, OnOk, OnErr};
+ghost use Rattle.std.specs.Prelude.{◌≡◌, ◌+◌, ◌↔◌, [], List, length, Err, IfOk, OnOk, OnErr};
 ghost use Rattle.cxx_model.specs.Facts.Declarations.{facts_at, graph_at};
 ghost use Rattle.cxx_model.specs.Facts.Graph.{InRange, appended, enumerations as enumerations_in, scopes as scopes_in};
 ghost use Rattle.cxx_model.specs.Types.Trees.{CxxType};
@@ -38,7 +38,6 @@ impl Names {
 
     // Keeps what is to be kept of one more fact. An `Err` changes nothing of what is kept.
     fn note(&mut self, one: Entry) -> Result<(), OutOfMemory>
-        requires { self.old.kept.enumerations + 1 < 2 ^ 64 }
         ensures noted { OnOk result (HasNoted self.old self.new one) }
         ensures same { OnErr result (AreSameNames self.old self.new) }
     {
@@ -71,14 +70,14 @@ impl Names {
     }
 
     /// How many enumerations there are: the number of the next one.
-    #[tactic(auto, using(crate::proofs::Counting::enumerations_below, crate::proofs::Counting::enumerations_counted))]
+    #[tactic(auto, using(crate::proofs::Counting::enumerations_below, crate::proofs::Counting::enumerations_are, crate::proofs::Counting::enumerations_counted))]
     pub fn enumerations(&self, graph: &Graph) -> EnumId
         requires { Notes self.now graph.now.facts }
         ensures counted { result.0 ≡ enumerations_in graph.now.facts }
         ensures is { (types : List CxxType) → result.0 ≡ enumeration_count (facts_at types graph.now.facts) }
     {
         let _most = graph.length();
-        EnumId(self.kept.enumerations as u32)
+        EnumId(self.kept.enumerations.len() as u32)
     }
 
     // The spelled name that a fact declares, if it does. Its spelling is met.

@@ -1,17 +1,18 @@
-ghost use Rattle.std.specs.Prelude.{◌≡◌, [], Some, IfOk, OnOk, OnErr};
-ghost use Rattle.cxx_names.specs.Words.{AreSameWords, HasMet, HasWord, IsNumbered, IsSound, KnowsMore, number_among, word_row};
+ghost use Rattle.std.specs.Prelude.{ℕ, ◌≡◌, List, [], Some, true, IfOk, OnOk, OnErr};
+ghost use Rattle.cxx_model.specs.declared.types.ScopeId.{ScopeId as ScopeNumber};
+ghost use Rattle.cxx_names.specs.Words.{AreSameRows, AreSameWords, Files, HasMet, HasWord, IsNumberOf, IsNumbered, IsSound, KnowsMore, number_among, spelled_word, word_row};
 ghost use Rattle.cxx_names.specs.declared.words.Words.{Words as WordsBefore};
 
-use crate::entry::{Spelling, declared_word};
+use crate::entry::{Spelling, declared_word, filed_name};
 use crate::filed::Filed;
 use cxx_hash::Key;
-use cxx_model::{Fact, FactId, OutOfMemory, ScopeId};
+use cxx_model::{Fact, FactId, Name, OutOfMemory, ScopeId};
 use indexmap::IndexSet;
 use std::alloc::Global;
 
-/// The declarations of each spelled name in each scope.
+/// Declarations by scopes and spelled names.
 #[derive(Drop)]
-pub(crate) struct Words {
+pub struct Words {
     // Each spelling that was met, once.
     pub(crate) spellings: IndexSet<Vec<u8>, Key>,
     pub(crate) rows: Filed<Spelling, FactId>,
@@ -35,9 +36,11 @@ fn meet(
 }
 
 impl Words {
-    pub(crate) fn new(alloc: Global, key: Key) -> Words
+    /// Of no declarations. What is looked up is hashed by the key.
+    pub fn new(alloc: Global, key: Key) -> Words
         ensures rows { result.rows.rows.entries ≡ [] }
         ensures sound { IsSound result }
+        ensures empty { (scope : ScopeNumber) (word : List ℕ) → word_row result scope word ≡ [] }
     {
         Words {
             spellings: IndexSet::with_hasher(alloc, key),
@@ -47,7 +50,7 @@ impl Words {
     }
 
     /// The declarations of a name in a scope, in order.
-    pub(crate) fn row(&self, scope: ScopeId, word: &[u8]) -> &[FactId]
+    pub fn row(&self, scope: ScopeId, word: &[u8]) -> &[FactId]
         ensures { result.now ≡ word_row self.now scope word.now }
     {
         match self.spellings.get_index_of(word) {
@@ -71,6 +74,33 @@ impl Words {
             }
             None => Ok(None),
         }
+    }
+
+    // The spelling of a name in a scope, where it has one. It is met.
+    fn met(&mut self, scope: ScopeId, name: &Name) -> Result<Option<Spelling>, OutOfMemory>
+        ensures met { HasMet self.old self.new }
+        ensures number { IfOk result (IsNumberOf self.new.spellings.keys scope (spelled_word name.now true)) }
+    {
+        match name {
+            Name::Spelled(word) => {
+                let number = meet(&mut self.spellings, self.alloc, word.as_slice())?;
+                Ok(Some(Spelling { scope, number }))
+            }
+            _ => Ok(None),
+        }
+    }
+
+    /// Files one more declaration under a scope and a name, where that is spelled. An `Err` changes nothing of what is
+    /// filed.
+    #[tactic(auto, using(crate::proofs::Known::sound_met, crate::proofs::Known::sound_more, crate::proofs::Known::sound_same, crate::proofs::Known::files_one, crate::proofs::Known::files_none))]
+    pub fn file(&mut self, scope: ScopeId, name: &Name, number: FactId) -> Result<(), OutOfMemory>
+        requires { IsSound self.old }
+        ensures sound { IsSound self.new }
+        ensures more { OnOk result (Files self.old self.new scope name.now number) }
+        ensures same { OnErr result (AreSameRows self.old self.new) }
+    {
+        let spelling = self.met(scope, name)?;
+        self.add(filed_name(spelling, number))
     }
 
     /// Files one more declaration, where it has a spelled name. An `Err` changes nothing of what is filed.

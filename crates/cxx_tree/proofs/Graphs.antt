@@ -15,7 +15,8 @@ use Rattle.cxx_model.specs.Facts.Graph.{EachMayFollow, Graph, InRange, IsEntityI
 use Rattle.cxx_model.specs.declared.facts.Specialisation.{Specialisation}
 use Rattle.cxx_model.specs.Types.Trees.{CxxType}
 use Rattle.cxx_model.specs.Types.Numbers.{type_at}
-use Rattle.cxx_reading.specs.Declaring.{enumeration_in, place_in, place_of_scope}
+use Rattle.cxx_reading.specs.Declaring.{enumeration_in, place_of_scope}
+use Rattle.cxx_reading.specs.Paths.{place_in}
 use Rattle.cxx_reading.specs.Seen.{Numbered, numbered_at, numbered_by, or_next, parent_of, scope_of_option, type_in, type_named_by}
 use Rattle.cxx_tree.specs.Whole.{place_by, scope_places}
 

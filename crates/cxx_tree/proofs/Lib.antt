@@ -2,6 +2,7 @@ pub mod Arenas
 pub mod Calls
 pub mod Graphs
 pub mod Giving
+pub mod Homes
 pub mod Keeping
 pub mod Linking
 pub mod Steps

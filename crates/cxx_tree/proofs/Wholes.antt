@@ -62,6 +62,7 @@ use Rattle.cxx_tree.specs.declared.kept.Offer.{Offer}
 use Rattle.cxx_tree.specs.declared.kept.Piece.{Piece}
 use Rattle.cxx_tree.specs.Whole.{IsFunctionBelow, IsWhole, added_space, entered_scope, left_scope, place_by, scope_at, scope_fact, scope_places, scope_within, stopped_as, unit_fact, unit_graph}
 use Rattle.cxx_tree.proofs.Arenas.{KeepsTrees_refl}
+use Rattle.cxx_tree.proofs.Homes.{keeps_homes}
 use Rattle.cxx_tree.proofs.Graphs.{facts_more, length_classes, length_facts, opened_at, opened_nowhere, parent_there, places_more, scope_next, scopes_later}
 use Rattle.cxx_tree.proofs.Steps.{Later_refl, Later_trans, fitted_by, makes_type, sound_types}
 use Rattle.cxx_types.specs.Makes as table
@@ -192,7 +193,7 @@ fact_answered seen held new fact what r result same is stopped number appends st
 
 -- ---- what is kept beside one more fact
 
-module _ (names : Names) (definitions : Definitions) (linkages : Linkages) (openings : List Place) (layouts : Option Layouts) (held : Held) (fact : Fact) (whole : IsWhole names definitions linkages openings layouts held) (below : IsFactBelow (length held.types) fact) (plain : ArePlain (held.graph.facts ++ fact ∷ [])) where
+module _ (names : Names) (definitions : Definitions) (linkages : Linkages) (openings : List Place) (layouts : Option Layouts) (held : Held) (fact : Fact) (whole : IsWhole names definitions linkages openings layouts held) (below : IsFactBelow (length held.types) fact) (plain : ArePlain (held.graph.facts ++ fact ∷ [])) (range : InRange held.graph) where
   abbrev grown : Held
   grown = record held { graph = appended held.graph fact }
 
@@ -202,7 +203,7 @@ module _ (names : Names) (definitions : Definitions) (linkages : Linkages) (open
     noted = noted;
     plain = plain;
     defines = defines_later definitions held.graph.facts (fact ∷ []) (numbers_at held.defined) whole.defines;
-    links = links_later linkages held.graph.facts (fact ∷ []) held.linked whole.links;
+    links = links_later linkages held.graph.facts (fact ∷ []) held.linked (keeps_homes held.graph fact range) whole.links;
     opened = ap (λ ps. ps ++ place_by fact.place fact.what) whole.opened ∙ sym (places_more held.graph.facts fact);
     measured = measured;
   }
@@ -226,11 +227,11 @@ no_place place (entity.Directive nominated) ok = refl
 no_place place (entity.Using target) ok = refl
 no_place place (entity.Friend number target) ok = absurd ok
 
-whole_plain : (names names' : Names) (definitions : Definitions) (linkages : Linkages) (openings : List Place) (layouts layouts' : Option Layouts) (held : Held) (fact : Fact) → IsWhole names definitions linkages openings layouts held → IsFactBelow (length held.types) fact → IsPlain fact → Notes names' (held.graph.facts ++ fact ∷ [])
+whole_plain : (names names' : Names) (definitions : Definitions) (linkages : Linkages) (openings : List Place) (layouts layouts' : Option Layouts) (held : Held) (fact : Fact) → InRange held.graph → IsWhole names definitions linkages openings layouts held → IsFactBelow (length held.types) fact → IsPlain fact → Notes names' (held.graph.facts ++ fact ∷ [])
     → AreMeasured layouts' (graph_at held.types (appended held.graph fact)).facts → IsWhole names' definitions linkages openings layouts' (record held { graph = appended held.graph fact })
-whole_plain names names' definitions linkages openings layouts layouts' held fact whole below plain noted measured =
+whole_plain names names' definitions linkages openings layouts layouts' held fact range whole below plain noted measured =
     subst (λ ps. IsWhole names' definitions linkages ps layouts' (record held { graph = appended held.graph fact })) (ap (λ ps. openings ++ ps) (no_place fact.place fact.what plain.what) ∙ append-nil openings)
-    (whole_more names definitions linkages openings layouts held fact whole below (plain_more held.graph.facts fact whole.plain plain) names' layouts' noted measured)
+    (whole_more names definitions linkages openings layouts held fact whole below (plain_more held.graph.facts fact whole.plain plain) range names' layouts' noted measured)
 
 whole_same : (names names' : Names) (definitions : Definitions) (linkages : Linkages) (openings : List Place) (layouts : Option Layouts) (held : Held) → IsWhole names definitions linkages openings layouts held → Notes names' held.graph.facts → IsWhole names' definitions linkages openings layouts held
 whole_same names names' definitions linkages openings layouts held whole noted = record { sound = whole.sound; noted = noted; plain = whole.plain; defines = whole.defines; links = whole.links; opened = whole.opened; measured = whole.measured }
@@ -241,11 +242,11 @@ whole_full names names' definitions linkages openings layouts held new whole sta
     subst (λ (g : Graph). IsWhole names' definitions linkages openings layouts (record held { graph = g })) (sym stays)
     (whole_same names names' definitions linkages openings layouts held whole (subst (λ (g : Graph). Notes names' g.facts) stays noted))
 
-pub whole_fact : (names names' : Names) (definitions : Definitions) (linkages : Linkages) (openings : List Place) (layouts layouts' : Option Layouts) (seen held : Held) (new : Graph) (fact : Fact) → held ≡ seen → IsWhole names definitions linkages openings layouts held → IsFactBelow (length seen.types) fact → IsPlain fact
+pub whole_fact : (names names' : Names) (definitions : Definitions) (linkages : Linkages) (openings : List Place) (layouts layouts' : Option Layouts) (seen held : Held) (new : Graph) (fact : Fact) → held ≡ seen → InRange held.graph → IsWhole names definitions linkages openings layouts held → IsFactBelow (length seen.types) fact → IsPlain fact
     → new ≡ appended held.graph fact → Notes names' new.facts → AreMeasured layouts' (graph_at held.types new).facts → IsWhole names' definitions linkages openings layouts' (record held { graph = new })
-whole_fact names names' definitions linkages openings layouts layouts' seen held new fact same whole below plain appends noted measured =
+whole_fact names names' definitions linkages openings layouts layouts' seen held new fact same range whole below plain appends noted measured =
     subst (λ (g : Graph). IsWhole names' definitions linkages openings layouts' (record held { graph = g })) (sym appends)
-    (whole_plain names names' definitions linkages openings layouts layouts' held fact whole (below_here seen held fact same below) plain (subst (λ (g : Graph). Notes names' g.facts) appends noted) (subst (λ (g : Graph). AreMeasured layouts' (graph_at held.types g).facts) appends measured))
+    (whole_plain names names' definitions linkages openings layouts layouts' held fact range whole (below_here seen held fact same below) plain (subst (λ (g : Graph). Notes names' g.facts) appends noted) (subst (λ (g : Graph). AreMeasured layouts' (graph_at held.types g).facts) appends measured))
 
 -- ---- what is kept before the last fact is noted
 
@@ -293,12 +294,12 @@ scope_is seen held kind place same = subst (λ (h : Held). fact_at held.types (s
 pub scope_below : (count : ℕ) (kind : ScopeKind) (place : Place) (scope : ScopeId) → IsFactBelow count (scope_fact kind place scope)
 scope_below count kind place scope = record { name = tt; what = tt }
 
-pub whole_scope : (names names' : Names) (definitions : Definitions) (linkages : Linkages) (openings : List Place) (layouts layouts' : Option Layouts) (held : Held) (new : Graph) (opened : List Place) (kind : ScopeKind) (place : Place) → IsPlainKind kind → IsWhole names definitions linkages openings layouts held
+pub whole_scope : (names names' : Names) (definitions : Definitions) (linkages : Linkages) (openings : List Place) (layouts layouts' : Option Layouts) (held : Held) (new : Graph) (opened : List Place) (kind : ScopeKind) (place : Place) → IsPlainKind kind → InRange held.graph → IsWhole names definitions linkages openings layouts held
     → new ≡ appended held.graph (scope_fact kind place held.scope) → opened ≡ openings ++ place ∷ [] → Notes names' new.facts → AreMeasured layouts' (graph_at held.types new).facts → IsWhole names' definitions linkages opened layouts' (record held { graph = new })
-whole_scope names names' definitions linkages openings layouts layouts' held new opened kind place plain whole appends opens noted measured =
+whole_scope names names' definitions linkages openings layouts layouts' held new opened kind place plain range whole appends opens noted measured =
     subst (λ ps. IsWhole names' definitions linkages ps layouts' (record held { graph = new })) (sym opens)
     (subst (λ (g : Graph). IsWhole names' definitions linkages (openings ++ place ∷ []) layouts' (record held { graph = g })) (sym appends)
-    (whole_more names definitions linkages openings layouts held (scope_fact kind place held.scope) whole (scope_below (length held.types) kind place held.scope) (plain_scope_more held.graph.facts (scope_fact kind place held.scope) whole.plain plain) names' layouts' (subst (λ (g : Graph). Notes names' g.facts) appends noted) (subst (λ (g : Graph). AreMeasured layouts' (graph_at held.types g).facts) appends measured)))
+    (whole_more names definitions linkages openings layouts held (scope_fact kind place held.scope) whole (scope_below (length held.types) kind place held.scope) (plain_scope_more held.graph.facts (scope_fact kind place held.scope) whole.plain plain) range names' layouts' (subst (λ (g : Graph). Notes names' g.facts) appends noted) (subst (λ (g : Graph). AreMeasured layouts' (graph_at held.types g).facts) appends measured)))
 
 -- ---- a definition
 

@@ -482,7 +482,7 @@ impl State {
         ensures is { OnOk result (meaning self.new ≡ with_linked number.0 (meaning self.old)) }
     {
         self.linked.reserve(1)?;
-        self.linkages.add(&self.graph, number)?;
+        self.linkages.add(&self.graph, &self.names, number)?;
         self.linked.push(number)?;
         Ok(())
     }

@@ -1,6 +1,6 @@
 use Rattle.std.proofs.Common.{◌≡◌, List, drop}
 use Rattle.cxx_model.specs.Types.Trees.{CxxType}
-use Rattle.cxx_reading.specs.Spaces.{first_space}
+use Rattle.cxx_reading.specs.Paths.{first_space}
 use Rattle.cxx_names.specs.Looked.{looked_up}
 use Rattle.cxx_names.proofs.looked.first_space_of.Given as goal
 

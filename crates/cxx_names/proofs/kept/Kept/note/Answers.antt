@@ -18,3 +18,12 @@ returns-in-Err-note-clause-same c = record {
   values = c.take_back-in-Err-note.ensures c.args.self.now.values.rows.entries c.in_default-add.ensures.more;
   spaces = c.in-Err-note.ensures.same;
 }
+
+pub returns-in-Err-push_some-clause-same : goal.returns-in-Err-push_some-clause-same
+returns-in-Err-push_some-clause-same c = record {
+  scopes = c.pop_some-in-Err-push_some.ensures c.args.self.now.scopes.items c.in_ok-push_some.ensures.more;
+  blocks = c.take_back-in-Err-push_some-3.ensures c.args.self.now.blocks.rows.entries c.in_default.ensures.more;
+  enumerations = c.in-Err-push_some.ensures.same;
+  values = c.take_back-in-Err-push_some-2.ensures c.args.self.now.values.rows.entries c.in_default-add.ensures.more;
+  spaces = c.take_back-in-Err-push_some.ensures c.args.self.now.spaces c.in_default-note.ensures.noted;
+}

@@ -4,7 +4,7 @@ pub returns : goal.returns
 returns c = λ before has. record {
   scopes = c.pop_some.ensures before.scopes.items has.scopes;
   blocks = c.take_back.ensures before.blocks.rows.entries has.blocks;
-  enumerations = c.one_less-self.ensures before.enumerations has.enumerations;
+  enumerations = c.pop_some-2.ensures before.enumerations.items has.enumerations;
   values = c.take_back-2.ensures before.values.rows.entries has.values;
   spaces = c.take_back-3.ensures before.spaces has.spaces;
 }

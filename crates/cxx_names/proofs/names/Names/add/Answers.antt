@@ -1,16 +1,7 @@
-use Rattle.std.proofs.Common.{arith, ap, sym, subst, ◌∙◌, ◌≡◌, ◌≤◌, length}
-use Rattle.cxx_model.specs.Facts.Graph.{enumerations}
-use Rattle.cxx_names.proofs.Counting.{enumerations_below}
+use Rattle.std.proofs.Common.{ap, sym, subst, ◌∙◌, length}
 use Rattle.cxx_names.proofs.Noting.{notes_more}
 use Rattle.cxx_names.specs.Index.{Notes}
 use Rattle.cxx_names.proofs.names.Names.add.Goals as goal
-
-pub note-requires : goal.note-requires
-note-requires c =
-    let most : enumerations c.args.graph.now.facts ≤ length c.args.graph.now.facts = enumerations_below c.args.graph.now.facts in
-    let kept : c.meet.new.self.kept.enumerations ≡ enumerations c.args.graph.now.facts = c.meet.ensures.noted.kept.enumerations in
-    let count : c.length-length.result ≡ length c.args.graph.now.facts = c.length-length.ensures.count in
-    omega arith
 
 pub returns-in-Ok-clause-noted : goal.returns-in-Ok-clause-noted
 returns-in-Ok-clause-noted c =

@@ -29,7 +29,7 @@ noted-requires-clause-noted c =
 pub invariant_of-self-2 : goal.invariant_of-self-2
 invariant_of-self-2 c =
     let added = stopped_ok c.add.result c.in_ok-number.number (sym c.in_ok-number.was ∙ c.stopped.ensures) in
-    whole_fact _ _ _ _ _ _ _ _ _ _ c.args.fact c.self.view_is c.self.invariant c.requires.below c.requires.plain (on_ok c.add.result c.in_ok-number.number _ added c.add.ensures.appended) c.add.ensures.noted c.noted.ensures
+    whole_fact _ _ _ _ _ _ _ _ _ _ c.args.fact c.self.view_is c.in_range.ensures c.self.invariant c.requires.below c.requires.plain (on_ok c.add.result c.in_ok-number.number _ added c.add.ensures.appended) c.add.ensures.noted c.noted.ensures
 
 pub returns-clause-answered : goal.returns-clause-answered
 returns-clause-answered c = fact_answered _ _ _ c.args.fact _ c.add.result _ c.self.view_is (ap (λ (h : Held). fact_at h.types c.args.fact) c.self.view_is) (sym c.in_ok-number.was ∙ c.stopped.ensures) c.add.ensures.number c.add.ensures.appended c.add.ensures.unchanged c.add.ensures.limit

@@ -25,7 +25,7 @@ noted-requires-clause-noted c =
 pub invariant_of-self-2 : goal.invariant_of-self-2
 invariant_of-self-2 c =
     let added = stopped_ok c.add.result c.in_ok-number.number (sym c.in_ok-number.was ∙ c.stopped.ensures) in
-    whole_scope _ _ _ _ _ _ _ _ _ _ c.args.kind c.args.place c.requires.plain c.self.invariant (on_ok c.add.result c.in_ok-number.number _ added c.add.ensures.appended) (c.in_ok-push.ensures.items ∙ ap (λ ps. ps ++ c.args.place ∷ []) c.reserve.ensures.items) c.add.ensures.noted c.noted.ensures
+    whole_scope _ _ _ _ _ _ _ _ _ _ c.args.kind c.args.place c.requires.plain c.in_range.ensures c.self.invariant (on_ok c.add.result c.in_ok-number.number _ added c.add.ensures.appended) (c.in_ok-push.ensures.items ∙ ap (λ ps. ps ++ c.args.place ∷ []) c.reserve.ensures.items) c.add.ensures.noted c.noted.ensures
 
 pub returns-clause-answered : goal.returns-clause-answered
 returns-clause-answered c = fact_answered _ _ _ (scope_fact c.args.kind c.args.place c.self.inside.scope) _ c.add.result _ c.self.view_is (scope_is _ _ c.args.kind c.args.place c.self.view_is) (sym c.in_ok-number.was ∙ c.stopped.ensures) c.add.ensures.number c.add.ensures.appended c.add.ensures.unchanged c.add.ensures.limit
