@@ -1,53 +1,45 @@
 -- What names mean to a reader.
-use Rattle.std.specs.Prelude.{ℕ, ◌≡◌, ◌<◌, List, [], ◌∷◌, Option, Some, None, option_map, Result, Ok, Err, IfOk, IfSome, refl}
-use Rattle.std.specs.List.{slice_get}
+use Rattle.std.specs.Prelude.{ℕ, ◌≡◌, ◌<◌, List, [], ◌∷◌, Option, Some, None, option_map, Result, Ok, Err, IfSome, refl}
 use Rattle.std.proofs.Common.{ap, sym, subst, ◌∙◌}
-use Rattle.cxx_model.specs.declared.facts.Fact.{Fact}
-use Rattle.cxx_model.specs.declared.lookup.Found.{Found}
-use Rattle.cxx_model.specs.declared.lookup.Found.TheVariants as found
 use Rattle.cxx_model.specs.declared.place.Place.{Place}
 use Rattle.cxx_model.specs.declared.stop.Stop.{Stop}
-use Rattle.cxx_model.specs.declared.stop.Stop.TheVariants as stop
 use Rattle.cxx_model.specs.declared.token.TokenKind.{TokenKind}
 use Rattle.cxx_model.specs.declared.tree.Kind.{Kind}
 use Rattle.cxx_model.specs.declared.types.EnumId.{EnumId}
-use Rattle.cxx_model.specs.declared.types.FactId.{FactId}
 use Rattle.cxx_model.specs.declared.types.TypeId.{TypeId}
-use Rattle.cxx_model.specs.Facts.Declarations.{CxxFact, CxxGraph, fact_at, facts_at, graph_at, spelled}
+use Rattle.cxx_model.specs.Facts.Declarations.{CxxGraph, graph_at, spelled}
 use Rattle.cxx_model.specs.Facts.Fitted.{Fitted}
 use Rattle.cxx_model.specs.Facts.Graph.{Graph, InRange, enumerations}
-use Rattle.cxx_model.specs.Stops.{Answer, Stopped, Stops, undeclared_at}
 use Rattle.cxx_model.specs.Types.Trees.{CxxType, enumeration}
-use Rattle.cxx_meaning.specs.Lookups.Wanted.{types_only}
 use Rattle.cxx_names.specs.Looked.{enumeration_number}
-use Rattle.cxx_reading.specs.Declaring.{ambiguous_at, elaborated_by, elaborated_found, elaborated_here, enumeration_in, kind_here, type_here}
-use Rattle.cxx_reading.specs.Seen.{Numbered, fact_numbers, found as found_from, kind_of_found, numbered_at, numbered_by, sought_from, type_in}
+use Rattle.cxx_reading.specs.Declaring.{elaborated_by, enumeration_in, kind_here, type_here}
+use Rattle.cxx_reading.specs.Paths.{found_of, region_by, region_of, sought_in}
+use Rattle.cxx_reading.specs.Seen.{Numbered, found as found_from, kind_of_found, numbered_at, sought_from, type_in}
 use Rattle.cxx_reading.specs.Specifiers.{path_of}
 use Rattle.cxx_reading.specs.State.{CxxState}
-use Rattle.cxx_declare.specs.Asked.{IsStop, first_place, no_enumeration, part_of}
-use Rattle.cxx_declare.specs.Made.{IsTypeThere, place_held, token}
-use Rattle.cxx_declare.proofs.Firsts.{fact_seen}
+use Rattle.cxx_reading.specs.Trees.{CxxPath, CxxPathPart}
+use Rattle.cxx_declare.specs.Made.{IsTypeThere, token}
+use Rattle.cxx_paths.specs.Asked.{IsStop, first_place, not_wanted_at}
+use Rattle.cxx_paths.proofs.Stopping.{stopped_at}
 use Rattle.cxx_tree.specs.Answered.{AnyKnown, IsAnswered, itself}
 use Rattle.cxx_tree.specs.Held.{Held, meaning, type_of}
 use Rattle.cxx_tree.specs.Later.{MakesType}
 use Rattle.cxx_tree.proofs.Graphs.{enumeration_found}
 use Rattle.cxx_tree.proofs.Steps.{Later_refl}
 
--- ---- how the reading stops
-
-stops_at : (A : Type 0) (what : Stopped) (why : Stop) → IsStop what why → Stops {A = A} why (Err what)
-stops_at A what stop.OutOfMemory is = tt
-stops_at A what (stop.Fault f) is = ap Err (sym is)
-stops_at A what (stop.Limit k) is = ap Err (sym is)
-
-pub stopped_at : {X A : Type 0} (view : Held → X → A) (known : Held → X → Type 0) (held : Held) (what : Stopped) (why : Stop) → IsStop what why → IsAnswered view known held held (Err why) (Err what)
-stopped_at view known held what why is = record { is = stops_at _ what why is; later = Later_refl held }
-
 -- ---- kinds and types
+
+-- 3.4.1: a name without qualifiers is looked up outward
+pub found_plain : (graph : CxxGraph) (scope : ℕ) (kind : TokenKind) (place : Place) (word : List ℕ) → found_of graph scope (path_of (token kind place word)) ≡ found_from graph scope (spelled word)
+unfolding found_of region_of region_by sought_in found_from sought_from
+found_plain graph scope kind place word = refl
 
 pub kind_answered : (held : Held) (kind : TokenKind) (place : Place) (word : List ℕ) (k : Kind) → k ≡ kind_of_found (meaning held).graph (found_from (meaning held).graph (meaning held).here.scope (spelled word)) → IsAnswered itself AnyKnown held held (Ok k) (kind_here (path_of (token kind place word)) (meaning held))
 unfolding kind_here
-kind_answered held kind place word k is = record { is = (ap (λ (c : Kind). Ok (c, meaning held)) (sym is), tt); later = Later_refl held }
+kind_answered held kind place word k is = record {
+  is = (ap (λ (c : Kind). Ok (c, meaning held)) (ap (kind_of_found (meaning held).graph) (found_plain (meaning held).graph (meaning held).here.scope kind place word) ∙ sym is), tt);
+  later = Later_refl held;
+}
 
 pub type_answered : (old new : Held) (number : TypeId) (of : CxxType) → MakesType old new (Ok number) of → IsAnswered type_of IsTypeThere old new (Ok number) (Ok (of, meaning old))
 type_answered old new number of makes = record {
@@ -55,9 +47,12 @@ type_answered old new number of makes = record {
   later = makes.later;
 }
 
-pub type_found : (old new : Held) (kind : TokenKind) (place : Place) (word : List ℕ) (all : List Numbered) (r : Result TypeId Stop) → all ≡ found_from (meaning old).graph (meaning old).here.scope (spelled word) → IsAnswered type_of IsTypeThere old new r (Ok (type_in all, meaning old)) → IsAnswered type_of IsTypeThere old new r (type_here (path_of (token kind place word)) (meaning old))
+pub type_there : (old new : Held) (path : CxxPath) (all : List Numbered) (r : Result TypeId Stop) → all ≡ found_of (meaning old).graph (meaning old).here.scope path → IsAnswered type_of IsTypeThere old new r (Ok (type_in all, meaning old)) → IsAnswered type_of IsTypeThere old new r (type_here path (meaning old))
 unfolding type_here
-type_found old new kind place word all r is answered = subst (λ (some : List Numbered). IsAnswered type_of IsTypeThere old new r (Ok (type_in some, meaning old))) is answered
+type_there old new path all r is answered = subst (λ (some : List Numbered). IsAnswered type_of IsTypeThere old new r (Ok (type_in some, meaning old))) is answered
+
+pub type_found : (old new : Held) (kind : TokenKind) (place : Place) (word : List ℕ) (all : List Numbered) (r : Result TypeId Stop) → all ≡ found_from (meaning old).graph (meaning old).here.scope (spelled word) → IsAnswered type_of IsTypeThere old new r (Ok (type_in all, meaning old)) → IsAnswered type_of IsTypeThere old new r (type_here (path_of (token kind place word)) (meaning old))
+type_found old new kind place word all r is answered = type_there old new (path_of (token kind place word)) all r (is ∙ sym (found_plain (meaning old).graph (meaning old).here.scope kind place word)) answered
 
 -- ---- behind `enum`
 
@@ -65,25 +60,14 @@ pub enumeration_there : (held : Held) (graph : Graph) (numbers : List ℕ) (r : 
 enumeration_there held graph numbers None same fitted ok is = tt
 enumeration_there held graph numbers (Some number) same fitted ok is = enumeration_found held.graph held.types numbers number.0 fitted (subst (λ (g : Graph). InRange g) same ok) (ap (λ (g : Graph). enumeration_in (numbered_at (graph_at held.types g) numbers)) (sym same) ∙ sym is)
 
--- where the first of some declarations stands
-pub place_more : (types : List CxxType) (graph : Graph) (n : ℕ) (others : List ℕ) → slice_get graph.facts n ≡ None → first_place (numbered_at (graph_at types graph) (n ∷ others)) ≡ first_place (numbered_at (graph_at types graph) others)
-place_more types graph n others e = ap (λ (o : Option CxxFact). first_place (numbered_by n o (numbered_at (graph_at types graph) others))) (fact_seen types graph.facts n ∙ ap (option_map (fact_at types)) e)
+pub elaborated_some : (old new : Held) (part : CxxPathPart) (all : List Numbered) (number : EnumId) (r : Result TypeId Stop) → Some number.0 ≡ enumeration_in all → IsAnswered type_of IsTypeThere old new r (Ok (enumeration number.0, meaning old)) → IsAnswered type_of IsTypeThere old new r (elaborated_by part all (enumeration_in all) (meaning old))
+elaborated_some old new part all number r is answered = subst (λ o. IsAnswered type_of IsTypeThere old new r (elaborated_by part all o (meaning old))) is answered
 
-pub place_first : (types : List CxxType) (graph : Graph) (n : ℕ) (others : List ℕ) (fact : Fact) → slice_get graph.facts n ≡ Some fact → first_place (numbered_at (graph_at types graph) (n ∷ others)) ≡ Some fact.place
-place_first types graph n others fact e = ap (λ (o : Option CxxFact). first_place (numbered_by n o (numbered_at (graph_at types graph) others))) (fact_seen types graph.facts n ∙ ap (option_map (fact_at types)) e)
+not_wanted_is : (state : CxxState) (part : CxxPathPart) (all : List Numbered) → elaborated_by part all None state ≡ Err (not_wanted_at part (first_place all))
+not_wanted_is state part [] = refl
+not_wanted_is state part (one ∷ others) = refl
 
-pub elaborated_some : (old new : Held) (place : Place) (word : List ℕ) (all : List Numbered) (number : EnumId) (r : Result TypeId Stop) → Some number.0 ≡ enumeration_in all → IsAnswered type_of IsTypeThere old new r (Ok (enumeration number.0, meaning old)) → IsAnswered type_of IsTypeThere old new r (elaborated_by (part_of place word) all (enumeration_in all) (meaning old))
-elaborated_some old new place word all number r is answered = subst (λ o. IsAnswered type_of IsTypeThere old new r (elaborated_by (part_of place word) all o (meaning old))) is answered
-
-no_enumeration_is : (state : CxxState) (place : Place) (word : List ℕ) (all : List Numbered) → elaborated_by (part_of place word) all None state ≡ Err (no_enumeration place word (first_place all))
-no_enumeration_is state place word [] = refl
-no_enumeration_is state place word (one ∷ others) = refl
-
-pub elaborated_none : (held : Held) (place : Place) (word : List ℕ) (all : List Numbered) (why : Stop) → None ≡ enumeration_in all → IsStop (no_enumeration place word (first_place all)) why → IsAnswered type_of IsTypeThere held held (Err why) (elaborated_by (part_of place word) all (enumeration_in all) (meaning held))
-elaborated_none held place word all why none is =
-    subst (λ o. IsAnswered type_of IsTypeThere held held (Err why) (elaborated_by (part_of place word) all o (meaning held))) none
-    (subst (λ reply. IsAnswered type_of IsTypeThere held held (Err why) reply) (sym (no_enumeration_is (meaning held) place word all)) (stopped_at type_of IsTypeThere held (no_enumeration place word (first_place all)) why is))
-
-pub elaborated_answered : (old new : Held) (kind : TokenKind) (place : Place) (word : List ℕ) (one : Found) (r : Result TypeId Stop) → one ≡ sought_from (meaning old).graph types_only (meaning old).here.scope (spelled word) → IsAnswered type_of IsTypeThere old new r (elaborated_found (part_of place word) one (meaning old)) → IsAnswered type_of IsTypeThere old new r (elaborated_here (path_of (token kind place word)) (meaning old))
-unfolding elaborated_here
-elaborated_answered old new kind place word one r is answered = subst (λ (f : Found). IsAnswered type_of IsTypeThere old new r (elaborated_found (part_of place word) f (meaning old))) is answered
+pub elaborated_none : (held : Held) (part : CxxPathPart) (all : List Numbered) (why : Stop) → None ≡ enumeration_in all → IsStop (not_wanted_at part (first_place all)) why → IsAnswered type_of IsTypeThere held held (Err why) (elaborated_by part all (enumeration_in all) (meaning held))
+elaborated_none held part all why none is =
+    subst (λ o. IsAnswered type_of IsTypeThere held held (Err why) (elaborated_by part all o (meaning held))) none
+    (subst (λ reply. IsAnswered type_of IsTypeThere held held (Err why) reply) (sym (not_wanted_is (meaning held) part all)) (stopped_at type_of IsTypeThere held (not_wanted_at part (first_place all)) why is))

@@ -18,7 +18,7 @@ use Rattle.cxx_model.specs.Stops.{Answer, Gives, Stops, ◌>>=◌}
 use Rattle.cxx_reading.specs.Declaring.{added, declares_by, define_declared, define_object, defined_as, fact_here, free, object_here, undefined, undefined_by, with_definition}
 use Rattle.cxx_reading.specs.State.{CxxState}
 use Rattle.cxx_declare.specs.Made.{added_defined, definable_by, defined_by, token, word_in}
-use Rattle.cxx_declare.proofs.Making.{stopped_on}
+use Rattle.cxx_paths.proofs.Stopping.{stopped_on}
 use Rattle.cxx_tree.specs.Answered.{AnyKnown, IsAnswered, IsFactKnown, fact_number, itself}
 use Rattle.cxx_tree.specs.Held.{Held, meaning}
 use Rattle.cxx_tree.specs.Later.{Later}

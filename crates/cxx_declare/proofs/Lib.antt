@@ -1,4 +1,7 @@
+pub mod Agreeing
 pub mod Asking
+pub mod Bringing
+pub mod Brought
 pub mod Clashing
 pub mod Defining
 pub mod Giving

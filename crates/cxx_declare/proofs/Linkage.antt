@@ -16,7 +16,7 @@ use Rattle.cxx_reading.specs.Declaring.{added, declare_linked_object, fact_here,
 use Rattle.cxx_reading.specs.State.{CxxState}
 use Rattle.cxx_declare.specs.Given.{linking_if}
 use Rattle.cxx_declare.specs.Made.{linked_by, linking, token, word_in}
-use Rattle.cxx_declare.proofs.Making.{stopped_on}
+use Rattle.cxx_paths.proofs.Stopping.{stopped_on}
 use Rattle.cxx_tree.specs.Answered.{IsAnswered, IsFactKnown, fact_number}
 use Rattle.cxx_tree.specs.Held.{Held, meaning}
 use Rattle.cxx_tree.specs.Later.{Later}

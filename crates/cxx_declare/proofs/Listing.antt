@@ -24,7 +24,8 @@ use Rattle.cxx_reading.specs.Declaring as declaring
 use Rattle.cxx_reading.specs.Declaring.{added, begun_as, declare, declare_enumeration, declare_enumerator, declare_value, end_enumeration, enumeration_count, enumerator_value, fact_here, free, in_enumeration, name_of, word_of}
 use Rattle.cxx_reading.specs.State.{CxxState}
 use Rattle.cxx_declare.specs.Made.{IsEnumerationThere, IsNameOf, IsReady, enumeration_number, made, token, told_added, value_checked, word_in}
-use Rattle.cxx_declare.proofs.Making.{stopped_on, word_is}
+use Rattle.cxx_declare.proofs.Making.{word_is}
+use Rattle.cxx_paths.proofs.Stopping.{stopped_on}
 use Rattle.cxx_tree.specs.Answered.{AnyKnown, IsAnswered, IsFactKnown, fact_number, itself}
 use Rattle.cxx_tree.specs.Held.{Held, meaning}
 use Rattle.cxx_tree.specs.Later.{Later}

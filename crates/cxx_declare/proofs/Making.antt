@@ -27,23 +27,16 @@ use Rattle.cxx_model.specs.Types.Trees.{CxxType}
 use Rattle.cxx_model.specs.Types.Numbers.{type_at}
 use Rattle.cxx_names.specs.Clashes.{IsPlainName}
 use Rattle.cxx_reading.specs.State.{CxxState}
-use Rattle.cxx_reading.specs.Declaring.{added, declare, declare_object, declare_parameter, declare_synonym, fact_here, free, name_of, object_here, parameter_object, place_in, place_of_fact, with_fact, word_of}
+use Rattle.cxx_reading.specs.Declaring.{added, declare, declare_object, declare_parameter, declare_synonym, fact_here, free, name_of, object_here, parameter_object, with_fact, word_of}
 use Rattle.cxx_declare.specs.Functions.{function_with}
-use Rattle.cxx_declare.specs.Made.{IsEarlierFunction, IsEarlierObject, IsNameOf, IsReady, function_first, made, object_first, place_held, token, unit_of, word_in}
+use Rattle.cxx_declare.specs.Made.{IsEarlierFunction, IsEarlierObject, IsNameOf, IsReady, function_first, made, object_first, token, unit_of, word_in}
 use Rattle.cxx_declare.proofs.Firsts.{function_after, object_after}
+use Rattle.cxx_paths.proofs.Stopping.{stopped_on}
 use Rattle.cxx_tree.specs.Held.{Held, meaning}
 use Rattle.cxx_tree.specs.Answered.{AnyKnown, IsAnswered, IsFactKnown, fact_number, itself}
 use Rattle.cxx_tree.proofs.Graphs.{length_facts}
 use Rattle.cxx_tree.proofs.Steps.{Later_refl}
 use Rattle.cxx_tree.proofs.Wholes.{may_follow}
-
-places_alike : (types : List CxxType) (facts : List Fact) (n : ℕ) → place_held (slice_get facts n) ≡ place_in (slice_get (facts_at types facts) n)
-places_alike types [] n = refl
-places_alike types (one ∷ others) zero = refl
-places_alike types (one ∷ others) (suc n) = places_alike types others n
-
-pub fact_place : (types : List CxxType) (graph : Graph) (n : ℕ) (fact : Option Fact) → fact ≡ slice_get graph.facts n → place_held fact ≡ place_of_fact (graph_at types graph) n
-fact_place types graph n fact is = ap place_held is ∙ places_alike types graph.facts n
 
 -- ---- objects and functions
 
@@ -76,13 +69,6 @@ unfolding meaning
 function_is held place word one count scope first n fact here named made_is =
     ap (fact_at held.types) (made_is ∙ ap (λ m. made scope place m (function_first one count first)) named)
     ∙ ap (λ (s : ScopeId). fact_at held.types (made s place (name.Spelled word) (function_first one count first))) here
-
--- ---- what a stop stops
-
-pub stopped_on : {A B : Type 0} (why : Stop) (one : Answer A) (go : A → Answer B) → Stops why one → Stops why (one >>= go)
-stopped_on stop.OutOfMemory one go e = tt
-stopped_on (stop.Fault f) one go e = ap (λ (a : Answer _). a >>= go) e
-stopped_on (stop.Limit k) one go e = ap (λ (a : Answer _). a >>= go) e
 
 -- ---- what calls answer
 

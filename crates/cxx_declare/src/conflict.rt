@@ -20,9 +20,10 @@ ghost use Rattle.cxx_declare.specs.Made.{IsReady, definable_by, is_object_there,
 ghost use Rattle.cxx_tree.specs.Held.{meaning};
 
 use crate::members::{home_of, is_space, sooner};
-use crate::parts::{conflicting, fact_of, first_of, place_of, spelled, word_of};
+use crate::parts::{conflicting, fact_of, first_of, spelled, word_of};
 use cxx_graph::Graph;
 use cxx_model::{Entity, Fact, FactId, FactList, Name, OutOfMemory, Place, ScopeId, Stop};
+use cxx_paths::place_of;
 use cxx_tree::State;
 use std::alloc::{AllocError, Global};
 

@@ -10,7 +10,8 @@ ghost use Rattle.cxx_defined.specs.Defined.{IsOwnEntity};
 ghost use Rattle.cxx_reading.specs.Declaring as declaring;
 ghost use Rattle.cxx_reading.specs.Declaring.{fact_here, linked_object_here, object_here};
 ghost use Rattle.cxx_declare.specs.Made.{IsEarlierObject, IsReady, made, word_in};
-ghost use Rattle.cxx_tree.specs.Answered.{IsAnswered, IsFactKnown, fact_number};
+ghost use Rattle.cxx_declare.specs.Opened.{told_declared};
+ghost use Rattle.cxx_tree.specs.Answered.{AnyKnown, IsAnswered, IsFactKnown, fact_number, itself};
 ghost use Rattle.cxx_tree.specs.Held.{meaning, type_of};
 
 use crate::conflict::free;
@@ -44,6 +45,18 @@ pub(crate) fn declare(state: &mut State, fact: Fact) -> Result<FactId, Stop>
 {
     free(state, &fact)?;
     state.add(fact)
+}
+
+/// The same, where its number is not asked.
+pub(crate) fn tell(state: &mut State, fact: Fact) -> Result<(), Stop>
+    requires { IsReady state.old fact }
+    ensures answered { IsAnswered itself AnyKnown state.old state.new result (told_declared (fact_at (state.old).types fact) (word_in fact.name) (meaning state.old)) }
+    ensures held { OnOk result (state.new ≡ record state.old { graph = appended (state.old).graph fact }) }
+{
+    match declare(state, fact) {
+        Ok(_) => Ok(()),
+        Err(stop) => Err(stop),
+    }
 }
 
 // The declaration of an object, given the first one of it.

@@ -21,11 +21,12 @@ use crate::conflict::free_if;
 use crate::facts::fact_in;
 use crate::linking::link;
 use crate::members::{first_function_here, is_linked_here};
-use crate::parts::{conflicting, place_of, spelled, word_of};
+use crate::parts::{conflicting, spelled, word_of};
 use cxx_model::{
     Entity, Fact, FactId, FunctionFlags, MemberKind, OutOfMemory, Place, ScopeId, Stop, TypeId,
     TypeNode,
 };
+use cxx_paths::place_of;
 use cxx_tree::{Fallback, Offer, OfferList, State};
 use cxx_types::TypeTable;
 use std::alloc::{AllocError, Global};

@@ -10,12 +10,13 @@ mod functions;
 mod linking;
 mod members;
 mod objects;
+mod outside;
 mod parts;
-mod sought;
 mod spaces;
+mod usings;
 mod values;
 
-pub use asks::{elaborated, kind, type_named};
+pub use asks::{elaborated, kind, kind_of_name, type_named, type_of_name};
 pub use bodies::{begin_body, end_body};
 pub use enumerations::{declare_enumeration, declare_enumerator, end_enumeration};
 pub use functions::declare_function;
@@ -23,6 +24,8 @@ pub use objects::{
     declare_linked_object, declare_object, declare_parameter, declare_synonym, define_declared,
     define_object,
 };
+pub use outside::{agree_here, enter_member, stand_in};
 pub use spaces::{
     close_space, declare_alias, declare_directive, open_space, open_unnamed, space_here,
 };
+pub use usings::bring_here;

@@ -6,14 +6,14 @@ ghost use Rattle.std.specs.Option.{option_copied};
 ghost use Rattle.cxx_model.specs.declared.evidence.Evidence.TheVariants.{Found};
 ghost use Rattle.cxx_model.specs.declared.facts.Name.TheVariants.{Spelled};
 ghost use Rattle.cxx_model.specs.declared.fault.FaultText.TheVariants as says;
-ghost use Rattle.cxx_model.specs.Facts.Declarations.{facts_at, graph_at};
+ghost use Rattle.cxx_model.specs.Facts.Declarations.{facts_at};
 ghost use Rattle.cxx_model.specs.Facts.Entities.{entity_by, of_fact};
 ghost use Rattle.cxx_model.specs.Facts.Declarations.{declares_at};
-ghost use Rattle.cxx_model.specs.Stops.{Faulty, fault as fault_of, undeclared_at};
+ghost use Rattle.cxx_model.specs.Stops.{Faulty, fault as fault_of};
 ghost use Rattle.cxx_model.specs.Types.Trees.{CxxType};
 ghost use Rattle.cxx_defined.specs.Defined.{IsOwn, IsOwnEntity};
-ghost use Rattle.cxx_reading.specs.Declaring.{conflicting_at, declares_by, place_of_fact};
-ghost use Rattle.cxx_declare.specs.Made.{place_held, word_in};
+ghost use Rattle.cxx_reading.specs.Declaring.{conflicting_at, declares_by};
+ghost use Rattle.cxx_declare.specs.Made.{word_in};
 
 use cxx_graph::Graph;
 use cxx_model::{
@@ -42,23 +42,6 @@ pub(crate) fn fact_of(graph: &Graph, number: FactId) -> Option<&Fact>
     ensures { option_copied result ≡ slice_get graph.now.facts number.0 }
 {
     graph.facts().get(number.0 as usize)
-}
-
-fn place_or_nowhere(fact: Option<&Fact>) -> Place
-    ensures { result ≡ place_held (option_copied fact.entry) }
-{
-    match fact {
-        Some(fact) => fact.place,
-        None => Place { line: 0, column: 0 },
-    }
-}
-
-/// Where a declaration stands.
-#[tactic(auto, using(crate::proofs::Making::fact_place))]
-pub(crate) fn place_of(graph: &Graph, number: FactId) -> Place
-    ensures { (types : List CxxType) → result ≡ place_of_fact (graph_at types graph.now) number.0 }
-{
-    place_or_nowhere(fact_of(graph, number))
 }
 
 /// The first declaration of what a fact with a number declares.
@@ -137,56 +120,6 @@ pub(crate) fn conflicting(
         place,
         FaultText::ConflictingDeclaration(word),
         evidence,
-    )
-}
-
-fn found_both(alloc: Global, one: Place, two: Place) -> Result<EvidenceList, AllocError>
-    ensures { IfOk result (λ evidence. evidence ≡ Found one ∷ Found two ∷ []) }
-{
-    let mut evidence = found(alloc, one)?;
-    evidence.push(Evidence::Found(two))?;
-    Ok(evidence)
-}
-
-/// A name means two declarations of which none hides the other (3.4).
-pub(crate) fn ambiguous(
-    alloc: Global,
-    place: Place,
-    word: &[u8],
-    one: Place,
-    two: Place,
-) -> Result<Box<Fault>, AllocError>
-    ensures { IfOk result (λ fault. fault.value ≡ record { place = place; text = says.AmbiguousName word.now; evidence = Found one ∷ Found two ∷ [] }) }
-{
-    let word = Word::from_slice(alloc, word)?;
-    let evidence = found_both(alloc, one, two)?;
-    fault_with(alloc, place, FaultText::AmbiguousName(word), evidence)
-}
-
-/// A name is that of another thing.
-pub(crate) fn wrong_kind(
-    alloc: Global,
-    place: Place,
-    word: &[u8],
-    other: Place,
-) -> Result<Box<Fault>, AllocError>
-    ensures { IfOk result (λ fault. fault.value ≡ record { place = place; text = says.WrongKindOfName word.now; evidence = Found other ∷ [] }) }
-{
-    let word = Word::from_slice(alloc, word)?;
-    let evidence = found(alloc, other)?;
-    fault_with(alloc, place, FaultText::WrongKindOfName(word), evidence)
-}
-
-/// A name that is used and not declared (3.4).
-pub(crate) fn undeclared(alloc: Global, place: Place, word: &[u8]) -> Result<Box<Fault>, AllocError>
-    ensures { IfOk result (λ fault. Faulty fault.value ≡ undeclared_at place word.now) }
-{
-    let word = Word::from_slice(alloc, word)?;
-    fault_with(
-        alloc,
-        place,
-        FaultText::UndeclaredName(word),
-        EvidenceList::new(alloc),
     )
 }
 

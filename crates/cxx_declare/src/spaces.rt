@@ -5,21 +5,22 @@ ghost use Rattle.cxx_model.specs.declared.token.TokenKind.{TokenKind};
 ghost use Rattle.cxx_model.specs.Facts.Declarations.{fact_at, spelled};
 ghost use Rattle.cxx_model.specs.Facts.Graph.{scopes};
 ghost use Rattle.cxx_names.specs.Looked.{scope_number as number_of_scope};
-ghost use Rattle.cxx_reading.specs.Seen.{fact_numbers, numbered_at};
+ghost use Rattle.cxx_meaning.specs.Lookups.Wanted.{namespaces_only};
+ghost use Rattle.cxx_reading.specs.Paths.{name_in, sought_in};
 ghost use Rattle.cxx_reading.specs.Spaces as spaces;
-ghost use Rattle.cxx_reading.specs.Specifiers.{path_of};
-ghost use Rattle.cxx_declare.specs.Asked.{part_of};
+ghost use Rattle.cxx_reading.specs.Trees.{last_part};
 ghost use Rattle.cxx_declare.specs.Made.{IsReady, token, word_in};
-ghost use Rattle.cxx_declare.specs.Opened.{IsFirst, added_within, declared_within, opened_first, space_added, told_declared};
+ghost use Rattle.cxx_declare.specs.Opened.{IsFirst, added_within, declared_within, opened_first, space_added};
 ghost use Rattle.cxx_tree.specs.Answered.{AnyKnown, IsAnswered, IsScopeKnown, itself, scope_number};
+ghost use Rattle.cxx_tree.specs.Arena.{path_at};
 ghost use Rattle.cxx_tree.specs.Held.{meaning};
 
 use crate::conflict::free;
-use crate::facts::{declare, fact_in, word_fact};
-use crate::sought::{sought_space, stop_ambiguous, stop_undeclared};
-use cxx_found::Found;
-use cxx_model::{Entity, Fact, FactId, Name, Place, ScopeId, Stop};
-use cxx_names::first_space;
+use crate::facts::{fact_in, tell, word_fact};
+use cxx_found::{Found, Wanted};
+use cxx_model::{Entity, Fact, Name, Path, Place, ScopeId, Stop};
+use cxx_paths::{ambiguous_name, name_sought, region_here, set_in, space_among, undeclared_name};
+use cxx_reading::Region;
 use cxx_tree::State;
 
 // ---- a namespace begins
@@ -172,17 +173,6 @@ pub fn close_space(state: &mut State) -> Result<(), Stop>
 
 // ---- other names and directives
 
-// A name is declared, and its number is not asked.
-fn tell(state: &mut State, fact: Fact) -> Result<(), Stop>
-    requires { IsReady state.old fact }
-    ensures { IsAnswered itself AnyKnown state.old state.new result (told_declared (fact_at (state.old).types fact) (word_in fact.name) (meaning state.old)) }
-{
-    match declare(state, fact) {
-        Ok(_) => Ok(()),
-        Err(stop) => Err(stop),
-    }
-}
-
 /// Another name of a namespace is declared (7.3.2).
 pub fn declare_alias(
     state: &mut State,
@@ -218,50 +208,44 @@ pub fn declare_directive(state: &mut State, place: Place, inner: ScopeId) -> Res
 
 // ---- names of namespaces
 
-// The first namespace among declarations that were found.
-fn space_among(state: &State, numbers: &[FactId]) -> Option<ScopeId>
-    ensures is { option_map number_of_scope result ≡ spaces.first_space (numbered_at (meaning state.now).graph (fact_numbers numbers.now)) }
-    ensures there { IfSome result (λ inner. inner.0 < scopes (state.now).graph.facts) }
-{
-    let graph = state.graph();
-    graph.in_range();
-    first_space(graph, numbers)
-}
-
-fn space_by(
-    state: &State,
-    place: Place,
-    word: &[u8],
-    space: Option<ScopeId>,
-) -> Result<ScopeId, Stop>
+#[tactic(auto, using(cxx_paths::proofs::Stopping::stopped_at))]
+fn space_by(state: &State, path: &Path, space: Option<ScopeId>) -> Result<ScopeId, Stop>
     requires { IfSome space (λ inner. inner.0 < scopes (state.now).graph.facts) }
-    ensures { IsAnswered scope_number IsScopeKnown state.now state.now result (spaces.space_by (part_of place word.now) (option_map number_of_scope space) (meaning state.now)) }
+    ensures { IsAnswered scope_number IsScopeKnown state.now state.now result (spaces.space_by (last_part (path_at path.now).parts) (option_map number_of_scope space) (meaning state.now)) }
 {
     match space {
         Some(inner) => Ok(inner),
-        None => Err(stop_undeclared(state, place, word)),
+        None => Err(undeclared_name(state, path)),
     }
 }
 
-fn space_found(state: &State, place: Place, word: &[u8], found: Found) -> Result<ScopeId, Stop>
-    ensures { IsAnswered scope_number IsScopeKnown state.now state.now result (spaces.space_found (part_of place word.now) found (meaning state.now)) }
+#[tactic(auto, using(cxx_paths::proofs::Stopping::stopped_at))]
+fn space_found(state: &State, path: &Path, found: &Found) -> Result<ScopeId, Stop>
+    ensures { IsAnswered scope_number IsScopeKnown state.now state.now result (spaces.space_found (last_part (path_at path.now).parts) found.now (meaning state.now)) }
 {
-    match found {
-        Found::Set(numbers) => {
-            let space = space_among(state, numbers.as_slice());
-            space_by(state, place, word, space)
-        }
-        Found::Ambiguous(one, two) => Err(stop_ambiguous(state, place, word, one, two)),
-        _ => Err(stop_undeclared(state, place, word)),
+    if let Found::Ambiguous(one, two) = found {
+        return Err(ambiguous_name(state, path, *one, *two));
+    }
+    let space = space_among(state, set_in(found));
+    space_by(state, path, space)
+}
+
+fn space_in(state: &State, path: &Path, region: Region) -> Result<ScopeId, Stop>
+    ensures { IsAnswered scope_number IsScopeKnown state.now state.now result (spaces.space_found (last_part (path_at path.now).parts) (sought_in (meaning state.now).graph namespaces_only region (name_in (path_at path.now))) (meaning state.now)) }
+{
+    match name_sought(state, Wanted::Spaces, region, path) {
+        Ok(found) => space_found(state, path, &found),
+        Err(_) => Err(Stop::OutOfMemory),
     }
 }
 
 /// The namespace that a name means where the reader stands (3.4.6).
-pub fn space_here(state: &State, place: Place, word: &[u8]) -> Result<ScopeId, Stop>
-    ensures { (kind : TokenKind) → IsAnswered scope_number IsScopeKnown state.now state.now result (spaces.space_here (path_of (token kind place word.now)) (meaning state.now)) }
+#[tactic(auto, using(cxx_paths::proofs::Stopping::region_then, cxx_paths::proofs::Stopping::region_stopped), unfolding(cxx_reading::specs::Spaces::space_here))]
+pub fn space_here(state: &State, path: &Path) -> Result<ScopeId, Stop>
+    ensures { IsAnswered scope_number IsScopeKnown state.now state.now result (spaces.space_here (path_at path.now) (meaning state.now)) }
 {
-    match sought_space(state, word) {
-        Ok(found) => space_found(state, place, word, found),
-        Err(_) => Err(Stop::OutOfMemory),
+    match region_here(state, path) {
+        Ok(region) => space_in(state, path, region),
+        Err(stop) => Err(stop),
     }
 }

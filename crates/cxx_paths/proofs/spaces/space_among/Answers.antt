@@ -1,9 +1,8 @@
 use Rattle.std.proofs.Common.{◌∙◌}
+use Rattle.cxx_reading.specs.Paths.{first_space}
 use Rattle.cxx_reading.specs.Seen.{fact_numbers, numbered_at}
-use Rattle.cxx_reading.specs.Spaces.{first_space}
-use Rattle.cxx_declare.proofs.Firsts.{in_graph}
-use Rattle.cxx_declare.proofs.Spacing.{found_there}
-use Rattle.cxx_declare.proofs.spaces.space_among.Goals as goal
+use Rattle.cxx_paths.proofs.Spaced.{found_there, in_graph}
+use Rattle.cxx_paths.proofs.spaces.space_among.Goals as goal
 
 pub returns-clause-is : goal.returns-clause-is
 returns-clause-is c = c.first_space.ensures c.args.state.now.types ∙ in_graph (λ g. first_space (numbered_at g (fact_numbers c.args.numbers.now))) c.args.state.now c.graph-graph.result.now c.graph-graph.ensures.is

@@ -1,0 +1,216 @@
+//! Members of namespaces that are declared outside of these, by names with qualifiers (8.3, 3.4.1).
+
+ghost use Rattle.std.specs.Prelude.{◌≡◌, ◌<◌, ◌&&◌, ◌∷◌, [], List, Some, length, nat_eq};
+ghost use Rattle.cxx_model.specs.declared.token.TokenKind.{TokenKind};
+ghost use Rattle.cxx_model.specs.Facts.Conflicts.{agree as agree_of, array_parts, is_unknown as is_one_unknown, same_but_bound};
+ghost use Rattle.cxx_model.specs.Facts.Declarations.{declares_at};
+ghost use Rattle.cxx_model.specs.Facts.Fitted.{IsEntityBelow};
+ghost use Rattle.cxx_model.specs.Facts.Graph.{scopes};
+ghost use Rattle.cxx_model.specs.Types.Numbers.{bound_at, type_at};
+ghost use Rattle.cxx_model.specs.Types.Trees.{CxxType};
+ghost use Rattle.cxx_meaning.specs.Lookups.Wanted.{any_name};
+ghost use Rattle.cxx_declare.specs.Agreed.{disagreeing};
+ghost use Rattle.cxx_declare.specs.Made.{token};
+ghost use Rattle.cxx_paths.specs.Asked.{IsRegionThere, IsStop};
+ghost use Rattle.cxx_reading.specs.Linked.{home_of as home_in};
+ghost use Rattle.cxx_reading.specs.Members as members;
+ghost use Rattle.cxx_reading.specs.Paths.{name_in, sought_in};
+ghost use Rattle.cxx_reading.specs.Seen.{fact_numbers, numbered_at};
+ghost use Rattle.cxx_reading.specs.Trees.{last_part};
+ghost use Rattle.cxx_tree.specs.Answered.{AnyKnown, IsAnswered, itself};
+ghost use Rattle.cxx_tree.specs.Arena.{path_at};
+ghost use Rattle.cxx_tree.specs.Held.{meaning, type_of};
+
+use crate::members::home_of;
+use crate::parts::{conflicting, fact_of};
+use cxx_found::{Found, Wanted};
+use cxx_model::{Bound, Entity, Fact, FactId, Path, Place, ScopeId, Stop, TypeId, TypeNode};
+use cxx_paths::{
+    ambiguous_name, found_in, name_sought, place_among, region_here, scope_of, undeclared_name,
+};
+use cxx_reading::Region;
+use cxx_tree::State;
+use cxx_types::TypeTable;
+
+// ---- the name
+
+/// The reader stands in a scope.
+pub fn stand_in(state: &mut State, scope: ScopeId) -> Result<(), Stop>
+    requires { scope.0 < scopes (state.old).graph.facts }
+    ensures { IsAnswered itself AnyKnown state.old state.new result (members.stand_in scope.0 (meaning state.old)) }
+{
+    state.set_scope(scope);
+    Ok(())
+}
+
+#[tactic(auto, using(cxx_paths::proofs::Stopping::stopped_at))]
+fn entered_found(state: &mut State, path: &Path, region: Region, found: &Found) -> Result<(), Stop>
+    requires { IsRegionThere state.old region }
+    ensures { IsAnswered itself AnyKnown state.old state.new result (members.entered_found (last_part (path_at path.now).parts) region found.now (meaning state.old)) }
+{
+    match found {
+        Found::Set(_) => stand_in(state, scope_of(region)),
+        Found::Ambiguous(one, two) => Err(ambiguous_name(state, path, *one, *two)),
+        _ => Err(undeclared_name(state, path)),
+    }
+}
+
+fn enter_in(state: &mut State, path: &Path, region: Region) -> Result<(), Stop>
+    requires { IsRegionThere state.old region }
+    ensures { IsAnswered itself AnyKnown state.old state.new result (members.entered_found (last_part (path_at path.now).parts) region (sought_in (meaning state.old).graph any_name region (name_in (path_at path.now))) (meaning state.old)) }
+{
+    match name_sought(state, Wanted::Any, region, path) {
+        Ok(found) => entered_found(state, path, region, &found),
+        Err(_) => Err(Stop::OutOfMemory),
+    }
+}
+
+/// The name of a declarator means something in its namespace, where the reader stands then (3.4.1, 8.3).
+#[tactic(auto, using(cxx_paths::proofs::Stopping::region_then, cxx_paths::proofs::Stopping::region_stopped), unfolding(cxx_reading::specs::Members::enter_member))]
+pub fn enter_member(state: &mut State, path: &Path) -> Result<(), Stop>
+    ensures { IsAnswered itself AnyKnown state.old state.new result (members.enter_member (path_at path.now) (meaning state.old)) }
+{
+    match region_here(state, path) {
+        Ok(region) => enter_in(state, path, region),
+        Err(stop) => Err(stop),
+    }
+}
+
+// ---- types
+
+fn is_unknown(bound: &Bound) -> bool
+    ensures { (types : List CxxType) → result ≡ is_one_unknown (bound_at types bound.now) }
+{
+    match bound {
+        Bound::Unknown => true,
+        _ => false,
+    }
+}
+
+#[tactic(auto, using(cxx_names::proofs::Types::are_arrays, cxx_names::proofs::Types::one_no_array, cxx_names::proofs::Types::two_no_array))]
+fn same_arrays(types: &TypeTable, one: TypeId, two: TypeId) -> bool
+    requires one { one.0 < length types.now }
+    requires two { two.0 < length types.now }
+    ensures { result ≡ same_but_bound (array_parts (type_at types.now one.0)) (array_parts (type_at types.now two.0)) }
+{
+    match types.node(one) {
+        TypeNode::Array(one, bound) => match types.node(two) {
+            TypeNode::Array(two, end) => {
+                types.same(*one, *two) && (is_unknown(bound) || is_unknown(end))
+            }
+            _ => false,
+        },
+        _ => false,
+    }
+}
+
+// Whether two types are one for declarations of one object: an array with a bound and one without are (3.5).
+fn agree(types: &TypeTable, one: TypeId, two: TypeId) -> bool
+    requires one { one.0 < length types.now }
+    requires two { two.0 < length types.now }
+    ensures { result ≡ agree_of (type_at types.now one.0) (type_at types.now two.0) }
+{
+    types.same(one, two) || same_arrays(types, one, two)
+}
+
+// ---- what is declared
+
+// Whether a declaration is of a synonym of a type, or of an object or a function with that type.
+fn agrees(types: &TypeTable, is_typedef: bool, of: TypeId, what: Entity) -> bool
+    requires of { of.0 < length types.now }
+    requires what { IsEntityBelow (length types.now) what }
+    ensures { result ≡ members.agrees is_typedef (type_at types.now of.0) (declares_at types.now what) }
+{
+    match what {
+        Entity::Synonym { of: other } => is_typedef && types.same(other, of),
+        Entity::Object { of: other, .. } => !is_typedef && agree(types, other, of),
+        Entity::Function { of: other, .. } => !is_typedef && types.same(other, of),
+        _ => false,
+    }
+}
+
+// Whether a scope is within the namespace itself where the reader stands.
+#[tactic(auto, unfolding(cxx_tree::specs::Held::meaning))]
+fn is_own(state: &State, scope: ScopeId) -> bool
+    ensures { result ≡ nat_eq (home_in (meaning state.now).graph scope.0) (meaning state.now).here.scope }
+{
+    home_of(state, scope).0 == state.scope().0
+}
+
+// Whether a declaration is of a member of that namespace, with a type.
+fn fact_agrees(state: &State, is_typedef: bool, of: TypeId, fact: &Fact) -> bool
+    requires of { of.0 < length (state.now).types }
+    requires below { IsEntityBelow (length (state.now).types) (fact.now).what }
+    ensures { result ≡ (nat_eq (home_in (meaning state.now).graph (fact.now).scope.0) (meaning state.now).here.scope && members.agrees is_typedef (type_of state.now of) (declares_at (state.now).types (fact.now).what)) }
+{
+    is_own(state, fact.scope) && agrees(state.types(), is_typedef, of, fact.what)
+}
+
+// The same by its number.
+fn agrees_at(state: &State, is_typedef: bool, of: TypeId, number: FactId) -> bool
+    requires { of.0 < length (state.now).types }
+    ensures { result ≡ members.any_agrees (meaning state.now).graph (meaning state.now).here.scope is_typedef (type_of state.now of) (numbered_at (meaning state.now).graph (number.0 ∷ [])) }
+{
+    match fact_of(state.graph(), number) {
+        Some(fact) => fact_agrees(state, is_typedef, of, fact),
+        None => false,
+    }
+}
+
+// Whether one of some declarations is.
+fn any_agrees(state: &State, is_typedef: bool, of: TypeId, numbers: &[FactId]) -> bool
+    requires { of.0 < length (state.now).types }
+    ensures { result ≡ members.any_agrees (meaning state.now).graph (meaning state.now).here.scope is_typedef (type_of state.now of) (numbered_at (meaning state.now).graph (fact_numbers numbers.now)) }
+{
+    for number in numbers {
+        if agrees_at(state, is_typedef, of, *number) {
+            return true;
+        }
+    }
+    false
+}
+
+// Where no member agrees, given where the first of the entities stands that the name means.
+fn stop_at(state: &State, place: Place, word: &[u8], first: Option<Place>) -> Stop
+    ensures { IsStop (disagreeing place word.now first) result }
+{
+    match conflicting(state.alloc(), place, word, first.unwrap_or(place)) {
+        Ok(fault) => Stop::Fault(fault),
+        Err(_) => Stop::OutOfMemory,
+    }
+}
+
+fn agreed_among(
+    state: &State,
+    is_typedef: bool,
+    place: Place,
+    word: &[u8],
+    of: TypeId,
+    numbers: &[FactId],
+) -> Result<(), Stop>
+    requires { of.0 < length (state.now).types }
+    ensures { (kind : TokenKind) → IsAnswered itself AnyKnown state.now state.now result (members.agreed_by (token kind place word.now) (numbered_at (meaning state.now).graph (fact_numbers numbers.now)) (members.any_agrees (meaning state.now).graph (meaning state.now).here.scope is_typedef (type_of state.now of) (numbered_at (meaning state.now).graph (fact_numbers numbers.now))) (meaning state.now)) }
+{
+    if any_agrees(state, is_typedef, of, numbers) {
+        return Ok(());
+    }
+    Err(stop_at(state, place, word, place_among(state, numbers)))
+}
+
+/// The namespace where the reader stands has declared a member with a type (8.3): a synonym of it for a typedef, else an
+/// object or a function. Else the first of the entities that the name means there stands in the way.
+pub fn agree_here(
+    state: &State,
+    is_typedef: bool,
+    place: Place,
+    word: &[u8],
+    of: TypeId,
+) -> Result<(), Stop>
+    requires { of.0 < length (state.now).types }
+    ensures { (kind : TokenKind) → IsAnswered itself AnyKnown state.now state.now result (members.agree_here is_typedef (token kind place word.now) (type_of state.now of) (meaning state.now)) }
+{
+    match found_in(state, Region::Inside(state.scope()), word) {
+        Ok(numbers) => agreed_among(state, is_typedef, place, word, of, numbers.as_slice()),
+        Err(_) => Err(Stop::OutOfMemory),
+    }
+}

@@ -1,0 +1,82 @@
+-- Where the last part of a name is looked up.
+use Rattle.std.specs.Prelude.{ℕ, ◌≡◌, ◌<◌, ◌≤◌, ◌-◌, Bool, true, false, List, [], ◌∷◌, length, take, drop, Result, Ok, Err, IfOk, refl}
+use Rattle.std.proofs.Common.{ap, sym, subst, ◌∙◌, arith, eqb, get_or}
+use Rattle.std.proofs.lemmas.Bool.{eqb-true}
+use Rattle.std.proofs.lemmas.List.{take_all}
+use Rattle.cxx_meaning.specs.Lookups.Qualified.{qualified}
+use Rattle.cxx_meaning.specs.Lookups.Wanted.{Wanted}
+use Rattle.cxx_model.specs.declared.lookup.Found.{Found}
+use Rattle.cxx_model.specs.declared.memory.OutOfMemory.{OutOfMemory}
+use Rattle.cxx_model.specs.declared.stop.Stop.{Stop}
+use Rattle.cxx_model.specs.declared.tree.PathPart.{PathPart}
+use Rattle.cxx_model.specs.declared.types.ScopeId.{ScopeId}
+use Rattle.cxx_model.specs.Facts.Declarations.{CxxGraph, facts_at, graph_at, spelled}
+use Rattle.cxx_model.specs.Facts.Graph.{Graph}
+use Rattle.cxx_model.specs.Stops.{Answer, Stops, ◌>>=◌}
+use Rattle.cxx_model.specs.Types.Trees.{CxxType}
+use Rattle.cxx_reading.specs.declared.region.Region.{Region}
+use Rattle.cxx_reading.specs.declared.region.Region.TheVariants.{Inside}
+use Rattle.cxx_reading.specs.Linked.{scope_id}
+use Rattle.cxx_reading.specs.Paths.{holder, region_by, sought_in}
+use Rattle.cxx_reading.specs.Seen.{found_or_none}
+use Rattle.cxx_tree.specs.Arena.{path_part_at, path_parts_at}
+use Rattle.cxx_tree.specs.Held.{Held, meaning}
+use Rattle.cxx_paths.proofs.Stopping.{stopped_on}
+
+-- what is found behind `::`
+pub inside_found : (held : Held) (graph : Graph) (types : List CxxType) (wanted : Wanted) (space : ScopeId) (word : List ℕ) (r : Result Found OutOfMemory) → graph ≡ held.graph → types ≡ held.types
+    → IfOk r (λ one. qualified (graph_at types graph) wanted space (spelled word) (length (facts_at types graph.facts)) ≡ Ok one) → IfOk r (λ one. one ≡ sought_in (meaning held).graph wanted (Inside space) (spelled word))
+unfolding sought_in meaning
+inside_found held graph types wanted space word (Err e) same are is = tt
+inside_found held graph types wanted space word (Ok one) same are is =
+    sym (ap found_or_none
+    (subst (λ (g : Graph). qualified (graph_at held.types g) wanted space (spelled word) (length (facts_at held.types g.facts)) ≡ Ok one) same
+    (subst (λ (ts : List CxxType). qualified (graph_at ts graph) wanted space (spelled word) (length (facts_at ts graph.facts)) ≡ Ok one) are is)))
+
+-- ---- one part after another
+
+pub region_alone : (graph : CxxGraph) (where_ : Region) (part : PathPart) (others : List PathPart) → others ≡ [] → region_by graph where_ (path_parts_at (part ∷ others)) ≡ Ok where_
+unfolding region_by
+region_alone graph where_ part [] none = refl
+region_alone graph where_ part (one ∷ others) none = absurd (cc)
+
+pub region_none : (graph : CxxGraph) (where_ : Region) (parts : List PathPart) → length parts < 1 → region_by graph where_ (path_parts_at parts) ≡ Ok where_
+unfolding region_by
+region_none graph where_ [] none = refl
+region_none graph where_ (one ∷ others) none = absurd (omega (arith, none))
+
+-- the parts behind the first are some
+region_more : (graph : CxxGraph) (where_ : Region) (part : PathPart) (others : List PathPart) → 0 < length others → region_by graph where_ (path_parts_at (part ∷ others)) ≡ (holder graph where_ (path_part_at part) >>= λ inner. region_by graph (Inside (scope_id inner)) (path_parts_at others))
+unfolding region_by
+region_more graph where_ part [] some = absurd (omega (arith, some))
+region_more graph where_ part (one ∷ others) some = refl
+
+pub region_next : (graph : CxxGraph) (where_ : Region) (part : PathPart) (others : List PathPart) (inner : ScopeId) → 0 < length others → holder graph where_ (path_part_at part) ≡ Ok inner.0 → region_by graph where_ (path_parts_at (part ∷ others)) ≡ region_by graph (Inside inner) (path_parts_at others)
+region_next graph where_ part others inner some is = region_more graph where_ part others some ∙ ap (λ (a : Answer ℕ). a >>= λ n. region_by graph (Inside (scope_id n)) (path_parts_at others)) is
+
+pub region_stops : (graph : CxxGraph) (where_ : Region) (part : PathPart) (others : List PathPart) (why : Stop) → 0 < length others → Stops why (holder graph where_ (path_part_at part)) → Stops why (region_by graph where_ (path_parts_at (part ∷ others)))
+region_stops graph where_ part others why some stops = subst (λ a. Stops why a) (sym (region_more graph where_ part others some)) (stopped_on why (holder graph where_ (path_part_at part)) (λ n. region_by graph (Inside (scope_id n)) (path_parts_at others)) stops)
+
+-- ---- the same of a list that is split
+
+rest_is : (part : PathPart) (others : List PathPart) → take (length (part ∷ others) - 1) (drop 1 (part ∷ others)) ≡ others
+rest_is part others = take_all (length (part ∷ others) - 1) others (omega arith)
+
+none_behind : (others : List PathPart) → eqb (length others) 0 ≡ true → others ≡ []
+none_behind [] is = refl
+none_behind (one ∷ others) is = absurd (let none : length (one ∷ others) ≡ 0 = eqb-true (length (one ∷ others)) 0 is in omega (arith, none))
+
+some_behind : (others : List PathPart) → eqb (length others) 0 ≡ false → 0 < length others
+some_behind [] is = absurd (cc)
+some_behind (one ∷ others) is = omega arith
+
+pub region_whole : (graph : CxxGraph) (where_ : Region) (rest : List PathPart) (b : Bool) → 1 ≤ length rest → b ≡ eqb (length (take (length rest - 1) (drop 1 rest))) 0 → b ≡ true → region_by graph where_ (path_parts_at rest) ≡ Ok where_
+region_whole graph where_ [] b some is last = absurd (omega (arith, some))
+region_whole graph where_ (part ∷ others) b some is last =
+    region_alone graph where_ part others (none_behind others (ap (λ (xs : List PathPart). eqb (length xs) 0) (sym (rest_is part others)) ∙ sym is ∙ last))
+
+pub region_goes : (graph : CxxGraph) (where_ : Region) (rest : List PathPart) (part d : PathPart) (b : Bool) (inner : ScopeId) → 1 ≤ length rest → part ≡ get_or rest 0 d → b ≡ eqb (length (take (length rest - 1) (drop 1 rest))) 0 → b ≡ false → holder graph where_ (path_part_at part) ≡ Ok inner.0 → region_by graph (Inside inner) (path_parts_at (take (length rest - 1) (drop 1 rest))) ≡ region_by graph where_ (path_parts_at rest)
+region_goes graph where_ [] part d b inner some at is more held = absurd (omega (arith, some))
+region_goes graph where_ (one ∷ others) part d b inner some at is more held =
+    ap (λ (xs : List PathPart). region_by graph (Inside inner) (path_parts_at xs)) (rest_is one others)
+    ∙ sym (region_next graph where_ one others inner (some_behind others (ap (λ (xs : List PathPart). eqb (length xs) 0) (sym (rest_is one others)) ∙ sym is ∙ more)) (subst (λ (p : PathPart). holder graph where_ (path_part_at p) ≡ Ok inner.0) at held))

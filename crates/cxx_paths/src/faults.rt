@@ -1,0 +1,215 @@
+//! How the reading stops at a name.
+
+ghost use Rattle.std.specs.Prelude.{◌≡◌, ◌∷◌, [], List, IfOk};
+ghost use Rattle.std.specs.List.{slice_get};
+ghost use Rattle.std.specs.Option.{option_copied};
+ghost use Rattle.cxx_model.specs.declared.evidence.Evidence.TheVariants.{Found};
+ghost use Rattle.cxx_model.specs.declared.fault.FaultText.TheVariants as says;
+ghost use Rattle.cxx_model.specs.Facts.Declarations.{graph_at};
+ghost use Rattle.cxx_model.specs.Stops.{Faulty, undeclared_at};
+ghost use Rattle.cxx_model.specs.Types.Trees.{CxxType};
+ghost use Rattle.cxx_paths.specs.Asked.{IsStop, first_place as first_place_in, not_wanted_at, part_of};
+ghost use Rattle.cxx_reading.specs.Paths.{ambiguous_at, place_of_fact, wrong_kind_at};
+ghost use Rattle.cxx_reading.specs.Seen.{fact_numbers, numbered_at};
+ghost use Rattle.cxx_reading.specs.Trees.{last_part};
+ghost use Rattle.cxx_tree.specs.Arena.{path_at};
+ghost use Rattle.cxx_tree.specs.Held.{meaning};
+
+use crate::last::{last_place, last_word};
+use cxx_graph::Graph;
+use cxx_model::{Evidence, EvidenceList, Fact, FactId, Fault, FaultText, Path, Place, Stop, Word};
+use cxx_tree::State;
+use std::alloc::{AllocError, Global};
+
+fn fact_of(graph: &Graph, number: FactId) -> Option<&Fact>
+    ensures { option_copied result ≡ slice_get graph.now.facts number.0 }
+{
+    graph.facts().get(number.0 as usize)
+}
+
+/// Where a declaration stands.
+#[tactic(auto, using(crate::proofs::Places::place_there, crate::proofs::Places::place_none))]
+pub fn place_of(graph: &Graph, number: FactId) -> Place
+    ensures { (types : List CxxType) → result ≡ place_of_fact (graph_at types graph.now) number.0 }
+{
+    match fact_of(graph, number) {
+        Some(fact) => fact.place,
+        None => Place { line: 0, column: 0 },
+    }
+}
+
+// Where the first of some declarations stands.
+fn first_place(graph: &Graph, numbers: &[FactId]) -> Option<Place>
+    ensures { (types : List CxxType) → result ≡ first_place_in (numbered_at (graph_at types graph.now) (fact_numbers numbers.now)) }
+{
+    for number in numbers {
+        if let Some(fact) = fact_of(graph, *number) {
+            return Some(fact.place);
+        }
+    }
+    None
+}
+
+/// Where the first of some declarations stands.
+#[tactic(auto, unfolding(cxx_tree::specs::Held::meaning))]
+pub fn place_among(state: &State, numbers: &[FactId]) -> Option<Place>
+    ensures { result ≡ first_place_in (numbered_at (meaning state.now).graph (fact_numbers numbers.now)) }
+{
+    first_place(state.graph(), numbers)
+}
+
+// ---- evidence
+
+fn found(alloc: Global, other: Place) -> Result<EvidenceList, AllocError>
+    ensures { IfOk result (λ evidence. evidence ≡ Found other ∷ []) }
+{
+    let mut evidence = EvidenceList::new(alloc);
+    evidence.push(Evidence::Found(other))?;
+    Ok(evidence)
+}
+
+fn found_both(alloc: Global, one: Place, two: Place) -> Result<EvidenceList, AllocError>
+    ensures { IfOk result (λ evidence. evidence ≡ Found one ∷ Found two ∷ []) }
+{
+    let mut evidence = found(alloc, one)?;
+    evidence.push(Evidence::Found(two))?;
+    Ok(evidence)
+}
+
+// ---- faults
+
+fn fault_with(
+    alloc: Global,
+    place: Place,
+    text: FaultText,
+    evidence: EvidenceList,
+) -> Result<Box<Fault>, AllocError>
+    ensures { IfOk result (λ fault. fault.value ≡ record { place = place; text = text; evidence = evidence }) }
+{
+    let fault = Fault {
+        place,
+        text,
+        evidence,
+    };
+    Ok(Box::new(alloc, fault)?)
+}
+
+fn undeclared_fault(alloc: Global, place: Place, word: &[u8]) -> Result<Box<Fault>, AllocError>
+    ensures { IfOk result (λ fault. Faulty fault.value ≡ undeclared_at place word.now) }
+{
+    let word = Word::from_slice(alloc, word)?;
+    fault_with(
+        alloc,
+        place,
+        FaultText::UndeclaredName(word),
+        EvidenceList::new(alloc),
+    )
+}
+
+fn wrong_fault(
+    alloc: Global,
+    place: Place,
+    word: &[u8],
+    other: Place,
+) -> Result<Box<Fault>, AllocError>
+    ensures { IfOk result (λ fault. fault.value ≡ record { place = place; text = says.WrongKindOfName word.now; evidence = Found other ∷ [] }) }
+{
+    let word = Word::from_slice(alloc, word)?;
+    let evidence = found(alloc, other)?;
+    fault_with(alloc, place, FaultText::WrongKindOfName(word), evidence)
+}
+
+fn ambiguous_fault(
+    alloc: Global,
+    place: Place,
+    word: &[u8],
+    one: Place,
+    two: Place,
+) -> Result<Box<Fault>, AllocError>
+    ensures { IfOk result (λ fault. fault.value ≡ record { place = place; text = says.AmbiguousName word.now; evidence = Found one ∷ Found two ∷ [] }) }
+{
+    let word = Word::from_slice(alloc, word)?;
+    let evidence = found_both(alloc, one, two)?;
+    fault_with(alloc, place, FaultText::AmbiguousName(word), evidence)
+}
+
+// ---- at a word
+
+/// At a word that is not declared (3.4).
+pub fn undeclared(state: &State, place: Place, word: &[u8]) -> Stop
+    ensures { IsStop (undeclared_at place word.now) result }
+{
+    match undeclared_fault(state.alloc(), place, word) {
+        Ok(fault) => Stop::Fault(fault),
+        Err(_) => Stop::OutOfMemory,
+    }
+}
+
+/// At a word that means another thing than what may stand there, given where that is declared.
+pub fn wrong_kind(state: &State, place: Place, word: &[u8], other: Place) -> Stop
+    ensures { IsStop (wrong_kind_at (part_of place word.now) other) result }
+{
+    match wrong_fault(state.alloc(), place, word, other) {
+        Ok(fault) => Stop::Fault(fault),
+        Err(_) => Stop::OutOfMemory,
+    }
+}
+
+/// At a word that means nothing of what is wanted, given where the first of its declarations stands.
+pub fn not_wanted(state: &State, place: Place, word: &[u8], first: Option<Place>) -> Stop
+    ensures { IsStop (not_wanted_at (part_of place word.now) first) result }
+{
+    match first {
+        None => undeclared(state, place, word),
+        Some(other) => wrong_kind(state, place, word, other),
+    }
+}
+
+/// At a word that means two declarations of which none hides the other (3.4).
+#[tactic(auto, unfolding(cxx_tree::specs::Held::meaning))]
+pub fn ambiguous(state: &State, place: Place, word: &[u8], one: FactId, two: FactId) -> Stop
+    ensures { IsStop (ambiguous_at (meaning state.now).graph (part_of place word.now) one two) result }
+{
+    let first = place_of(state.graph(), one);
+    let second = place_of(state.graph(), two);
+    match ambiguous_fault(state.alloc(), place, word, first, second) {
+        Ok(fault) => Stop::Fault(fault),
+        Err(_) => Stop::OutOfMemory,
+    }
+}
+
+// ---- at a name, whose last part is told
+
+/// At a name that is not declared (3.4).
+pub fn undeclared_name(state: &State, path: &Path) -> Stop
+    ensures { IsStop (undeclared_at (last_part (path_at path.now).parts).place (last_part (path_at path.now).parts).word) result }
+{
+    let parts = path.parts.as_slice();
+    undeclared(state, last_place(parts), last_word(parts))
+}
+
+/// At a name that means another thing than what may stand there, given where that is declared.
+pub fn wrong_name(state: &State, path: &Path, other: Place) -> Stop
+    ensures { IsStop (wrong_kind_at (last_part (path_at path.now).parts) other) result }
+{
+    let parts = path.parts.as_slice();
+    wrong_kind(state, last_place(parts), last_word(parts), other)
+}
+
+/// At a name that means nothing of what is wanted, given where the first of its declarations stands.
+pub fn not_wanted_name(state: &State, path: &Path, first: Option<Place>) -> Stop
+    ensures { IsStop (not_wanted_at (last_part (path_at path.now).parts) first) result }
+{
+    match first {
+        None => undeclared_name(state, path),
+        Some(other) => wrong_name(state, path, other),
+    }
+}
+
+/// At a name that means two declarations of which none hides the other (3.4).
+pub fn ambiguous_name(state: &State, path: &Path, one: FactId, two: FactId) -> Stop
+    ensures { IsStop (ambiguous_at (meaning state.now).graph (last_part (path_at path.now).parts) one two) result }
+{
+    let parts = path.parts.as_slice();
+    ambiguous(state, last_place(parts), last_word(parts), one, two)
+}

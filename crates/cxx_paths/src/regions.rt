@@ -1,0 +1,123 @@
+//! Where the last part of a name is looked up (3.4.1, 3.4.3).
+
+ghost use Rattle.std.specs.Prelude.{◌≡◌, ◌<◌, IfOk, IfSome, option_map};
+ghost use Rattle.cxx_model.specs.Facts.Graph.{scopes};
+ghost use Rattle.cxx_model.specs.Stops.{Gives};
+ghost use Rattle.cxx_names.specs.Looked.{scope_number as number_of_scope};
+ghost use Rattle.cxx_paths.specs.Asked.{IsRegionThere, same, scope_number};
+ghost use Rattle.cxx_reading.specs.Paths as definition;
+ghost use Rattle.cxx_reading.specs.Paths.{first_region as first_region_of, holder_by as holder_of, scope_of_region};
+ghost use Rattle.cxx_reading.specs.Seen.{fact_numbers, numbered_at};
+ghost use Rattle.cxx_tree.specs.Arena.{path_at, path_part_at, path_parts_at};
+ghost use Rattle.cxx_tree.specs.Held.{meaning};
+
+use crate::faults::{ambiguous, not_wanted, place_among, undeclared};
+use crate::seeking::sought_in;
+use crate::spaces::space_among;
+use cxx_found::{Found, Wanted};
+use cxx_model::{FactId, Path, PathPart, ScopeId, Stop};
+use cxx_reading::Region;
+use cxx_tree::State;
+
+/// The scope of a region.
+pub fn scope_of(region: Region) -> ScopeId
+    ensures { result.0 ≡ scope_of_region region }
+{
+    match region {
+        Region::Outward(scope) => scope,
+        Region::Inside(space) => space,
+    }
+}
+
+// The namespace among what a part before `::` means.
+fn held_among(state: &State, part: &PathPart, numbers: &[FactId]) -> Result<ScopeId, Stop>
+    ensures is { Gives scope_number result (definition.held_among (path_part_at part.now) (numbered_at (meaning state.now).graph (fact_numbers numbers.now))) }
+    ensures there { IfOk result (λ inner. inner.0 < scopes (state.now).graph.facts) }
+{
+    match space_among(state, numbers) {
+        Some(inner) => Ok(inner),
+        None => Err(not_wanted(
+            state,
+            part.place,
+            part.word.as_slice(),
+            place_among(state, numbers),
+        )),
+    }
+}
+
+// The same of what was found.
+fn holder_by(state: &State, part: &PathPart, found: &Found) -> Result<ScopeId, Stop>
+    ensures is { Gives scope_number result (holder_of (meaning state.now).graph (path_part_at part.now) found.now) }
+    ensures there { IfOk result (λ inner. inner.0 < scopes (state.now).graph.facts) }
+{
+    match found {
+        Found::Set(facts) => held_among(state, part, facts.as_slice()),
+        Found::Ambiguous(one, two) => Err(ambiguous(
+            state,
+            part.place,
+            part.word.as_slice(),
+            *one,
+            *two,
+        )),
+        _ => Err(undeclared(state, part.place, part.word.as_slice())),
+    }
+}
+
+// The namespace that a part before `::` means in a region.
+#[tactic(auto, unfolding(cxx_reading::specs::Paths::holder))]
+fn holder(state: &State, region: Region, part: &PathPart) -> Result<ScopeId, Stop>
+    ensures is { Gives scope_number result (definition.holder (meaning state.now).graph region (path_part_at part.now)) }
+    ensures there { IfOk result (λ inner. inner.0 < scopes (state.now).graph.facts) }
+{
+    match sought_in(state, Wanted::Holders, region, part.word.as_slice()) {
+        Ok(found) => holder_by(state, part, &found),
+        Err(_) => Err(Stop::OutOfMemory),
+    }
+}
+
+// Where the last of some parts is looked up, by the region of the first.
+#[tactic(auto, using(crate::proofs::Behind::region_whole, crate::proofs::Behind::region_none, crate::proofs::Behind::region_goes, crate::proofs::Behind::region_stops))]
+fn region_by(state: &State, first: Region, parts: &[PathPart]) -> Result<Region, Stop>
+    requires { IsRegionThere state.now first }
+    ensures is { Gives same result (definition.region_by (meaning state.now).graph first (path_parts_at parts.now)) }
+    ensures there { IfOk result (IsRegionThere state.now) }
+{
+    let mut region = first;
+    let mut rest = parts;
+    while let [part, others @ ..] = rest {
+        if others.is_empty() {
+            return Ok(region);
+        }
+        region = Region::Inside(holder(state, region, part)?);
+        rest = others;
+    }
+    Ok(region)
+}
+
+// Behind `::` alone a name is one of the scope of the unit (3.4.3).
+#[tactic(auto, unfolding(cxx_tree::specs::Held::meaning))]
+fn first_region(state: &State, global: bool) -> Region
+    ensures is { result ≡ first_region_of (meaning state.now).here.scope global }
+    ensures there { IsRegionThere state.now result }
+{
+    let scope = state.scope();
+    if global {
+        Region::Inside(ScopeId(0))
+    } else {
+        Region::Outward(scope)
+    }
+}
+
+/// Where the last part of a name is looked up that stands where the reader stands. It stops at the first part before `::` that
+/// means no namespace.
+#[tactic(auto, unfolding(cxx_reading::specs::Paths::region_of))]
+pub fn region_here(state: &State, path: &Path) -> Result<Region, Stop>
+    ensures is { Gives same result (definition.region_of (meaning state.now).graph (meaning state.now).here.scope (path_at path.now)) }
+    ensures there { IfOk result (IsRegionThere state.now) }
+{
+    region_by(
+        state,
+        first_region(state, path.global),
+        path.parts.as_slice(),
+    )
+}
