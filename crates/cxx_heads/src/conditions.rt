@@ -106,7 +106,7 @@ fn typed_by<K: Kinds, N: Nested>(
     match run {
         Run::NoType => Ok(false),
         Run::AType => initializer_follows(reader, state, cursor),
-        Run::Surely => Ok(cursor.is_qualified()),
+        Run::Surely => Ok(false),
     }
 }
 

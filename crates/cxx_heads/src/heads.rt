@@ -57,7 +57,7 @@ fn specified_by<K: Kinds, N: Nested>(
     match run {
         Run::NoType => Ok(false),
         Run::AType => declarator_begins(reader, state, cursor),
-        Run::Surely => Ok(cursor.is_qualified() || begins_list(cursor)),
+        Run::Surely => Ok(begins_list(cursor)),
     }
 }
 

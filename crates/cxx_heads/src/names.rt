@@ -2,24 +2,17 @@
 
 ghost use Rattle.std.specs.Prelude.{◌≡◌, ◌<◌, ◌≤◌, ◌+◌, ◌^◌, IfOk};
 ghost use Rattle.cxx_heads.specs.Heads as definition;
-ghost use Rattle.cxx_reading.specs.Tokens.{is_plain_name as stands_plain_name};
 ghost use Rattle.cxx_syntax.specs.Reading.{Takes};
 ghost use Rattle.cxx_syntax.specs.Views.{IsTurn, turn_at};
 
 use crate::shape::Shape;
 use cxx_model::{Stop, TokenKind, keyword, punct};
-use cxx_syntax::{Cursor, Turn, is_keyword, is_name, is_punct};
+use cxx_syntax::{Cursor, Turn, is_keyword, is_punct};
 
 pub(crate) fn is_cv_word(kind: TokenKind) -> bool
     ensures { result ≡ definition.is_cv_word kind }
 {
     is_keyword(keyword::CONST, kind) || is_keyword(keyword::VOLATILE, kind)
-}
-
-fn is_plain_name(cursor: &Cursor<'_>) -> bool
-    ensures { result ≡ stands_plain_name cursor.now }
-{
-    is_name(cursor.kind()) && !is_punct(punct::SCOPE, cursor.kind_behind())
 }
 
 // A pointer operator, a bracket or the name.
@@ -55,7 +48,7 @@ fn name_step(cursor: &mut Cursor<'_>, shape: Shape) -> Result<Turn<Shape, Option
             takes_cv: false,
         }));
     }
-    if is_plain_name(cursor) {
+    if cursor.is_plain_name() {
         cursor.advance();
         return Ok(Turn::Done(Some(Shape {
             brackets: shape.brackets,

@@ -4,7 +4,7 @@ use crate::asking::Asking;
 use cxx_model::{EnumId, Kind, Node, Stop, TreeId, TreeIdList, TypeId};
 use cxx_phrases::{Level, Phrases, TypeShape, type_id_at};
 use cxx_reading::Naming;
-use cxx_syntax::{Cursor, Declarator, Nested, ParameterTypes, Reader, Spelled};
+use cxx_syntax::{Cursor, Declarator, Nested, ParameterTypes, Reader};
 use cxx_tree::State;
 
 /// What stands behind a bracket or an operator that was taken.
@@ -186,12 +186,12 @@ impl<
         self.room
     }
 
-    fn kind(&self, state: &mut State, name: Spelled<'_>) -> Result<Kind, Stop> {
-        self.kinds.kind(state, name, self.room)
+    fn kind(&self, state: &mut State, ahead: &Cursor<'_>) -> Result<Kind, Stop> {
+        self.kinds.kind(state, ahead, self.room)
     }
 
-    fn type_named(&self, state: &mut State, name: Spelled<'_>) -> Result<TypeId, Stop> {
-        self.kinds.type_named(state, name, self.room)
+    fn type_named(&self, state: &mut State, ahead: &Cursor<'_>) -> Result<TypeId, Stop> {
+        self.kinds.type_named(state, ahead, self.room)
     }
 
     fn whole(&self, state: &mut State, node: Node) -> Result<TreeId, Stop> {

@@ -2,3 +2,4 @@ mod Rows
 pub mod Kept
 pub mod Carried
 pub mod Binary
+pub mod Last

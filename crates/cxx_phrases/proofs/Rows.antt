@@ -23,7 +23,7 @@ use Rattle.cxx_phrases.specs.Knot.{phrases}
 use Rattle.cxx_strings.specs.SideBySide.{side_by_side, strings_from}
 use Rattle.cxx_reading.specs.Kinds.{Kinds}
 use Rattle.cxx_reading.specs.Reads.{Ahead, Got, place_ahead}
-use Rattle.cxx_reading.specs.Trees.{CxxPath, CxxPathPart, CxxTree, CxxTrees, no_trees, tree_then, Label}
+use Rattle.cxx_reading.specs.Trees.{CxxPath, CxxPathPart, CxxTree, CxxTrees, no_trees, tree_then, Label, last_part}
 use Rattle.cxx_phrases.specs.Operators.{is_of_level, selects_member, is_assignment, is_prefix, is_step, is_member_access, operator_ahead, is_literal, is_cast_word, base_of_kind, begins_expression}
 use Rattle.cxx_phrases.specs.Arguments.{argument_ended, argument_step, arguments_over, some_arguments, arguments_behind, arguments_at}
 use Rattle.cxx_phrases.specs.Brackets.{opened_step, opened_over, opened_passed, closed_step, closed_passed, name_closed, name_opened, called_name, cast_passed, begins_cast}
@@ -33,22 +33,26 @@ use Rattle.cxx_phrases.specs.Levels.{no_member, member_operand, operation, opera
 use Rattle.cxx_phrases.specs.Initializers.{clause_comma, clause_ended, clause_step, some_clauses, clauses_behind, clauses_at, braces_at, clause_at, copy_at, aggregate_at, equals_at, list_behind, direct_at, initializer_at}
 use Rattle.cxx_phrases.specs.Knot.{type_declared, type_id_fits, type_id_at, type_passed_at, nested}
 use Rattle.cxx_reading.specs.Reads.{repeat}
-use Rattle.cxx_reading.specs.Tokens.{is_punct, is_keyword, is_name, is_end, is_number, punct_taken, no_declarator}
+use Rattle.cxx_reading.specs.Tokens.{is_punct, is_keyword, is_name, is_end, is_number, passed_from, no_part_there, path_taken, kind_of_name, punct_taken, no_declarator}
 use Rattle.cxx_reading.specs.Declarators.{declared_type, refused_in}
-use Rattle.cxx_reading.specs.Specifiers.{storage_step, inline_step, const_step, volatile_step, word_step, named_step, elaborated_step, enumeration_body, defined_step, list_step, key_named_step, key_step, enumeration_step, class_step, other_step, keyword_step, specifier_step, typed, specifiers_at}
-use Rattle.cxx_reading.specs.Shapes.{bracket_step, brackets_passed, key_shape, name_shape, keyword_shape, run_step, run_passed, begins_type, is_abstract_list, prefix_step, prefix_passed, list_shape, suffix_step, declarator_passed, default_step, default_passed, piece_step, parameters_shape}
+use Rattle.cxx_reading.specs.Specifiers.{storage_step, inline_step, const_step, volatile_step, word_step, type_name_step, named_step, elaborated_step, enumeration_body, defined_step, list_step, named_list_step, key_step, enumeration_step, class_step, other_step, keyword_step, specifier_step, typed, specifiers_at}
+use Rattle.cxx_reading.specs.Shapes.{bracket_step, brackets_passed, key_shape, name_shape, keyword_shape, run_step, run_passed, begins_type, is_abstract_list, prefix_step, prefix_passed, list_shape, suffix_step, suffixes_by, declarator_passed, default_step, default_passed, piece_step, parameters_shape}
 use Rattle.cxx_reading.specs.Constants.{literal_at, no_expression, literal_ended, constant_at}
-use Rattle.cxx_reading.specs.Syntax.{cv_step, cv_at, array_suffix, exceptions_at, function_suffix, bracket_suffix, suffix_at, suffixes_at, name_part, grouped_part, bracket_part, star_part, ampersand_part, declarator_at, pointed_at, referred_at, grouped_at, valued, bound_value, bound_at, parameter_fits, default_at, parameter_at, list_ended, comma_passed, parameter_ended, parameter_step, parameters_over, some_parameters, list_at, parameters_at, no_value, value_at, enumerator_at, enumerator_ended, enumerator_step, enumerators_at, readers}
+use Rattle.cxx_reading.specs.Syntax.{cv_step, cv_at, array_suffix, exceptions_at, function_suffix, bracket_suffix, suffix_at, suffixes_at, qualified_part, name_part, grouped_part, bracket_part, star_part, ampersand_part, declarator_at, pointed_at, referred_at, grouped_at, valued, bound_value, bound_at, parameter_fits, default_at, parameter_at, list_ended, comma_passed, parameter_ended, parameter_step, parameters_over, some_parameters, list_at, parameters_at, no_value, value_at, enumerator_at, enumerator_ended, enumerator_step, enumerators_at, readers}
 
 -- ---- what trees look like: each its head and, in brackets, its children
 
-abbrev word_in : List CxxPathPart → List ℕ
-word_in [] = []
-word_in (part ∷ parts) = part.word
+abbrev words_in : List CxxPathPart → List ℕ
+words_in [] = []
+words_in (part ∷ []) = part.word
+words_in (part ∷ next ∷ others) = part.word ++ (codes "::" ++ words_in (next ∷ others))
+
+abbrev path_text : CxxPath → List ℕ
+path_text path = if path.global then codes "::" ++ words_in path.parts else words_in path.parts
 
 abbrev name_of : Option CxxPath → List ℕ
 name_of None = []
-name_of (Some path) = word_in path.parts
+name_of (Some path) = path_text path
 
 abbrev type_head : Option CxxType → List ℕ
 type_head None = []
@@ -56,7 +60,7 @@ type_head (Some of) = codes " T"
 
 abbrev call_head : List ℕ → Option CxxPath → List ℕ
 call_head spelling None = codes "call"
-call_head spelling (Some path) = codes "call " ++ (spelling ++ word_in path.parts)
+call_head spelling (Some path) = codes "call " ++ (spelling ++ path_text path)
 
 abbrev head_of : Label → List ℕ
 head_of label =
@@ -92,20 +96,21 @@ abbrev shown_each : List CxxTree → List ℕ
 shown_each [] = []
 shown_each (tree ∷ others) = shown_tree tree ++ shown_each others
 
--- ---- a user: names that begin with `T` are types, and the state holds the heads of the trees that were handed over
+-- ---- a user: names that begin with `T` are types, those that begin with `N` are namespaces, and the state holds the heads of the trees that were handed over
 
 abbrev kind_of_word : List ℕ → Kind
 kind_of_word [] = kind.Value
-kind_of_word (b ∷ others) = if b == 84 then kind.OfType else kind.Value
+kind_of_word (b ∷ others) = if b == 84 then kind.OfType else (if b == 78 then kind.Space else kind.Value)
 
 abbrev int : CxxType
 int = fundamental base.Int
 
 abbrev user : ℕ → Kinds (List ℕ)
 user room = record {
-  kind = λ path state. Ok (kind_of_word (word_in path.parts), state);
+  kind = λ path state. Ok (kind_of_word (last_part path.parts).word, state);
   type_named = λ path state. Ok (int, state);
   elaborated = λ path state. Ok (int, state);
+  entered = λ path state. Ok (tt, state);
   enumeration = λ name place state. Ok (0, state);
   enumerator = λ number name value state. Ok (tt, state);
   enumerated = λ number state. Ok (tt, state);
@@ -134,7 +139,7 @@ abbrev ahead_of : List ℕ → List Token → Ahead
 ahead_of bytes tokens = record { last = first_place; tokens = lexemes bytes tokens }
 
 expression_row : Level → ℕ → List ℕ → Result (List Token) Unread → Row
-unfolding spelling_of keywords alternatives operators digraphs word_kind number_kind operator literal hash slash percent literal_type literal_value tokens_of tokens_from front longest_within is_of_level selects_member is_assignment is_prefix is_step is_member_access operator_ahead is_literal is_cast_word base_of_kind begins_expression argument_ended argument_step arguments_over some_arguments arguments_behind arguments_at opened_step opened_over opened_passed closed_step closed_passed name_closed name_opened called_name cast_passed begins_cast literal_part name_at called_at named_call value_name_at functional_cast functional_at type_name_at named_at word_at cast_opened cast_closed cast_word_at parenthesis_at primary_at call_step subscript_step step_step postfix_step postfixes_at cast_at parenthesis_part cast_or_parenthesis called_part called_or_not bracket_at prefix_at size_at primary_part operand_at sized_operand sized_type sized_at no_member member_operand operation operation_step operations_at operations_part binary_at conditional_part conditional_by conditional_at assignment_part assignment_by assignment_behind assignment_at comma_part comma_step commas_at whole_at clause_comma clause_ended clause_step some_clauses clauses_behind clauses_at braces_at clause_at copy_at aggregate_at equals_at list_behind direct_at initializer_at type_declared type_id_fits type_id_at type_passed_at nested repeat is_punct is_keyword is_name is_end is_number punct_taken no_declarator declared_type refused_in storage_step inline_step const_step volatile_step word_step named_step elaborated_step enumeration_body defined_step list_step key_named_step key_step enumeration_step class_step other_step keyword_step specifier_step typed specifiers_at bracket_step brackets_passed key_shape name_shape keyword_shape run_step run_passed begins_type is_abstract_list prefix_step prefix_passed list_shape suffix_step declarator_passed default_step default_passed piece_step parameters_shape literal_at no_expression literal_ended constant_at cv_step cv_at array_suffix exceptions_at function_suffix bracket_suffix suffix_at suffixes_at name_part grouped_part bracket_part star_part ampersand_part declarator_at pointed_at referred_at grouped_at valued bound_value bound_at parameter_fits default_at parameter_at list_ended comma_passed parameter_ended parameter_step parameters_over some_parameters list_at parameters_at no_value value_at enumerator_at enumerator_ended enumerator_step enumerators_at readers
+unfolding spelling_of keywords alternatives operators digraphs word_kind number_kind operator literal hash slash percent literal_type literal_value tokens_of tokens_from front longest_within is_of_level selects_member is_assignment is_prefix is_step is_member_access operator_ahead is_literal is_cast_word base_of_kind begins_expression argument_ended argument_step arguments_over some_arguments arguments_behind arguments_at opened_step opened_over opened_passed closed_step closed_passed name_closed name_opened called_name cast_passed begins_cast literal_part name_at called_at named_call value_name_at functional_cast functional_at type_name_at named_at word_at cast_opened cast_closed cast_word_at parenthesis_at primary_at call_step subscript_step step_step postfix_step postfixes_at cast_at parenthesis_part cast_or_parenthesis called_part called_or_not bracket_at prefix_at size_at primary_part operand_at sized_operand sized_type sized_at no_member member_operand operation operation_step operations_at operations_part binary_at conditional_part conditional_by conditional_at assignment_part assignment_by assignment_behind assignment_at comma_part comma_step commas_at whole_at clause_comma clause_ended clause_step some_clauses clauses_behind clauses_at braces_at clause_at copy_at aggregate_at equals_at list_behind direct_at initializer_at type_declared type_id_fits type_id_at type_passed_at nested repeat is_punct is_keyword is_name is_end is_number passed_from no_part_there path_taken kind_of_name punct_taken no_declarator declared_type refused_in storage_step inline_step const_step volatile_step word_step type_name_step named_step elaborated_step enumeration_body defined_step list_step named_list_step key_step enumeration_step class_step other_step keyword_step specifier_step typed specifiers_at bracket_step brackets_passed key_shape name_shape keyword_shape run_step run_passed begins_type is_abstract_list prefix_step prefix_passed list_shape suffix_step suffixes_by declarator_passed default_step default_passed piece_step parameters_shape literal_at no_expression literal_ended constant_at cv_step cv_at array_suffix exceptions_at function_suffix bracket_suffix suffix_at suffixes_at qualified_part name_part grouped_part bracket_part star_part ampersand_part declarator_at pointed_at referred_at grouped_at valued bound_value bound_at parameter_fits default_at parameter_at list_ended comma_passed parameter_ended parameter_step parameters_over some_parameters list_at parameters_at no_value value_at enumerator_at enumerator_ended enumerator_step enumerators_at readers
 expression_row level room bytes (Ok tokens) = row_by shown_tree (expression_at (phrases user handed room) (nested user handed room) level [] (ahead_of bytes tokens))
 expression_row level room bytes (Err why) = NoTokens
 
@@ -152,7 +157,7 @@ place_by (Ok one) = one.value.label.place.column
 place_by (Err why) = 0
 
 order_row : List ℕ → Result (List Token) Unread → List ℕ
-unfolding spelling_of keywords alternatives operators digraphs word_kind number_kind operator literal hash slash percent literal_type literal_value tokens_of tokens_from front longest_within is_of_level selects_member is_assignment is_prefix is_step is_member_access operator_ahead is_literal is_cast_word base_of_kind begins_expression argument_ended argument_step arguments_over some_arguments arguments_behind arguments_at opened_step opened_over opened_passed closed_step closed_passed name_closed name_opened called_name cast_passed begins_cast literal_part name_at called_at named_call value_name_at functional_cast functional_at type_name_at named_at word_at cast_opened cast_closed cast_word_at parenthesis_at primary_at call_step subscript_step step_step postfix_step postfixes_at cast_at parenthesis_part cast_or_parenthesis called_part called_or_not bracket_at prefix_at size_at primary_part operand_at sized_operand sized_type sized_at no_member member_operand operation operation_step operations_at operations_part binary_at conditional_part conditional_by conditional_at assignment_part assignment_by assignment_behind assignment_at comma_part comma_step commas_at whole_at clause_comma clause_ended clause_step some_clauses clauses_behind clauses_at braces_at clause_at copy_at aggregate_at equals_at list_behind direct_at initializer_at type_declared type_id_fits type_id_at type_passed_at nested repeat is_punct is_keyword is_name is_end is_number punct_taken no_declarator declared_type refused_in storage_step inline_step const_step volatile_step word_step named_step elaborated_step enumeration_body defined_step list_step key_named_step key_step enumeration_step class_step other_step keyword_step specifier_step typed specifiers_at bracket_step brackets_passed key_shape name_shape keyword_shape run_step run_passed begins_type is_abstract_list prefix_step prefix_passed list_shape suffix_step declarator_passed default_step default_passed piece_step parameters_shape literal_at no_expression literal_ended constant_at cv_step cv_at array_suffix exceptions_at function_suffix bracket_suffix suffix_at suffixes_at name_part grouped_part bracket_part star_part ampersand_part declarator_at pointed_at referred_at grouped_at valued bound_value bound_at parameter_fits default_at parameter_at list_ended comma_passed parameter_ended parameter_step parameters_over some_parameters list_at parameters_at no_value value_at enumerator_at enumerator_ended enumerator_step enumerators_at readers
+unfolding spelling_of keywords alternatives operators digraphs word_kind number_kind operator literal hash slash percent literal_type literal_value tokens_of tokens_from front longest_within is_of_level selects_member is_assignment is_prefix is_step is_member_access operator_ahead is_literal is_cast_word base_of_kind begins_expression argument_ended argument_step arguments_over some_arguments arguments_behind arguments_at opened_step opened_over opened_passed closed_step closed_passed name_closed name_opened called_name cast_passed begins_cast literal_part name_at called_at named_call value_name_at functional_cast functional_at type_name_at named_at word_at cast_opened cast_closed cast_word_at parenthesis_at primary_at call_step subscript_step step_step postfix_step postfixes_at cast_at parenthesis_part cast_or_parenthesis called_part called_or_not bracket_at prefix_at size_at primary_part operand_at sized_operand sized_type sized_at no_member member_operand operation operation_step operations_at operations_part binary_at conditional_part conditional_by conditional_at assignment_part assignment_by assignment_behind assignment_at comma_part comma_step commas_at whole_at clause_comma clause_ended clause_step some_clauses clauses_behind clauses_at braces_at clause_at copy_at aggregate_at equals_at list_behind direct_at initializer_at type_declared type_id_fits type_id_at type_passed_at nested repeat is_punct is_keyword is_name is_end is_number passed_from no_part_there path_taken kind_of_name punct_taken no_declarator declared_type refused_in storage_step inline_step const_step volatile_step word_step type_name_step named_step elaborated_step enumeration_body defined_step list_step named_list_step key_step enumeration_step class_step other_step keyword_step specifier_step typed specifiers_at bracket_step brackets_passed key_shape name_shape keyword_shape run_step run_passed begins_type is_abstract_list prefix_step prefix_passed list_shape suffix_step suffixes_by declarator_passed default_step default_passed piece_step parameters_shape literal_at no_expression literal_ended constant_at cv_step cv_at array_suffix exceptions_at function_suffix bracket_suffix suffix_at suffixes_at qualified_part name_part grouped_part bracket_part star_part ampersand_part declarator_at pointed_at referred_at grouped_at valued bound_value bound_at parameter_fits default_at parameter_at list_ended comma_passed parameter_ended parameter_step parameters_over some_parameters list_at parameters_at no_value value_at enumerator_at enumerator_ended enumerator_step enumerators_at readers
 order_row bytes (Ok tokens) = order_by (expression_at (phrases user handed 9) (nested user handed 9) level.Whole [] (ahead_of bytes tokens))
 order_row bytes (Err why) = []
 
@@ -162,7 +167,7 @@ unfolding spelling_of keywords alternatives operators digraphs word_kind number_
 order bytes = order_row bytes (tokens_of bytes)
 
 place_row : List ℕ → Result (List Token) Unread → ℕ
-unfolding spelling_of keywords alternatives operators digraphs word_kind number_kind operator literal hash slash percent literal_type literal_value tokens_of tokens_from front longest_within is_of_level selects_member is_assignment is_prefix is_step is_member_access operator_ahead is_literal is_cast_word base_of_kind begins_expression argument_ended argument_step arguments_over some_arguments arguments_behind arguments_at opened_step opened_over opened_passed closed_step closed_passed name_closed name_opened called_name cast_passed begins_cast literal_part name_at called_at named_call value_name_at functional_cast functional_at type_name_at named_at word_at cast_opened cast_closed cast_word_at parenthesis_at primary_at call_step subscript_step step_step postfix_step postfixes_at cast_at parenthesis_part cast_or_parenthesis called_part called_or_not bracket_at prefix_at size_at primary_part operand_at sized_operand sized_type sized_at no_member member_operand operation operation_step operations_at operations_part binary_at conditional_part conditional_by conditional_at assignment_part assignment_by assignment_behind assignment_at comma_part comma_step commas_at whole_at clause_comma clause_ended clause_step some_clauses clauses_behind clauses_at braces_at clause_at copy_at aggregate_at equals_at list_behind direct_at initializer_at type_declared type_id_fits type_id_at type_passed_at nested repeat is_punct is_keyword is_name is_end is_number punct_taken no_declarator declared_type refused_in storage_step inline_step const_step volatile_step word_step named_step elaborated_step enumeration_body defined_step list_step key_named_step key_step enumeration_step class_step other_step keyword_step specifier_step typed specifiers_at bracket_step brackets_passed key_shape name_shape keyword_shape run_step run_passed begins_type is_abstract_list prefix_step prefix_passed list_shape suffix_step declarator_passed default_step default_passed piece_step parameters_shape literal_at no_expression literal_ended constant_at cv_step cv_at array_suffix exceptions_at function_suffix bracket_suffix suffix_at suffixes_at name_part grouped_part bracket_part star_part ampersand_part declarator_at pointed_at referred_at grouped_at valued bound_value bound_at parameter_fits default_at parameter_at list_ended comma_passed parameter_ended parameter_step parameters_over some_parameters list_at parameters_at no_value value_at enumerator_at enumerator_ended enumerator_step enumerators_at readers
+unfolding spelling_of keywords alternatives operators digraphs word_kind number_kind operator literal hash slash percent literal_type literal_value tokens_of tokens_from front longest_within is_of_level selects_member is_assignment is_prefix is_step is_member_access operator_ahead is_literal is_cast_word base_of_kind begins_expression argument_ended argument_step arguments_over some_arguments arguments_behind arguments_at opened_step opened_over opened_passed closed_step closed_passed name_closed name_opened called_name cast_passed begins_cast literal_part name_at called_at named_call value_name_at functional_cast functional_at type_name_at named_at word_at cast_opened cast_closed cast_word_at parenthesis_at primary_at call_step subscript_step step_step postfix_step postfixes_at cast_at parenthesis_part cast_or_parenthesis called_part called_or_not bracket_at prefix_at size_at primary_part operand_at sized_operand sized_type sized_at no_member member_operand operation operation_step operations_at operations_part binary_at conditional_part conditional_by conditional_at assignment_part assignment_by assignment_behind assignment_at comma_part comma_step commas_at whole_at clause_comma clause_ended clause_step some_clauses clauses_behind clauses_at braces_at clause_at copy_at aggregate_at equals_at list_behind direct_at initializer_at type_declared type_id_fits type_id_at type_passed_at nested repeat is_punct is_keyword is_name is_end is_number passed_from no_part_there path_taken kind_of_name punct_taken no_declarator declared_type refused_in storage_step inline_step const_step volatile_step word_step type_name_step named_step elaborated_step enumeration_body defined_step list_step named_list_step key_step enumeration_step class_step other_step keyword_step specifier_step typed specifiers_at bracket_step brackets_passed key_shape name_shape keyword_shape run_step run_passed begins_type is_abstract_list prefix_step prefix_passed list_shape suffix_step suffixes_by declarator_passed default_step default_passed piece_step parameters_shape literal_at no_expression literal_ended constant_at cv_step cv_at array_suffix exceptions_at function_suffix bracket_suffix suffix_at suffixes_at qualified_part name_part grouped_part bracket_part star_part ampersand_part declarator_at pointed_at referred_at grouped_at valued bound_value bound_at parameter_fits default_at parameter_at list_ended comma_passed parameter_ended parameter_step parameters_over some_parameters list_at parameters_at no_value value_at enumerator_at enumerator_ended enumerator_step enumerators_at readers
 place_row bytes (Ok tokens) = place_by (expression_at (phrases user handed 9) (nested user handed 9) level.Whole [] (ahead_of bytes tokens))
 place_row bytes (Err why) = 0
 
@@ -181,7 +186,7 @@ abbrev shown_initializer : Initializer → List ℕ
 shown_initializer one = form_head one.form ++ shown_each one.parts
 
 initializer_row : List ℕ → Result (List Token) Unread → Row
-unfolding spelling_of keywords alternatives operators digraphs word_kind number_kind operator literal hash slash percent literal_type literal_value tokens_of tokens_from front longest_within is_of_level selects_member is_assignment is_prefix is_step is_member_access operator_ahead is_literal is_cast_word base_of_kind begins_expression argument_ended argument_step arguments_over some_arguments arguments_behind arguments_at opened_step opened_over opened_passed closed_step closed_passed name_closed name_opened called_name cast_passed begins_cast literal_part name_at called_at named_call value_name_at functional_cast functional_at type_name_at named_at word_at cast_opened cast_closed cast_word_at parenthesis_at primary_at call_step subscript_step step_step postfix_step postfixes_at cast_at parenthesis_part cast_or_parenthesis called_part called_or_not bracket_at prefix_at size_at primary_part operand_at sized_operand sized_type sized_at no_member member_operand operation operation_step operations_at operations_part binary_at conditional_part conditional_by conditional_at assignment_part assignment_by assignment_behind assignment_at comma_part comma_step commas_at whole_at clause_comma clause_ended clause_step some_clauses clauses_behind clauses_at braces_at clause_at copy_at aggregate_at equals_at list_behind direct_at initializer_at type_declared type_id_fits type_id_at type_passed_at nested repeat is_punct is_keyword is_name is_end is_number punct_taken no_declarator declared_type refused_in storage_step inline_step const_step volatile_step word_step named_step elaborated_step enumeration_body defined_step list_step key_named_step key_step enumeration_step class_step other_step keyword_step specifier_step typed specifiers_at bracket_step brackets_passed key_shape name_shape keyword_shape run_step run_passed begins_type is_abstract_list prefix_step prefix_passed list_shape suffix_step declarator_passed default_step default_passed piece_step parameters_shape literal_at no_expression literal_ended constant_at cv_step cv_at array_suffix exceptions_at function_suffix bracket_suffix suffix_at suffixes_at name_part grouped_part bracket_part star_part ampersand_part declarator_at pointed_at referred_at grouped_at valued bound_value bound_at parameter_fits default_at parameter_at list_ended comma_passed parameter_ended parameter_step parameters_over some_parameters list_at parameters_at no_value value_at enumerator_at enumerator_ended enumerator_step enumerators_at readers
+unfolding spelling_of keywords alternatives operators digraphs word_kind number_kind operator literal hash slash percent literal_type literal_value tokens_of tokens_from front longest_within is_of_level selects_member is_assignment is_prefix is_step is_member_access operator_ahead is_literal is_cast_word base_of_kind begins_expression argument_ended argument_step arguments_over some_arguments arguments_behind arguments_at opened_step opened_over opened_passed closed_step closed_passed name_closed name_opened called_name cast_passed begins_cast literal_part name_at called_at named_call value_name_at functional_cast functional_at type_name_at named_at word_at cast_opened cast_closed cast_word_at parenthesis_at primary_at call_step subscript_step step_step postfix_step postfixes_at cast_at parenthesis_part cast_or_parenthesis called_part called_or_not bracket_at prefix_at size_at primary_part operand_at sized_operand sized_type sized_at no_member member_operand operation operation_step operations_at operations_part binary_at conditional_part conditional_by conditional_at assignment_part assignment_by assignment_behind assignment_at comma_part comma_step commas_at whole_at clause_comma clause_ended clause_step some_clauses clauses_behind clauses_at braces_at clause_at copy_at aggregate_at equals_at list_behind direct_at initializer_at type_declared type_id_fits type_id_at type_passed_at nested repeat is_punct is_keyword is_name is_end is_number passed_from no_part_there path_taken kind_of_name punct_taken no_declarator declared_type refused_in storage_step inline_step const_step volatile_step word_step type_name_step named_step elaborated_step enumeration_body defined_step list_step named_list_step key_step enumeration_step class_step other_step keyword_step specifier_step typed specifiers_at bracket_step brackets_passed key_shape name_shape keyword_shape run_step run_passed begins_type is_abstract_list prefix_step prefix_passed list_shape suffix_step suffixes_by declarator_passed default_step default_passed piece_step parameters_shape literal_at no_expression literal_ended constant_at cv_step cv_at array_suffix exceptions_at function_suffix bracket_suffix suffix_at suffixes_at qualified_part name_part grouped_part bracket_part star_part ampersand_part declarator_at pointed_at referred_at grouped_at valued bound_value bound_at parameter_fits default_at parameter_at list_ended comma_passed parameter_ended parameter_step parameters_over some_parameters list_at parameters_at no_value value_at enumerator_at enumerator_ended enumerator_step enumerators_at readers
 initializer_row bytes (Ok tokens) = row_by shown_initializer (initializer_at (phrases user handed 9) (nested user handed 9) [] (ahead_of bytes tokens))
 initializer_row bytes (Err why) = NoTokens
 
@@ -289,14 +294,76 @@ row_22 : row level.Whole 9 (codes "((a) + 1)") ≡ Read (codes " ()[ +[ ()[ a] 1
 unfolding row expression_row
 row_22 = refl
 
--- qualified names
-row_23 : row level.Whole 9 (codes "N::a") ≡ Broken 1 says.NotBuilt
+-- 3.4.3: names with qualifiers
+row_23 : row level.Whole 9 (codes "N::a") ≡ Read (codes " N::a") 5
 unfolding row expression_row
 row_23 = refl
 
-row_24 : row level.Whole 9 (codes "::a") ≡ Broken 1 says.NotBuilt
+row_24 : row level.Whole 9 (codes "::a") ≡ Read (codes " ::a") 4
 unfolding row expression_row
 row_24 = refl
+
+row_24_more : row level.Whole 9 (codes ":: N :: M::a + 1") ≡ Read (codes " +[ ::N::M::a 1]") 17
+unfolding row expression_row
+row_24_more = refl
+
+row_24_called : row level.Whole 9 (codes "N::f(1)(2)") ≡ Read (codes " call[ call N::f[ 1] 2]") 11
+unfolding row expression_row
+row_24_called = refl
+
+row_24_type : row level.Whole 9 (codes "N::T(1)") ≡ Read (codes " type[ 1]") 8
+unfolding row expression_row
+row_24_type = refl
+
+row_24_behind : row level.Whole 9 (codes "T::a") ≡ Read (codes " T::a") 5
+unfolding row expression_row
+row_24_behind = refl
+
+-- 7.3: the name of a namespace is no expression
+row_24_space : row level.Whole 9 (codes "a + N") ≡ Broken 5 says.SyntaxError
+unfolding row expression_row
+row_24_space = refl
+
+row_24_spaces : row level.Whole 9 (codes "N::N") ≡ Broken 1 says.SyntaxError
+unfolding row expression_row
+row_24_spaces = refl
+
+-- a part stands behind each `::`
+row_24_open : row level.Whole 9 (codes "a + N::") ≡ Broken 8 says.SyntaxError
+unfolding row expression_row
+row_24_open = refl
+
+row_24_twice : row level.Whole 9 (codes "N:: ::a") ≡ Broken 5 says.SyntaxError
+unfolding row expression_row
+row_24_twice = refl
+
+row_24_none : row level.Whole 9 (codes ":: 1") ≡ Broken 4 says.SyntaxError
+unfolding row expression_row
+row_24_none = refl
+
+row_24_word : row level.Whole 9 (codes "N::int(1)") ≡ Broken 4 says.SyntaxError
+unfolding row expression_row
+row_24_word = refl
+
+row_24_operator : row level.Whole 9 (codes "N::operator+(a)") ≡ Broken 4 says.NotBuilt
+unfolding row expression_row
+row_24_operator = refl
+
+row_24_template : row level.Whole 9 (codes "N::template f<int>(1)") ≡ Broken 4 says.NotBuilt
+unfolding row expression_row
+row_24_template = refl
+
+row_24_destructor : row level.Whole 9 (codes "T::~T") ≡ Broken 4 says.NotBuilt
+unfolding row expression_row
+row_24_destructor = refl
+
+row_24_new : row level.Whole 9 (codes "::new int") ≡ Broken 3 says.NotBuilt
+unfolding row expression_row
+row_24_new = refl
+
+row_24_delete : row level.Whole 9 (codes "a + ::delete p") ≡ Broken 7 says.NotBuilt
+unfolding row expression_row
+row_24_delete = refl
 
 row_25 : row level.Whole 9 (codes "this") ≡ Broken 1 says.NotBuilt
 unfolding row expression_row
@@ -405,6 +472,26 @@ row_49 = refl
 row_50 : row level.Whole 9 (codes "((f)(1))") ≡ Read (codes " ()[ call (f[ 1]]") 9
 unfolding row expression_row
 row_50 = refl
+
+row_50_qualified : row level.Whole 9 (codes "(N::f)(1)") ≡ Read (codes " call (N::f[ 1]") 10
+unfolding row expression_row
+row_50_qualified = refl
+
+row_50_global : row level.Whole 9 (codes "((::f))(1)[2]") ≡ Read (codes " [][ call (::f[ 1] 2]") 14
+unfolding row expression_row
+row_50_global = refl
+
+row_50_value : row level.Whole 9 (codes "(N::a) - 1") ≡ Read (codes " -[ ()[ N::a] 1]") 11
+unfolding row expression_row
+row_50_value = refl
+
+row_50_space : row level.Whole 9 (codes "(N)(1)") ≡ Broken 2 says.SyntaxError
+unfolding row expression_row
+row_50_space = refl
+
+row_50_open : row level.Whole 9 (codes "(N::)(1)") ≡ Broken 5 says.SyntaxError
+unfolding row expression_row
+row_50_open = refl
 
 row_51 : row level.Whole 9 (codes "a.b") ≡ Broken 2 says.NotBuilt
 unfolding row expression_row
@@ -557,9 +644,25 @@ row_85 : row level.Whole 9 (codes "(struct S)a") ≡ Broken 2 says.NotBuilt
 unfolding row expression_row
 row_85 = refl
 
-row_86 : row level.Whole 9 (codes "(N::T)a") ≡ Broken 2 says.NotBuilt
+row_86 : row level.Whole 9 (codes "(N::T)a") ≡ Read (codes " cast([ a]") 8
 unfolding row expression_row
 row_86 = refl
+
+row_86_pointer : row level.Whole 9 (codes "(const ::N::T *)-a") ≡ Read (codes " cast([ pre-[ a]]") 19
+unfolding row expression_row
+row_86_pointer = refl
+
+row_86_operand : row level.Whole 9 (codes "(N::T)N::a") ≡ Read (codes " cast([ N::a]") 11
+unfolding row expression_row
+row_86_operand = refl
+
+row_86_shape : row level.Whole 9 (codes "(int(N::a))") ≡ Read (codes " ()[ type[ N::a]]") 12
+unfolding row expression_row
+row_86_shape = refl
+
+row_86_word : row level.Whole 9 (codes "static_cast<N::T>(a)") ≡ Read (codes " static_cast[ a]") 21
+unfolding row expression_row
+row_86_word = refl
 
 row_87 : row level.Whole 9 (codes "static_cast<T>(a, b)") ≡ Read (codes " static_cast[ ,[ a b]]") 21
 unfolding row expression_row
@@ -631,6 +734,14 @@ row_102 = refl
 row_103 : row level.Whole 9 (codes "sizeof(T)-a") ≡ Read (codes " -[ sizeof T a]") 12
 unfolding row expression_row
 row_103 = refl
+
+row_103_type : row level.Whole 9 (codes "sizeof(N::T)") ≡ Read (codes " sizeof T") 13
+unfolding row expression_row
+row_103_type = refl
+
+row_103_operand : row level.Whole 9 (codes "sizeof(N::a)") ≡ Read (codes " sizeof[ ()[ N::a]]") 13
+unfolding row expression_row
+row_103_operand = refl
 
 row_104 : row level.Whole 9 (codes "sizeof (f)(1)") ≡ Read (codes " sizeof[ call (f[ 1]]") 14
 unfolding row expression_row
@@ -744,6 +855,23 @@ row_130 : column (codes "  f(1)") ≡ 3
 unfolding column place_row
 row_130 = refl
 
+-- that of the last part of a name
+row_130_name : column (codes "N::M::a") ≡ 7
+unfolding column place_row
+row_130_name = refl
+
+row_130_called : column (codes "N::f(1)") ≡ 4
+unfolding column place_row
+row_130_called = refl
+
+row_130_bracket : column (codes "(N::f)(1)") ≡ 5
+unfolding column place_row
+row_130_bracket = refl
+
+row_130_cast : column (codes "N::T(1)") ≡ 1
+unfolding column place_row
+row_130_cast = refl
+
 row_131 : column (codes "(*p)(1)") ≡ 1
 unfolding column place_row
 row_131 = refl
@@ -765,6 +893,10 @@ row_134 = refl
 row_135 : order (codes "(T)(f)(1), -b") ≡ codes " 1 call (f cast( b pre- ,"
 unfolding order order_row
 row_135 = refl
+
+row_135_qualified : order (codes "N::f(M::a, (::g)(b))") ≡ codes " M::a b call (::g call N::f"
+unfolding order order_row
+row_135_qualified = refl
 
 row_136 : order (codes "sizeof(T) ? a : b") ≡ codes " sizeof T a b ?"
 unfolding order order_row

@@ -2,18 +2,18 @@
 
 ghost use Rattle.std.specs.Prelude.{◌≡◌, ◌≤◌, ◌<◌, ◌+◌, ◌^◌, IfOk};
 ghost use Rattle.cxx_phrases.specs.Brackets as definition;
-ghost use Rattle.cxx_phrases.specs.Views.{name_in};
+ghost use Rattle.cxx_phrases.specs.Views.{path_in};
+ghost use Rattle.cxx_reading.specs.Tokens.{path_ahead};
 ghost use Rattle.cxx_syntax.specs.Asking.{AnyKnown, itself};
 ghost use Rattle.cxx_syntax.specs.Reading.{IsRead, Takes};
-ghost use Rattle.cxx_syntax.specs.Views.{IsTurn, lexeme_at, turn_at};
+ghost use Rattle.cxx_syntax.specs.Views.{IsTurn, turn_at};
 ghost use Rattle.cxx_tree.specs.Held.{meaning};
 
-use crate::names::is_plain_name;
 use crate::operators::begins_expression;
 use crate::phrases::Phrases;
 use crate::shape::TypeShape;
 use cxx_model::{LimitKind, Stop, punct};
-use cxx_syntax::{Cursor, Spelled, Turn, is_punct};
+use cxx_syntax::{Cursor, Turn, is_punct};
 use cxx_tree::State;
 
 // One more bracket, where one stands.
@@ -74,37 +74,38 @@ fn closed_passed(cursor: &mut Cursor<'_>, count: u64) -> Result<bool, Stop>
 fn name_closed<'a>(
     cursor: &mut Cursor<'a>,
     count: u64,
-    name: Spelled<'a>,
-) -> Result<Option<Spelled<'a>>, Stop>
-    ensures { Takes name_in cursor.new result (definition.name_closed count (lexeme_at name.entry) tt cursor.old) }
+    name: &Cursor<'a>,
+) -> Result<Option<Cursor<'a>>, Stop>
+    ensures { Takes path_in cursor.new result (definition.name_closed count (path_ahead name.now) tt cursor.old) }
 {
     if !closed_passed(cursor, count)? {
         return Ok(None);
     }
     if is_punct(punct::LEFT_PARENTHESIS, cursor.kind()) {
-        return Ok(Some(name));
+        return Ok(Some(name.mark()));
     }
     Ok(None)
 }
 
 #[tactic(auto, unfolding(crate::specs::Brackets::name_opened))]
-fn name_opened<'a>(cursor: &mut Cursor<'a>, count: u64) -> Result<Option<Spelled<'a>>, Stop>
-    ensures { Takes name_in cursor.new result (definition.name_opened count tt cursor.old) }
+fn name_opened<'a>(cursor: &mut Cursor<'a>, count: u64) -> Result<Option<Cursor<'a>>, Stop>
+    ensures { Takes path_in cursor.new result (definition.name_opened count tt cursor.old) }
 {
-    if !is_plain_name(cursor) {
-        return Ok(None);
+    if cursor.begins_name() && cursor.is_whole_name() {
+        let name = cursor.mark();
+        cursor.pass_name();
+        return name_closed(cursor, count, &name);
     }
-    let name = cursor.token();
-    name_closed(cursor, count, name)
+    Ok(None)
 }
 
-/// The name that stands in brackets alone before a `(`, where one does.
+/// The name that stands in brackets alone before a `(`, where one does: it begins where the answer stands.
 #[tactic(auto, unfolding(crate::specs::Brackets::called_name))]
 pub(crate) fn called_name<'a>(
     cursor: &mut Cursor<'a>,
     room: u32,
-) -> Result<Option<Spelled<'a>>, Stop>
-    ensures { Takes name_in cursor.new result (definition.called_name room tt cursor.old) }
+) -> Result<Option<Cursor<'a>>, Stop>
+    ensures { Takes path_in cursor.new result (definition.called_name room tt cursor.old) }
 {
     let count = opened_passed(cursor, room)?;
     name_opened(cursor, count)

@@ -5,16 +5,17 @@ ghost use Rattle.cxx_phrases.specs.Forms as form;
 ghost use Rattle.cxx_phrases.specs.Views.{IsSized, IsWritten, sized_of, written_of};
 ghost use Rattle.cxx_syntax.specs.Asking.{IsAsked, IsTreeKnown};
 ghost use Rattle.cxx_syntax.specs.Making.{GrowsTree};
-ghost use Rattle.cxx_syntax.specs.Views.{AreTreesHeld, lexeme_at, trees_held};
+ghost use Rattle.cxx_syntax.specs.Views.{AreTreesHeld, trees_held};
+ghost use Rattle.cxx_tree.specs.Arena.{path_at};
 ghost use Rattle.cxx_tree.specs.Held.{meaning, tree, type_of};
 
 use crate::lists::{one_tree, three_trees, two_trees, with_tree};
-use crate::names::{path_ahead, path_of};
+use crate::names::last_place;
 use crate::phrases::Phrases;
 use crate::production;
-use cxx_model::{Listed, Place, Stop, Text, TokenKind, TreeId, TreeIdList, TypeId};
+use cxx_model::{Listed, Path, Place, Stop, Text, TokenKind, TreeId, TreeIdList, TypeId};
 use cxx_strings::side_by_side;
-use cxx_syntax::{Cursor, Spelled, joined, node_from, push};
+use cxx_syntax::{Cursor, joined, node_from, push};
 use cxx_tree::State;
 use std::alloc::{AllocError, Global};
 
@@ -50,16 +51,17 @@ pub(crate) fn literal_asked<P: Phrases>(
 pub(crate) fn name_asked<P: Phrases>(
     phrases: &P,
     state: &mut State,
+    path: Path,
     from: &Cursor<'_>,
     to: &Cursor<'_>,
 ) -> Result<TreeId, Stop>
     requires ready { P.is_ready phrases.now }
-    ensures { IsAsked tree IsTreeKnown state.old state.new result ((P.asks phrases.now).whole (form.name_tree from.now to.now) (meaning state.old)) }
+    ensures { IsAsked tree IsTreeKnown state.old state.new result ((P.asks phrases.now).whole (form.name_tree (path_at path) from.now to.now) (meaning state.old)) }
 {
-    let path = path_ahead(from)?;
     let spelling = Listed::new(from.alloc());
     let children = Listed::new(from.alloc());
     let mut node = node_from(production::NAME, spelling, from, to, children);
+    node.place = last_place(path.parts.as_slice());
     node.path = Some(path);
     phrases.whole(state, node)
 }
@@ -89,19 +91,18 @@ pub(crate) fn call_asked<P: Phrases>(
     phrases: &P,
     state: &mut State,
     spelling: &[u8],
-    name: Spelled<'_>,
+    path: Path,
     arguments: TreeIdList,
     from: &Cursor<'_>,
     to: &Cursor<'_>,
 ) -> Result<TreeId, Stop>
     requires ready { P.is_ready phrases.now }
     requires arguments { AreTreesHeld state.old arguments }
-    ensures { IsAsked tree IsTreeKnown state.old state.new result ((P.asks phrases.now).whole (form.call_tree spelling.now (lexeme_at name.entry) (trees_held state.old arguments) from.now to.now) (meaning state.old)) }
+    ensures { IsAsked tree IsTreeKnown state.old state.new result ((P.asks phrases.now).whole (form.call_tree spelling.now (path_at path) (trees_held state.old arguments) from.now to.now) (meaning state.old)) }
 {
-    let path = path_of(from.alloc(), name)?;
     let spelling = Text::from_slice(from.alloc(), spelling)?;
     let mut node = node_from(production::CALL, spelling, from, to, arguments);
-    node.place = name.place;
+    node.place = last_place(path.parts.as_slice());
     node.path = Some(path);
     phrases.whole(state, node)
 }

@@ -1,52 +1,43 @@
-//! Names without qualifiers, as they stand ahead.
+//! Names, with qualifiers or without, as they stand ahead.
 
-ghost use Rattle.std.specs.Prelude.{◌≡◌, IfOk};
-ghost use Rattle.cxx_reading.specs.Specifiers as definition;
-ghost use Rattle.cxx_reading.specs.Tokens.{is_plain_name as is_plain_name_ahead, path_ahead as path_of_ahead};
-ghost use Rattle.cxx_syntax.specs.Views.{lexeme_at};
-ghost use Rattle.cxx_tree.specs.Arena.{path_at};
+ghost use Rattle.std.specs.Prelude.{◌≡◌};
+ghost use Rattle.cxx_phrases.specs.Phrases as asking;
+ghost use Rattle.cxx_reading.specs.Tokens.{kind_of_name};
+ghost use Rattle.cxx_reading.specs.Trees.{last_part};
+ghost use Rattle.cxx_syntax.specs.Asking.{AnyKnown, itself};
+ghost use Rattle.cxx_syntax.specs.Reading.{IsRead};
+ghost use Rattle.cxx_tree.specs.Arena.{path_parts_at};
+ghost use Rattle.cxx_tree.specs.Held.{meaning};
 
-use cxx_model::{Listed, Path, PathPart, Word, punct};
-use cxx_syntax::{Cursor, Spelled, is_name, is_punct};
-use std::alloc::{AllocError, Global};
+use crate::phrases::Phrases;
+use cxx_model::{Kind, PathPart, Place, Stop};
+use cxx_syntax::Cursor;
+use cxx_tree::State;
 
-/// The path of a name.
-pub(crate) fn path_of(alloc: Global, name: Spelled<'_>) -> Result<Path, AllocError>
-    ensures { IfOk result (λ path. path_at path ≡ definition.path_of (lexeme_at name.entry)) }
+/// Where the last of some parts stands.
+#[tactic(auto, using(crate::proofs::Last::last_place, crate::proofs::Last::no_place))]
+pub(crate) fn last_place(parts: &[PathPart]) -> Place
+    ensures { result ≡ (last_part (path_parts_at parts.now)).place }
 {
-    let mut parts = Listed::new(alloc);
-    parts.push(PathPart {
-        word: Word::from_slice(alloc, name.spelling)?,
-        place: name.place,
-        arguments: None,
-    })?;
-    Ok(Path {
-        global: false,
-        parts,
-    })
-}
-
-/// The name ahead, which is not taken.
-pub(crate) fn name_ahead<'a>(cursor: &Cursor<'a>) -> Spelled<'a>
-    ensures { definition.path_of (lexeme_at result) ≡ path_of_ahead cursor.now }
-{
-    Spelled {
-        kind: cursor.kind(),
-        place: cursor.place(),
-        spelling: cursor.spelling(),
+    let count = parts.len();
+    if count == 0 {
+        return Place { line: 0, column: 0 };
     }
+    parts[count - 1].place
 }
 
-/// The path of the name ahead.
-pub(crate) fn path_ahead(cursor: &Cursor<'_>) -> Result<Path, AllocError>
-    ensures { IfOk result (λ path. path_at path ≡ path_of_ahead cursor.now) }
+/// What the name ahead is to a reader (3.4). One that is not whole is met when it is read.
+#[tactic(auto, using(cxx_syntax::proofs::Kept::later_refl), unfolding(cxx_reading::specs::Tokens::kind_of_name))]
+pub(crate) fn kind_ahead<P: Phrases>(
+    phrases: &P,
+    state: &mut State,
+    ahead: &Cursor<'_>,
+) -> Result<Kind, Stop>
+    requires ready { P.is_ready phrases.now }
+    ensures { IsRead itself AnyKnown state.old state.new ahead.now result (kind_of_name (asking.Phrases.kind (P.asks phrases.now)) (meaning state.old) ahead.now) }
 {
-    path_of(cursor.alloc(), name_ahead(cursor))
-}
-
-/// Whether a name without qualifiers stands ahead.
-pub(crate) fn is_plain_name(cursor: &Cursor<'_>) -> bool
-    ensures { result ≡ is_plain_name_ahead cursor.now }
-{
-    is_name(cursor.kind()) && !is_punct(punct::SCOPE, cursor.kind_behind())
+    if ahead.is_whole_name() {
+        return phrases.kind(state, ahead);
+    }
+    Ok(Kind::Value)
 }

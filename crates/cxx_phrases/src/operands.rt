@@ -4,9 +4,9 @@ ghost use Rattle.std.specs.Prelude.{◌≡◌, codes};
 ghost use Rattle.cxx_phrases.specs.Operands as definition;
 ghost use Rattle.cxx_phrases.specs.Views.{IsSized, IsTreeTurn, sized_of, tree_turn};
 ghost use Rattle.cxx_reading.specs.Shapes.{look, past};
+ghost use Rattle.cxx_reading.specs.Tokens.{path_ahead};
 ghost use Rattle.cxx_syntax.specs.Asking.{AnyKnown, IsTreeKnown, itself};
 ghost use Rattle.cxx_syntax.specs.Reading.{IsRead};
-ghost use Rattle.cxx_syntax.specs.Views.{lexeme_at};
 ghost use Rattle.cxx_tree.specs.Held.{meaning, tree};
 
 use crate::arguments::arguments_at;
@@ -21,7 +21,7 @@ use crate::phrases::Phrases;
 use crate::primary::{called_at, parenthesis_at, primary_at};
 use crate::shape::TypeShape;
 use cxx_model::{Kind, Stop, TreeId, TreeIdList, TypeId, keyword, punct};
-use cxx_syntax::{Cursor, Spelled, Turn, is_keyword, is_punct};
+use cxx_syntax::{Cursor, Turn, is_keyword, is_punct};
 use cxx_tree::State;
 
 // A call of what was read (5.2.2).
@@ -190,12 +190,13 @@ fn called_part<P: Phrases>(
     state: &mut State,
     cursor: &mut Cursor<'_>,
     from: &Cursor<'_>,
-    name: Spelled<'_>,
+    name: &Cursor<'_>,
 ) -> Result<TreeId, Stop>
     requires ready { P.is_ready phrases.now }
-    ensures { IsRead tree IsTreeKnown state.old state.new cursor.new result (definition.called_part (P.asks phrases.now) (P.inner phrases.now) from.now (lexeme_at name.entry) (meaning state.old) cursor.old) }
+    ensures { IsRead tree IsTreeKnown state.old state.new cursor.new result (definition.called_part (P.asks phrases.now) (P.inner phrases.now) from.now (path_ahead name.now) (meaning state.old) cursor.old) }
 {
-    let first = called_at(phrases, state, cursor, b"(", from, name)?;
+    let path = name.path()?;
+    let first = called_at(phrases, state, cursor, b"(", from, path)?;
     postfixes_at(phrases, state, cursor, from, first)
 }
 
@@ -206,10 +207,10 @@ fn called_or_not<'a, P: Phrases>(
     state: &mut State,
     cursor: &mut Cursor<'a>,
     rest: &Cursor<'a>,
-    name: Spelled<'_>,
+    name: &Cursor<'_>,
 ) -> Result<TreeId, Stop>
     requires ready { P.is_ready phrases.now }
-    ensures { IsRead tree IsTreeKnown state.old state.new cursor.new result (definition.called_or_not (P.asks phrases.now) (P.inner phrases.now) cursor.old (lexeme_at name.entry) (meaning state.old) rest.now) }
+    ensures { IsRead tree IsTreeKnown state.old state.new cursor.new result (definition.called_or_not (P.asks phrases.now) (P.inner phrases.now) cursor.old (path_ahead name.now) (meaning state.old) rest.now) }
 {
     match phrases.kind(state, name)? {
         Kind::OfType => cast_or_parenthesis(phrases, state, cursor),
@@ -234,7 +235,7 @@ fn bracket_at<P: Phrases>(
 {
     let mut rest = cursor.mark();
     match called_name(&mut rest, phrases.room())? {
-        Some(name) => called_or_not(phrases, state, cursor, &rest, name),
+        Some(name) => called_or_not(phrases, state, cursor, &rest, &name),
         None => cast_or_parenthesis(phrases, state, cursor),
     }
 }

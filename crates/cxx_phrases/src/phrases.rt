@@ -1,18 +1,17 @@
 ghost use Rattle.std.specs.Prelude.{◌≡◌, ◌<◌, length};
 ghost use Rattle.cxx_phrases.specs.Phrases as definition;
 ghost use Rattle.cxx_phrases.specs.Views.{IsSized, IsWritten, sized_of, written_of};
-ghost use Rattle.cxx_reading.specs.Specifiers.{path_of};
 ghost use Rattle.cxx_reading.specs.State.{CxxState};
+ghost use Rattle.cxx_reading.specs.Tokens.{path_ahead};
 ghost use Rattle.cxx_syntax.specs.Asking.{AnyKnown, IsAsked, IsTreeKnown, IsTypeKnown, itself};
 ghost use Rattle.cxx_syntax.specs.Reading.{IsRead};
-ghost use Rattle.cxx_syntax.specs.Views.{lexeme_at};
 ghost use Rattle.cxx_tree.specs.Arena.{AreTreesBelow, IsNodeBelow, tree_over};
 ghost use Rattle.cxx_tree.specs.Held.{meaning, tree, trees, type_of};
 
 use crate::level::Level;
 use crate::shape::TypeShape;
 use cxx_model::{Kind, Node, Stop, TreeId, TreeIdList, TypeId};
-use cxx_syntax::{Cursor, Spelled};
+use cxx_syntax::Cursor;
 use cxx_tree::State;
 
 /// What a reader of expressions asks of its user. `asks` and `inner` are the definitions that the answers follow: those of
@@ -28,15 +27,15 @@ pub trait Phrases {
     fn room(&self) -> u32
         ensures { result ≡ (asks self.now).room };
 
-    /// What a name is to a reader (3.4).
-    fn kind(&self, state: &mut State, name: Spelled<'_>) -> Result<Kind, Stop>
+    /// What the name ahead is to a reader (3.4).
+    fn kind(&self, state: &mut State, ahead: &Cursor<'_>) -> Result<Kind, Stop>
         requires { is_ready self.now }
-        ensures { IsAsked itself AnyKnown state.old state.new result ((asks self.now).kind (path_of (lexeme_at name.entry)) (meaning state.old)) };
+        ensures { IsAsked itself AnyKnown state.old state.new result ((asks self.now).kind (path_ahead ahead.now) (meaning state.old)) };
 
-    /// The type that a name of that kind names (7.1.5.2).
-    fn type_named(&self, state: &mut State, name: Spelled<'_>) -> Result<TypeId, Stop>
+    /// The type that the name ahead names, where it is of that kind (7.1.5.2).
+    fn type_named(&self, state: &mut State, ahead: &Cursor<'_>) -> Result<TypeId, Stop>
         requires { is_ready self.now }
-        ensures { IsAsked type_of IsTypeKnown state.old state.new result ((asks self.now).type_named (path_of (lexeme_at name.entry)) (meaning state.old)) };
+        ensures { IsAsked type_of IsTypeKnown state.old state.new result ((asks self.now).type_named (path_ahead ahead.now) (meaning state.old)) };
 
     /// An expression was read as a whole (5): it is added with what it means.
     fn whole(&self, state: &mut State, node: Node) -> Result<TreeId, Stop>

@@ -7,7 +7,7 @@ ghost use Rattle.cxx_phrases.specs.Views.{IsWritten, written_of};
 ghost use Rattle.cxx_syntax.specs.Asking.{IsTreeKnown, IsTypeKnown};
 ghost use Rattle.cxx_phrases.specs.Making.{GrowsType};
 ghost use Rattle.cxx_syntax.specs.Reading.{IsRead};
-ghost use Rattle.cxx_syntax.specs.Views.{lexeme_at};
+ghost use Rattle.cxx_tree.specs.Arena.{path_at};
 ghost use Rattle.cxx_tree.specs.Held.{meaning, tree, type_of};
 
 use crate::arguments::arguments_at;
@@ -15,11 +15,11 @@ use crate::forms::{
     call_asked, cast_asked, functional_asked, literal_asked, name_asked, parenthesis_asked,
 };
 use crate::level::Level;
-use crate::names::{is_plain_name, name_ahead};
+use crate::names::kind_ahead;
 use crate::operators::{base_of_kind, is_cast_word, is_literal};
 use crate::phrases::Phrases;
-use cxx_model::{Base, Kind, Stop, TreeId, TreeIdList, TypeId, punct};
-use cxx_syntax::{Cursor, Spelled, is_punct, no_expression};
+use cxx_model::{Base, Kind, Path, Stop, TreeId, TreeIdList, TypeId, punct};
+use cxx_syntax::{Cursor, is_punct, no_expression};
 use cxx_tree::State;
 
 // A literal (2.13).
@@ -48,8 +48,8 @@ fn name_at<P: Phrases>(
     ensures { IsRead tree IsTreeKnown state.old state.new cursor.new result (definition.name_at (P.asks phrases.now) (meaning state.old) cursor.old) }
 {
     let from = cursor.mark();
-    cursor.advance();
-    name_asked(phrases, state, &from, cursor)
+    let path = cursor.path_taken(state)?;
+    name_asked(phrases, state, path, &from, cursor)
 }
 
 /// A call by a name, from its bracket on (5.2.2).
@@ -60,13 +60,13 @@ pub(crate) fn called_at<P: Phrases>(
     cursor: &mut Cursor<'_>,
     spelling: &[u8],
     from: &Cursor<'_>,
-    name: Spelled<'_>,
+    path: Path,
 ) -> Result<TreeId, Stop>
     requires ready { P.is_ready phrases.now }
-    ensures { IsRead tree IsTreeKnown state.old state.new cursor.new result (definition.called_at (P.asks phrases.now) (P.inner phrases.now) spelling.now from.now (lexeme_at name.entry) (meaning state.old) cursor.old) }
+    ensures { IsRead tree IsTreeKnown state.old state.new cursor.new result (definition.called_at (P.asks phrases.now) (P.inner phrases.now) spelling.now from.now (path_at path) (meaning state.old) cursor.old) }
 {
     let arguments = arguments_at(phrases, state, cursor)?;
-    call_asked(phrases, state, spelling, name, arguments, from, cursor)
+    call_asked(phrases, state, spelling, path, arguments, from, cursor)
 }
 
 // A call by a name.
@@ -80,8 +80,8 @@ fn named_call<P: Phrases>(
     ensures { IsRead tree IsTreeKnown state.old state.new cursor.new result (definition.named_call (P.asks phrases.now) (P.inner phrases.now) (meaning state.old) cursor.old) }
 {
     let from = cursor.mark();
-    let name = cursor.token();
-    called_at(phrases, state, cursor, b"", &from, name)
+    let path = cursor.path_taken(state)?;
+    called_at(phrases, state, cursor, b"", &from, path)
 }
 
 // The name of no type.
@@ -94,7 +94,7 @@ fn value_name_at<P: Phrases>(
     requires ready { P.is_ready phrases.now }
     ensures { IsRead tree IsTreeKnown state.old state.new cursor.new result (definition.value_name_at (P.asks phrases.now) (P.inner phrases.now) (meaning state.old) cursor.old) }
 {
-    if is_punct(punct::LEFT_PARENTHESIS, cursor.kind_behind()) {
+    if is_punct(punct::LEFT_PARENTHESIS, cursor.behind_name().kind()) {
         return named_call(phrases, state, cursor);
     }
     name_at(phrases, state, cursor)
@@ -147,12 +147,12 @@ fn type_name_at<P: Phrases>(
     ensures { IsRead tree IsTreeKnown state.old state.new cursor.new result (definition.type_name_at (P.asks phrases.now) (P.inner phrases.now) (meaning state.old) cursor.old) }
 {
     let from = cursor.mark();
-    let of = phrases.type_named(state, name_ahead(cursor))?;
-    cursor.advance();
+    let of = phrases.type_named(state, cursor)?;
+    cursor.pass_name();
     functional_at(phrases, state, cursor, &from, of)
 }
 
-// A name without qualifiers.
+// A name, with qualifiers or without.
 #[tactic(auto, using(cxx_syntax::proofs::Kept::later_trans, cxx_syntax::proofs::Kept::later_refl), unfolding(crate::specs::Primary::named_at))]
 fn named_at<P: Phrases>(
     phrases: &P,
@@ -162,7 +162,7 @@ fn named_at<P: Phrases>(
     requires ready { P.is_ready phrases.now }
     ensures { IsRead tree IsTreeKnown state.old state.new cursor.new result (definition.named_at (P.asks phrases.now) (P.inner phrases.now) (meaning state.old) cursor.old) }
 {
-    match phrases.kind(state, name_ahead(cursor))? {
+    match kind_ahead(phrases, state, cursor)? {
         Kind::OfType => type_name_at(phrases, state, cursor),
         Kind::Space => Err(Stop::Fault(cursor.refused()?)),
         _ => value_name_at(phrases, state, cursor),
@@ -287,7 +287,7 @@ pub(crate) fn primary_at<P: Phrases>(
     if is_literal(cursor.kind()) {
         return literal_part(phrases, state, cursor);
     }
-    if is_plain_name(cursor) {
+    if cursor.begins_name() {
         return named_at(phrases, state, cursor);
     }
     if is_cast_word(cursor.kind()) {

@@ -9,7 +9,7 @@ ghost use Rattle.cxx_reading.specs.Declarators.{declared_type};
 ghost use Rattle.cxx_reading.specs.Shapes.{a_type};
 ghost use Rattle.cxx_reading.specs.Syntax.{specified_type};
 ghost use Rattle.cxx_syntax.specs.Asking.{AnyKnown, IsTypeKnown, itself};
-ghost use Rattle.cxx_syntax.specs.Outlines.{fits_of, prefix_of};
+ghost use Rattle.cxx_syntax.specs.Outlines.{fits_of, outline_of};
 ghost use Rattle.cxx_syntax.specs.Reading.{IsRead};
 ghost use Rattle.cxx_syntax.specs.Views.{AreSpecifiers, IsDeclarator, declarator_of, specifiers_of};
 ghost use Rattle.cxx_tree.specs.Held.{meaning, type_of};
@@ -140,7 +140,6 @@ fn closed_by(state: &State, cursor: &mut Cursor<'_>, fits: Fits) -> Result<TypeS
             Ok(TypeShape::NoType)
         }
         Fits::FitsNot => Ok(TypeShape::NoType),
-        Fits::Surely => Ok(TypeShape::Surely),
     }
 }
 
@@ -150,17 +149,13 @@ fn abstract_by<K: Kinds, N: Nested>(
     reader: &Reader<'_, K, N>,
     state: &mut State,
     cursor: &mut Cursor<'_>,
-    outline: (Outline, bool),
+    outline: Outline,
 ) -> Result<TypeShape, Stop>
     requires open { N.is_open reader.now.nested.now }
-    ensures { IsRead itself AnyKnown state.old state.new cursor.new result (definition.abstract_by (N.inner reader.now.nested.now) (prefix_of outline) (meaning state.old) cursor.old) }
+    ensures { IsRead itself AnyKnown state.old state.new cursor.new result (definition.abstract_by (N.inner reader.now.nested.now) (outline_of outline) (meaning state.old) cursor.old) }
 {
-    let (outline, is_qualified) = outline;
     if outline.is_named {
         return Ok(TypeShape::NoType);
-    }
-    if is_qualified {
-        return Ok(TypeShape::Surely);
     }
     let fits = reader.suffixes_passed(state, cursor, outline)?;
     closed_by(state, cursor, fits)

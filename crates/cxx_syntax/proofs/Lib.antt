@@ -3,3 +3,4 @@ pub mod Kept
 mod Longer
 pub mod Nesting
 pub mod Layering
+pub mod Names

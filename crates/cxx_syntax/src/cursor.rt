@@ -1,19 +1,26 @@
 //! The tokens that are still to be read.
 
-ghost use Rattle.std.specs.Prelude.{if◌then◌else◌, ◌||◌, ◌≡◌, ◌<◌, ◌^◌, ◌-◌, take, drop, length, IfOk, OnOk};
+ghost use Rattle.std.specs.Prelude.{if◌then◌else◌, ◌≡◌, ◌++◌, ◌<◌, ◌^◌, ◌-◌, take, drop, length, IfOk, OnOk};
 ghost use Rattle.cxx_model.specs.Text.Lexemes.{spelling_in as spelled_in, lexemes};
 ghost use Rattle.cxx_model.specs.Stops.{Faulty, fault};
 ghost use Rattle.cxx_model.specs.declared.fault.FaultText.TheVariants as says;
 ghost use Rattle.cxx_model.specs.declared.keyword.TheConstants as keyword;
 ghost use Rattle.cxx_reading.specs.Reads.{kind_ahead, place_ahead, word_ahead, count_ahead, behind};
 ghost use Rattle.cxx_reading.specs.Tokens as definition;
-ghost use Rattle.cxx_reading.specs.Tokens.{path_ahead, token_in};
-ghost use Rattle.cxx_reading.specs.Specifiers.{path_of};
+ghost use Rattle.cxx_reading.specs.Tokens.{behind_name, passed_from, path_ahead, token_in};
+ghost use Rattle.cxx_syntax.specs.Asking.{AnyKnown};
+ghost use Rattle.cxx_syntax.specs.Passing.{goes_on, part_there};
+ghost use Rattle.cxx_syntax.specs.Reading.{IsRead, Takes};
 ghost use Rattle.cxx_syntax.specs.Views.{lexeme_at, name_at};
-ghost use Rattle.cxx_syntax.specs.Reading.{Takes};
+ghost use Rattle.cxx_tree.specs.Arena.{path_at, path_part_at, path_parts_at};
+ghost use Rattle.cxx_tree.specs.Held.{meaning};
 
 use crate::name::NameToken;
-use cxx_model::{Fault, FaultText, Listed, Place, Stop, Token, TokenKind, Word, keyword, punct};
+use cxx_model::{
+    Fault, FaultText, Listed, Path, PathPart, PathPartList, Place, Stop, Token, TokenKind, Word,
+    keyword, punct,
+};
+use cxx_tree::State;
 use std::alloc::{AllocError, Global};
 use std::marker::Model;
 
@@ -116,6 +123,34 @@ pub fn is_end(kind: TokenKind) -> bool
         TokenKind::End => true,
         _ => false,
     }
+}
+
+// What may stand behind `::` and is not read yet (14.2, 5.1, 5.3.4).
+fn is_unbuilt_part(kind: TokenKind) -> bool
+    ensures { result ≡ definition.is_unbuilt_part kind }
+{
+    is_keyword(keyword::TEMPLATE, kind)
+        || (is_keyword(keyword::OPERATOR, kind)
+            || (is_punct(punct::TILDE, kind)
+                || (is_keyword(keyword::NEW, kind) || is_keyword(keyword::DELETE, kind))))
+}
+
+// Some parts, and one more where one is wanted.
+#[tactic(auto, using(crate::proofs::Names::parts_append))]
+fn with_part(
+    parts: PathPartList,
+    ahead: &Cursor<'_>,
+    wanted: bool,
+) -> Result<PathPartList, AllocError>
+    ensures { IfOk result (λ all. path_parts_at all ≡ path_parts_at parts ++ part_there wanted ahead.now) }
+{
+    if !wanted {
+        return Ok(parts);
+    }
+    let part = ahead.part()?;
+    let mut parts = parts;
+    parts.push(part)?;
+    Ok(parts)
 }
 
 // A fault without evidence.
@@ -247,17 +282,6 @@ impl<'a> Cursor<'a> {
         token
     }
 
-    /// The name ahead, which is not taken.
-    pub(crate) fn name(&self) -> Spelled<'a>
-        ensures { path_of (lexeme_at result) ≡ path_ahead self.now }
-    {
-        Spelled {
-            kind: self.kind(),
-            place: self.place(),
-            spelling: self.spelling(),
-        }
-    }
-
     /// The token ahead, taken and kept.
     pub(crate) fn kept(&mut self) -> Result<NameToken, AllocError>
         ensures token { IfOk result (λ token. name_at token ≡ token_in (self.old).tokens) }
@@ -292,19 +316,145 @@ impl<'a> Cursor<'a> {
         self.faulty(FaultText::NotBuilt)
     }
 
-    /// Whether a name with qualifiers stands ahead (3.4.3).
-    pub fn is_qualified(&self) -> bool
-        ensures { result ≡ definition.is_qualified self.now }
+    /// Whether a name without qualifiers stands ahead (3.4.1).
+    pub fn is_plain_name(&self) -> bool
+        ensures { result ≡ definition.is_plain_name self.now }
     {
-        is_punct(punct::SCOPE, self.kind())
-            || (is_name(self.kind()) && is_punct(punct::SCOPE, self.kind_behind()))
+        is_name(self.kind()) && !is_punct(punct::SCOPE, self.kind_behind())
     }
 
-    // No declarator begins there (8): a name with qualifiers or of an operator is not read yet.
-    pub(crate) fn no_declarator(&self) -> Result<Box<Fault>, AllocError>
-        ensures { IfOk result (λ at. Faulty at.value ≡ fault (place_ahead self.now) (if definition.is_qualified self.now || definition.is_keyword keyword.OPERATOR (kind_ahead self.now) then says.NotBuilt else says.SyntaxError)) }
+    /// Whether a name begins ahead, with qualifiers or without (3.4.3).
+    pub fn begins_name(&self) -> bool
+        ensures { result ≡ definition.begins_name self.now }
     {
-        if self.is_qualified() || is_keyword(keyword::OPERATOR, self.kind()) {
+        is_name(self.kind()) || is_punct(punct::SCOPE, self.kind())
+    }
+
+    // Whether a name goes on with the token ahead: with a part where one is wanted, else with `::`.
+    fn goes_on(&self, wanted: bool) -> bool
+        ensures { result ≡ goes_on wanted (kind_ahead self.now) }
+    {
+        if wanted {
+            is_name(self.kind())
+        } else {
+            is_punct(punct::SCOPE, self.kind())
+        }
+    }
+
+    // Takes parts of a name with `::` between them, as far as they go, and answers whether a part stands wherever one is
+    // wanted. A part is wanted first, or `::` may stand.
+    fn pass_parts(&mut self, wanted: bool) -> bool
+        ensures taken { self.new ≡ (passed_from wanted (self.old).last (self.old).tokens).rest }
+        ensures whole { result ≡ (passed_from wanted (self.old).last (self.old).tokens).is_whole }
+    {
+        let mut wanted = wanted;
+        for _turn in 0..self.count() {
+            if !self.goes_on(wanted) {
+                return !wanted;
+            }
+            self.advance();
+            wanted = !wanted;
+        }
+        !wanted
+    }
+
+    /// Takes the name ahead, with its qualifiers (3.4.3).
+    pub fn pass_name(&mut self)
+        ensures { self.new ≡ behind_name self.old }
+    {
+        let wanted = !is_punct(punct::SCOPE, self.kind());
+        self.pass_parts(wanted);
+    }
+
+    /// What is ahead behind the name with its qualifiers.
+    pub fn behind_name(&self) -> Cursor<'a>
+        ensures { result ≡ behind_name self.now }
+    {
+        let mut behind = self.mark();
+        behind.pass_name();
+        behind
+    }
+
+    /// Whether a part of the name ahead stands behind each `::` of it.
+    pub fn is_whole_name(&self) -> bool
+        ensures { result ≡ definition.is_whole_name self.now }
+    {
+        let mut behind = self.mark();
+        let wanted = !is_punct(punct::SCOPE, self.kind());
+        behind.pass_parts(wanted)
+    }
+
+    // The part of a name that stands ahead.
+    fn part(&self) -> Result<PathPart, AllocError>
+        ensures { IfOk result (λ part. path_part_at part ≡ definition.part_of (token_in (self.now).tokens)) }
+    {
+        Ok(PathPart {
+            word: Word::from_slice(self.alloc, self.spelling())?,
+            place: self.place(),
+            arguments: None,
+        })
+    }
+
+    // The parts of a name ahead, as far as they go.
+    fn parts(&self, wanted: bool) -> Result<PathPartList, AllocError>
+        ensures { IfOk result (λ parts. path_parts_at parts ≡ (passed_from wanted (self.now).last (self.now).tokens).parts) }
+    {
+        let mut ahead = self.mark();
+        let mut wanted = wanted;
+        let mut parts = Listed::new(self.alloc);
+        for _turn in 0..self.count() {
+            if !ahead.goes_on(wanted) {
+                return Ok(parts);
+            }
+            parts = with_part(parts, &ahead, wanted)?;
+            ahead.advance();
+            wanted = !wanted;
+        }
+        Ok(parts)
+    }
+
+    /// The name ahead, with its qualifiers, as far as it goes (3.4.3).
+    pub fn path(&self) -> Result<Path, AllocError>
+        ensures { IfOk result (λ path. path_at path ≡ path_ahead self.now) }
+    {
+        let global = is_punct(punct::SCOPE, self.kind());
+        Ok(Path {
+            global,
+            parts: self.parts(!global)?,
+        })
+    }
+
+    // No part of a name stands there: what may stand behind `::` and is not read yet, or no form of the language (14.2, 5.1).
+    fn no_part_there(&self) -> Result<Box<Fault>, AllocError>
+        ensures { IfOk result (λ at. Faulty at.value ≡ fault (place_ahead self.now) (if definition.is_unbuilt_part (kind_ahead self.now) then says.NotBuilt else says.SyntaxError)) }
+    {
+        if is_unbuilt_part(self.kind()) {
+            self.not_built()
+        } else {
+            self.refused()
+        }
+    }
+
+    /// Takes the name ahead with its qualifiers, and answers it (3.4.3).
+    #[tactic(auto, using(crate::proofs::Kept::later_refl), unfolding(cxx_reading::specs::Tokens::path_taken, cxx_reading::specs::Tokens::no_part_there))]
+    pub fn path_taken(&mut self, state: &State) -> Result<Path, Stop>
+        ensures read { IsRead (λ held. path_at) AnyKnown state.now state.now self.new result (definition.path_taken (meaning state.now) self.old) }
+        ensures path { IfOk result (λ path. path_at path ≡ path_ahead self.old) }
+    {
+        let _ = state;
+        if !self.is_whole_name() {
+            return Err(Stop::Fault(self.behind_name().no_part_there()?));
+        }
+        let path = self.path()?;
+        self.pass_name();
+        Ok(path)
+    }
+
+    // No declarator begins there (8): the name of an operator is not read yet.
+    pub(crate) fn no_declarator(&self) -> Result<Box<Fault>, AllocError>
+        ensures { IfOk result (λ at. Faulty at.value ≡ fault (place_ahead self.now) (if definition.is_keyword keyword.OPERATOR (kind_ahead self.now) then says.NotBuilt else says.SyntaxError)) }
+    {
+        if is_keyword(keyword::OPERATOR, self.kind()) {
             self.not_built()
         } else {
             self.refused()

@@ -23,6 +23,8 @@ pub type LayerList = Listed<Layer>;
 #[derive(Drop)]
 pub struct Declarator {
     pub name: Option<NameToken>,
+    /// Whether the name has qualifiers; it is the last part of them then (8.3).
+    pub is_qualified: bool,
     pub layers: LayerList,
     pub parts: TreeIdList,
 }

@@ -1,27 +1,31 @@
 //! How declarators are read (8.3).
 
-ghost use Rattle.std.specs.Prelude.{◌≡◌, ◌++◌, [], ◌∷◌, Some, None, IfOk, IfErr};
+ghost use Rattle.std.specs.Prelude.{◌≡◌, ◌++◌, [], ◌∷◌, Some, None, false, IfOk, IfErr};
 ghost use Rattle.cxx_model.specs.declared.stop.Stop.TheVariants as stop;
 ghost use Rattle.cxx_reading.specs.Shapes as shape;
 ghost use Rattle.cxx_syntax.specs.declared.declarator.Layer.TheVariants as layer;
 ghost use Rattle.cxx_reading.specs.Syntax as definition;
+ghost use Rattle.cxx_reading.specs.Trees.{last_part};
 ghost use Rattle.cxx_syntax.specs.Asking.{AnyKnown, itself};
+ghost use Rattle.cxx_syntax.specs.Outlines.{names_type};
 ghost use Rattle.cxx_syntax.specs.Reading.{IsRead};
 ghost use Rattle.cxx_syntax.specs.Suffixes.{IsSuffixed, IsSuffixedTurn, suffixed_of, suffixed_turn};
-ghost use Rattle.cxx_syntax.specs.Views.{IsConstantOption, IsDeclarator, bound_of, declarator_of};
+ghost use Rattle.cxx_syntax.specs.Views.{IsConstantOption, IsDeclarator, bound_of, declarator_of, name_at};
+ghost use Rattle.cxx_tree.specs.Arena.{path_at};
 ghost use Rattle.cxx_tree.specs.Held.{meaning};
 
-use crate::cursor::{Cursor, is_keyword, is_name, is_punct};
+use crate::cursor::{Cursor, is_punct};
 use crate::cv::{cv_at, exceptions_at};
 use crate::declarator::{Declarator, Layer, ParameterTypes};
 use crate::kinds::Kinds;
 use crate::name::NameToken;
 use crate::nested::Nested;
+use crate::nodes::last_part;
 use crate::reader::Reader;
 use crate::steps::begins_class;
 use crate::turn::Turn;
 use crate::words::type_word;
-use cxx_model::{Kind, Listed, Stop, TokenKind, TreeIdList, keyword, punct};
+use cxx_model::{Kind, Listed, Path, Place, Stop, TokenKind, TreeIdList, Word, keyword, punct};
 use cxx_reading::Naming;
 use cxx_tree::State;
 use std::alloc::{AllocError, Global};
@@ -37,7 +41,17 @@ fn is_required(naming: Naming) -> bool
     ensures { result ≡ definition.is_required naming }
 {
     match naming {
+        Naming::Qualified => true,
         Naming::Required => true,
+        _ => false,
+    }
+}
+
+fn may_qualify(naming: Naming) -> bool
+    ensures { result ≡ definition.may_qualify naming }
+{
+    match naming {
+        Naming::Qualified => true,
         _ => false,
     }
 }
@@ -53,13 +67,47 @@ fn is_never(naming: Naming) -> bool
 
 // Nothing was read of a declarator but, maybe, its name.
 fn with_name(alloc: Global, name: Option<NameToken>) -> Declarator
-    ensures { result ≡ record { name = name; layers = []; parts = [] } }
+    ensures { result ≡ record { name = name; is_qualified = false; layers = []; parts = [] } }
 {
     Declarator {
         name,
+        is_qualified: false,
         layers: Listed::new(alloc),
         parts: Listed::new(alloc),
     }
+}
+
+// The token of the last part of a name.
+fn last_token(alloc: Global, path: &Path) -> Result<NameToken, AllocError>
+    ensures { IfOk result (λ token. name_at token ≡ definition.token_of (last_part (path_at path.now).parts)) }
+{
+    match last_part(path.parts.as_slice()) {
+        Some(part) => Ok(NameToken {
+            kind: TokenKind::Name,
+            place: part.place,
+            spelling: Word::from_slice(alloc, part.word.as_slice())?,
+        }),
+        None => Ok(NameToken {
+            kind: TokenKind::Name,
+            place: Place { line: 0, column: 0 },
+            spelling: Listed::new(alloc),
+        }),
+    }
+}
+
+// Nothing was read of a declarator but a name with qualifiers.
+fn with_path(state: &State, alloc: Global, path: &Path) -> Result<Declarator, AllocError>
+    ensures is { IfOk result (λ declarator. declarator_of state.now declarator ≡ definition.member_read (last_part (path_at path.now).parts)) }
+    ensures known { IfOk result (IsDeclarator state.now) }
+{
+    let _ = state;
+    let name = last_token(alloc, path)?;
+    Ok(Declarator {
+        name: Some(name),
+        is_qualified: true,
+        layers: Listed::new(alloc),
+        parts: Listed::new(alloc),
+    })
 }
 
 /// The trees of both lists.
@@ -78,12 +126,14 @@ fn outward(layer: Layer, parts: TreeIdList, inside: Declarator) -> Result<Declar
 {
     let Declarator {
         name,
+        is_qualified,
         mut layers,
         parts: before,
     } = inside;
     layers.push(layer)?;
     Ok(Declarator {
         name,
+        is_qualified,
         layers,
         parts: joined(before, parts)?,
     })
@@ -138,6 +188,18 @@ pub(crate) fn is_key(number: u8) -> bool
 }
 
 impl<K: Kinds, N: Nested> Reader<'_, K, N> {
+    // Whether the name ahead is one of a type (3.4).
+    #[tactic(auto, using(crate::proofs::Kept::later_trans, crate::proofs::Kept::later_refl))]
+    fn is_type_name(&self, state: &mut State, cursor: &Cursor<'_>) -> Result<bool, Stop>
+        requires ready { K.is_ready self.now.kinds.now }
+        ensures { IsRead itself AnyKnown state.old state.new cursor.now result (names_type (K.asks self.now.kinds.now self.now.room) (meaning state.old) cursor.now) }
+    {
+        match self.kind_of_name(state, cursor)? {
+            Kind::OfType => Ok(true),
+            _ => Ok(false),
+        }
+    }
+
     // Whether a type begins ahead.
     #[tactic(auto, unfolding(cxx_reading::specs::Shapes::begins_type))]
     pub(crate) fn begins_type(&self, state: &mut State, cursor: &Cursor<'_>) -> Result<bool, Stop>
@@ -148,16 +210,14 @@ impl<K: Kinds, N: Nested> Reader<'_, K, N> {
             TokenKind::Keyword(number) => {
                 Ok(type_word(number).is_some() || (is_cv(number) || is_key(number)))
             }
-            TokenKind::Punct(number) => Ok(number == punct::SCOPE),
-            TokenKind::Name => {
-                if cursor.is_qualified() {
-                    return Ok(true);
-                }
-                match self.kinds.kind(state, cursor.name(), self.room)? {
-                    Kind::OfType => Ok(true),
-                    _ => Ok(false),
+            TokenKind::Punct(number) => {
+                if number == punct::SCOPE {
+                    self.is_type_name(state, cursor)
+                } else {
+                    Ok(false)
                 }
             }
+            TokenKind::Name => self.is_type_name(state, cursor),
             _ => Ok(false),
         }
     }
@@ -293,6 +353,20 @@ impl<K: Kinds, N: Nested> Reader<'_, K, N> {
         Ok(so_far.declarator)
     }
 
+    // A name with qualifiers, which is looked up before what stands behind it is read (8.3).
+    #[tactic(auto, using(crate::proofs::Kept::trees_kept, crate::proofs::Kept::trees_later, crate::proofs::Kept::trees_append, crate::proofs::Kept::trees_below_append, crate::proofs::Kept::layers_kept, crate::proofs::Kept::layers_later, crate::proofs::Kept::layers_append, crate::proofs::Kept::layers_below_append, crate::proofs::Kept::later_trans, crate::proofs::Kept::later_refl), unfolding(cxx_reading::specs::Syntax::qualified_part))]
+    fn qualified_part(&self, state: &mut State, cursor: &mut Cursor<'_>) -> Result<Declarator, Stop>
+        requires ready { K.is_ready self.now.kinds.now }
+        requires open { N.is_open self.now.nested.now }
+        ensures { IsRead declarator_of IsDeclarator state.old state.new cursor.new result (definition.qualified_part (K.asks self.now.kinds.now self.now.room) (N.inner self.now.nested.now) (meaning state.old) cursor.old) }
+    {
+        let name = cursor.mark();
+        let path = cursor.path_taken(state)?;
+        self.kinds.entered(state, &name, self.room)?;
+        let member = with_path(state, cursor.alloc(), &path)?;
+        self.suffixes_at(state, cursor, member)
+    }
+
     // A name, or none where none has to stand.
     #[tactic(auto, using(crate::proofs::Kept::trees_kept, crate::proofs::Kept::trees_later, crate::proofs::Kept::trees_append, crate::proofs::Kept::trees_below_append, crate::proofs::Kept::layers_kept, crate::proofs::Kept::layers_later, crate::proofs::Kept::layers_append, crate::proofs::Kept::layers_below_append, crate::proofs::Kept::later_trans, crate::proofs::Kept::later_refl), unfolding(cxx_reading::specs::Syntax::name_part, cxx_reading::specs::Tokens::no_declarator))]
     fn name_part(
@@ -301,18 +375,19 @@ impl<K: Kinds, N: Nested> Reader<'_, K, N> {
         cursor: &mut Cursor<'_>,
         naming: Naming,
     ) -> Result<Declarator, Stop>
+        requires ready { K.is_ready self.now.kinds.now }
         requires open { N.is_open self.now.nested.now }
-        ensures { IsRead declarator_of IsDeclarator state.old state.new cursor.new result (definition.name_part (N.inner self.now.nested.now) naming (meaning state.old) cursor.old) }
+        ensures { IsRead declarator_of IsDeclarator state.old state.new cursor.new result (definition.name_part (K.asks self.now.kinds.now self.now.room) (N.inner self.now.nested.now) naming (meaning state.old) cursor.old) }
     {
         if is_never(naming) {
             return self.suffixes_at(state, cursor, with_name(cursor.alloc(), None));
         }
-        if cursor.is_qualified() {
-            return Err(Stop::Fault(cursor.not_built()?));
-        }
-        if is_name(cursor.kind()) {
+        if cursor.is_plain_name() {
             let name = cursor.kept()?;
             return self.suffixes_at(state, cursor, with_name(cursor.alloc(), Some(name)));
+        }
+        if may_qualify(naming) && cursor.begins_name() {
+            return self.qualified_part(state, cursor);
         }
         if is_required(naming) {
             return Err(Stop::Fault(cursor.no_declarator()?));

@@ -1,12 +1,12 @@
 ghost use Rattle.std.specs.Prelude.{ℕ, ◌<◌, length};
 ghost use Rattle.cxx_reading.specs.Kinds as definition;
-ghost use Rattle.cxx_reading.specs.Specifiers.{path_of};
 ghost use Rattle.cxx_reading.specs.State.{CxxState};
+ghost use Rattle.cxx_reading.specs.Tokens.{path_ahead};
 ghost use Rattle.cxx_syntax.specs.Asking.{AnyKnown, IsAsked, IsConstantKnown, IsEnumeration, IsTypeKnown, enumeration_number, itself, scope_number};
-ghost use Rattle.cxx_syntax.specs.Views.{lexeme_at, name_at, name_of_option};
+ghost use Rattle.cxx_syntax.specs.Views.{lexeme_at, name_of_option};
 ghost use Rattle.cxx_tree.specs.Held.{meaning, tree, trees, type_of};
 
-use crate::cursor::Spelled;
+use crate::cursor::{Cursor, Spelled};
 use crate::name::NameToken;
 use cxx_model::{EnumId, Kind, Place, ScopeId, Stop, TreeId, TypeId};
 use cxx_tree::State;
@@ -18,20 +18,26 @@ pub trait Kinds {
 
     ghost is_ready: { Self → Type 0 };
 
-    /// What a name is to a reader (3.4).
-    fn kind(&self, state: &mut State, name: Spelled<'_>, room: u32) -> Result<Kind, Stop>
+    /// What the name ahead is to a reader (3.4).
+    fn kind(&self, state: &mut State, ahead: &Cursor<'_>, room: u32) -> Result<Kind, Stop>
         requires { is_ready self.now }
-        ensures { IsAsked itself AnyKnown state.old state.new result ((asks self.now room).kind (path_of (lexeme_at name.entry)) (meaning state.old)) };
+        ensures { IsAsked itself AnyKnown state.old state.new result ((asks self.now room).kind (path_ahead ahead.now) (meaning state.old)) };
 
     /// The type that a name of that kind names (7.1.5.2).
-    fn type_named(&self, state: &mut State, name: Spelled<'_>, room: u32) -> Result<TypeId, Stop>
+    fn type_named(&self, state: &mut State, ahead: &Cursor<'_>, room: u32) -> Result<TypeId, Stop>
         requires { is_ready self.now }
-        ensures { IsAsked type_of IsTypeKnown state.old state.new result ((asks self.now room).type_named (path_of (lexeme_at name.entry)) (meaning state.old)) };
+        ensures { IsAsked type_of IsTypeKnown state.old state.new result ((asks self.now room).type_named (path_ahead ahead.now) (meaning state.old)) };
 
     /// The type that a name behind `enum` names (7.1.5.3).
-    fn elaborated(&self, state: &mut State, name: &NameToken, room: u32) -> Result<TypeId, Stop>
+    fn elaborated(&self, state: &mut State, ahead: &Cursor<'_>, room: u32) -> Result<TypeId, Stop>
         requires { is_ready self.now }
-        ensures { IsAsked type_of IsTypeKnown state.old state.new result ((asks self.now room).elaborated (path_of (name_at name.now)) (meaning state.old)) };
+        ensures { IsAsked type_of IsTypeKnown state.old state.new result ((asks self.now room).elaborated (path_ahead ahead.now) (meaning state.old)) };
+
+    /// A declarator has a name with qualifiers: it declares a member of their namespace, and what stands behind the name is
+    /// read there (8.3).
+    fn entered(&self, state: &mut State, ahead: &Cursor<'_>, room: u32) -> Result<(), Stop>
+        requires { is_ready self.now }
+        ensures { IsAsked itself AnyKnown state.old state.new result ((asks self.now room).entered (path_ahead ahead.now) (meaning state.old)) };
 
     /// An enumeration begins, with the place of its name or of `enum` (7.2). It answers its number and that of its type.
     fn enumeration(

@@ -35,7 +35,7 @@ pub use knot::{read_declarator, read_specifiers};
 pub use layers::{declared, declared_parameter, is_declared_void, refused};
 pub use name::NameToken;
 pub use nested::Nested;
-pub use nodes::{node_from, path_to, push};
+pub use nodes::{last_place, node_from, path_to, push};
 pub use parameters::specified;
 pub use reader::Reader;
 pub use shapes::{Fits, Outline, Run, brackets_passed};

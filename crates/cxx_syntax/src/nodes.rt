@@ -1,14 +1,18 @@
 //! The trees of what is read.
 
-ghost use Rattle.std.specs.Prelude.{◌≡◌, ◌<◌, [], length, None, IfOk, codes};
+ghost use Rattle.std.specs.Prelude.{◌≡◌, ◌<◌, ◌-◌, [], length, None, IfOk, codes};
+ghost use Rattle.std.specs.List.{slice_get};
+ghost use Rattle.std.specs.Option.{option_copied};
 ghost use Rattle.cxx_reading.specs.Productions as production;
 ghost use Rattle.cxx_reading.specs.Reads.{count_ahead, place_ahead};
 ghost use Rattle.cxx_reading.specs.Specifiers as definition;
 ghost use Rattle.cxx_reading.specs.Specifiers.{path_of, place_or};
 ghost use Rattle.cxx_syntax.specs.Asking.{IsEnumeration};
 ghost use Rattle.cxx_syntax.specs.Making.{GrowsTree};
+ghost use Rattle.cxx_syntax.specs.Passing.{part_or};
 ghost use Rattle.cxx_syntax.specs.Views.{AreTreesHeld, name_at, name_of_option, trees_held};
-ghost use Rattle.cxx_tree.specs.Arena.{AreTreesBelow, IsNodeBelow, tree_over, path_at};
+ghost use Rattle.cxx_reading.specs.Trees.{last_part};
+ghost use Rattle.cxx_tree.specs.Arena.{AreTreesBelow, IsNodeBelow, path_at, path_parts_at, tree_over};
 ghost use Rattle.cxx_tree.specs.Arena as arena;
 ghost use Rattle.cxx_tree.specs.Held.{trees, type_of};
 
@@ -95,6 +99,30 @@ pub(crate) fn place_of(place: Place, name: &Option<NameToken>) -> Place
     }
 }
 
+fn last_of(parts: &[PathPart]) -> Option<&PathPart>
+    ensures { option_copied result ≡ slice_get parts.now (length parts.now - 1) }
+{
+    parts.get(parts.len().saturating_sub(1))
+}
+
+// The last of the parts of a name.
+#[tactic(auto, using(crate::proofs::Names::last_is))]
+pub(crate) fn last_part(parts: &[PathPart]) -> Option<&PathPart>
+    ensures { part_or (option_copied result) ≡ last_part (path_parts_at parts.now) }
+{
+    last_of(parts)
+}
+
+/// Where the last of the parts of a name stands.
+pub fn last_place(parts: &[PathPart]) -> Place
+    ensures { result ≡ (last_part (path_parts_at parts.now)).place }
+{
+    match last_part(parts) {
+        Some(part) => part.place,
+        None => Place { line: 0, column: 0 },
+    }
+}
+
 /// Adds a node.
 pub fn push(state: &mut State, node: Node) -> Result<TreeId, Stop>
     requires below { IsNodeBelow (length (state.old).types) node }
@@ -111,15 +139,14 @@ pub fn push(state: &mut State, node: Node) -> Result<TreeId, Stop>
 pub(crate) fn elaborated_tree(
     alloc: Global,
     state: &mut State,
-    name: &NameToken,
+    path: Path,
     of: TypeId,
     from: &Cursor<'_>,
     to: &Cursor<'_>,
 ) -> Result<TreeId, Stop>
     requires { of.0 < length (state.old).types }
-    ensures { GrowsTree state.old state.new result (definition.elaborated_tree (name_at name.now) (type_of state.old of) from.now to.now) }
+    ensures { GrowsTree state.old state.new result (definition.elaborated_tree (path_at path) (type_of state.old of) from.now to.now) }
 {
-    let path = path_to(alloc, name)?;
     let spelling = Text::from_slice(alloc, b"enum")?;
     let mut node = node_from(
         production::ELABORATED,
@@ -128,7 +155,7 @@ pub(crate) fn elaborated_tree(
         to,
         Listed::new(alloc),
     );
-    node.place = name.place;
+    node.place = last_place(path.parts.as_slice());
     node.path = Some(path);
     node.of = Some(of);
     push(state, node)

@@ -4,12 +4,12 @@ ghost use Rattle.std.specs.Prelude.{◌≡◌, ◌<◌, ◌≤◌, ◌+◌, ◌^
 ghost use Rattle.cxx_reading.specs.Reads.{count_ahead, give, repeat};
 ghost use Rattle.cxx_reading.specs.Shapes as shape;
 ghost use Rattle.cxx_syntax.specs.Asking.{AnyKnown, itself};
-ghost use Rattle.cxx_syntax.specs.Outlines.{HasFewerPrefix, fits_of, outline_of, prefix_of, prefix_turn, run_in, run_turn, suffix_turn};
+ghost use Rattle.cxx_syntax.specs.Outlines.{HasFewerPrefix, fits_of, outline_of, prefix_turn, run_in, run_turn, suffix_turn};
 ghost use Rattle.cxx_syntax.specs.Reading.{IsRead, Takes};
 ghost use Rattle.cxx_syntax.specs.Views.{IsTurn, turn_at};
 ghost use Rattle.cxx_tree.specs.Held.{meaning};
 
-use crate::cursor::{Cursor, is_end, is_keyword, is_name, is_punct};
+use crate::cursor::{Cursor, is_end, is_keyword, is_punct};
 use crate::declarators::{is_cv, is_key};
 use crate::kinds::Kinds;
 use crate::nested::Nested;
@@ -35,12 +35,11 @@ pub struct Outline {
     pub is_named: bool,
 }
 
-/// Whether a declarator fits, or what stands there is one whatever it is.
+/// Whether a declarator fits.
 #[derive(Clone, Copy)]
 pub enum Fits {
     Fits,
     FitsNot,
-    Surely,
 }
 
 fn opens(kind: TokenKind) -> bool
@@ -156,13 +155,14 @@ fn key_shape(state: &State, cursor: &mut Cursor<'_>) -> Result<Turn<bool, Run>, 
     ensures { IsRead run_turn AnyKnown state.now state.now cursor.new result (shape.key_shape (meaning state.now) cursor.old) }
 {
     let _ = state;
-    if !is_name(cursor.kind()) || cursor.is_qualified() {
+    if !cursor.begins_name() || !cursor.is_whole_name() {
         return Ok(Turn::Done(Run::Surely));
     }
-    if is_punct(punct::LEFT_BRACE, cursor.kind_behind()) {
+    let behind = cursor.behind_name();
+    if is_punct(punct::LEFT_BRACE, behind.kind()) {
         return Ok(Turn::Done(Run::Surely));
     }
-    cursor.advance();
+    *cursor = behind;
     Ok(Turn::More(true))
 }
 
@@ -235,12 +235,9 @@ impl<K: Kinds, N: Nested> Reader<'_, K, N> {
         if typed {
             return Ok(Turn::Done(Run::AType));
         }
-        if cursor.is_qualified() {
-            return Ok(Turn::Done(Run::Surely));
-        }
-        match self.kinds.kind(state, cursor.name(), self.room)? {
+        match self.kind_of_name(state, cursor)? {
             Kind::OfType => {
-                cursor.advance();
+                cursor.pass_name();
                 Ok(Turn::More(true))
             }
             _ => Ok(Turn::Done(Run::NoType)),
@@ -295,7 +292,7 @@ impl<K: Kinds, N: Nested> Reader<'_, K, N> {
         state: &mut State,
         cursor: &mut Cursor<'_>,
         outline: Outline,
-    ) -> Result<Turn<Outline, (Outline, bool)>, Stop>
+    ) -> Result<Turn<Outline, Outline>, Stop>
         requires known { outline.brackets < 2 ^ 63 }
         requires ready { K.is_ready self.now.kinds.now }
         ensures { IsRead prefix_turn (HasFewerPrefix outline.brackets) state.old state.new cursor.new result (shape.prefix_step (K.asks self.now.kinds.now self.now.room) (outline_of outline) (meaning state.old) cursor.old) }
@@ -310,7 +307,7 @@ impl<K: Kinds, N: Nested> Reader<'_, K, N> {
         }
         if is_punct(punct::LEFT_PARENTHESIS, kind) {
             if self.is_abstract_list(state, cursor)? {
-                return Ok(Turn::Done((outline, false)));
+                return Ok(Turn::Done(outline));
             }
             cursor.advance();
             return Ok(Turn::More(Outline {
@@ -318,30 +315,21 @@ impl<K: Kinds, N: Nested> Reader<'_, K, N> {
                 is_named: outline.is_named,
             }));
         }
-        if cursor.is_qualified() {
-            return Ok(Turn::Done((outline, true)));
-        }
-        if is_name(kind) {
+        if cursor.is_plain_name() {
             cursor.advance();
-            let named = Outline {
+            return Ok(Turn::Done(Outline {
                 brackets: outline.brackets,
                 is_named: true,
-            };
-            return Ok(Turn::Done((named, false)));
+            }));
         }
-        Ok(Turn::Done((outline, false)))
+        Ok(Turn::Done(outline))
     }
 
-    /// Passes all that stands before the name of a declarator and the name, and answers whether a name with qualifiers
-    /// stands there (8.2).
+    /// Passes all that stands before the name of a declarator and the name, which is one identifier (8.2).
     #[tactic(auto, using(crate::proofs::Loops::turn, crate::proofs::Loops::no_turn, crate::proofs::Kept::later_trans, crate::proofs::Kept::later_refl), unfolding(cxx_reading::specs::Shapes::prefix_passed))]
-    pub fn prefix_passed(
-        &self,
-        state: &mut State,
-        cursor: &mut Cursor<'_>,
-    ) -> Result<(Outline, bool), Stop>
+    pub fn prefix_passed(&self, state: &mut State, cursor: &mut Cursor<'_>) -> Result<Outline, Stop>
         requires ready { K.is_ready self.now.kinds.now }
-        ensures { IsRead (λ held. prefix_of) AnyKnown state.old state.new cursor.new result (shape.prefix_passed (K.asks self.now.kinds.now self.now.room) (meaning state.old) cursor.old) }
+        ensures { IsRead (λ held. outline_of) AnyKnown state.old state.new cursor.new result (shape.prefix_passed (K.asks self.now.kinds.now self.now.room) (meaning state.old) cursor.old) }
     {
         let mut outline = Outline {
             brackets: 0,
@@ -353,7 +341,7 @@ impl<K: Kinds, N: Nested> Reader<'_, K, N> {
                 Turn::Done(all) => return Ok(all),
             }
         }
-        Ok((outline, false))
+        Ok(outline)
     }
 
     // Parameters behind a name stand there whatever they are, and behind none they have to be such (8.2).
@@ -414,7 +402,7 @@ impl<K: Kinds, N: Nested> Reader<'_, K, N> {
     }
 
     /// Passes all that stands behind the name of a declarator (8.2).
-    #[tactic(auto, using(crate::proofs::Loops::turn, crate::proofs::Loops::no_turn, crate::proofs::Kept::later_trans, crate::proofs::Kept::later_refl))]
+    #[tactic(auto, using(crate::proofs::Loops::turn, crate::proofs::Loops::no_turn, crate::proofs::Kept::later_trans, crate::proofs::Kept::later_refl), unfolding(cxx_reading::specs::Shapes::suffixes_by))]
     pub fn suffixes_passed(
         &self,
         state: &mut State,
@@ -422,7 +410,7 @@ impl<K: Kinds, N: Nested> Reader<'_, K, N> {
         outline: Outline,
     ) -> Result<Fits, Stop>
         requires open { N.is_open self.now.nested.now }
-        ensures { IsRead (λ held. fits_of) AnyKnown state.old state.new cursor.new result (shape.suffixes_by (N.inner self.now.nested.now) (outline_of outline) false (meaning state.old) cursor.old) }
+        ensures { IsRead (λ held. fits_of) AnyKnown state.old state.new cursor.new result (shape.suffixes_by (N.inner self.now.nested.now) (outline_of outline) (meaning state.old) cursor.old) }
     {
         let mut outline = outline;
         for _turn in 0..cursor.count() {
@@ -441,10 +429,7 @@ impl<K: Kinds, N: Nested> Reader<'_, K, N> {
         requires open { N.is_open self.now.nested.now }
         ensures { IsRead (λ held. fits_of) AnyKnown state.old state.new cursor.new result (shape.declarator_passed (K.asks self.now.kinds.now self.now.room) (N.inner self.now.nested.now) (meaning state.old) cursor.old) }
     {
-        let (outline, is_qualified) = self.prefix_passed(state, cursor)?;
-        if is_qualified {
-            return Ok(Fits::Surely);
-        }
+        let outline = self.prefix_passed(state, cursor)?;
         self.suffixes_passed(state, cursor, outline)
     }
 
@@ -464,7 +449,6 @@ impl<K: Kinds, N: Nested> Reader<'_, K, N> {
                 separated(state, cursor)
             }
             Fits::FitsNot => Ok(Turn::Done(false)),
-            Fits::Surely => Ok(Turn::Done(true)),
         }
     }
 

@@ -3,9 +3,11 @@ ghost use Rattle.cxx_model.specs.declared.stop.Stop.TheVariants as stop;
 ghost use Rattle.cxx_reading.specs.Declarators.{has_type as has_type_in, no_cv, no_specifiers, no_words};
 ghost use Rattle.cxx_reading.specs.Reads.{count_ahead, give, repeat};
 ghost use Rattle.cxx_reading.specs.Specifiers as definition;
+ghost use Rattle.cxx_reading.specs.Tokens.{kind_of_name};
+ghost use Rattle.cxx_syntax.specs.Asking.{AnyKnown, itself};
 ghost use Rattle.cxx_syntax.specs.Reading.{IsRead};
 ghost use Rattle.cxx_syntax.specs.Words.{word_of};
-ghost use Rattle.cxx_syntax.specs.Views.{AreSpecifiers, AreTreesHeld, IsSpecifiersTurn, name_at, name_of_option, specifiers_of, specifiers_turn, trees_held};
+ghost use Rattle.cxx_syntax.specs.Views.{AreSpecifiers, AreTreesHeld, IsSpecifiersTurn, name_of_option, specifiers_of, specifiers_turn, trees_held};
 ghost use Rattle.cxx_tree.specs.Held.{meaning};
 
 use crate::cursor::{Cursor, is_keyword, is_name, is_punct};
@@ -261,7 +263,43 @@ fn no_specifiers_yet(alloc: Global) -> Specifiers
     }
 }
 
+// One name and its list (7.2).
+fn begins_named_list(cursor: &Cursor<'_>) -> bool
+    ensures { result ≡ definition.begins_named_list cursor.now }
+{
+    is_name(cursor.kind()) && is_punct(punct::LEFT_BRACE, cursor.kind_behind())
+}
+
 impl<K: Kinds, N: Nested> Reader<'_, K, N> {
+    // What the name ahead is to a reader (3.4); one that is not whole is met when it is read.
+    #[tactic(auto, using(crate::proofs::Kept::later_trans, crate::proofs::Kept::later_refl), unfolding(cxx_reading::specs::Tokens::kind_of_name))]
+    pub(crate) fn kind_of_name(&self, state: &mut State, cursor: &Cursor<'_>) -> Result<Kind, Stop>
+        requires ready { K.is_ready self.now.kinds.now }
+        ensures { IsRead itself AnyKnown state.old state.new cursor.now result (kind_of_name ((K.asks self.now.kinds.now self.now.room).kind) (meaning state.old) cursor.now) }
+    {
+        if !cursor.is_whole_name() {
+            return Ok(Kind::Value);
+        }
+        self.kinds.kind(state, cursor, self.room)
+    }
+
+    // The name of a type, which is whole.
+    #[tactic(auto, using(crate::proofs::Kept::trees_kept, crate::proofs::Kept::trees_later, crate::proofs::Kept::named_kept, crate::proofs::Kept::named_later, crate::proofs::Kept::later_trans, crate::proofs::Kept::later_refl), unfolding(cxx_reading::specs::Specifiers::type_name_step))]
+    fn type_name_step(
+        &self,
+        state: &mut State,
+        cursor: &mut Cursor<'_>,
+        so_far: Specifiers,
+    ) -> Result<Turn<Specifiers, Specifiers>, Stop>
+        requires known { AreSpecifiers state.old so_far }
+        requires ready { K.is_ready self.now.kinds.now }
+        ensures { IsRead specifiers_turn IsSpecifiersTurn state.old state.new cursor.new result (definition.type_name_step (K.asks self.now.kinds.now self.now.room) (specifiers_of state.old so_far) (meaning state.old) cursor.old) }
+    {
+        let of = self.kinds.type_named(state, cursor, self.room)?;
+        cursor.pass_name();
+        Ok(Turn::More(with_named(so_far, of)))
+    }
+
     // A name of a type, where no type is there yet; behind one it is the name of the declarator (7.1.5.2).
     #[tactic(auto, using(crate::proofs::Kept::trees_kept, crate::proofs::Kept::trees_later, crate::proofs::Kept::named_kept, crate::proofs::Kept::named_later, crate::proofs::Kept::later_trans, crate::proofs::Kept::later_refl), unfolding(cxx_reading::specs::Specifiers::named_step))]
     fn named_step(
@@ -277,16 +315,8 @@ impl<K: Kinds, N: Nested> Reader<'_, K, N> {
         if has_type(state, &so_far) {
             return Ok(Turn::Done(so_far));
         }
-        if cursor.is_qualified() {
-            return Err(Stop::Fault(cursor.not_built()?));
-        }
-        let name = cursor.name();
-        match self.kinds.kind(state, name, self.room)? {
-            Kind::OfType => {
-                let of = self.kinds.type_named(state, name, self.room)?;
-                cursor.advance();
-                Ok(Turn::More(with_named(so_far, of)))
-            }
+        match self.kind_of_name(state, cursor)? {
+            Kind::OfType => self.type_name_step(state, cursor, so_far),
             _ => Ok(Turn::Done(so_far)),
         }
     }
@@ -298,15 +328,16 @@ impl<K: Kinds, N: Nested> Reader<'_, K, N> {
         state: &mut State,
         cursor: &mut Cursor<'_>,
         from: &Cursor<'_>,
-        name: &NameToken,
         so_far: Specifiers,
     ) -> Result<Turn<Specifiers, Specifiers>, Stop>
         requires known { AreSpecifiers state.old so_far }
         requires ready { K.is_ready self.now.kinds.now }
-        ensures { IsRead specifiers_turn IsSpecifiersTurn state.old state.new cursor.new result (definition.elaborated_step (K.asks self.now.kinds.now self.now.room) from.now (name_at name.now) (specifiers_of state.old so_far) (meaning state.old) cursor.old) }
+        ensures { IsRead specifiers_turn IsSpecifiersTurn state.old state.new cursor.new result (definition.elaborated_step (K.asks self.now.kinds.now self.now.room) from.now (specifiers_of state.old so_far) (meaning state.old) cursor.old) }
     {
-        let of = self.kinds.elaborated(state, name, self.room)?;
-        let tree = elaborated_tree(cursor.alloc(), state, name, of, from, cursor)?;
+        let name = cursor.mark();
+        let path = cursor.path_taken(state)?;
+        let of = self.kinds.elaborated(state, &name, self.room)?;
+        let tree = elaborated_tree(cursor.alloc(), state, path, of, from, cursor)?;
         Ok(Turn::More(with_tree(so_far, of, tree)?))
     }
 
@@ -372,27 +403,23 @@ impl<K: Kinds, N: Nested> Reader<'_, K, N> {
         self.defined_step(state, cursor, from, name, so_far)
     }
 
-    // Behind `enum` and a name.
-    #[tactic(auto, using(crate::proofs::Kept::trees_kept, crate::proofs::Kept::trees_later, crate::proofs::Kept::trees_append, crate::proofs::Kept::trees_below_append, crate::proofs::Kept::named_kept, crate::proofs::Kept::named_later, crate::proofs::Kept::type_kept, crate::proofs::Kept::type_later, crate::proofs::Kept::later_trans, crate::proofs::Kept::later_refl), unfolding(cxx_reading::specs::Specifiers::key_named_step))]
-    fn key_named_step(
+    // The name of an enumeration, and its list (7.2).
+    #[tactic(auto, using(crate::proofs::Kept::trees_kept, crate::proofs::Kept::trees_later, crate::proofs::Kept::trees_append, crate::proofs::Kept::trees_below_append, crate::proofs::Kept::named_kept, crate::proofs::Kept::named_later, crate::proofs::Kept::type_kept, crate::proofs::Kept::type_later, crate::proofs::Kept::later_trans, crate::proofs::Kept::later_refl), unfolding(cxx_reading::specs::Specifiers::named_list_step))]
+    fn named_list_step(
         &self,
         state: &mut State,
         cursor: &mut Cursor<'_>,
         place: SpecifierPlace,
         from: &Cursor<'_>,
         so_far: Specifiers,
-        name: NameToken,
     ) -> Result<Turn<Specifiers, Specifiers>, Stop>
         requires known { AreSpecifiers state.old so_far }
         requires ready { K.is_ready self.now.kinds.now }
         requires open { N.is_open self.now.nested.now }
-        ensures { IsRead specifiers_turn IsSpecifiersTurn state.old state.new cursor.new result (definition.key_named_step (K.asks self.now.kinds.now self.now.room) (N.inner self.now.nested.now) place from.now (specifiers_of state.old so_far) (name_at name) (meaning state.old) cursor.old) }
+        ensures { IsRead specifiers_turn IsSpecifiersTurn state.old state.new cursor.new result (definition.named_list_step (K.asks self.now.kinds.now self.now.room) (N.inner self.now.nested.now) place from.now (specifiers_of state.old so_far) (meaning state.old) cursor.old) }
     {
-        if is_punct(punct::LEFT_BRACE, cursor.kind()) {
-            let name = Some(name);
-            return self.list_step(state, cursor, place, from, &name, so_far);
-        }
-        self.elaborated_step(state, cursor, from, &name, so_far)
+        let name = Some(cursor.kept()?);
+        self.list_step(state, cursor, place, from, &name, so_far)
     }
 
     // Behind `enum`.
@@ -413,14 +440,13 @@ impl<K: Kinds, N: Nested> Reader<'_, K, N> {
         if is_punct(punct::LEFT_BRACE, cursor.kind()) {
             return self.list_step(state, cursor, place, from, &None, so_far);
         }
-        if cursor.is_qualified() {
-            return Err(Stop::Fault(cursor.not_built()?));
+        if begins_named_list(cursor) {
+            return self.named_list_step(state, cursor, place, from, so_far);
         }
-        if !is_name(cursor.kind()) {
-            return Err(Stop::Fault(cursor.refused()?));
+        if cursor.begins_name() {
+            return self.elaborated_step(state, cursor, from, so_far);
         }
-        let name = cursor.kept()?;
-        self.key_named_step(state, cursor, place, from, so_far, name)
+        Err(Stop::Fault(cursor.refused()?))
     }
 
     // A type that begins with `enum` (7.1.5.3, 7.2).
