@@ -3,7 +3,7 @@ use Rattle.std.specs.Prelude.{ℕ, zero, suc, ◌≡◌, ◌<◌, ◌≤◌, nat
 use Rattle.std.proofs.Common.{◌+◌, ap, sym, subst, ◌∙◌, append_assoc, arith, get_or, drop}
 use Rattle.std.proofs.lemmas.List.{append-nil, at_drop_more, at_drop_all}
 use Rattle.std.specs.Option.{option_map}
-use Rattle.cxx_adl.specs.Views.{given}
+use Rattle.cxx_found.specs.Associated.{given}
 use Rattle.cxx_model.specs.declared.facts.Fact.{Fact}
 use Rattle.cxx_model.specs.declared.types.TypeId.{TypeId}
 use Rattle.cxx_model.specs.Types.Numbers.{AreTypesBelow, type_at}
@@ -101,22 +101,22 @@ count_is types operands seen test b same counts is =
     ap (λ n. nat_lt limits.MOST_ARGUMENTS n) (counted types operands)
     ∙ (ap (λ (os : List Operand). nat_lt limits.MOST_ARGUMENTS (length os)) (sym same) ∙ (sym counts ∙ is))
 
-pub too_many : (held : Held) (place : Place) (brackets word : List ℕ) (functions : List FactId) (operands seen : List Operand) (test : Bool) → seen ≡ operands → test ≡ nat_lt limits.MOST_ARGUMENTS (length seen) → test ≡ true → call_here (question_of held place brackets word functions operands) (meaning held) ≡ Err (Limited Arguments)
+pub too_many : (held : Held) (place : Place) (is_bare : Bool) (word : List ℕ) (functions : List FactId) (operands seen : List Operand) (test : Bool) → seen ≡ operands → test ≡ nat_lt limits.MOST_ARGUMENTS (length seen) → test ≡ true → call_here (question_of held place is_bare word functions operands) (meaning held) ≡ Err (Limited Arguments)
 unfolding call_here
-too_many held place brackets word functions operands seen test same counts is = rw (count_is held.types operands seen test true same counts is) refl
+too_many held place is_bare word functions operands seen test same counts is = rw (count_is held.types operands seen test true same counts is) refl
 
-pub few_enough : (old new : Held) (result : Result Chosen Stop) (place : Place) (brackets word : List ℕ) (functions : List FactId) (operands seen : List Operand) (test : Bool) → seen ≡ operands → test ≡ nat_lt limits.MOST_ARGUMENTS (length seen) → test ≡ false
-    → IsAnswered chosen_of IsChosen old new result (called_as (meaning old) (decided_among (question_of old place brackets word functions operands) (meaning old) (functions_of_call (meaning old).graph (meaning old).here.scope (question_of old place brackets word functions operands))))
-    → IsAnswered chosen_of IsChosen old new result (call_here (question_of old place brackets word functions operands) (meaning old))
+pub few_enough : (old new : Held) (result : Result Chosen Stop) (place : Place) (is_bare : Bool) (word : List ℕ) (functions : List FactId) (operands seen : List Operand) (test : Bool) → seen ≡ operands → test ≡ nat_lt limits.MOST_ARGUMENTS (length seen) → test ≡ false
+    → IsAnswered chosen_of IsChosen old new result (called_as (meaning old) (decided_among (question_of old place is_bare word functions operands) (meaning old) (functions_of_call (meaning old).graph (meaning old).here.scope (question_of old place is_bare word functions operands))))
+    → IsAnswered chosen_of IsChosen old new result (call_here (question_of old place is_bare word functions operands) (meaning old))
 unfolding call_here
-few_enough old new result place brackets word functions operands seen test same counts is called = rw (count_is old.types operands seen test false same counts is) called
+few_enough old new result place is_bare word functions operands seen test same counts is called = rw (count_is old.types operands seen test false same counts is) called
 
 -- ---- among which functions it is decided
 
 -- none
-pub ruled_none : (held : Held) (place : Place) (brackets word : List ℕ) (functions all : List FactId) (operands : List Operand) → length all ≡ 0 → Err (undeclared_at place (word_or_none (bare_word brackets word))) ≡ ruled_by (decided_among (question_of held place brackets word functions operands) (meaning held) (numbered held all))
-ruled_none held place brackets word functions [] operands none = refl
-ruled_none held place brackets word functions (one ∷ all) operands none = absurd (omega (arith, none))
+pub ruled_none : (held : Held) (place : Place) (is_bare : Bool) (word : List ℕ) (functions all : List FactId) (operands : List Operand) → length all ≡ 0 → Err (undeclared_at place (word_or_none (bare_word is_bare word))) ≡ ruled_by (decided_among (question_of held place is_bare word functions operands) (meaning held) (numbered held all))
+ruled_none held place is_bare word functions [] operands none = refl
+ruled_none held place is_bare word functions (one ∷ all) operands none = absurd (omega (arith, none))
 
 known_there : (held : Held) (number : FactId) → number.0 < length held.graph.facts → (fact : CxxFact) × (slice_get (meaning held).graph.facts number.0 ≡ Some fact)
 unfolding meaning
@@ -124,17 +124,17 @@ known_there held number less =
     let at : (fact : Fact) × (slice_get held.graph.facts number.0 ≡ Some fact) = there_at held.graph.facts number.0 less in
     (fact_at held.types at.0, fact_seen held.types held.graph.facts number.0 ∙ ap (option_map (fact_at held.types)) at.1)
 
-some_decided : (held : Held) (place : Place) (brackets word : List ℕ) (functions all : List FactId) (operands : List Operand) → AreFactsKnown held all → 0 < length all → decided place (operands_in held.types operands) (meaning held).graph (numbered held all) ≡ decided_among (question_of held place brackets word functions operands) (meaning held) (numbered held all)
-some_decided held place brackets word functions [] operands known some = absurd (omega (arith, some))
-some_decided held place brackets word functions (one ∷ all) operands known some =
+some_decided : (held : Held) (place : Place) (is_bare : Bool) (word : List ℕ) (functions all : List FactId) (operands : List Operand) → AreFactsKnown held all → 0 < length all → decided place (operands_in held.types operands) (meaning held).graph (numbered held all) ≡ decided_among (question_of held place is_bare word functions operands) (meaning held) (numbered held all)
+some_decided held place is_bare word functions [] operands known some = absurd (omega (arith, some))
+some_decided held place is_bare word functions (one ∷ all) operands known some =
     let there : (fact : CxxFact) × (slice_get (meaning held).graph.facts one.0 ≡ Some fact) = known_there held one known.0 in
     ap (λ o. decided place (operands_in held.types operands) (meaning held).graph (with_fact one.0 o (numbered held all))) there.1
-    ∙ sym (ap (λ o. decided_among (question_of held place brackets word functions operands) (meaning held) (with_fact one.0 o (numbered held all))) there.1)
+    ∙ sym (ap (λ o. decided_among (question_of held place is_bare word functions operands) (meaning held) (with_fact one.0 o (numbered held all))) there.1)
 
 -- some
-pub ruled_some : (held : Held) (place : Place) (brackets word : List ℕ) (functions all : List FactId) (operands : List Operand) (result : Result Ruling Stop) → AreFactsKnown held all → 0 < length all → Gives (ruling_at held.types) result (ruled_by (decided place (operands_in held.types operands) (meaning held).graph (numbered held all))) → Gives (ruling_at held.types) result (ruled_by (decided_among (question_of held place brackets word functions operands) (meaning held) (numbered held all)))
-ruled_some held place brackets word functions all operands result known some gives =
-    subst (λ (answer : Answer CxxDecision). Gives (ruling_at held.types) result (ruled_by answer)) (some_decided held place brackets word functions all operands known some) gives
+pub ruled_some : (held : Held) (place : Place) (is_bare : Bool) (word : List ℕ) (functions all : List FactId) (operands : List Operand) (result : Result Ruling Stop) → AreFactsKnown held all → 0 < length all → Gives (ruling_at held.types) result (ruled_by (decided place (operands_in held.types operands) (meaning held).graph (numbered held all))) → Gives (ruling_at held.types) result (ruled_by (decided_among (question_of held place is_bare word functions operands) (meaning held) (numbered held all)))
+ruled_some held place is_bare word functions all operands result known some gives =
+    subst (λ (answer : Answer CxxDecision). Gives (ruling_at held.types) result (ruled_by answer)) (some_decided held place is_bare word functions all operands known some) gives
 
 -- the functions are those that the call may mean
 pub called_same : (old new : Held) (result : Result Chosen Stop) (question : CxxQuestion) (all : List FactId) (meant : List Numbered) → numbered old all ≡ meant → IsAnswered chosen_of IsChosen old new result (called_as (meaning old) (decided_among question (meaning old) (numbered old all))) → IsAnswered chosen_of IsChosen old new result (called_as (meaning old) (decided_among question (meaning old) meant))

@@ -1,23 +1,19 @@
 -- What a name means and what a call may mean, by the numbers of declarations.
-use Rattle.std.specs.Prelude.{ℕ, ◌≡◌, ◌<◌, Bool, true, false, ◌||◌, List, [], ◌∷◌, ◌++◌, length, Option, Some, None, refl}
-use Rattle.std.proofs.Common.{ap, sym, subst, ◌∙◌, arith}
+use Rattle.std.specs.Prelude.{ℕ, ◌≡◌, Bool, true, false, ◌||◌, List, [], ◌∷◌, ◌++◌, length, Option, Some, None, refl}
+use Rattle.std.proofs.Common.{ap, sym, subst, ◌∙◌}
 use Rattle.std.specs.List.{slice_get}
 use Rattle.std.specs.Option.{option_map}
 use Rattle.cxx_model.specs.declared.facts.Fact.{Fact}
-use Rattle.cxx_model.specs.declared.lookup.Found.{Found as Sought}
 use Rattle.cxx_model.specs.declared.types.FactId.{FactId}
 use Rattle.cxx_model.specs.declared.types.ScopeId.{ScopeId}
-use Rattle.cxx_model.specs.Facts.Declarations.{CxxFact, CxxGraph, CxxName, fact_at, graph_at}
+use Rattle.cxx_model.specs.Facts.Declarations.{CxxFact, CxxGraph, fact_at, graph_at}
 use Rattle.cxx_model.specs.Facts.Graph.{Graph}
-use Rattle.cxx_model.specs.Text.Lexemes.{nowhere}
 use Rattle.cxx_model.specs.Types.Trees.{CxxType}
 use Rattle.cxx_meaning.specs.Conversions.Standard.{CxxOperand}
 use Rattle.cxx_meaning.specs.Lookups.Associated.{associated}
-use Rattle.cxx_meaning.specs.Lookups.Wanted.{any_name}
 use Rattle.cxx_names.specs.Looked.{looked_up, seen_by}
-use Rattle.cxx_reading.specs.Declaring.{place_in, place_of_fact}
 use Rattle.cxx_reading.specs.Givers.{giver, with_givers}
-use Rattle.cxx_reading.specs.Seen.{Numbered, fact_numbers, numbered_at, sought_from}
+use Rattle.cxx_reading.specs.Seen.{Numbered, fact_numbers, numbered_at}
 use Rattle.cxx_tree.specs.Held.{Held, fact_of_option, meaning}
 use Rattle.cxx_expr.specs.Calls.{bare_word}
 use Rattle.cxx_expr.specs.Views.{AreFactsBelow, AreFactsKnown, numbered, numbered_in, with_fact}
@@ -41,23 +37,14 @@ looked_same types graph (n ∷ numbers) =
 
 -- ---- what a name means
 
--- what was looked up is what a name means where the reader stands
-pub sought_here : (held : Held) (seen : Graph) (types : List CxxType) (said : ScopeId) (word : CxxName) (one : Sought) → seen ≡ held.graph → types ≡ held.types → said ≡ held.scope → one ≡ sought_from (graph_at types seen) any_name said.0 word → one ≡ sought_from (meaning held).graph any_name (meaning held).here.scope word
+-- some functions, with those that tell their default arguments in a scope
+pub givers_in : (held : Held) (seen : Graph) (types : List CxxType) (scope : ℕ) (numbers all : List FactId) → seen ≡ held.graph → types ≡ held.types → looked_up types seen.facts all ≡ with_givers (graph_at types seen) scope (looked_up types seen.facts numbers) → numbered held all ≡ with_givers (meaning held).graph scope (numbered_at (meaning held).graph (fact_numbers numbers))
 unfolding meaning
-sought_here held seen types said word one same named there is =
-    subst (λ (n : ScopeId). one ≡ sought_from (graph_at held.types held.graph) any_name n.0 word) there
-    (subst (λ (ts : List CxxType). one ≡ sought_from (graph_at ts held.graph) any_name said.0 word) named
-    (subst (λ (g : Graph). one ≡ sought_from (graph_at types g) any_name said.0 word) same is))
-
--- the functions that it means, with those that tell their default arguments
-pub givers_here : (held : Held) (seen : Graph) (types : List CxxType) (said : ScopeId) (numbers all : List FactId) → seen ≡ held.graph → types ≡ held.types → said ≡ held.scope → looked_up types seen.facts all ≡ with_givers (graph_at types seen) said.0 (looked_up types seen.facts numbers) → numbered held all ≡ with_givers (meaning held).graph (meaning held).here.scope (numbered_at (meaning held).graph (fact_numbers numbers))
-unfolding meaning
-givers_here held seen types said numbers all same named there is =
-    let own : numbered_in (graph_at types seen) all ≡ with_givers (graph_at types seen) said.0 (numbered_at (graph_at types seen) (fact_numbers numbers)) =
-    looked_same types seen all ∙ is ∙ ap (with_givers (graph_at types seen) said.0) (sym (numbered_is types seen numbers)) in
-    subst (λ (n : ScopeId). numbered_in (graph_at held.types held.graph) all ≡ with_givers (graph_at held.types held.graph) n.0 (numbered_at (graph_at held.types held.graph) (fact_numbers numbers))) there
-    (subst (λ (ts : List CxxType). numbered_in (graph_at ts held.graph) all ≡ with_givers (graph_at ts held.graph) said.0 (numbered_at (graph_at ts held.graph) (fact_numbers numbers))) named
-    (subst (λ (g : Graph). numbered_in (graph_at types g) all ≡ with_givers (graph_at types g) said.0 (numbered_at (graph_at types g) (fact_numbers numbers))) same own))
+givers_in held seen types scope numbers all same named is =
+    let own : numbered_in (graph_at types seen) all ≡ with_givers (graph_at types seen) scope (numbered_at (graph_at types seen) (fact_numbers numbers)) =
+    looked_same types seen all ∙ is ∙ ap (with_givers (graph_at types seen) scope) (sym (numbered_is types seen numbers)) in
+    subst (λ (ts : List CxxType). numbered_in (graph_at ts held.graph) all ≡ with_givers (graph_at ts held.graph) scope (numbered_at (graph_at ts held.graph) (fact_numbers numbers))) named
+    (subst (λ (g : Graph). numbered_in (graph_at types g) all ≡ with_givers (graph_at types g) scope (numbered_at (graph_at types g) (fact_numbers numbers))) same own)
 
 -- ---- each number is that of a declaration
 
@@ -75,33 +62,23 @@ all_known held seen numbers same below = known_all (length held.graph.facts) num
 pub all_below : (held : Held) (seen : Graph) (numbers : List FactId) → seen ≡ held.graph → AreFactsKnown held numbers → AreNumbersBelow (length seen.facts) numbers
 all_below held seen numbers same known = subst (λ (g : Graph). AreNumbersBelow (length g.facts) numbers) (sym same) (below_all (length held.graph.facts) numbers known)
 
--- ---- one declaration
-
-pub place_there : (types : List CxxType) (graph : Graph) (n : ℕ) (fact : Fact) → slice_get graph.facts n ≡ Some fact → fact.place ≡ place_of_fact (graph_at types graph) n
-place_there types graph n fact at = sym (ap place_in (fact_seen types graph.facts n ∙ ap (option_map (fact_at types)) at))
-
-pub place_none : (types : List CxxType) (graph : Graph) (n : ℕ) → slice_get graph.facts n ≡ None → nowhere ≡ place_of_fact (graph_at types graph) n
-place_none types graph n at = sym (ap place_in (fact_seen types graph.facts n ∙ ap (option_map (fact_at types)) at))
-
 -- ---- the scope that tells default arguments
 
 scope_by : (o : Option Numbered) (scope : ScopeId) → IsScopeOf o scope → scope.0 ≡ scope_of_giver o
 scope_by None scope is = elim is [ ]
 scope_by (Some one) scope is = is
 
-pub scope_there : (held : Held) (seen : Graph) (types : List CxxType) (said scope : ScopeId) (function : ℕ) (one : Option Numbered) → seen ≡ held.graph → types ≡ held.types → said ≡ held.scope → one ≡ giver (graph_at types seen) said.0 function → IsScopeOf one scope → scope.0 ≡ scope_of_giver (giver (meaning held).graph (meaning held).here.scope function)
+pub scope_there : (held : Held) (seen : Graph) (types : List CxxType) (said : ℕ) (scope : ScopeId) (function : ℕ) (one : Option Numbered) → seen ≡ held.graph → types ≡ held.types → one ≡ giver (graph_at types seen) said function → IsScopeOf one scope → scope.0 ≡ scope_of_giver (giver (meaning held).graph said function)
 unfolding meaning
-scope_there held seen types said scope function one same named there is known =
-    subst (λ (n : ScopeId). scope.0 ≡ scope_of_giver (giver (graph_at held.types held.graph) n.0 function)) there
-    (subst (λ (ts : List CxxType). scope.0 ≡ scope_of_giver (giver (graph_at ts held.graph) said.0 function)) named
-    (subst (λ (g : Graph). scope.0 ≡ scope_of_giver (giver (graph_at types g) said.0 function)) same (scope_by one scope known ∙ ap scope_of_giver is)))
+scope_there held seen types said scope function one same named is known =
+    subst (λ (ts : List CxxType). scope.0 ≡ scope_of_giver (giver (graph_at ts held.graph) said function)) named
+    (subst (λ (g : Graph). scope.0 ≡ scope_of_giver (giver (graph_at types g) said function)) same (scope_by one scope known ∙ ap scope_of_giver is))
 
-pub scope_none : (held : Held) (seen : Graph) (types : List CxxType) (said : ScopeId) (function : ℕ) → seen ≡ held.graph → types ≡ held.types → said ≡ held.scope → None ≡ giver (graph_at types seen) said.0 function → 0 ≡ scope_of_giver (giver (meaning held).graph (meaning held).here.scope function)
+pub scope_none : (held : Held) (seen : Graph) (types : List CxxType) (said function : ℕ) → seen ≡ held.graph → types ≡ held.types → None ≡ giver (graph_at types seen) said function → 0 ≡ scope_of_giver (giver (meaning held).graph said function)
 unfolding meaning
-scope_none held seen types said function same named there is =
-    subst (λ (n : ScopeId). 0 ≡ scope_of_giver (giver (graph_at held.types held.graph) n.0 function)) there
-    (subst (λ (ts : List CxxType). 0 ≡ scope_of_giver (giver (graph_at ts held.graph) said.0 function)) named
-    (subst (λ (g : Graph). 0 ≡ scope_of_giver (giver (graph_at types g) said.0 function)) same (ap scope_of_giver is)))
+scope_none held seen types said function same named is =
+    subst (λ (ts : List CxxType). 0 ≡ scope_of_giver (giver (graph_at ts held.graph) said function)) named
+    (subst (λ (g : Graph). 0 ≡ scope_of_giver (giver (graph_at types g) said function)) same (ap scope_of_giver is))
 
 -- ---- what the types of arguments find besides
 
@@ -120,11 +97,10 @@ besides_are held seen types said functions more word of operands same named ther
     (subst (λ (ts : List CxxType). numbered_in (graph_at ts held.graph) more ≡ found (graph_at ts held.graph) (numbered_in (graph_at ts held.graph) functions) (types_of_operands operands) said.0) named
     (subst (λ (g : Graph). numbered_in (graph_at types g) more ≡ found (graph_at types g) (numbered_in (graph_at types g) functions) (types_of_operands operands) said.0) same own))
 
--- a name in brackets
-pub no_besides : (held : Held) (functions : List Numbered) (brackets word : List ℕ) (operands : List CxxOperand) → 0 < length brackets → numbered held [] ≡ besides_in (meaning held) functions (bare_word brackets word) operands
+-- a name that is not bare
+pub no_besides : (held : Held) (functions : List Numbered) (word : List ℕ) (operands : List CxxOperand) → numbered held [] ≡ besides_in (meaning held) functions (bare_word false word) operands
 unfolding with_givers
-no_besides held functions [] word operands some = absurd (omega (arith, some))
-no_besides held functions (b ∷ brackets) word operands some = refl
+no_besides held functions word operands = refl
 
 -- ---- declarations behind others
 

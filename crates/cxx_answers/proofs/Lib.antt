@@ -1,10 +1,9 @@
 pub mod Asked
 pub mod Built
+pub mod ByTypes
 pub mod Found
 pub mod Fresh
-pub mod Nowhere
 pub mod Opened
-pub mod Path
 pub mod Records
 pub mod Told
 pub mod Typing

@@ -41,7 +41,7 @@ impl Questions for Answering {
         &self,
         state: &mut State,
         place: Place,
-        brackets: &[u8],
+        is_bare: bool,
         word: &[u8],
         functions: &[FactId],
         operands: OperandList,
@@ -50,7 +50,7 @@ impl Questions for Answering {
             state.alloc(),
             state,
             place,
-            brackets,
+            is_bare,
             word,
             functions,
             operands,
@@ -58,8 +58,14 @@ impl Questions for Answering {
     }
 
     #[tactic(auto, unfolding(crate::specs::Answers::questions))]
-    fn fallback(&self, state: &mut State, target: FactId, index: usize) -> Result<TreeId, Stop> {
-        fallback_here(state, target, index)
+    fn fallback(
+        &self,
+        state: &mut State,
+        path: &Path,
+        target: FactId,
+        index: usize,
+    ) -> Result<TreeId, Stop> {
+        fallback_here(state, path, target, index)
     }
 
     #[tactic(auto, unfolding(crate::specs::Answers::questions))]

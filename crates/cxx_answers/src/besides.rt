@@ -1,7 +1,7 @@
 //! The functions that a call may mean besides those that its name means where it stands (3.4.2).
 
 ghost use Rattle.std.specs.Prelude.{◌≡◌, ◌++◌, [], ◌∷◌, length, IfOk, OnOk};
-ghost use Rattle.cxx_adl.specs.Views.{given};
+ghost use Rattle.cxx_found.specs.Associated.{given};
 ghost use Rattle.cxx_answers.specs.Answers as definition;
 ghost use Rattle.cxx_answers.specs.Told.{AreNumbersBelow, IsTelling, count_in, graph_of, those_in};
 ghost use Rattle.cxx_meaning.specs.Lookups.Associated.{associated};
@@ -10,7 +10,6 @@ ghost use Rattle.cxx_model.specs.Types.Numbers.{AreTypesBelow};
 ghost use Rattle.cxx_reading.specs.Givers.{with_givers};
 ghost use Rattle.cxx_reading.specs.Seen.{fact_numbers, numbered_at};
 
-use crate::associated::found_by_types;
 use crate::givers::Telling;
 use cxx_model::{FactId, FactList, Listed, OutOfMemory, ScopeId, TypeIdList};
 use std::alloc::{AllocError, Global};
@@ -100,7 +99,7 @@ impl Telling<'_> {
         ensures is { IfOk result (λ all. those_in self.now all ≡ with_givers (graph_of self.now) scope.0 (numbered_at (graph_of self.now) (definition.fresh_among (those_in self.now functions.now) (definition.found_in_sets (graph_of self.now) word.now (associated (graph_of self.now) (given self.now.types.now of.now)))))) }
         ensures below { IfOk result (AreNumbersBelow (count_in self.now)) }
     {
-        let found = found_by_types(alloc, self.graph, self.types, word, of)?;
+        let found = self.found_by_types(alloc, word, of)?;
         Ok(self.besides_among(alloc, scope, functions, found.as_slice())?)
     }
 }

@@ -1,7 +1,7 @@
 //! Which function a call means (13.3).
 
 ghost use Rattle.std.specs.Prelude.{◌≡◌, ◌≤◌, ◌++◌, nat_lt, length, List, Some, IfOk};
-ghost use Rattle.cxx_adl.specs.Views.{given};
+ghost use Rattle.cxx_found.specs.Associated.{given};
 ghost use Rattle.cxx_answers.specs.Answers as definition;
 ghost use Rattle.cxx_answers.specs.Answers.{called_as};
 ghost use Rattle.cxx_answers.specs.Besides.{besides_in};
@@ -113,26 +113,23 @@ fn rule_here(
     )
 }
 
-// The word of a call, where no brackets stand round it.
-fn word_of<'w>(brackets: &[u8], word: &'w [u8]) -> &'w [u8]
-    ensures { result.now ≡ definition.word_or_none (bare_word brackets.now word.now) }
+// The word of a call, where it is bare.
+fn word_of<'w>(is_bare: bool, word: &'w [u8]) -> &'w [u8]
+    ensures { result.now ≡ definition.word_or_none (bare_word is_bare word.now) }
 {
-    match brackets {
-        [] => word,
-        _ => &[],
-    }
+    if is_bare { word } else { &[] }
 }
 
 // A name that means nothing where it stands, and is found by no argument.
 fn undeclared(
     alloc: Global,
     place: Place,
-    brackets: &[u8],
+    is_bare: bool,
     word: &[u8],
 ) -> Result<Box<Fault>, AllocError>
-    ensures { IfOk result (λ at. Faulty at.value ≡ undeclared_at place (definition.word_or_none (bare_word brackets.now word.now))) }
+    ensures { IfOk result (λ at. Faulty at.value ≡ undeclared_at place (definition.word_or_none (bare_word is_bare word.now))) }
 {
-    let word = Word::from_slice(alloc, word_of(brackets, word))?;
+    let word = Word::from_slice(alloc, word_of(is_bare, word))?;
     fault(alloc, place, FaultText::UndeclaredName(word))
 }
 
@@ -142,7 +139,7 @@ fn rule_among(
     alloc: Global,
     state: &State,
     place: Place,
-    brackets: &[u8],
+    is_bare: bool,
     word: &[u8],
     all: &[FactId],
     operands: OperandList,
@@ -150,11 +147,11 @@ fn rule_among(
     requires few { length operands ≤ limits.MOST_ARGUMENTS }
     requires all { AreFactsKnown state.now all.now }
     requires operands { AreOperandsBelow (length (state.now).types) operands }
-    ensures is { (functions : List FactNumber) → Gives (ruling_at (state.now).types) result (ruled_by (definition.decided_among (question_of state.now place brackets.now word.now functions operands) (meaning state.now) (numbered state.now all.now))) }
+    ensures is { (functions : List FactNumber) → Gives (ruling_at (state.now).types) result (ruled_by (definition.decided_among (question_of state.now place is_bare word.now functions operands) (meaning state.now) (numbered state.now all.now))) }
     ensures below { IfOk result (IsRulingBelow (length (state.now).types)) }
 {
     match all {
-        [] => Err(Stop::Fault(undeclared(alloc, place, brackets, word)?)),
+        [] => Err(Stop::Fault(undeclared(alloc, place, is_bare, word)?)),
         _ => rule_here(alloc, state, place, all, operands),
     }
 }
@@ -198,7 +195,7 @@ fn called(
     alloc: Global,
     state: &mut State,
     place: Place,
-    brackets: &[u8],
+    is_bare: bool,
     word: &[u8],
     all: &[FactId],
     operands: OperandList,
@@ -206,9 +203,9 @@ fn called(
     requires few { length operands ≤ limits.MOST_ARGUMENTS }
     requires all { AreFactsKnown state.old all.now }
     requires operands { AreOperandsBelow (length (state.old).types) operands }
-    ensures { (functions : List FactNumber) → IsAnswered chosen_of IsChosen state.old state.new result (called_as (meaning state.old) (definition.decided_among (question_of state.old place brackets.now word.now functions operands) (meaning state.old) (numbered state.old all.now))) }
+    ensures { (functions : List FactNumber) → IsAnswered chosen_of IsChosen state.old state.new result (called_as (meaning state.old) (definition.decided_among (question_of state.old place is_bare word.now functions operands) (meaning state.old) (numbered state.old all.now))) }
 {
-    let ruling = rule_among(alloc, state, place, brackets, word, all, operands)?;
+    let ruling = rule_among(alloc, state, place, is_bare, word, all, operands)?;
     made(state, ruling)
 }
 
@@ -260,24 +257,25 @@ fn found_besides(
     telling.besides(alloc, state.scope(), word, functions, &of)
 }
 
-// The same of a name that may stand in brackets, for which nothing is found.
+// The same of a name that may not be bare: then nothing is found.
 #[tactic(auto, using(crate::proofs::Found::no_besides))]
 fn besides(
     alloc: Global,
     state: &State,
-    brackets: &[u8],
+    is_bare: bool,
     word: &[u8],
     functions: &[FactId],
     operands: &[Operand],
 ) -> Result<FactList, OutOfMemory>
     requires functions { AreFactsKnown state.now functions.now }
     requires operands { AreOperandsBelow (length (state.now).types) operands.now }
-    ensures is { IfOk result (λ more. numbered state.now more ≡ besides_in (meaning state.now) (numbered state.now functions.now) (bare_word brackets.now word.now) (operands_in (state.now).types operands.now)) }
+    ensures is { IfOk result (λ more. numbered state.now more ≡ besides_in (meaning state.now) (numbered state.now functions.now) (bare_word is_bare word.now) (operands_in (state.now).types operands.now)) }
     ensures known { IfOk result (AreFactsKnown state.now) }
 {
-    match brackets {
-        [] => found_besides(alloc, state, word, functions, operands),
-        _ => Ok(Listed::new(alloc)),
+    if is_bare {
+        found_besides(alloc, state, word, functions, operands)
+    } else {
+        Ok(Listed::new(alloc))
     }
 }
 
@@ -306,18 +304,18 @@ fn functions_of_call(
     alloc: Global,
     state: &State,
     place: Place,
-    brackets: &[u8],
+    is_bare: bool,
     word: &[u8],
     functions: &[FactId],
     operands: &[Operand],
 ) -> Result<FactList, OutOfMemory>
     requires functions { AreFactsKnown state.now functions.now }
     requires operands { AreOperandsBelow (length (state.now).types) operands.now }
-    ensures is { IfOk result (λ all. numbered state.now all ≡ definition.functions_of_call (meaning state.now).graph (meaning state.now).here.scope (question_of state.now place brackets.now word.now functions.now operands.now)) }
+    ensures is { IfOk result (λ all. numbered state.now all ≡ definition.functions_of_call (meaning state.now).graph (meaning state.now).here.scope (question_of state.now place is_bare word.now functions.now operands.now)) }
     ensures known { IfOk result (AreFactsKnown state.now) }
 {
     let _ = place;
-    let more = besides(alloc, state, brackets, word, functions, operands)?;
+    let more = besides(alloc, state, is_bare, word, functions, operands)?;
     Ok(both(alloc, state, functions, more.as_slice())?)
 }
 
@@ -327,7 +325,7 @@ fn called_here(
     alloc: Global,
     state: &mut State,
     place: Place,
-    brackets: &[u8],
+    is_bare: bool,
     word: &[u8],
     functions: &[FactId],
     operands: OperandList,
@@ -335,13 +333,13 @@ fn called_here(
     requires few { length operands ≤ limits.MOST_ARGUMENTS }
     requires functions { AreFactsKnown state.old functions.now }
     requires operands { AreOperandsBelow (length (state.old).types) operands }
-    ensures { IsAnswered chosen_of IsChosen state.old state.new result (called_as (meaning state.old) (definition.decided_among (question_of state.old place brackets.now word.now functions.now operands) (meaning state.old) (definition.functions_of_call (meaning state.old).graph (meaning state.old).here.scope (question_of state.old place brackets.now word.now functions.now operands)))) }
+    ensures { IsAnswered chosen_of IsChosen state.old state.new result (called_as (meaning state.old) (definition.decided_among (question_of state.old place is_bare word.now functions.now operands) (meaning state.old) (definition.functions_of_call (meaning state.old).graph (meaning state.old).here.scope (question_of state.old place is_bare word.now functions.now operands)))) }
 {
     let all = match functions_of_call(
         alloc,
         state,
         place,
-        brackets,
+        is_bare,
         word,
         functions,
         operands.as_slice(),
@@ -349,37 +347,29 @@ fn called_here(
         Ok(all) => all,
         Err(_) => return Err(Stop::OutOfMemory),
     };
-    called(
-        alloc,
-        state,
-        place,
-        brackets,
-        word,
-        all.as_slice(),
-        operands,
-    )
+    called(alloc, state, place, is_bare, word, all.as_slice(), operands)
 }
 
-/// Which function a call at a place means, given the name that is called, with the brackets round it, the functions that
-/// the name means, and what the arguments give (13.3). A name without brackets means besides what the types of the arguments
-/// find (3.4.2). The call is kept. It stops at more arguments than a call may have, where there is no function, where none is
+/// Which function a call at a place means, given the word that is called, whether it is bare, the functions that its name
+/// means, and what the arguments give (13.3). A name without brackets and qualifiers means besides what the types of the
+/// arguments find (3.4.2). The call is kept. It stops at more arguments than a call may have, where there is no function, where none is
 /// viable, where none is best, at too many candidates, and at what needs a class.
 #[tactic(auto, using(cxx_expr::proofs::Kept::later_refl), unfolding(crate::specs::Answers::call_here))]
 pub fn call_here(
     alloc: Global,
     state: &mut State,
     place: Place,
-    brackets: &[u8],
+    is_bare: bool,
     word: &[u8],
     functions: &[FactId],
     operands: OperandList,
 ) -> Result<Chosen, Stop>
     requires functions { AreFactsKnown state.old functions.now }
     requires operands { AreOperandsBelow (length (state.old).types) operands }
-    ensures { IsAnswered chosen_of IsChosen state.old state.new result (definition.call_here (question_of state.old place brackets.now word.now functions.now operands) (meaning state.old)) }
+    ensures { IsAnswered chosen_of IsChosen state.old state.new result (definition.call_here (question_of state.old place is_bare word.now functions.now operands) (meaning state.old)) }
 {
     if are_too_many(operands.as_slice()) {
         return Err(Stop::Limit(LimitKind::Arguments));
     }
-    called_here(alloc, state, place, brackets, word, functions, operands)
+    called_here(alloc, state, place, is_bare, word, functions, operands)
 }

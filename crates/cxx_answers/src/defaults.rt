@@ -6,15 +6,18 @@ ghost use Rattle.cxx_answers.specs.Defaults as defaults;
 ghost use Rattle.cxx_expr.specs.Making.{IsTreeKnown};
 ghost use Rattle.cxx_model.specs.Stops.{Faulty, not_built_at as not_built};
 ghost use Rattle.cxx_model.specs.Text.Lexemes.{nowhere};
+ghost use Rattle.cxx_reading.specs.Givers.{giver};
 ghost use Rattle.cxx_tree.specs.Answered.{AnyKnown, IsAnswered, itself};
-ghost use Rattle.cxx_tree.specs.Defaults.{with_offer};
+ghost use Rattle.cxx_tree.specs.Arena.{path_at};
+ghost use Rattle.cxx_tree.specs.Defaults.{first_given, with_offer};
 ghost use Rattle.cxx_tree.specs.Held.{meaning, tree, trees, type_of};
 
 use crate::answering::Answering;
 use crate::seen::scope_of_giver;
 use cxx_expr::convert;
 use cxx_expr::faults::not_built_at;
-use cxx_model::{FactId, Fault, Place, Stop, TreeId, TypeId};
+use cxx_model::{FactId, Fault, Path, Place, ScopeId, Stop, TreeId, TypeId};
+use cxx_paths::{region_here, scope_of};
 use cxx_tree::State;
 use std::alloc::{AllocError, Global};
 
@@ -25,19 +28,41 @@ fn no_fallback(alloc: Global) -> Result<Box<Fault>, AllocError>
     not_built_at(alloc, Place { line: 0, column: 0 })
 }
 
-/// The default argument of the parameter with an index, by the first declaration of its function, as it is converted: that
-/// which a declaration gave in the scope that tells the default arguments where the reader stands.
-#[tactic(auto, using(cxx_expr::proofs::Kept::later_refl), unfolding(crate::specs::Answers::fallback_here))]
-pub fn fallback_here(state: &mut State, target: FactId, index: usize) -> Result<TreeId, Stop>
-    ensures { IsAnswered tree IsTreeKnown state.old state.new result (definition.fallback_here target.0 index (meaning state.old)) }
+// That which a declaration gave in the scope that tells the default arguments in a scope.
+#[tactic(auto, using(cxx_expr::proofs::Kept::later_refl))]
+fn fallback_in(
+    state: &mut State,
+    scope: ScopeId,
+    target: FactId,
+    index: usize,
+) -> Result<TreeId, Stop>
+    ensures { IsAnswered tree IsTreeKnown state.old state.new result (definition.fallback_by (meaning state.old) (first_given (meaning state.old).graph.facts (definition.scope_of_giver (giver (meaning state.old).graph scope.0 target.0)) target.0 index (meaning state.old).given)) }
 {
     let Ok(index) = u32::try_from(index) else {
         return Err(Stop::OutOfMemory);
     };
-    let scope = scope_of_giver(state, target);
+    let scope = scope_of_giver(state, scope, target);
     match state.first_given(scope, target, index) {
         Some(given) => Ok(given.tree),
         None => Err(Stop::Fault(no_fallback(state.alloc())?)),
+    }
+}
+
+/// The default argument of the parameter with an index, by the name that is called and the first declaration of its function,
+/// as it is converted: that which a declaration gave in the scope that tells the default arguments where the name is looked
+/// up.
+#[tactic(auto, using(cxx_paths::proofs::Stopping::region_then, cxx_paths::proofs::Stopping::region_stopped), unfolding(crate::specs::Answers::fallback_here))]
+pub fn fallback_here(
+    state: &mut State,
+    path: &Path,
+    target: FactId,
+    index: usize,
+) -> Result<TreeId, Stop>
+    ensures { IsAnswered tree IsTreeKnown state.old state.new result (definition.fallback_here (path_at path.now) target.0 index (meaning state.old)) }
+{
+    match region_here(state, path) {
+        Ok(region) => fallback_in(state, scope_of(region), target, index),
+        Err(stop) => Err(stop),
     }
 }
 

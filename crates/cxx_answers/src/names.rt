@@ -1,107 +1,35 @@
-//! What a name means (3.4.1).
+//! What a name means (3.4.1, 3.4.3).
 
-ghost use Rattle.std.specs.Prelude.{◌≡◌, ◌&&◌, List, [], ◌∷◌, IfOk};
+ghost use Rattle.std.specs.Prelude.{◌≡◌, ◌&&◌, List, [], ◌∷◌};
 ghost use Rattle.cxx_answers.specs.Answers as definition;
+ghost use Rattle.cxx_answers.specs.Named.{name_found};
 ghost use Rattle.cxx_expr.specs.Views.{AreFactsKnown, numbered};
 ghost use Rattle.cxx_meaning.specs.Lookups.Wanted.{any_name};
-ghost use Rattle.cxx_model.specs.Facts.Declarations.{CxxGraph, declares_at, graph_at, spelled};
-ghost use Rattle.cxx_model.specs.Stops.{Faulty};
+ghost use Rattle.cxx_model.specs.Facts.Declarations.{declares_at, graph_at};
 ghost use Rattle.cxx_model.specs.Types.Trees.{CxxType};
 ghost use Rattle.cxx_names.specs.Index.{Notes};
 ghost use Rattle.cxx_names.specs.Looked.{looked_up};
-ghost use Rattle.cxx_reading.specs.Declaring.{ambiguous_at, is_object as is_an_object, last_part, name_in};
-ghost use Rattle.cxx_reading.specs.Seen.{fact_numbers, numbered_at, set_in as set_in_of, sought_from};
+ghost use Rattle.cxx_reading.specs.Declaring.{is_object as is_an_object};
+ghost use Rattle.cxx_reading.specs.Paths.{found_in, name_in, sought_in};
+ghost use Rattle.cxx_reading.specs.Seen.{fact_numbers, numbered_at};
+ghost use Rattle.cxx_reading.specs.Trees.{last_part};
 ghost use Rattle.cxx_tree.specs.Answered.{AnyKnown, IsAnswered, itself};
 ghost use Rattle.cxx_tree.specs.Arena.{path_at, path_parts_at};
 ghost use Rattle.cxx_tree.specs.Held.{fact_of_option, meaning};
 
-use crate::seen::{place_of, with_givers};
+use crate::seen::with_givers;
 use crate::typed::fact_of;
 use cxx_expr::faults::fault;
-use cxx_found::{Found, Wanted, sought};
+use cxx_found::{Found, Wanted};
 use cxx_graph::Graph;
 use cxx_model::{
-    Entity, Evidence, FactId, FactList, Fault, FaultText, LeftOut, Listed, OutOfMemory, Path,
-    PathPart, Place, ScopeId, Stop, Word,
+    Entity, FactId, FactList, FaultText, LeftOut, Path, PathPart, Place, ScopeId, Stop,
 };
 use cxx_names::Names;
+use cxx_paths::{ambiguous_name, last_place, name_sought, region_here, scope_of, set_in};
+use cxx_reading::Region;
 use cxx_tree::State;
-use std::alloc::{AllocError, Global};
-
-// The name behind all qualifiers.
-#[tactic(auto, using(crate::proofs::Path::last_word, crate::proofs::Path::no_word))]
-fn last_word(parts: &[PathPart]) -> &[u8]
-    ensures { result.now ≡ (last_part (path_parts_at parts.now)).word }
-{
-    let count = parts.len();
-    if count == 0 {
-        return &[];
-    }
-    parts[count - 1].word.as_slice()
-}
-
-// Where it stands.
-#[tactic(auto, using(crate::proofs::Path::last_place, crate::proofs::Path::no_place))]
-fn last_place(parts: &[PathPart]) -> Place
-    ensures { result ≡ (last_part (path_parts_at parts.now)).place }
-{
-    let count = parts.len();
-    if count == 0 {
-        return Place { line: 0, column: 0 };
-    }
-    parts[count - 1].place
-}
-
-// What the last name of a path means where the reader stands, as it is looked up.
-#[tactic(auto, using(crate::proofs::Found::sought_here))]
-fn seek(alloc: Global, state: &State, word: &[u8]) -> Result<Found, OutOfMemory>
-    ensures { IfOk result (λ one. one ≡ sought_from (meaning state.now).graph any_name (meaning state.now).here.scope (spelled word.now)) }
-{
-    sought(
-        alloc,
-        state.names(),
-        state.graph(),
-        state.types(),
-        Wanted::Any,
-        state.scope(),
-        word,
-    )
-}
-
-// The entities of a set, by their first declarations.
-fn set_in(found: &Found) -> &[FactId]
-    ensures { (graph : CxxGraph) → numbered_at graph (fact_numbers result.now) ≡ set_in_of graph found.now }
-{
-    match found {
-        Found::Set(facts) => facts.as_slice(),
-        _ => &[],
-    }
-}
-
-// Two declarations of which none hides the other.
-#[tactic(auto, unfolding(cxx_tree::specs::Held::meaning))]
-fn ambiguous(
-    alloc: Global,
-    state: &State,
-    parts: &[PathPart],
-    one: FactId,
-    two: FactId,
-) -> Result<Box<Fault>, AllocError>
-    ensures { IfOk result (λ at. Faulty at.value ≡ ambiguous_at (meaning state.now).graph (last_part (path_parts_at parts.now)) one two) }
-{
-    let word = Word::from_slice(alloc, last_word(parts))?;
-    let mut evidence = Listed::new(alloc);
-    evidence.push(Evidence::Found(place_of(state.graph(), one)))?;
-    evidence.push(Evidence::Found(place_of(state.graph(), two)))?;
-    Ok(Box::new(
-        alloc,
-        Fault {
-            place: last_place(parts),
-            text: FaultText::AmbiguousName(word),
-            evidence,
-        },
-    )?)
-}
+use std::alloc::Global;
 
 fn is_object(what: Entity) -> bool
     ensures { (types : List CxxType) → result ≡ is_an_object (declares_at types what) }
@@ -196,57 +124,86 @@ fn is_left_out(state: &State, numbers: &[FactId]) -> bool
 fn name_meant(
     alloc: Global,
     state: &mut State,
-    path: &Path,
+    parts: &[PathPart],
     all: FactList,
 ) -> Result<FactList, Stop>
-    requires is { numbered state.old all ≡ definition.meant_here (path_at path.now) (meaning state.old) }
-    requires known { AreFactsKnown state.old all }
-    ensures { IsAnswered numbered AreFactsKnown state.old state.new result (definition.name_meant (path_at path.now) (meaning state.old)) }
+    requires { AreFactsKnown state.old all }
+    ensures { IsAnswered numbered AreFactsKnown state.old state.new result (definition.name_meant (last_part (path_parts_at parts.now)) (numbered state.old all) (meaning state.old)) }
 {
     if is_refused(state, all.as_slice()) {
-        let place = last_place(path.parts.as_slice());
+        let place = last_place(parts);
         return Err(Stop::Fault(fault(alloc, place, FaultText::OperandsDoNotFit)?));
     }
     if is_left_out(state, all.as_slice()) {
-        let place = last_place(path.parts.as_slice());
+        let place = last_place(parts);
         let text = FaultText::LeftOut(LeftOut::ConditionNameInStep);
         return Err(Stop::Fault(fault(alloc, place, text)?));
     }
     Ok(all)
 }
 
-// What a name means by what was found, where that is not ambiguous.
-#[tactic(auto, using(cxx_expr::proofs::Kept::later_refl), unfolding(cxx_reading::specs::Seen::found))]
+// What a name means in a region, by the entities that were found.
+#[tactic(auto, using(cxx_expr::proofs::Kept::later_refl))]
+fn name_among(
+    alloc: Global,
+    state: &mut State,
+    path: &Path,
+    region: Region,
+    numbers: &[FactId],
+) -> Result<FactList, Stop>
+    requires { numbered_at (meaning state.old).graph (fact_numbers numbers.now) ≡ found_in (meaning state.old).graph region (name_in (path_at path.now)) }
+    ensures { IsAnswered numbered AreFactsKnown state.old state.new result (definition.name_meant (last_part (path_at path.now).parts) (definition.meant_in (meaning state.old).graph region (name_in (path_at path.now))) (meaning state.old)) }
+{
+    let all = with_givers(alloc, state, scope_of(region), numbers)?;
+    name_meant(alloc, state, path.parts.as_slice(), all)
+}
+
+// The same of what was found, where that is not ambiguous.
+#[tactic(auto, using(cxx_paths::proofs::Stopping::stopped_at))]
 fn name_found(
     alloc: Global,
     state: &mut State,
     path: &Path,
+    region: Region,
     found: &Found,
 ) -> Result<FactList, Stop>
-    requires { found.now ≡ sought_from (meaning state.old).graph any_name (meaning state.old).here.scope (name_in (path_at path.now)) }
-    ensures { IsAnswered numbered AreFactsKnown state.old state.new result (definition.name_meant (path_at path.now) (meaning state.old)) }
+    requires { found.now ≡ sought_in (meaning state.old).graph any_name region (name_in (path_at path.now)) }
+    ensures { IsAnswered numbered AreFactsKnown state.old state.new result (name_found (path_at path.now) region found.now (meaning state.old)) }
 {
-    let all = with_givers(alloc, state, set_in(found))?;
-    name_meant(alloc, state, path, all)
+    if let Found::Ambiguous(one, two) = found {
+        return Err(ambiguous_name(state, path, *one, *two));
+    }
+    name_among(alloc, state, path, region, set_in(found))
 }
 
-/// All declarations that a name means where the reader stands (3.4.1): its entities by their first declarations, and behind
-/// them the declarations of functions that tell their default arguments there (8.3.6). It stops where the name is ambiguous
-/// (3.4), at a local object in a default argument (8.3.6), and at the object that the condition of a `for` declares in what
-/// that does behind each turn (6.5.3).
-#[tactic(auto, using(cxx_expr::proofs::Kept::later_refl), unfolding(crate::specs::Answers::name_here))]
+// What a name means that is looked up in a region.
+#[tactic(auto, using(cxx_expr::proofs::Kept::later_refl))]
+fn name_in_region(
+    alloc: Global,
+    state: &mut State,
+    path: &Path,
+    region: Region,
+) -> Result<FactList, Stop>
+    ensures { IsAnswered numbered AreFactsKnown state.old state.new result (definition.name_in_region (path_at path.now) region (meaning state.old)) }
+{
+    match name_sought(state, Wanted::Any, region, path) {
+        Ok(found) => name_found(alloc, state, path, region, &found),
+        Err(_) => Err(Stop::OutOfMemory),
+    }
+}
+
+/// All declarations that a name with its qualifiers means where the reader stands (3.4.1, 3.4.3): its entities by their first
+/// declarations, and behind them the declarations of functions that tell their default arguments where it is looked up (8.3.6).
+/// It stops where a qualifier means no namespace, where the name is ambiguous (3.4), at a local object in a default argument
+/// (8.3.6), and at the object that the condition of a `for` declares in what that does behind each turn (6.5.3).
+#[tactic(auto, using(cxx_paths::proofs::Stopping::region_then, cxx_paths::proofs::Stopping::region_stopped), unfolding(crate::specs::Answers::name_here))]
 pub fn name_here(alloc: Global, state: &mut State, path: &Path) -> Result<FactList, Stop>
     ensures { IsAnswered numbered AreFactsKnown state.old state.new result (definition.name_here (path_at path.now) (meaning state.old)) }
 {
-    let found = match seek(alloc, state, last_word(path.parts.as_slice())) {
-        Ok(found) => found,
-        Err(_) => return Err(Stop::OutOfMemory),
-    };
-    if let Found::Ambiguous(one, two) = &found {
-        let parts = path.parts.as_slice();
-        return Err(Stop::Fault(ambiguous(alloc, state, parts, *one, *two)?));
+    match region_here(state, path) {
+        Ok(region) => name_in_region(alloc, state, path, region),
+        Err(stop) => Err(stop),
     }
-    name_found(alloc, state, path, &found)
 }
 
 /// A name, by its place, means the entity with this first declaration, which is kept (3.4).

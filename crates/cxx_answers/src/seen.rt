@@ -1,34 +1,18 @@
-//! Declarations of the state, and those that tell default arguments where the reader stands (8.3.6).
+//! Declarations that tell default arguments in a scope (8.3.6).
 
-ghost use Rattle.std.specs.Prelude.{◌≡◌, length, List, IfOk, IfSome};
+ghost use Rattle.std.specs.Prelude.{◌≡◌, length, IfOk, IfSome};
 ghost use Rattle.cxx_answers.specs.Answers as definition;
 ghost use Rattle.cxx_answers.specs.Told.{IsTelling};
 ghost use Rattle.cxx_expr.specs.Views.{AreFactsKnown, numbered};
-ghost use Rattle.cxx_model.specs.Facts.Declarations.{graph_at};
 ghost use Rattle.cxx_model.specs.Facts.Fitted.{IsGraphBelow};
-ghost use Rattle.cxx_model.specs.Types.Trees.{CxxType};
-ghost use Rattle.cxx_reading.specs.Declaring.{place_of_fact};
 ghost use Rattle.cxx_reading.specs.Givers as givers;
 ghost use Rattle.cxx_reading.specs.Seen.{fact_numbers, numbered_at};
 ghost use Rattle.cxx_tree.specs.Held.{meaning};
 
 use crate::givers::Telling;
-use crate::typed::fact_of;
-use cxx_graph::Graph;
-use cxx_model::{FactId, FactList, Place, ScopeId};
+use cxx_model::{FactId, FactList, ScopeId};
 use cxx_tree::State;
 use std::alloc::{AllocError, Global};
-
-/// Where a declaration stands.
-#[tactic(auto, using(crate::proofs::Found::place_there, crate::proofs::Found::place_none))]
-pub(crate) fn place_of(graph: &Graph, number: FactId) -> Place
-    ensures { (types : List CxxType) → result ≡ place_of_fact (graph_at types graph.now) number.0 }
-{
-    match fact_of(graph, number) {
-        Some(fact) => fact.place,
-        None => Place { line: 0, column: 0 },
-    }
-}
 
 /// What a state has to tell default arguments.
 pub(crate) fn telling_of<'s>(state: &'s State) -> Telling<'s>
@@ -44,28 +28,28 @@ pub(crate) fn telling_of<'s>(state: &'s State) -> Telling<'s>
     }
 }
 
-/// Some functions by their first declarations, and behind them the others that tell their default arguments where the reader
-/// stands.
-#[tactic(auto, using(crate::proofs::Found::givers_here, crate::proofs::Found::all_known))]
+/// Some functions by their first declarations, and behind them the others that tell their default arguments in a scope.
+#[tactic(auto, using(crate::proofs::Found::givers_in, crate::proofs::Found::all_known))]
 pub(crate) fn with_givers(
     alloc: Global,
     state: &State,
+    scope: ScopeId,
     numbers: &[FactId],
 ) -> Result<FactList, AllocError>
-    ensures is { IfOk result (λ all. numbered state.now all ≡ givers.with_givers (meaning state.now).graph (meaning state.now).here.scope (numbered_at (meaning state.now).graph (fact_numbers numbers.now))) }
+    ensures is { IfOk result (λ all. numbered state.now all ≡ givers.with_givers (meaning state.now).graph scope.0 (numbered_at (meaning state.now).graph (fact_numbers numbers.now))) }
     ensures known { IfOk result (AreFactsKnown state.now) }
 {
     let telling = telling_of(state);
-    telling.with_givers(alloc, state.scope(), numbers)
+    telling.with_givers(alloc, scope, numbers)
 }
 
-/// The scope of the declaration that tells the default arguments of a function where the reader stands.
+/// The scope of the declaration that tells the default arguments of a function in a scope.
 #[tactic(auto, using(crate::proofs::Found::scope_there, crate::proofs::Found::scope_none))]
-pub(crate) fn scope_of_giver(state: &State, function: FactId) -> ScopeId
-    ensures { result.0 ≡ definition.scope_of_giver (givers.giver (meaning state.now).graph (meaning state.now).here.scope function.0) }
+pub(crate) fn scope_of_giver(state: &State, scope: ScopeId, function: FactId) -> ScopeId
+    ensures { result.0 ≡ definition.scope_of_giver (givers.giver (meaning state.now).graph scope.0 function.0) }
 {
     let telling = telling_of(state);
-    match telling.giver(state.scope(), function) {
+    match telling.giver(scope, function) {
         Some(one) => telling.scope_of(one),
         None => ScopeId(0),
     }

@@ -13,13 +13,14 @@ use Rattle.cxx_model.specs.Facts.Fitted.{Fitted, IsEntityBelow}
 use Rattle.cxx_model.specs.Facts.Graph.{EachMayFollow, Graph, InRange, IsEntityInRange, MayFollow, enumerations}
 use Rattle.cxx_model.specs.Types.Trees.{CxxType}
 use Rattle.cxx_meaning.specs.Lookups.Wanted.{hides_types, is_function}
+use Rattle.cxx_reading.specs.Paths.{wrong_kind_at}
 use Rattle.cxx_reading.specs.Seen.{Numbered, kept}
 use Rattle.cxx_reading.specs.Trees.{CxxPathPart, CxxTree, Label}
 use Rattle.cxx_names.proofs.Clashing.{fact_below}
 use Rattle.cxx_tree.proofs.Graphs.{enumerations_append}
 use Rattle.cxx_tree.specs.Held.{Held, meaning}
-use Rattle.cxx_expr.specs.Calls.{called_first, function_call, is_asked_for, is_none_left, value_call}
-use Rattle.cxx_expr.specs.Names.{are_one_function, is_function_with, means_first, means_value, no_value_at, type_by_fact, type_declared, values_among, wrong_kind_at}
+use Rattle.cxx_expr.specs.Calls.{called_first, function_call, is_asked_for, is_bare, value_call}
+use Rattle.cxx_expr.specs.Names.{are_one_function, is_function_with, means_first, means_value, no_value_at, type_by_fact, type_declared, values_among}
 use Rattle.cxx_expr.specs.Questions.{Questions}
 use Rattle.cxx_expr.specs.Views.{AreFactsBelow, AreFactsKnown, numbered, numbered_in, with_fact}
 use Rattle.cxx_called.specs.Views.{IsOfThere}
@@ -218,7 +219,7 @@ known_there held number less = by (slice_get held.graph.facts number.0) refl
     by None at = let past = past_end held.graph.facts number.0 at in absurd (omega (arith, less, past))
     by (Some fact) at = (fact_at held.types fact, fact_is held number.0 fact at)
 
-pub asked_none : (held : Held) (label : Label) (all : List FactId) → length all ≡ 0 → is_none_left label.spelling ≡ is_asked_for label (numbered held all)
+pub asked_none : (held : Held) (label : Label) (all : List FactId) → length all ≡ 0 → is_bare label ≡ is_asked_for label (numbered held all)
 asked_none held label [] none = refl
 asked_none held label (one ∷ all) none = absurd (omega (arith, none))
 

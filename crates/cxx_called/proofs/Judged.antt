@@ -16,7 +16,7 @@ use Rattle.cxx_tree.proofs.Graphs.{length_facts}
 use Rattle.cxx_tree.specs.Arena.{label_at}
 use Rattle.cxx_tree.specs.Held.{Held, meaning, tree, trees}
 use Rattle.cxx_tree.specs.Later.{Later}
-use Rattle.cxx_expr.specs.Calls.{bare_word, question}
+use Rattle.cxx_expr.specs.Calls.{bare_word, is_bare, question}
 use Rattle.cxx_expr.specs.Making.{AreTreesHeld, trees_held}
 use Rattle.cxx_expr.specs.Names.{word_in}
 use Rattle.cxx_expr.specs.Operands.{judged, judged_each}
@@ -80,8 +80,8 @@ facts_known old mid functions same ok =
 
 -- the operands were made before
 pub question_is : (q : Questions) (old mid : Held) (node : Node) (functions : List FactId) (arguments : List TreeId) (operands : List Operand) → meaning mid ≡ meaning old → operands_in mid.types operands ≡ judged_each q (trees_held old arguments) (meaning old) →
-    q.call (question_of mid node.place node.spelling (word_in (label_at mid.types node)).word functions operands) (meaning mid) ≡ q.call (question q (label_at old.types node) (numbered old functions) (trees_held old arguments) (meaning old)) (meaning old)
+    q.call (question_of mid node.place (is_bare (label_at mid.types node)) (word_in (label_at mid.types node)).word functions operands) (meaning mid) ≡ q.call (question q (label_at old.types node) (numbered old functions) (trees_held old arguments) (meaning old)) (meaning old)
 question_is q old mid node functions arguments operands same is =
-    let make : List Numbered → List CxxOperand → CxxQuestion = λ fs os. record { place = node.place; word = bare_word node.spelling (word_in (label_at old.types node)).word; functions = fs; operands = os } in
+    let make : List Numbered → List CxxOperand → CxxQuestion = λ fs os. record { place = node.place; word = bare_word (is_bare (label_at old.types node)) (word_in (label_at old.types node)).word; functions = fs; operands = os } in
     ap (λ (s : CxxState). q.call (make (numbered_in s.graph functions) (operands_in mid.types operands)) s) same
     ∙ ap (λ os. q.call (make (numbered old functions) os) (meaning old)) is

@@ -5,7 +5,7 @@ ghost use Rattle.cxx_model.specs.Facts.Declarations.{declares_at};
 ghost use Rattle.cxx_model.specs.Stops.{Faulty};
 ghost use Rattle.cxx_meaning.specs.Lookups.Wanted as wanted;
 ghost use Rattle.cxx_tree.specs.Answered.{IsAnswered};
-ghost use Rattle.cxx_tree.specs.Arena.{label_at};
+ghost use Rattle.cxx_tree.specs.Arena.{label_at, path_at};
 ghost use Rattle.cxx_tree.specs.Held.{Held, meaning, tree, trees, type_of};
 ghost use Rattle.cxx_expr.specs.Calls as definition;
 ghost use Rattle.cxx_expr.specs.Making.{AddsOperand, AreTreesHeld, Gathers, GrowsOperands, GrowsTree, IsTreeKnown, trees_held};
@@ -19,7 +19,7 @@ ghost use Rattle.cxx_called.specs.Tails.{IsFirstSplit, first_split};
 ghost use Rattle.cxx_called.specs.Views.{IsFoundBelow, IsSignatureBelow, found_signature, signature_at};
 
 use crate::facts::{fact_at, is_function, values_among};
-use crate::names::{declared, named, word_in};
+use crate::names::{declared, is_plain, named, no_path, word_in};
 use crate::signatures::{Signature, called_signature, fits_count};
 use cxx_expr::conditional::is_of_class;
 use cxx_expr::converting::convert_each;
@@ -30,8 +30,8 @@ use cxx_expr::operators::{listed_one, misshapen, no_fit};
 use cxx_expr::production::NAME;
 use cxx_expr::{Chosen, Questions};
 use cxx_model::{
-    Entity, FactId, Fault, FaultText, Listed, Node, OperandList, Place, Stop, TreeId, TreeIdList,
-    TypeId,
+    Entity, FactId, Fault, FaultText, Listed, Node, OperandList, Path, Place, Stop, TreeId,
+    TreeIdList, TypeId,
 };
 use cxx_tree::State;
 use std::alloc::{AllocError, Global};
@@ -43,15 +43,16 @@ use std::alloc::{AllocError, Global};
 fn fallback_more<Q: Questions>(
     questions: &Q,
     state: &mut State,
+    path: &Path,
     target: FactId,
     index: usize,
     done: &mut TreeIdList,
 ) -> Result<(), Stop>
     requires ready { Q.is_ready questions.now }
     requires done { AreTreesHeld state.old done.old }
-    ensures { Gathers done.new state.old state.new result (definition.fallback_more (Q.asks questions.now) target.0 index (trees_held state.old done.old) (meaning state.old)) }
+    ensures { Gathers done.new state.old state.new result (definition.fallback_more (Q.asks questions.now) (path_at path.now) target.0 index (trees_held state.old done.old) (meaning state.old)) }
 {
-    let next = questions.fallback(state, target, index)?;
+    let next = questions.fallback(state, path, target, index)?;
     Ok(done.push(next)?)
 }
 
@@ -60,6 +61,7 @@ fn fallback_more<Q: Questions>(
 fn fallbacks<Q: Questions>(
     questions: &Q,
     state: &mut State,
+    path: &Path,
     target: FactId,
     begin: usize,
     done: TreeIdList,
@@ -67,13 +69,36 @@ fn fallbacks<Q: Questions>(
 ) -> Result<TreeIdList, Stop>
     requires ready { Q.is_ready questions.now }
     requires done { AreTreesHeld state.old done }
-    ensures { IsAnswered trees_held AreTreesHeld state.old state.new result (definition.fallbacks (Q.asks questions.now) target.0 begin (trees_held state.old done) (end - begin) (meaning state.old)) }
+    ensures { IsAnswered trees_held AreTreesHeld state.old state.new result (definition.fallbacks (Q.asks questions.now) (path_at path.now) target.0 begin (trees_held state.old done) (end - begin) (meaning state.old)) }
 {
     let mut done = done;
     for index in begin..end {
-        fallback_more(questions, state, target, index, &mut done)?;
+        fallback_more(questions, state, path, target, index, &mut done)?;
     }
     Ok(done)
+}
+
+// The same, of a call by the name of a node.
+fn left_out<Q: Questions>(
+    questions: &Q,
+    state: &mut State,
+    node: &Node,
+    target: FactId,
+    begin: usize,
+    done: TreeIdList,
+    end: usize,
+) -> Result<TreeIdList, Stop>
+    requires ready { Q.is_ready questions.now }
+    requires done { AreTreesHeld state.old done }
+    ensures { IsAnswered trees_held AreTreesHeld state.old state.new result (definition.fallbacks (Q.asks questions.now) (names.path_in (label_at (state.old).types node.now)) target.0 begin (trees_held state.old done) (end - begin) (meaning state.old)) }
+{
+    match &node.path {
+        Some(path) => fallbacks(questions, state, path, target, begin, done, end),
+        None => {
+            let path = no_path(state.alloc());
+            fallbacks(questions, state, &path, target, begin, done, end)
+        }
+    }
 }
 
 // ---- a call of a function by its name (13.3.1.1.1)
@@ -114,7 +139,7 @@ fn filled<Q: Questions>(
     ensures { IsAnswered tree IsTreeKnown state.old state.new result (tails.filled (Q.asks questions.now) (node_tree state.old node) count (chosen_of state.old chosen.now) (trees_held state.old given) (meaning state.old)) }
 {
     let end = chosen.parameters.len();
-    let all = fallbacks(questions, state, chosen.target, count, given, end)?;
+    let all = left_out(questions, state, &node, chosen.target, count, given, end)?;
     chosen_tree(state, node, chosen, all)
 }
 
@@ -201,6 +226,22 @@ fn judged_each<Q: Questions>(
     Ok(found)
 }
 
+fn is_none_left(spelling: &[u8]) -> bool
+    ensures { result ≡ definition.is_none_left spelling.now }
+{
+    match spelling {
+        [] => true,
+        _ => false,
+    }
+}
+
+// Whether the name that is called stands in no brackets and has no qualifiers (3.4.2).
+fn is_bare(node: &Node) -> bool
+    ensures { result ≡ definition.is_bare (label_at [] node.now) }
+{
+    is_none_left(node.spelling.as_slice()) && is_plain(node)
+}
+
 // Which function the call means.
 fn asked<Q: Questions>(
     questions: &Q,
@@ -212,12 +253,12 @@ fn asked<Q: Questions>(
     requires ready { Q.is_ready questions.now }
     requires functions { AreFactsKnown state.old functions.now }
     requires operands { AreOperandsBelow (length (state.old).types) operands }
-    ensures { IsAnswered chosen_of IsChosen state.old state.new result ((Q.asks questions.now).call (question_of state.old (node.now).place (node.now).spelling (names.word_in (label_at (state.old).types node.now)).word functions.now operands) (meaning state.old)) }
+    ensures { IsAnswered chosen_of IsChosen state.old state.new result ((Q.asks questions.now).call (question_of state.old (node.now).place (definition.is_bare (label_at (state.old).types node.now)) (names.word_in (label_at (state.old).types node.now)).word functions.now operands) (meaning state.old)) }
 {
     questions.call(
         state,
         node.place,
-        node.spelling.as_slice(),
+        is_bare(node),
         word_in(node),
         functions,
         operands,
@@ -468,16 +509,7 @@ fn is_called(state: &State, what: Entity) -> bool
     is_function(state.graph(), what)
 }
 
-fn is_none_left(spelling: &[u8]) -> bool
-    ensures { result ≡ definition.is_none_left spelling.now }
-{
-    match spelling {
-        [] => true,
-        _ => false,
-    }
-}
-
-// Whether a name without brackets round it means nothing where it stands (3.4.2).
+// Whether a bare name means nothing where it stands (3.4.2).
 #[tactic(auto, using(crate::proofs::Declared::asked_none, crate::proofs::Declared::asked_some))]
 fn is_asked_for(state: &State, node: &Node, all: &[FactId]) -> bool
     requires { AreFactsKnown state.now all.now }
@@ -485,7 +517,7 @@ fn is_asked_for(state: &State, node: &Node, all: &[FactId]) -> bool
 {
     let _ = state;
     match all {
-        [] => is_none_left(node.spelling.as_slice()),
+        [] => is_bare(node),
         _ => false,
     }
 }

@@ -9,8 +9,10 @@ ghost use Rattle.cxx_model.specs.Facts.Graph.{enumerations};
 ghost use Rattle.cxx_model.specs.Stops.{Faulty};
 ghost use Rattle.cxx_model.specs.Types.Integral.{promoted_of_values};
 ghost use Rattle.cxx_model.specs.Types.Trees.{enumeration};
+ghost use Rattle.cxx_reading.specs.Paths.{wrong_kind_at};
+ghost use Rattle.cxx_reading.specs.Trees.{is_alone, is_plain_path};
 ghost use Rattle.cxx_tree.specs.Answered.{IsAnswered};
-ghost use Rattle.cxx_tree.specs.Arena.{label_at, path_at, path_part_at};
+ghost use Rattle.cxx_tree.specs.Arena.{label_at, path_at, path_part_at, path_parts_at};
 ghost use Rattle.cxx_tree.specs.Held.{enumeration_of_option, meaning, tree, type_of};
 ghost use Rattle.cxx_expr.specs.Making.{GrowsTree, GrowsType, IsTreeKnown};
 ghost use Rattle.cxx_expr.specs.Names as definition;
@@ -90,6 +92,39 @@ fn place_in(node: &Node) -> Place
     }
 }
 
+/// The name of a node without one.
+pub(crate) fn no_path(alloc: Global) -> Path
+    ensures { path_at result ≡ definition.no_path }
+{
+    Path {
+        global: false,
+        parts: Listed::new(alloc),
+    }
+}
+
+#[tactic(auto, using(crate::proofs::Words::alone_is))]
+fn is_alone(parts: &[PathPart]) -> bool
+    ensures { result ≡ is_alone (path_parts_at parts.now) }
+{
+    parts.len() == 1
+}
+
+fn is_plain_path(path: &Path) -> bool
+    ensures { result ≡ is_plain_path (path_at path.now) }
+{
+    !path.global && is_alone(path.parts.as_slice())
+}
+
+/// Whether the name of a node has no qualifiers (3.4.1).
+pub(crate) fn is_plain(node: &Node) -> bool
+    ensures { result ≡ is_plain_path (definition.path_in (label_at [] node.now)) }
+{
+    match &node.path {
+        Some(path) => is_plain_path(path),
+        None => false,
+    }
+}
+
 // ---- faults
 
 fn several_at(alloc: Global, place: Place) -> Result<Box<Fault>, AllocError>
@@ -107,7 +142,7 @@ fn undeclared(alloc: Global, node: &Node) -> Result<Box<Fault>, AllocError>
 }
 
 fn wrong_kind(alloc: Global, node: &Node, other: Place) -> Result<Box<Fault>, AllocError>
-    ensures { IfOk result (λ at. Faulty at.value ≡ definition.wrong_kind_at (definition.word_in (label_at [] node.now)) other) }
+    ensures { IfOk result (λ at. Faulty at.value ≡ wrong_kind_at (definition.word_in (label_at [] node.now)) other) }
 {
     let word = Word::from_slice(alloc, word_in(node))?;
     let mut evidence = Listed::new(alloc);
@@ -364,10 +399,7 @@ pub(crate) fn declared<Q: Questions>(
     match &node.path {
         Some(path) => questions.name(state, path),
         None => {
-            let path = Path {
-                global: false,
-                parts: Listed::new(alloc),
-            };
+            let path = no_path(alloc);
             questions.name(state, &path)
         }
     }

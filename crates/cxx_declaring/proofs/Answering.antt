@@ -1,28 +1,38 @@
 -- What follows a definition over the state is what a reader asks for.
-use Rattle.std.specs.Prelude.{ℕ, ◌≡◌, List, Result, Ok, Err}
-use Rattle.std.proofs.Common.{subst}
+use Rattle.std.specs.Prelude.{ℕ, ◌≡◌, List, [], ◌∷◌, Result, Ok, Err, refl, true}
+use Rattle.std.proofs.Common.{subst, sym, ◌∙◌}
+use Rattle.cxx_model.specs.declared.place.Place.{Place}
 use Rattle.cxx_model.specs.declared.stop.Stop.{Stop}
 use Rattle.cxx_model.specs.declared.token.TokenKind.{TokenKind}
-use Rattle.cxx_model.specs.declared.types.TypeId.{TypeId}
 use Rattle.cxx_model.specs.Stops.{Answer, Stops}
-use Rattle.cxx_model.specs.Text.Lexemes.{Lexeme}
-use Rattle.cxx_declare.specs.Made.{IsTypeThere, token}
-use Rattle.cxx_reading.specs.Declaring.{elaborated_here}
+use Rattle.cxx_model.specs.Text.Lexemes.{Lexeme, spelling_ahead}
+use Rattle.cxx_declare.specs.Made.{token}
+use Rattle.cxx_reading.specs.Reads.{Ahead, word_ahead}
 use Rattle.cxx_reading.specs.Specifiers.{path_of}
 use Rattle.cxx_reading.specs.State.{CxxState}
-use Rattle.cxx_syntax.specs.Asking.{AnyKnown, IsAsked, IsTypeKnown}
+use Rattle.cxx_reading.specs.Tokens.{is_plain_name, path_ahead, token_in}
+use Rattle.cxx_reading.specs.Trees.{CxxPath}
+use Rattle.cxx_syntax.specs.Asking.{AnyKnown, IsAsked}
+use Rattle.cxx_syntax.proofs.Names.{plain_path}
 use Rattle.cxx_tree.specs.Answered.{IsAnswered}
-use Rattle.cxx_tree.specs.Held.{Held, meaning, type_of}
+use Rattle.cxx_tree.specs.Held.{Held, meaning}
 
 pub asked : {X A : Type 0} (view : Held → X → A) (known : Held → X → Type 0) (old new : Held) (result : Result X Stop) (reply : Answer (A × CxxState)) → IsAnswered view known old new result reply → IsAsked view known old new result reply
 asked view known old new (Ok x) reply answered = record { is = answered.is; later = answered.later }
 asked view known old new (Err stop) reply answered = record { is = answered.is; later = answered.later }
 
--- a name behind `enum`, whose spelling is handed over
-pub elaborated_asked : (old new : Held) (result : Result TypeId Stop) (name : Lexeme) (word : List ℕ) → word ≡ name.spelling → ((kind : TokenKind) → IsAnswered type_of IsTypeThere old new result (elaborated_here (path_of (token kind name.place word)) (meaning old))) → IsAsked type_of IsTypeKnown old new result (elaborated_here (path_of name) (meaning old))
-elaborated_asked old new result name word same answered =
-    subst (λ (spelling : List ℕ). IsAsked type_of IsTypeKnown old new result (elaborated_here (path_of (token name.kind name.place spelling)) (meaning old))) same
-    (asked type_of IsTypeKnown old new result (elaborated_here (path_of (token name.kind name.place word)) (meaning old)) (answered name.kind))
+word_is : (tokens : List Lexeme) → spelling_ahead tokens ≡ (token_in tokens).spelling
+word_is [] = refl
+word_is (token ∷ tokens) = refl
+
+-- a name without qualifiers, whose spelling is handed over
+pub plain_asked : {X A : Type 0} (view : Held → X → A) (known : Held → X → Type 0) (old new : Held) (result : Result X Stop) (question : CxxPath → Answer (A × CxxState)) (ahead : Ahead) (word : List ℕ) → is_plain_name ahead ≡ true → word ≡ word_ahead ahead → ((kind : TokenKind) (place : Place) → IsAnswered view known old new result (question (path_of (token kind place word)))) → IsAsked view known old new result (question (path_ahead ahead))
+plain_asked view known old new result question ahead word plain same answered =
+    let name : Lexeme = token_in ahead.tokens in
+    let spelled : word ≡ name.spelling = same ∙ word_is ahead.tokens in
+    subst (λ (path : CxxPath). IsAsked view known old new result (question path)) (sym (plain_path ahead plain))
+    (subst (λ (spelling : List ℕ). IsAsked view known old new result (question (path_of (token name.kind name.place spelling)))) spelled
+    (asked view known old new result (question (path_of (token name.kind name.place word))) (answered name.kind name.place)))
 
 -- a name that is handed over by its place and its spelling
 pub named_asked : {X A : Type 0} (view : Held → X → A) (known : Held → X → Type 0) (old new : Held) (result : Result X Stop) (question : Lexeme → Answer (A × CxxState)) (name : Lexeme) (word : List ℕ) → word ≡ name.spelling → ((kind : TokenKind) → IsAnswered view known old new result (question (token kind name.place word))) → IsAsked view AnyKnown old new result (question name)

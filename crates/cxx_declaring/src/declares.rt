@@ -10,7 +10,7 @@ use cxx_graph::Graph;
 use cxx_initialize::initialize;
 use cxx_knot::{read_declarator, read_initializer, read_specifiers};
 use cxx_language::{Declares, constant_value};
-use cxx_model::{Entity, FactId, Node, OutOfMemory, Place, ScopeId, Stop, TreeId, TypeId};
+use cxx_model::{Entity, FactId, Node, OutOfMemory, Path, Place, ScopeId, Stop, TreeId, TypeId};
 use cxx_phrases::Initializer;
 use cxx_reading::{Naming, SpecifierPlace};
 use cxx_syntax::{Cursor, Declarator, NameToken, Specifiers, Spelled};
@@ -46,9 +46,10 @@ impl Declares for Declaring {
         &self,
         state: &mut State,
         cursor: &mut Cursor<'_>,
+        naming: Naming,
         room: u32,
     ) -> Result<Declarator, Stop> {
-        read_declarator(self, state, cursor, Naming::Required, room)
+        read_declarator(self, state, cursor, naming, room)
     }
 
     #[tactic(auto, unfolding(cxx_language::specs::Answers::asking))]
@@ -140,8 +141,9 @@ impl Declares for Declaring {
         declare::define_declared(state, name.place, name.spelling.as_slice(), number)
     }
 
-    fn space_here(&self, state: &mut State, name: Spelled<'_>) -> Result<ScopeId, Stop> {
-        declare::space_here(state, name.place, name.spelling)
+    #[tactic(auto, using(crate::proofs::Answering::asked))]
+    fn space_here(&self, state: &mut State, path: &Path) -> Result<ScopeId, Stop> {
+        declare::space_here(state, path)
     }
 
     fn declare_alias(
@@ -161,5 +163,29 @@ impl Declares for Declaring {
         inner: ScopeId,
     ) -> Result<(), Stop> {
         declare::declare_directive(state, place, inner)
+    }
+
+    #[tactic(auto, using(crate::proofs::Answering::asked))]
+    fn bring_here(&self, state: &mut State, path: &Path) -> Result<(), Stop> {
+        declare::bring_here(state, path)
+    }
+
+    fn agree_here(
+        &self,
+        state: &State,
+        is_typedef: bool,
+        name: &NameToken,
+        of: TypeId,
+    ) -> Result<(), Stop> {
+        declare::agree_here(state, is_typedef, name.place, name.spelling.as_slice(), of)
+    }
+
+    #[tactic(auto, using(crate::proofs::Answering::asked, cxx_syntax::proofs::Kept::later_refl))]
+    fn stand_in(&self, state: &mut State, scope: ScopeId) -> Result<(), Stop> {
+        // The reader stood in it.
+        if scope.0 >= state.names().scopes(state.graph()).0 {
+            return Err(Stop::OutOfMemory);
+        }
+        declare::stand_in(state, scope)
     }
 }

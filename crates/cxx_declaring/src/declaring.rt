@@ -1,17 +1,19 @@
-ghost use Rattle.std.specs.Prelude.{◌<◌, IfOk, Ok};
+ghost use Rattle.std.specs.Prelude.{◌≡◌, ◌<◌, IfOk, Ok, true};
 ghost use Rattle.cxx_model.specs.Facts.Graph.{enumerations};
 ghost use Rattle.cxx_declare.specs.Made.{IsNameOf};
 ghost use Rattle.cxx_names.specs.Clashes.{IsPlainName};
-ghost use Rattle.cxx_syntax.specs.Asking.{IsAsked, IsEnumeration, enumeration_number};
+ghost use Rattle.cxx_reading.specs.Declaring.{kind_here, type_here};
+ghost use Rattle.cxx_reading.specs.Tokens.{is_plain_name, path_ahead};
+ghost use Rattle.cxx_syntax.specs.Asking.{AnyKnown, IsAsked, IsEnumeration, IsTypeKnown, enumeration_number, itself};
 ghost use Rattle.cxx_syntax.specs.Views.{name_of_option};
-ghost use Rattle.cxx_tree.specs.Held.{meaning};
+ghost use Rattle.cxx_tree.specs.Held.{meaning, type_of};
 
 use cxx_answers::{Answering, begin_default, constant_here, end_default};
 use cxx_declare as declare;
 use cxx_elaborate::whole;
 use cxx_knot::Asking;
 use cxx_model::{EnumId, Kind, Name, Node, Place, ScopeId, Stop, TreeId, TypeId, Word};
-use cxx_syntax::{Kinds, NameToken, Spelled};
+use cxx_syntax::{Cursor, Kinds, NameToken, Spelled};
 use cxx_tree::State;
 use std::alloc::{AllocError, Global};
 
@@ -41,6 +43,40 @@ fn begun(state: &mut State, number: EnumId) -> Result<(EnumId, TypeId), Stop>
     }
 }
 
+// What the name ahead is, which has no qualifiers (3.4.1).
+fn kind_of_word(state: &State, ahead: &Cursor<'_>) -> Result<Kind, Stop>
+    requires { is_plain_name ahead.now ≡ true }
+    ensures { IsAsked itself AnyKnown state.now state.now result (kind_here (path_ahead ahead.now) (meaning state.now)) }
+{
+    declare::kind(state, ahead.spelling())
+}
+
+// The same with its qualifiers (3.4.3).
+#[tactic(auto, using(crate::proofs::Answering::asked, cxx_syntax::proofs::Kept::later_refl))]
+fn kind_of_path(state: &State, ahead: &Cursor<'_>) -> Result<Kind, Stop>
+    ensures { IsAsked itself AnyKnown state.now state.now result (kind_here (path_ahead ahead.now) (meaning state.now)) }
+{
+    let path = ahead.path()?;
+    declare::kind_of_name(state, &path)
+}
+
+// The type that the name ahead names, which has no qualifiers (7.1.5.2).
+fn type_of_word(state: &mut State, ahead: &Cursor<'_>) -> Result<TypeId, Stop>
+    requires { is_plain_name ahead.now ≡ true }
+    ensures { IsAsked type_of IsTypeKnown state.old state.new result (type_here (path_ahead ahead.now) (meaning state.old)) }
+{
+    declare::type_named(state, ahead.spelling())
+}
+
+// The same with its qualifiers.
+#[tactic(auto, using(crate::proofs::Answering::asked, cxx_syntax::proofs::Kept::later_refl))]
+fn type_of_path(state: &mut State, ahead: &Cursor<'_>) -> Result<TypeId, Stop>
+    ensures { IsAsked type_of IsTypeKnown state.old state.new result (type_here (path_ahead ahead.now) (meaning state.old)) }
+{
+    let path = ahead.path()?;
+    declare::type_of_name(state, &path)
+}
+
 impl Kinds for Declaring {
     ghost use Rattle.cxx_language.specs.Asked.{asked};
 
@@ -48,19 +84,42 @@ impl Kinds for Declaring {
 
     ghost is_ready = { λ self. Unit {0} };
 
-    #[tactic(auto, using(crate::proofs::Answering::asked), unfolding(cxx_language::specs::Answers::asking))]
-    fn kind(&self, state: &mut State, name: Spelled<'_>, _room: u32) -> Result<Kind, Stop> {
-        declare::kind(state, name.spelling)
+    #[tactic(auto, unfolding(cxx_language::specs::Answers::asking))]
+    fn kind(&self, state: &mut State, ahead: &Cursor<'_>, _room: u32) -> Result<Kind, Stop> {
+        if ahead.is_plain_name() {
+            return kind_of_word(state, ahead);
+        }
+        kind_of_path(state, ahead)
     }
 
-    #[tactic(auto, using(crate::proofs::Answering::asked), unfolding(cxx_language::specs::Answers::asking))]
-    fn type_named(&self, state: &mut State, name: Spelled<'_>, _room: u32) -> Result<TypeId, Stop> {
-        declare::type_named(state, name.spelling)
+    #[tactic(auto, unfolding(cxx_language::specs::Answers::asking))]
+    fn type_named(
+        &self,
+        state: &mut State,
+        ahead: &Cursor<'_>,
+        _room: u32,
+    ) -> Result<TypeId, Stop> {
+        if ahead.is_plain_name() {
+            return type_of_word(state, ahead);
+        }
+        type_of_path(state, ahead)
     }
 
-    #[tactic(auto, using(crate::proofs::Answering::asked), unfolding(cxx_language::specs::Answers::asking))]
-    fn elaborated(&self, state: &mut State, name: &NameToken, _room: u32) -> Result<TypeId, Stop> {
-        declare::elaborated(state, name.place, name.spelling.as_slice())
+    #[tactic(auto, using(crate::proofs::Answering::asked, cxx_syntax::proofs::Kept::later_refl), unfolding(cxx_language::specs::Answers::asking))]
+    fn elaborated(
+        &self,
+        state: &mut State,
+        ahead: &Cursor<'_>,
+        _room: u32,
+    ) -> Result<TypeId, Stop> {
+        let path = ahead.path()?;
+        declare::elaborated(state, &path)
+    }
+
+    #[tactic(auto, using(crate::proofs::Answering::asked, cxx_syntax::proofs::Kept::later_refl), unfolding(cxx_language::specs::Answers::asking))]
+    fn entered(&self, state: &mut State, ahead: &Cursor<'_>, _room: u32) -> Result<(), Stop> {
+        let path = ahead.path()?;
+        declare::enter_member(state, &path)
     }
 
     #[tactic(auto, using(crate::proofs::Answering::asked, cxx_syntax::proofs::Kept::later_refl, cxx_syntax::proofs::Kept::later_trans), unfolding(cxx_language::specs::Answers::asking))]

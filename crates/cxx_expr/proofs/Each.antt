@@ -12,7 +12,7 @@ use Rattle.cxx_model.specs.Types.Numbers.{AreTypesBelow}
 use Rattle.cxx_model.specs.Types.Trees.{CxxType}
 use Rattle.cxx_reading.specs.Reads.{Asks}
 use Rattle.cxx_reading.specs.State.{CxxState}
-use Rattle.cxx_reading.specs.Trees.{CxxTree}
+use Rattle.cxx_reading.specs.Trees.{CxxPath, CxxTree}
 use Rattle.cxx_tree.specs.Held.{Held, meaning, tree, trees}
 use Rattle.cxx_tree.specs.Later.{Later}
 use Rattle.cxx_expr.specs.Asking.{then_asked}
@@ -85,40 +85,40 @@ each_ends q place first new types done numbers i whole past same =
 
 -- ---- default arguments
 
-fallbacks_first : (q : Questions) (target index : ℕ) (done : List CxxTree) (count : ℕ) (s : CxxState) → fallbacks q target index done (suc count) s ≡ then_asked (fallback_more q target index done s) (λ more. fallbacks q target (index + 1) more count)
+fallbacks_first : (q : Questions) (path : CxxPath) (target index : ℕ) (done : List CxxTree) (count : ℕ) (s : CxxState) → fallbacks q path target index done (suc count) s ≡ then_asked (fallback_more q path target index done s) (λ more. fallbacks q path target (index + 1) more count)
 unfolding fallbacks
-fallbacks_first q target index done count s = refl
+fallbacks_first q path target index done count s = refl
 
-fallbacks_none : (q : Questions) (target index : ℕ) (done : List CxxTree) (s : CxxState) → fallbacks q target index done zero s ≡ Ok (done, s)
+fallbacks_none : (q : Questions) (path : CxxPath) (target index : ℕ) (done : List CxxTree) (s : CxxState) → fallbacks q path target index done zero s ≡ Ok (done, s)
 unfolding fallbacks
-fallbacks_none q target index done s = refl
+fallbacks_none q path target index done s = refl
 
-fallbacks_next : (q : Questions) (target : ℕ) (done : List CxxTree) (index end : ℕ) (s : CxxState) → index < end → fallbacks q target index done (end - index) s ≡ then_asked (fallback_more q target index done s) (λ more. fallbacks q target (index + 1) more (end - (index + 1)))
-fallbacks_next q target done index end s within =
+fallbacks_next : (q : Questions) (path : CxxPath) (target : ℕ) (done : List CxxTree) (index end : ℕ) (s : CxxState) → index < end → fallbacks q path target index done (end - index) s ≡ then_asked (fallback_more q path target index done s) (λ more. fallbacks q path target (index + 1) more (end - (index + 1)))
+fallbacks_next q path target done index end s within =
     let more : end - index ≡ suc (end - (index + 1)) = omega (arith, within) in
-    ap (λ n. fallbacks q target index done n s) more ∙ fallbacks_first q target index done (end - (index + 1)) s
+    ap (λ n. fallbacks q path target index done n s) more ∙ fallbacks_first q path target index done (end - (index + 1)) s
 
 -- one more is there
-pub fallbacks_step : (q : Questions) (target : ℕ) (old new : Held) (done after : List TreeId) (index end : ℕ) (whole : Answer (List CxxTree × CxxState)) → index < end →
-    fallback_more q target index (trees_held old done) (meaning old) ≡ Ok (trees_held new after, meaning new) →
-    fallbacks q target index (trees_held old done) (end - index) (meaning old) ≡ whole →
-    fallbacks q target (index + 1) (trees_held new after) (end - (index + 1)) (meaning new) ≡ whole
-fallbacks_step q target old new done after index end whole within more same =
-    let go : List CxxTree → Asks CxxState (List CxxTree) = λ all. fallbacks q target (index + 1) all (end - (index + 1)) in
+pub fallbacks_step : (q : Questions) (path : CxxPath) (target : ℕ) (old new : Held) (done after : List TreeId) (index end : ℕ) (whole : Answer (List CxxTree × CxxState)) → index < end →
+    fallback_more q path target index (trees_held old done) (meaning old) ≡ Ok (trees_held new after, meaning new) →
+    fallbacks q path target index (trees_held old done) (end - index) (meaning old) ≡ whole →
+    fallbacks q path target (index + 1) (trees_held new after) (end - (index + 1)) (meaning new) ≡ whole
+fallbacks_step q path target old new done after index end whole within more same =
+    let go : List CxxTree → Asks CxxState (List CxxTree) = λ all. fallbacks q path target (index + 1) all (end - (index + 1)) in
     sym (ap (λ (r : Answer (List CxxTree × CxxState)). then_asked r go) more)
-    ∙ sym (fallbacks_next q target (trees_held old done) index end (meaning old) within)
+    ∙ sym (fallbacks_next q path target (trees_held old done) index end (meaning old) within)
     ∙ same
 
-pub fallbacks_fails : (q : Questions) (target : ℕ) (old : Held) (done : List TreeId) (index end : ℕ) (whole : Answer (List CxxTree × CxxState)) (why : Stop) → index < end →
-    fallbacks q target index (trees_held old done) (end - index) (meaning old) ≡ whole →
-    Stops why (fallback_more q target index (trees_held old done) (meaning old)) → Stops why whole
-fallbacks_fails q target old done index end whole why within same stops =
-    let go : List CxxTree → Asks CxxState (List CxxTree) = λ all. fallbacks q target (index + 1) all (end - (index + 1)) in
-    subst (λ (r : Answer (List CxxTree × CxxState)). Stops why r) (sym (fallbacks_next q target (trees_held old done) index end (meaning old) within) ∙ same)
-    (asked_stops why (fallback_more q target index (trees_held old done) (meaning old)) go stops)
+pub fallbacks_fails : (q : Questions) (path : CxxPath) (target : ℕ) (old : Held) (done : List TreeId) (index end : ℕ) (whole : Answer (List CxxTree × CxxState)) (why : Stop) → index < end →
+    fallbacks q path target index (trees_held old done) (end - index) (meaning old) ≡ whole →
+    Stops why (fallback_more q path target index (trees_held old done) (meaning old)) → Stops why whole
+fallbacks_fails q path target old done index end whole why within same stops =
+    let go : List CxxTree → Asks CxxState (List CxxTree) = λ all. fallbacks q path target (index + 1) all (end - (index + 1)) in
+    subst (λ (r : Answer (List CxxTree × CxxState)). Stops why r) (sym (fallbacks_next q path target (trees_held old done) index end (meaning old) within) ∙ same)
+    (asked_stops why (fallback_more q path target index (trees_held old done) (meaning old)) go stops)
 
-pub fallbacks_end : (q : Questions) (target : ℕ) (new : Held) (done : List TreeId) (index end : ℕ) (whole : Answer (List CxxTree × CxxState)) → end ≤ index →
-    fallbacks q target index (trees_held new done) (end - index) (meaning new) ≡ whole → whole ≡ Ok (trees_held new done, meaning new)
-fallbacks_end q target new done index end whole past same =
+pub fallbacks_end : (q : Questions) (path : CxxPath) (target : ℕ) (new : Held) (done : List TreeId) (index end : ℕ) (whole : Answer (List CxxTree × CxxState)) → end ≤ index →
+    fallbacks q path target index (trees_held new done) (end - index) (meaning new) ≡ whole → whole ≡ Ok (trees_held new done, meaning new)
+fallbacks_end q path target new done index end whole past same =
     let none : end - index ≡ zero = omega (arith, past) in
-    sym same ∙ ap (λ n. fallbacks q target index (trees_held new done) n (meaning new)) none ∙ fallbacks_none q target index (trees_held new done) (meaning new)
+    sym same ∙ ap (λ n. fallbacks q path target index (trees_held new done) n (meaning new)) none ∙ fallbacks_none q path target index (trees_held new done) (meaning new)

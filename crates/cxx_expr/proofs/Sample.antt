@@ -33,7 +33,7 @@ use Rattle.cxx_meaning.specs.Conversions.Sizes.{class_in, extent_of, object_exte
 use Rattle.cxx_meaning.specs.Conversions.Asking.{Asked}
 use Rattle.cxx_meaning.specs.declared.size.SizeReason.{SizeReason}
 use Rattle.cxx_meaning.specs.Conversions.Standard.{CxxOperand, is_text, pointer_to_other, steps_of_pointers, step_of_enumeration, steps_of_arithmetic, steps_of_enumeration, steps_of_pointer, steps_of_kinds, value_step, steps_to_scalar, steps_by_kinds, steps_of_value, related_kinds, related, steps_of_related, steps_of_unrelated, steps_by_relation, steps_of_reference, steps_between, standard_sequence}
-use Rattle.cxx_reading.specs.Declaring.{name_in}
+use Rattle.cxx_reading.specs.Paths.{name_in}
 use Rattle.cxx_reading.specs.Reads.{Asks}
 use Rattle.cxx_reading.specs.Seen.{Numbered, declared_in}
 use Rattle.cxx_reading.specs.State.{CxxState, first_state, at_unit}
@@ -157,7 +157,7 @@ asks = record {
   name = λ path s. Ok (declared_in s.graph s.here.scope (name_in path), s);
   bound = λ place number s. Ok (tt, s);
   call = λ question s. chosen_by question question.functions s;
-  fallback = λ target index s. Ok (fallback_tree, s);
+  fallback = λ path target index s. Ok (fallback_tree, s);
   size = λ of s. is_unbroken (size_of s.graph of) s;
   is_null = λ tree s. is_zero_in tree.label.operand;
 }

@@ -53,12 +53,13 @@ pub trait Questions {
         requires { is_ready self.now }
         ensures { IsAnswered itself AnyKnown state.old state.new result ((asks self.now).bound place target.0 (meaning state.old)) };
 
-    /// Which function a call means, given the name that is called, and the brackets round it (13.3).
+    /// Which function a call means, given the word that is called, and whether it is bare: without brackets and qualifiers
+    /// (13.3).
     fn call(
         &self,
         state: &mut State,
         place: Place,
-        brackets: &[u8],
+        is_bare: bool,
         word: &[u8],
         functions: &[FactId],
         operands: OperandList,
@@ -66,12 +67,19 @@ pub trait Questions {
         requires ready { is_ready self.now }
         requires functions { AreFactsKnown state.old functions.now }
         requires operands { AreOperandsBelow (length (state.old).types) operands }
-        ensures { IsAnswered chosen_of IsChosen state.old state.new result ((asks self.now).call (question_of state.old place brackets.now word.now functions.now operands) (meaning state.old)) };
+        ensures { IsAnswered chosen_of IsChosen state.old state.new result ((asks self.now).call (question_of state.old place is_bare word.now functions.now operands) (meaning state.old)) };
 
-    /// The default argument of a parameter, by the first declaration of its function, as it is converted (8.3.6).
-    fn fallback(&self, state: &mut State, target: FactId, index: usize) -> Result<TreeId, Stop>
+    /// The default argument of a parameter, by the name that is called and the first declaration of its function, as it is
+    /// converted (8.3.6).
+    fn fallback(
+        &self,
+        state: &mut State,
+        path: &Path,
+        target: FactId,
+        index: usize,
+    ) -> Result<TreeId, Stop>
         requires { is_ready self.now }
-        ensures { IsAnswered tree IsTreeKnown state.old state.new result ((asks self.now).fallback target.0 index (meaning state.old)) };
+        ensures { IsAnswered tree IsTreeKnown state.old state.new result ((asks self.now).fallback (path_at path.now) target.0 index (meaning state.old)) };
 
     /// How many bytes objects of a type take (5.3.3).
     fn size(&self, state: &mut State, of: TypeId) -> Result<Result<u64, SizeReason>, Stop>

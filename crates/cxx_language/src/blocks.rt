@@ -11,7 +11,7 @@ ghost use Rattle.cxx_units.specs.Said.{IsDeclared, IsListed, IsListedTurn, IsSai
 use crate::declares::{Declares, Reader};
 use crate::spaces::{local_alias_at, using_at};
 use cxx_model::{Stop, TreeId, TreeIdList, TypeId, keyword, punct};
-use cxx_reading::SpecifierPlace;
+use cxx_reading::{Naming, SpecifierPlace};
 use cxx_syntax::{Cursor, Declarator, Specifiers, Turn, declared, is_keyword, is_punct};
 use cxx_tree::State;
 use cxx_units::ends::nothing_declared;
@@ -77,7 +77,9 @@ impl<D: Declares> Reader<'_, D> {
         ensures { IsRead tree IsTreeKnown state.old state.new cursor.new result (definition.local_declarator_at self.now.room (said_of state.old said) (meaning state.old) cursor.old) }
     {
         let from = cursor.mark();
-        let declarator = self.declares.declarator(state, cursor, self.room)?;
+        let declarator = self
+            .declares
+            .declarator(state, cursor, Naming::Required, self.room)?;
         declared_fits(state, cursor, said, &declarator)?;
         self.locally_declared_as(state, cursor, said, &from, declarator)
     }

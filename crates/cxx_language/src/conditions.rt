@@ -21,7 +21,7 @@ use crate::declares::{Declares, Reader};
 use crate::initializers::initializer_node;
 use cxx_expr::operands::referred;
 use cxx_model::{ConstantKind, FactId, Listed, Operand, Place, Stop, TreeId, TreeIdList, TypeId};
-use cxx_reading::SpecifierPlace;
+use cxx_reading::{Naming, SpecifierPlace};
 use cxx_syntax::{Cursor, Declarator, NameToken, Specifiers, declared, joined, node_from, push};
 use cxx_tree::State;
 use cxx_units::declared_fits;
@@ -269,7 +269,9 @@ impl<D: Declares> Reader<'_, D> {
         ensures { IsRead tree IsTreeKnown state.old state.new cursor.new result (definition.tested_declarator_at self.now.room (said_of state.old said) (meaning state.old) cursor.old) }
     {
         let from = cursor.mark();
-        let declarator = self.declares.declarator(state, cursor, self.room)?;
+        let declarator = self
+            .declares
+            .declarator(state, cursor, Naming::Required, self.room)?;
         declared_fits(state, cursor, said, &declarator)?;
         self.tested_as(state, cursor, said, &from, declarator)
     }

@@ -12,19 +12,21 @@ ghost use Rattle.cxx_language.specs.Blocks as blocks;
 ghost use Rattle.cxx_phrases.specs.Initializers.{initializer_at};
 ghost use Rattle.cxx_phrases.specs.Views.{IsInitializer, initializer_of};
 ghost use Rattle.cxx_reading.specs.Declaring as definition;
+ghost use Rattle.cxx_reading.specs.Members as members;
 ghost use Rattle.cxx_reading.specs.Spaces as spaces;
-ghost use Rattle.cxx_reading.specs.Specifiers.{path_of, specifiers_at};
+ghost use Rattle.cxx_reading.specs.Specifiers.{specifiers_at};
 ghost use Rattle.cxx_reading.specs.Syntax.{declarator_at};
-ghost use Rattle.cxx_reading.specs.declared.specifier.Naming.TheVariants as naming;
+ghost use Rattle.cxx_reading.specs.Usings as usings;
 ghost use Rattle.cxx_syntax.specs.Asking.{AnyKnown, IsAsked, IsTreeKnown, itself, scope_number};
 ghost use Rattle.cxx_syntax.specs.Reading.{IsRead};
 ghost use Rattle.cxx_syntax.specs.Views.{AreSpecifiers, IsDeclarator, declarator_of, lexeme_at, name_at, specifiers_of};
 ghost use Rattle.cxx_tree.specs.Answered.{IsScopeKnown, fact_number, scope_of_option};
+ghost use Rattle.cxx_tree.specs.Arena.{path_at};
 ghost use Rattle.cxx_tree.specs.Held.{meaning, tree, trees, type_of};
 
-use cxx_model::{FactId, Node, OutOfMemory, Place, ScopeId, Stop, TreeId, TypeId};
+use cxx_model::{FactId, Node, OutOfMemory, Path, Place, ScopeId, Stop, TreeId, TypeId};
 use cxx_phrases::Initializer;
-use cxx_reading::SpecifierPlace;
+use cxx_reading::{Naming, SpecifierPlace};
 use cxx_syntax::{Cursor, Declarator, NameToken, Specifiers, Spelled};
 use cxx_tree::State;
 
@@ -41,14 +43,15 @@ pub trait Declares {
     ) -> Result<Specifiers, Stop>
         ensures { IsRead specifiers_of AreSpecifiers state.old state.new cursor.new result (specifiers_at (asked room).kinds (inner_at room).types place (meaning state.old) cursor.old) };
 
-    /// A declarator, which has a name (8).
+    /// A declarator (8), by which names it may have.
     fn declarator(
         &self,
         state: &mut State,
         cursor: &mut Cursor<'_>,
+        naming: Naming,
         room: u32,
     ) -> Result<Declarator, Stop>
-        ensures { IsRead declarator_of IsDeclarator state.old state.new cursor.new result (declarator_at (asked room).kinds (inner_at room).types naming.Required (meaning state.old) cursor.old) };
+        ensures { IsRead declarator_of IsDeclarator state.old state.new cursor.new result (declarator_at (asked room).kinds (inner_at room).types naming (meaning state.old) cursor.old) };
 
     /// An initializer, from its `=` or `(` on (8.5).
     fn initializer(
@@ -135,8 +138,8 @@ pub trait Declares {
         ensures { IsAsked itself AnyKnown state.old state.new result (definition.define_declared (name_at name.now) number.0 (meaning state.old)) };
 
     /// The namespace that a name means (3.4.6).
-    fn space_here(&self, state: &mut State, name: Spelled<'_>) -> Result<ScopeId, Stop>
-        ensures { IsAsked scope_number IsScopeKnown state.old state.new result (spaces.space_here (path_of (lexeme_at name.entry)) (meaning state.old)) };
+    fn space_here(&self, state: &mut State, path: &Path) -> Result<ScopeId, Stop>
+        ensures { IsAsked scope_number IsScopeKnown state.old state.new result (spaces.space_here (path_at path.now) (meaning state.old)) };
 
     /// Another name of a namespace (7.3.2).
     fn declare_alias(
@@ -152,6 +155,25 @@ pub trait Declares {
     fn declare_directive(&self, state: &mut State, place: Place, inner: ScopeId) -> Result<(), Stop>
         requires { inner.0 < scopes (state.old).graph.facts }
         ensures { IsAsked itself AnyKnown state.old state.new result (spaces.declare_directive place inner.0 (meaning state.old)) };
+
+    /// What a name means in its namespace is declared where the reader stands (7.3.3).
+    fn bring_here(&self, state: &mut State, path: &Path) -> Result<(), Stop>
+        ensures { IsAsked itself AnyKnown state.old state.new result (usings.bring_here (path_at path.now) (meaning state.old)) };
+
+    /// Whether the namespace where the reader stands has declared a member with a type, or a synonym of it (8.3).
+    fn agree_here(
+        &self,
+        state: &State,
+        is_typedef: bool,
+        name: &NameToken,
+        of: TypeId,
+    ) -> Result<(), Stop>
+        requires { of.0 < length (state.now).types }
+        ensures { IsAsked itself AnyKnown state.now state.now result (members.agree_here is_typedef (name_at name.now) (type_of state.now of) (meaning state.now)) };
+
+    /// The reader stands in a scope where it stood before.
+    fn stand_in(&self, state: &mut State, scope: ScopeId) -> Result<(), Stop>
+        ensures { IsAsked itself AnyKnown state.old state.new result (members.stand_in scope.0 (meaning state.old)) };
 }
 
 /// A reader with room for so many more brackets and statements inside one another.

@@ -1,16 +1,18 @@
-//! Other names of namespaces (7.3.2) and using-directives (7.3.4).
+//! Other names of namespaces (7.3.2), using-declarations (7.3.3) and using-directives (7.3.4).
 
 ghost use Rattle.std.specs.Prelude.{◌≡◌, []};
 ghost use Rattle.cxx_language.specs.Spaces as definition;
 ghost use Rattle.cxx_language.specs.Views.{IsSpaceKnown, space_of};
-ghost use Rattle.cxx_syntax.specs.Asking.{IsTreeKnown};
+ghost use Rattle.cxx_syntax.specs.Asking.{AnyKnown, IsTreeKnown};
 ghost use Rattle.cxx_syntax.specs.Making.{GrowsTree};
 ghost use Rattle.cxx_syntax.specs.Reading.{IsRead};
 ghost use Rattle.cxx_syntax.specs.Views.{lexeme_at};
+ghost use Rattle.cxx_tree.specs.Arena.{path_at};
 ghost use Rattle.cxx_tree.specs.Held.{meaning, tree};
 
 use crate::declares::Declares;
-use cxx_model::{Listed, Place, ScopeId, Stop, TreeId, keyword, punct};
+use cxx_model::{Listed, Path, Place, ScopeId, Stop, TreeId, keyword, punct};
+use cxx_paths::last_place;
 use cxx_syntax::{Cursor, Spelled, is_keyword, is_name, is_punct};
 use cxx_tree::State;
 use cxx_units::trees::part_tree;
@@ -20,6 +22,8 @@ mod production {
     pub const NAMESPACE_ALIAS: u8 = 5;
 
     pub const USING_DIRECTIVE: u8 = 6;
+
+    pub const USING_DECLARATION: u8 = 7;
 }
 
 /// A namespace that is named, and the place of its name.
@@ -29,7 +33,7 @@ pub(crate) struct NamedSpace {
     pub inner: ScopeId,
 }
 
-// A name of a namespace (3.4.6); one with qualifiers is not read yet.
+// A name of a namespace (3.4.6).
 #[tactic(auto, using(cxx_syntax::proofs::Kept::later_refl, cxx_syntax::proofs::Kept::later_trans), unfolding(crate::specs::Spaces::space_name_at))]
 fn space_name_at<D: Declares>(
     declares: &D,
@@ -38,16 +42,13 @@ fn space_name_at<D: Declares>(
 ) -> Result<NamedSpace, Stop>
     ensures { IsRead space_of IsSpaceKnown state.old state.new cursor.new result (definition.space_name_at (meaning state.old) cursor.old) }
 {
-    if cursor.is_qualified() {
-        return Err(Stop::Fault(cursor.not_built()?));
-    }
-    if !is_name(cursor.kind()) {
+    if !cursor.begins_name() {
         return Err(Stop::Fault(cursor.refused()?));
     }
-    let name = cursor.token();
-    let inner = declares.space_here(state, name)?;
+    let path = cursor.path_taken(state)?;
+    let inner = declares.space_here(state, &path)?;
     Ok(NamedSpace {
-        place: name.place,
+        place: last_place(path.parts.as_slice()),
         inner,
     })
 }
@@ -148,8 +149,51 @@ fn directive_at<D: Declares>(
     bare_tree(state, production::USING_DIRECTIVE, &from, cursor)
 }
 
-/// What begins with the word `using` (7.3.4); a using-declaration is not read yet (7.3.3).
-#[tactic(auto, using(cxx_syntax::proofs::Kept::later_refl), unfolding(crate::specs::Spaces::using_at))]
+// The name of a using-declaration, which has a qualifier.
+#[tactic(auto, using(cxx_syntax::proofs::Kept::later_refl))]
+fn qualified_taken(state: &State, cursor: &mut Cursor<'_>) -> Result<Path, Stop>
+    ensures { IsRead (λ held. path_at) AnyKnown state.now state.now cursor.new result (definition.qualified_taken (meaning state.now) cursor.old) }
+{
+    if cursor.is_plain_name() {
+        cursor.advance();
+        return Err(Stop::Fault(cursor.refused()?));
+    }
+    cursor.path_taken(state)
+}
+
+// The name behind `using`; behind `typename` it is not read yet (14.6).
+#[tactic(auto, using(cxx_syntax::proofs::Kept::later_refl), unfolding(crate::specs::Spaces::brought_name_at))]
+fn brought_name_at(state: &State, cursor: &mut Cursor<'_>) -> Result<Path, Stop>
+    ensures { IsRead (λ held. path_at) AnyKnown state.now state.now cursor.new result (definition.brought_name_at (meaning state.now) cursor.old) }
+{
+    if cursor.begins_name() {
+        return qualified_taken(state, cursor);
+    }
+    if is_keyword(keyword::TYPENAME, cursor.kind()) {
+        return Err(Stop::Fault(cursor.not_built()?));
+    }
+    Err(Stop::Fault(cursor.refused()?))
+}
+
+// A using-declaration, from the word `using` on (7.3.3).
+#[tactic(auto, using(cxx_syntax::proofs::Kept::later_refl, cxx_syntax::proofs::Kept::later_trans), unfolding(crate::specs::Spaces::using_declaration_at))]
+fn using_declaration_at<D: Declares>(
+    declares: &D,
+    state: &mut State,
+    cursor: &mut Cursor<'_>,
+) -> Result<TreeId, Stop>
+    ensures { IsRead tree IsTreeKnown state.old state.new cursor.new result (definition.using_declaration_at (meaning state.old) cursor.old) }
+{
+    let from = cursor.mark();
+    cursor.advance();
+    let path = brought_name_at(state, cursor)?;
+    declares.bring_here(state, &path)?;
+    cursor.punct(punct::SEMICOLON)?;
+    bare_tree(state, production::USING_DECLARATION, &from, cursor)
+}
+
+/// What begins with the word `using` (7.3.3, 7.3.4).
+#[tactic(auto, unfolding(crate::specs::Spaces::using_at))]
 pub fn using_at<D: Declares>(
     declares: &D,
     state: &mut State,
@@ -160,5 +204,5 @@ pub fn using_at<D: Declares>(
     if is_keyword(keyword::NAMESPACE, cursor.kind_behind()) {
         return directive_at(declares, state, cursor);
     }
-    Err(Stop::Fault(cursor.not_built()?))
+    using_declaration_at(declares, state, cursor)
 }

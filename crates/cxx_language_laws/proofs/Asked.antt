@@ -1,118 +1,78 @@
 -- What is asked while a unit is read keeps the declarations and the calls so far, and what stops it is true.
-use Rattle.std.proofs.Common.{◌≡◌, refl, sym, ap, subst, ◌∙◌}
-use Rattle.std.specs.Prelude.{ℕ, Bool, true, false, ◌&&◌, if◌then◌else◌, List, [], ◌∷◌, Option, Some, None, ◌++◌, Ok, Err}
-use Rattle.cxx_model.specs.declared.evidence.Evidence.TheVariants as evidence
+use Rattle.std.proofs.Common.{arith, ◌≡◌, refl, sym, ap, subst, ◌∙◌}
+use Rattle.std.specs.Prelude.{ℕ, Bool, true, false, ◌&&◌, if◌then◌else◌, List, [], ◌∷◌, Option, Some, None, ◌++◌, Ok, Err, suc, ◌-◌, length}
+use Rattle.std.specs.List.{slice_get}
 use Rattle.cxx_model.specs.declared.fault.FaultText.TheVariants as says
 use Rattle.cxx_model.specs.declared.fault.LeftOut.TheVariants as form
 use Rattle.cxx_model.specs.declared.lookup.Found.{Found}
 use Rattle.cxx_model.specs.declared.lookup.Found.TheVariants as sought
 use Rattle.cxx_model.specs.declared.place.Place.{Place}
-use Rattle.cxx_model.specs.declared.stop.Fault.{Fault}
 use Rattle.cxx_model.specs.declared.types.FactId.{FactId}
-use Rattle.cxx_model.specs.Facts.Declarations.{CxxGraph, spelled}
+use Rattle.cxx_model.specs.Facts.Declarations.{CxxGraph}
 use Rattle.cxx_model.specs.Stops.{Answer, Stopped, ◌>>=◌, fault, undeclared_at}
-use Rattle.cxx_model.specs.Text.Lexemes.{Lexeme, kind_of}
 use Rattle.cxx_model.specs.Types.Trees.{CxxType}
 use Rattle.cxx_meaning.specs.Conversions.Standard.{CxxOperand}
-use Rattle.cxx_meaning.specs.Lookups.Wanted.{Wanted, any_name, types_only}
+use Rattle.cxx_meaning.specs.Lookups.Wanted.{any_name, types_only}
 use Rattle.cxx_constant.specs.Constants.{CxxValue, not_constant, overflow, divide_by_zero, constant}
 use Rattle.cxx_phrases.specs.Forms.{name_tree, call_tree}
-use Rattle.cxx_reading.specs.Declaring.{ambiguous_at, elaborated_here, elaborated_by, elaborated_found, enumeration_in, last_part, name_in, place_of_fact}
+use Rattle.cxx_reading.specs.declared.region.Region.{Region}
+use Rattle.cxx_reading.specs.Declaring.{elaborated_here, elaborated_by, elaborated_found, enumeration_in}
 use Rattle.cxx_reading.specs.Givers.{giver, givers, with_givers}
-use Rattle.cxx_reading.specs.Reads.{Ahead, kind_ahead, behind}
-use Rattle.cxx_reading.specs.Seen.{Numbered, found, numbered_at, set_in, sought_from}
-use Rattle.cxx_reading.specs.Specifiers.{path_of}
+use Rattle.cxx_reading.specs.Paths.{ambiguous_at, name_in, region_of, scope_of_region, sought_in}
+use Rattle.cxx_reading.specs.Reads.{Ahead}
+use Rattle.cxx_reading.specs.Seen.{Numbered, numbered_at, set_in}
 use Rattle.cxx_reading.specs.State.{CxxGiven, CxxState}
-use Rattle.cxx_reading.specs.Tokens.{is_name, token_in}
-use Rattle.cxx_reading.specs.Trees.{CxxPath, CxxTree, children_of, each_tree, in_turn, Label}
+use Rattle.cxx_reading.specs.Tokens.{begins_name, behind_name, is_whole_name, path_ahead}
+use Rattle.cxx_reading.specs.Trees.{CxxPath, CxxPathPart, CxxTree, children_of, each_tree, in_turn, is_plain_path, last_part, Label}
 use Rattle.cxx_tree.specs.Defaults.{first_given, within_default}
 use Rattle.cxx_tree.specs.Uses.{with_use}
-use Rattle.cxx_expr.specs.Calls.{bare_word, is_none_left}
-use Rattle.cxx_expr.specs.Names.{path_in, word_in}
+use Rattle.cxx_expr.specs.Calls.{bare_word, is_bare, is_none_left}
+use Rattle.cxx_expr.specs.Names.{part_or, path_in, word_in}
 use Rattle.cxx_expr.specs.Elaborating.{elaborate}
 use Rattle.cxx_language.specs.Answers.{asking}
-use Rattle.cxx_answers.specs.Answers.{bound_here, call_here, constant_by, constant_here, fallback_by, fallback_here, fresh_among, is_held, meant_here, name_here, name_meant, names_local, names_tested, questions, scope_of_giver, size_here, unambiguous, word_or_none}
+use Rattle.cxx_answers.specs.Answers.{associated_functions, bound_here, call_here, constant_by, constant_here, fallback_by, fallback_here, fresh_among, is_held, meant_in, name_here, name_in_region, name_meant, names_local, names_tested, questions, scope_of_giver, size_here, unambiguous, word_or_none}
 use Rattle.cxx_answers.specs.Defaults.{begin_default, end_default, offered_as}
 use Rattle.cxx_language.specs.Asked.{answers, asked, inner_at, phrases_at}
 use Rattle.cxx_language_laws.specs.Best.{IsClear, asked_word, functions_by_types, values_besides, values_of}
-use Rattle.cxx_language_laws.specs.Told.{AreTwo, IsSought, IsUnitCall, called, called_by_types, operands, twofold_call, twofold_name, unknown_name, unknown_call, unknown_type}
+use Rattle.cxx_language_laws.specs.Told.{IsFoundClear, IsUnitCall, called, called_by_types, operands, place_of_call, unknown_call}
 use Rattle.cxx_language_laws.proofs.CallsTell.{NothingTold, asked_for, call_asked_tells}
 use Rattle.cxx_language_laws.proofs.Later.{IsLater, by_answer, later_same, later_is_kept, later_is_quiet, calmly, turned, parameter_answer_tells, enumeration_answer_tells, enumerator_answer_tells, enumerated_tells, kind_tells, type_tells}
 use Rattle.cxx_language_laws.proofs.Lists.{listed_tells}
 use Rattle.cxx_language_laws.proofs.PhrasesTell.{PhrasesTell, brackets_of}
-use Rattle.cxx_language_laws.proofs.QuestionsTell.{QuestionsTell, if_by, quiet_by, same_by}
-use Rattle.cxx_language_laws.proofs.Reached.{Told, IsManifold, IsUndeclared, Unknown, reached_here, later_is_told, later_is_told_of}
+use Rattle.cxx_language_laws.proofs.QuestionsTell.{DefaultsTell, QuestionsTell, if_by, quiet_by, same_by}
+use Rattle.cxx_language_laws.proofs.Reached.{Told, ToldSince, IsUndeclared, reached_by_later, reached_here, later_is_told, later_is_told_since, told_sooner}
+use Rattle.cxx_language_laws.proofs.Regions.{last_ahead, last_sought, nothing_ahead, region_there, region_told, some_parts, twofold_ahead, undeclared_fault}
 use Rattle.cxx_language_laws.proofs.Scopes.{AreSound, InScopes}
 use Rattle.cxx_language_laws.proofs.Outward.{none_left}
-use Rattle.cxx_language_laws.proofs.Sought.{none_by_types, nothing_sought, two_sought}
+use Rattle.cxx_language_laws.proofs.Sought.{fitting, none_by_types, nothing_sought}
 use Rattle.cxx_language_laws.proofs.Tells.{IsQuiet, IsTold, KindsTell, Quietly, ReadersTell, ToldBy, tells_answer, tells_refusal, Answers}
 use Rattle.cxx_language_laws.proofs.TellsConversions.{convert_tells}
 use Rattle.cxx_language_laws.proofs.TellsDefaults.{OffersTell}
 use Rattle.cxx_language_laws.proofs.TellsExpressions.{plain_tells, name_tells, call_tells}
 use Rattle.cxx_language_laws.proofs.TellsKnot.{type_id_tells}
-use Rattle.cxx_language_laws.proofs.TellsNames.{AskedOf, CalledTells, IsAskedSo, NameTells, UnknownInBrackets}
-
--- 3.4.1
-abbrev pub undeclared_fault : Place → List ℕ → Fault
-undeclared_fault place word = record { place = place; text = says.UndeclaredName word; evidence = [] }
-
--- a token ahead, with others behind it
-abbrev pub ahead_of : Place → Lexeme → List Lexeme → Ahead
-ahead_of last token others = record { last = last; tokens = token ∷ others }
-
--- 3.4: two declarations of which none hides the other
-abbrev pub ambiguous_fault : CxxGraph → Place → List ℕ → FactId → FactId → Fault
-ambiguous_fault graph place word one two = record { place = place; text = says.AmbiguousName word; evidence = evidence.Found (place_of_fact graph one.0) ∷ evidence.Found (place_of_fact graph two.0) ∷ [] }
-
--- ---- names that are ahead
-
--- a name that is ahead, and what is found of it
-pub sought_ahead : (wanted : Wanted) (finds : Found) (state : CxxState) (last : Place) (token : Lexeme) (others : List Lexeme) (fault : Fault) → is_name token.kind ≡ true → fault.place ≡ token.place → sought_from state.graph wanted state.here.scope (spelled token.spelling) ≡ finds
-    → IsSought wanted finds state (ahead_of last token others) fault token.spelling
-sought_ahead wanted finds state last token others fault named at is = record { token = token; behind = others; stands = refl; is_named = record { named = named; spelled_so = refl; is_at = sym at }; finds_so = is }
-
-are_two : (state : CxxState) (wanted : Wanted) (token : Lexeme) (one two : FactId) → InScopes state → sought_from state.graph wanted state.here.scope (spelled token.spelling) ≡ sought.Ambiguous one two → AreTwo state.graph one two (ambiguous_fault state.graph token.place token.spelling one two)
-are_two state wanted token one two scopes is = let both = two_sought state wanted (spelled token.spelling) one two scopes is in record { apart = both.apart; declared = both.declared; no_overloads = both.no_overloads; places = refl }
-
--- one that is ambiguous is told of
-pub twofold_ahead : (wanted : Wanted) (state : CxxState) (last : Place) (token : Lexeme) (others : List Lexeme) → is_name token.kind ≡ true → (one two : FactId) → sought_from state.graph wanted state.here.scope (spelled token.spelling) ≡ sought.Ambiguous one two
-    → Told state (ahead_of last token others) (ambiguous_at state.graph (last_part (path_of token).parts) one two)
-twofold_ahead wanted state last token others named one two is =
-    reached_here state (ahead_of last token others) (IsManifold (ambiguous_fault state.graph token.place token.spelling one two) token.spelling)
-    (λ scopes. twofold_name wanted one two (sought_ahead wanted (sought.Ambiguous one two) state last token others (ambiguous_fault state.graph token.place token.spelling one two) named refl is) (are_two state wanted token one two scopes is))
-
--- one that is not declared
-pub unknown_ahead : (state : CxxState) (last : Place) (token : Lexeme) (others : List Lexeme) → (InScopes state → Unknown state (ahead_of last token others) (undeclared_fault token.place token.spelling) token.spelling) → Told state (ahead_of last token others) (undeclared_at token.place token.spelling)
-unknown_ahead state last token others is = reached_here state (ahead_of last token others) (IsUndeclared (undeclared_fault token.place token.spelling) token.spelling) (record { is = is; bare = refl })
+use Rattle.cxx_language_laws.proofs.TellsNames.{AskedOf, CalledTells, IsAskedSo, NameTells, UnknownUnasked}
 
 -- ---- the types of names behind `enum`
 
-type_unknown : (state : CxxState) (last : Place) (token : Lexeme) (others : List Lexeme) → is_name token.kind ≡ true → IsClear (sought_from state.graph types_only state.here.scope (spelled token.spelling)) → set_in state.graph (sought_from state.graph types_only state.here.scope (spelled token.spelling)) ≡ []
-    → Told state (ahead_of last token others) (undeclared_at token.place token.spelling)
-type_unknown state last token others named clear none =
-    unknown_ahead state last token others (λ is. let found = nothing_sought state types_only (spelled token.spelling) is clear none in
-    (unknown_type (sought_ahead types_only sought.Empty state last token others (undeclared_fault token.place token.spelling) named refl found.0), found.1))
+elaborated_by_tells : (state : CxxState) (ahead : Ahead) (part : CxxPathPart) (all : List Numbered) → (all ≡ [] → Told state ahead (undeclared_at part.place part.word)) → (number : Option ℕ) → ToldBy IsLater Told state ahead (elaborated_by part all number state)
+elaborated_by_tells state ahead part all unknown (Some n) = same_by later_is_told _ state _
+elaborated_by_tells state ahead part [] unknown None = tells_refusal _ (unknown refl)
+elaborated_by_tells state ahead part (one ∷ more) unknown None = quiet_by later_is_told refl
 
-elaborated_by_tells : (state : CxxState) (last : Place) (token : Lexeme) (others : List Lexeme) → (all : List Numbered) → (all ≡ [] → Told state (ahead_of last token others) (undeclared_at token.place token.spelling)) → (number : Option ℕ)
-    → ToldBy IsLater Told state (ahead_of last token others) (elaborated_by (last_part (path_of token).parts) all number state)
-elaborated_by_tells state last token others all unknown (Some n) = same_by later_is_told _ state _
-elaborated_by_tells state last token others [] unknown None = tells_refusal _ (unknown refl)
-elaborated_by_tells state last token others (one ∷ more) unknown None = quiet_by later_is_told refl
+elaborated_found_tells : (state : CxxState) (ahead : Ahead) → begins_name ahead ≡ true → is_whole_name ahead ≡ true → (where_ : Region) → region_of state.graph state.here.scope (path_ahead ahead) ≡ Ok where_ → (x : Found) → sought_in state.graph types_only where_ (name_in (path_ahead ahead)) ≡ x
+    → ToldBy IsLater Told state ahead (elaborated_found (last_ahead ahead) x state)
+elaborated_found_tells state ahead begins whole where_ means (sought.Ambiguous one two) is = tells_refusal _ (twofold_ahead types_only tt state ahead begins whole where_ means one two is)
+elaborated_found_tells state ahead begins whole where_ means sought.Empty is = elaborated_by_tells state ahead (last_ahead ahead) [] (nothing_ahead types_only tt state ahead begins whole where_ means sought.Empty is tt) (enumeration_in [])
+elaborated_found_tells state ahead begins whole where_ means (sought.Member class found) is = elaborated_by_tells state ahead (last_ahead ahead) [] (nothing_ahead types_only tt state ahead begins whole where_ means (sought.Member class found) is tt) (enumeration_in [])
+elaborated_found_tells state ahead begins whole where_ means (sought.Set all) is = elaborated_by_tells state ahead (last_ahead ahead) (set_in state.graph (sought.Set all)) (nothing_ahead types_only tt state ahead begins whole where_ means (sought.Set all) is tt) (enumeration_in (set_in state.graph (sought.Set all)))
 
-elaborated_found_tells : (state : CxxState) (last : Place) (token : Lexeme) (others : List Lexeme) → is_name token.kind ≡ true → (x : Found) → sought_from state.graph types_only state.here.scope (spelled token.spelling) ≡ x
-    → ToldBy IsLater Told state (ahead_of last token others) (elaborated_found (last_part (path_of token).parts) x state)
-elaborated_found_tells state last token others named (sought.Ambiguous one two) is = tells_refusal _ (twofold_ahead types_only state last token others named one two is)
-elaborated_found_tells state last token others named sought.Empty is = elaborated_by_tells state last token others [] (λ e. type_unknown state last token others named (subst IsClear (sym is) tt) (ap (set_in state.graph) is)) (enumeration_in [])
-elaborated_found_tells state last token others named (sought.Member class found) is = elaborated_by_tells state last token others [] (λ e. type_unknown state last token others named (subst IsClear (sym is) tt) (ap (set_in state.graph) is)) (enumeration_in [])
-elaborated_found_tells state last token others named (sought.Set facts) is = elaborated_by_tells state last token others (set_in state.graph (sought.Set facts)) (λ e. type_unknown state last token others named (subst IsClear (sym is) tt) (ap (set_in state.graph) is ∙ e)) (enumeration_in (set_in state.graph (sought.Set facts)))
-
-elaborated_tells : (state : CxxState) (ahead : Ahead) → is_name (kind_ahead ahead) ≡ true → ToldBy IsLater Told state ahead (elaborated_here (path_of (token_in ahead.tokens)) state)
-unfolding elaborated_here is_name
-elaborated_tells state ahead named = by ahead.last ahead.tokens named
+elaborated_tells : (state : CxxState) (ahead : Ahead) → begins_name ahead ≡ true → is_whole_name ahead ≡ true → ToldBy IsLater Told state ahead (elaborated_here (path_ahead ahead) state)
+unfolding elaborated_here
+elaborated_tells state ahead begins whole = by (region_of state.graph state.here.scope (path_ahead ahead)) refl
   where
-    by : (last : Place) (tokens : List Lexeme) → is_name (kind_of tokens) ≡ true → ToldBy IsLater Told state (record { last = last; tokens = tokens }) (elaborated_here (path_of (token_in tokens)) state)
-    by last [] named = absurd cc
-    by last (token ∷ others) named = elaborated_found_tells state last token others named (sought_from state.graph types_only state.here.scope (spelled token.spelling)) refl
+    by : (o : Answer Region) → region_of state.graph state.here.scope (path_ahead ahead) ≡ o → ToldBy IsLater Told state ahead (o >>= λ where_. elaborated_found (last_ahead ahead) (sought_in state.graph types_only where_ (name_in (path_ahead ahead))) state)
+    by (Ok where_) means = elaborated_found_tells state ahead begins whole where_ means (sought_in state.graph types_only where_ (name_in (path_ahead ahead))) refl
+    by (Err why) e = tells_refusal why (region_told state ahead begins whole why e)
 
 -- ---- declarations
 
@@ -147,12 +107,13 @@ fallback_by_tells is state None ahead = quiet_by is refl
 fallback_by_tells is state (Some given) ahead = same_by is given.tree state ahead
 
 questions_tell : {told : CxxState → Ahead → Stopped → Type 0} → IsTold IsLater told → QuestionsTell IsLater told answers
-unfolding questions bound_here size_here fallback_here
+unfolding questions bound_here size_here
 questions_tell is = record {
   bound = λ place target state ahead. tells_answer (tt, with_use place target state) (later_same state (with_use place target state) refl refl refl);
-  fallback = λ function index state ahead. fallback_by_tells is state (first_given state.graph.facts (scope_of_giver (giver state.graph state.here.scope function)) function index state.given) ahead;
   size = λ of state ahead. same_by is _ state ahead;
 }
+
+-- ---- what a name means (3.4)
 
 abbrev NameAnswers : Type 0
 NameAnswers = Answer (List Numbered × CxxState)
@@ -160,99 +121,129 @@ NameAnswers = Answer (List Numbered × CxxState)
 abbrev AreNames : NameAnswers → NameAnswers → Type 0
 AreNames one two = one ≡ two
 
--- what is sought of a name where the reader stands
-abbrev sought_here : CxxPath → CxxState → Found
-sought_here path state = sought_from state.graph any_name state.here.scope (name_in path)
+-- where the last part of a name is looked up
+abbrev MeansRegion : CxxPath → CxxState → Region → Type 0
+MeansRegion path state where_ = region_of state.graph state.here.scope path ≡ Ok where_
 
--- What was found, where nothing refuses the name. A refusal says that it is ambiguous, or nothing of declarations.
+-- what is sought of it there
+abbrev sought_there : CxxPath → CxxState → Region → Found
+sought_there path state where_ = sought_in state.graph any_name where_ (name_in path)
+
+abbrev meant_there : CxxPath → CxxState → Region → List Numbered
+meant_there path state where_ = meant_in state.graph where_ (name_in path)
+
+-- What was found, where nothing refuses the name. A refusal says that it is ambiguous, or of a part before `::` why it
+-- means no namespace, or nothing of declarations.
 data NamedSo (path : CxxPath) (state : CxxState) : NameAnswers → Type 0 where
-  named_so : IsClear (sought_here path state) → NamedSo path state (Ok (meant_here path state, state))
+  named_so : (where_ : Region) → MeansRegion path state where_ → IsClear (sought_there path state where_) → NamedSo path state (Ok (meant_there path state where_, state))
   not_named : (why : Stopped) → IsQuiet why → NamedSo path state (Err why)
-  named_twice : (one two : FactId) → sought_here path state ≡ sought.Ambiguous one two → NamedSo path state (Err (ambiguous_at state.graph (last_part path.parts) one two))
+  named_twice : (where_ : Region) (one two : FactId) → MeansRegion path state where_ → sought_there path state where_ ≡ sought.Ambiguous one two → NamedSo path state (Err (ambiguous_at state.graph (last_part path.parts) one two))
+  named_nowhere : (why : Stopped) → region_of state.graph state.here.scope path ≡ Err why → NamedSo path state (Err why)
 
 if_named : {path : CxxPath} {state : CxxState} (refused : Bool) {one two : NameAnswers} → NamedSo path state one → NamedSo path state two → NamedSo path state (if refused then one else two)
 if_named true one two = one
 if_named false one two = two
 
 -- 6.5.3, 8.3.6: what a `for` does behind each turn, and a default argument, do not name everything
-meant_so : (path : CxxPath) (state : CxxState) → IsClear (sought_here path state) → NamedSo path state (name_meant path state)
-meant_so path state clear =
-    if_named (state.in_default && names_local state.graph (meant_here path state)) (not_named (fault (last_part path.parts).place says.OperandsDoNotFit) refl) (
-    if_named (state.in_step && names_tested state.tested state.here.scope (meant_here path state)) (not_named (fault (last_part path.parts).place (says.LeftOut form.ConditionNameInStep)) refl) (named_so clear))
+meant_so : (path : CxxPath) (state : CxxState) (where_ : Region) → MeansRegion path state where_ → IsClear (sought_there path state where_) → NamedSo path state (name_meant (last_part path.parts) (meant_there path state where_) state)
+meant_so path state where_ means clear =
+    if_named (state.in_default && names_local state.graph (meant_there path state where_)) (not_named (fault (last_part path.parts).place says.OperandsDoNotFit) refl) (
+    if_named (state.in_step && names_tested state.tested state.here.scope (meant_there path state where_)) (not_named (fault (last_part path.parts).place (says.LeftOut form.ConditionNameInStep)) refl) (named_so where_ means clear))
 
--- 3.4
+region_so : (path : CxxPath) (state : CxxState) (where_ : Region) → MeansRegion path state where_ → NamedSo path state (name_in_region path where_ state)
+region_so path state where_ means = by (sought_there path state where_) refl
+  where
+    by : (x : Found) → sought_there path state where_ ≡ x → NamedSo path state (unambiguous state.graph (last_part path.parts) x >>= λ is_one. name_meant (last_part path.parts) (meant_there path state where_) state)
+    by (sought.Ambiguous one two) is = named_twice where_ one two means is
+    by sought.Empty is = meant_so path state where_ means (subst IsClear (sym is) tt)
+    by (sought.Set facts) is = meant_so path state where_ means (subst IsClear (sym is) tt)
+    by (sought.Member class found) is = meant_so path state where_ means (subst IsClear (sym is) tt)
+
 names_so : (path : CxxPath) (state : CxxState) → NamedSo path state (name_here path state)
 unfolding name_here
-names_so path state = by (sought_here path state) refl
+names_so path state = by (region_of state.graph state.here.scope path) refl
   where
-    by : (x : Found) → sought_here path state ≡ x → NamedSo path state (unambiguous state.graph (last_part path.parts) x >>= λ is_one. name_meant path state)
-    by (sought.Ambiguous one two) is = named_twice one two is
-    by sought.Empty is = meant_so path state (subst IsClear (sym is) tt)
-    by (sought.Set facts) is = meant_so path state (subst IsClear (sym is) tt)
-    by (sought.Member class found) is = meant_so path state (subst IsClear (sym is) tt)
+    by : (o : Answer Region) → region_of state.graph state.here.scope path ≡ o → NamedSo path state (o >>= λ where_. name_in_region path where_ state)
+    by (Ok where_) means = region_so path state where_ means
+    by (Err why) e = named_nowhere why e
 
-one_is : (path : CxxPath) (state : CxxState) (one : List Numbered × CxxState) {answer : NameAnswers} → NamedSo path state answer → answer ≡ Ok one → IsClear (sought_here path state) × ((meant_here path state, state) ≡ one)
-one_is path state one (named_so clear) e = (clear, by e)
+-- what was found, by the answer
+record FoundSo (path : CxxPath) (state : CxxState) (one : List Numbered × CxxState) : Type 0 where
+  where_ : Region
+  means : MeansRegion path state where_
+  clear : IsClear (sought_there path state where_)
+  is : (meant_there path state where_, state) ≡ one
+
+one_is : (path : CxxPath) (state : CxxState) (one : List Numbered × CxxState) {answer : NameAnswers} → NamedSo path state answer → answer ≡ Ok one → FoundSo path state one
+one_is path state one (named_so where_ means clear) e = record { where_ = where_; means = means; clear = clear; is = by e }
   where
-    by : AreNames (Ok (meant_here path state, state)) (Ok one) → (meant_here path state, state) ≡ one
+    by : AreNames (Ok (meant_there path state where_, state)) (Ok one) → (meant_there path state where_, state) ≡ one
     by e = cc
 one_is path state one (not_named why quiet) e = absurd cc
-one_is path state one (named_twice m n is) e = absurd cc
+one_is path state one (named_twice where_ m n means is) e = absurd cc
+one_is path state one (named_nowhere why is) e = absurd cc
 
--- what is told where a name is ambiguous
-abbrev TwofoldTold : (CxxState → Ahead → Stopped → Type 0) → CxxPath → CxxState → Ahead → Type 0
-TwofoldTold told path state ahead = (one two : FactId) → sought_here path state ≡ sought.Ambiguous one two → told state ahead (ambiguous_at state.graph (last_part path.parts) one two)
+-- what is told where a name is refused
+record RefusedTold (told : CxxState → Ahead → Stopped → Type 0) (path : CxxPath) (state : CxxState) (ahead : Ahead) : Type 0 where
+  nowhere : (why : Stopped) → region_of state.graph state.here.scope path ≡ Err why → told state ahead why
+  twofold : (where_ : Region) → MeansRegion path state where_ → (one two : FactId) → sought_there path state where_ ≡ sought.Ambiguous one two → told state ahead (ambiguous_at state.graph (last_part path.parts) one two)
 
-named_tells : {told : CxxState → Ahead → Stopped → Type 0} → IsTold IsLater told → (path : CxxPath) (state : CxxState) (ahead : Ahead) → TwofoldTold told path state ahead → {answer : NameAnswers} → NamedSo path state answer → ToldBy IsLater told state ahead answer
-named_tells is path state ahead twofold (named_so clear) = same_by is (meant_here path state) state ahead
-named_tells is path state ahead twofold (not_named why quiet) = quiet_by is quiet
-named_tells is path state ahead twofold (named_twice one two e) = tells_refusal _ (twofold one two e)
+named_tells : {told : CxxState → Ahead → Stopped → Type 0} → IsTold IsLater told → (path : CxxPath) (state : CxxState) (ahead : Ahead) → RefusedTold told path state ahead → {answer : NameAnswers} → NamedSo path state answer → ToldBy IsLater told state ahead answer
+named_tells is path state ahead refused (named_so where_ means clear) = same_by is (meant_there path state where_) state ahead
+named_tells is path state ahead refused (not_named why quiet) = quiet_by is quiet
+named_tells is path state ahead refused (named_twice where_ one two means e) = tells_refusal _ (refused.twofold where_ means one two e)
+named_tells is path state ahead refused (named_nowhere why e) = tells_refusal why (refused.nowhere why e)
 
 -- what is found, without what tells default arguments
-found_none : (path : CxxPath) (state : CxxState) → meant_here path state ≡ [] → set_in state.graph (sought_here path state) ≡ []
-unfolding with_givers found
-found_none path state e = none_left (set_in state.graph (sought_here path state)) (givers state.graph state.here.scope (set_in state.graph (sought_here path state))) e
+found_none : (path : CxxPath) (state : CxxState) (where_ : Region) → meant_there path state where_ ≡ [] → set_in state.graph (sought_there path state where_) ≡ []
+unfolding with_givers
+found_none path state where_ e = none_left (set_in state.graph (sought_there path state where_)) (givers state.graph (scope_of_region where_) (set_in state.graph (sought_there path state where_))) e
 
 -- what holds of the state in which a name is asked holds of the one that is answered
 abbrev InAnswer : (List Numbered → CxxState → Type 0) → List Numbered × CxxState → Type 0
 InAnswer P one = P one.0 one.1
 
-name_answers : {told : CxxState → Ahead → Stopped → Type 0} → IsTold IsLater told → (label : Label) (state : CxxState) (ahead : Ahead) → TwofoldTold told (path_in label) state ahead
-    → (IsClear (sought_here (path_in label) state) → set_in state.graph (sought_here (path_in label) state) ≡ [] → told state ahead (undeclared_at (word_in label).place (word_in label).word)) → NameTells IsLater told answers label state ahead
+-- it is told where nothing is found of it
+abbrev NothingFound : (CxxState → Ahead → Stopped → Type 0) → Label → CxxState → Ahead → Type 0
+NothingFound told label state ahead = (where_ : Region) → MeansRegion (path_in label) state where_ → IsClear (sought_there (path_in label) state where_) → set_in state.graph (sought_there (path_in label) state where_) ≡ [] → told state ahead (undeclared_at (word_in label).place (word_in label).word)
+
+name_answers : {told : CxxState → Ahead → Stopped → Type 0} → IsTold IsLater told → (label : Label) (state : CxxState) (ahead : Ahead) → RefusedTold told (path_in label) state ahead → NothingFound told label state ahead → NameTells IsLater told answers label state ahead
 unfolding questions
-name_answers {told = told} is label state ahead twofold unknown = record {
-  answers = named_tells is (path_in label) state ahead twofold (names_so (path_in label) state);
+name_answers {told = told} is label state ahead refused unknown = record {
+  answers = named_tells is (path_in label) state ahead refused (names_so (path_in label) state);
   unknown = λ one e. let so = one_is (path_in label) state one (names_so (path_in label) state) e in
-      subst (InAnswer (λ all s. all ≡ [] → told s ahead (undeclared_at (word_in label).place (word_in label).word))) so.1 (λ none. unknown so.0 (found_none (path_in label) state none));
+      subst (InAnswer (λ all s. all ≡ [] → told s ahead (undeclared_at (word_in label).place (word_in label).word))) so.is (λ none. unknown so.where_ so.means so.clear (found_none (path_in label) state so.where_ none));
 }
 
--- the same of a called name, of which it is told where it stands in brackets
-called_answers : {told : CxxState → Ahead → Stopped → Type 0} → IsTold IsLater told → (label : Label) (state : CxxState) (ahead : Ahead) → TwofoldTold told (path_in label) state ahead
-    → (IsClear (sought_here (path_in label) state) → set_in state.graph (sought_here (path_in label) state) ≡ [] → is_none_left label.spelling ≡ false → told state ahead (undeclared_at (word_in label).place (word_in label).word)) → CalledTells IsLater told answers label state ahead
+-- the same of a called name, of which it is told where the types of its arguments are not asked
+called_answers : {told : CxxState → Ahead → Stopped → Type 0} → IsTold IsLater told → (label : Label) (state : CxxState) (ahead : Ahead) → RefusedTold told (path_in label) state ahead → (is_bare label ≡ false → NothingFound told label state ahead) → CalledTells IsLater told answers label state ahead
 unfolding questions
-called_answers {told = told} is label state ahead twofold unknown = record {
-  answers = named_tells is (path_in label) state ahead twofold (names_so (path_in label) state);
+called_answers {told = told} is label state ahead refused unknown = record {
+  answers = named_tells is (path_in label) state ahead refused (names_so (path_in label) state);
   unknown = λ one e. let so = one_is (path_in label) state one (names_so (path_in label) state) e in
-      subst (InAnswer (λ all s. UnknownInBrackets told label all s ahead)) so.1 (λ none bracket. unknown so.0 (found_none (path_in label) state none) bracket);
+      subst (InAnswer (λ all s. UnknownUnasked told label all s ahead)) so.is (λ none unasked. unknown unasked so.where_ so.means so.clear (found_none (path_in label) state so.where_ none));
 }
 
 -- ---- a name that is ahead
 
-name_unknown : (state : CxxState) (last : Place) (token : Lexeme) (others : List Lexeme) → is_name token.kind ≡ true → IsClear (sought_from state.graph any_name state.here.scope (spelled token.spelling)) → set_in state.graph (sought_from state.graph any_name state.here.scope (spelled token.spelling)) ≡ []
-    → Told state (ahead_of last token others) (undeclared_at token.place token.spelling)
-name_unknown state last token others named clear none =
-    unknown_ahead state last token others (λ is. let found = nothing_sought state any_name (spelled token.spelling) is clear none in
-    (unknown_name (sought_ahead any_name sought.Empty state last token others (undeclared_fault token.place token.spelling) named refl found.0), found.1))
+-- the word of a tree is that of the last part of its name
+word_is : (parts : List CxxPathPart) → part_or (slice_get parts (length parts - 1)) ≡ last_part parts
+word_is [] = refl
+word_is (part ∷ []) = refl
+word_is (part ∷ next ∷ others) =
+    let less : length (part ∷ next ∷ others) - 1 ≡ suc (length (next ∷ others) - 1) = omega arith in
+    ap (λ (n : ℕ). part_or (slice_get (part ∷ next ∷ others) n)) less ∙ word_is (next ∷ others)
 
-name_ahead_tells : (state : CxxState) (ahead : Ahead) → is_name (kind_ahead ahead) ≡ true → ToldBy IsLater Told state ahead (elaborate answers (name_tree ahead (behind ahead)) state)
-unfolding is_name
-name_ahead_tells state ahead named = by ahead.last ahead.tokens named
-  where
-    by : (last : Place) (tokens : List Lexeme) → is_name (kind_of tokens) ≡ true → ToldBy IsLater Told state (record { last = last; tokens = tokens }) (elaborate answers (name_tree (record { last = last; tokens = tokens }) (behind (record { last = last; tokens = tokens }))) state)
-    by last [] named = absurd cc
-    by last (token ∷ others) named =
-        name_tells later_is_told (questions_tell later_is_told) (ahead_of last token others) (behind (ahead_of last token others)) state (ahead_of last token others)
-        (name_answers later_is_told (name_tree (ahead_of last token others) (behind (ahead_of last token others))).label state (ahead_of last token others) (twofold_ahead any_name state last token others named) (name_unknown state last token others named))
+-- nothing is found of the last part of a name
+abbrev IsUntold : CxxState → Ahead → CxxPathPart → Type 0
+IsUntold state ahead part = Told state ahead (undeclared_at part.place part.word)
+
+name_ahead_tells : (state : CxxState) (ahead : Ahead) → begins_name ahead ≡ true → is_whole_name ahead ≡ true → ToldBy IsLater Told state ahead (elaborate answers (name_tree (path_ahead ahead) ahead (behind_name ahead)) state)
+name_ahead_tells state ahead begins whole =
+    name_tells later_is_told (questions_tell later_is_told) (path_ahead ahead) ahead (behind_name ahead) state ahead
+    (name_answers later_is_told (name_tree (path_ahead ahead) ahead (behind_name ahead)).label state ahead
+    (record { nowhere = region_told state ahead begins whole; twofold = twofold_ahead any_name tt state ahead begins whole })
+    (λ where_ means clear none. subst (IsUntold state ahead) (sym (word_is (path_ahead ahead).parts)) (nothing_ahead any_name tt state ahead begins whole where_ means (sought_there (path_ahead ahead) state where_) refl clear none)))
 
 -- ---- a call that stands ahead
 
@@ -262,108 +253,134 @@ trees_same (tree ∷ others) = ap (λ more. tree ∷ more) (trees_same others)
 
 -- the tree of a call that stands ahead
 abbrev tree_of_call : {room : ℕ} {state : CxxState} {ahead : Ahead} → IsUnitCall room state ahead → Ahead → CxxTree
-tree_of_call call from = call_tree (brackets_of call.is_bare) call.name call.arguments from call.rest
+tree_of_call call from = call_tree (brackets_of call.is_open) (called call) call.arguments from call.rest
 
-call_twofold : (state : CxxState) (ahead : Ahead) (room : ℕ) (call : IsUnitCall room state ahead) → IsLater state call.at → (one two : FactId) → called call ≡ sought.Ambiguous one two → Told state ahead (ambiguous_at call.at.graph (last_part (path_of call.name).parts) one two)
-call_twofold state ahead room call later one two is =
-    reached_here state ahead (IsManifold (ambiguous_fault call.at.graph call.name.place call.name.spelling one two) call.name.spelling)
-    (λ scopes. twofold_call room one two call (record { named = call.named; spelled_so = refl; is_at = refl }) is (are_two call.at any_name call.name one two (later.scopes scopes) is))
+-- what is true of its name, in a state as late as that in which its arguments are read
+name_of_call : (state : CxxState) (ahead : Ahead) (room : ℕ) (call : IsUnitCall room state ahead) (t : CxxState) → IsLater state t → (why : Stopped) → Told t call.named why → Told state ahead why
+name_of_call state ahead room call t later why told = told_sooner state t ahead call.named why (reached_by_later state t later) call.stands told
+
+call_refused : (state : CxxState) (ahead : Ahead) (room : ℕ) (call : IsUnitCall room state ahead) → RefusedTold (ToldSince state ahead) (called call) call.at ahead
+call_refused state ahead room call = record {
+  nowhere = λ why e later. name_of_call state ahead room call call.at later why (region_told call.at call.named call.begins call.whole why e);
+  twofold = λ where_ means one two is later. name_of_call state ahead room call call.at later (ambiguous_at call.at.graph (last_ahead call.named) one two) (twofold_ahead any_name tt call.at call.named call.begins call.whole where_ means one two is);
+}
 
 -- where nothing is found of its name, nor by the types of its arguments
-call_unknown : (state : CxxState) (ahead : Ahead) (room : ℕ) (call : IsUnitCall room state ahead) → IsLater state call.at → IsClear (called call) → set_in call.at.graph (called call) ≡ [] → (InScopes call.at → called_by_types call ≡ []) → Told state ahead (undeclared_at call.name.place call.name.spelling)
-call_unknown state ahead room call later clear none by_types =
-    reached_here state ahead (IsUndeclared (undeclared_fault call.name.place call.name.spelling) call.name.spelling) (record {
-      is = λ is. let found = nothing_sought call.at any_name (spelled call.name.spelling) (later.scopes is) clear none in
-          (unknown_call (record { room = room; call = call; is_named = record { named = call.named; spelled_so = refl; is_at = refl }; unknown = found.0; by_types = by_types (later.scopes is) }), found.1);
+call_unknown : (state : CxxState) (ahead : Ahead) (room : ℕ) (call : IsUnitCall room state ahead) → IsLater state call.at → (where_ : Region) → MeansRegion (called call) call.at where_ → IsClear (sought_there (called call) call.at where_) → set_in call.at.graph (sought_there (called call) call.at where_) ≡ [] → (InScopes call.at → called_by_types call ≡ [])
+    → Told state ahead (undeclared_at (last_ahead call.named).place (last_ahead call.named).word)
+unfolding last_sought
+call_unknown state ahead room call later where_ means clear none by_types =
+    reached_here state ahead (IsUndeclared (undeclared_fault (last_ahead call.named)) (last_ahead call.named).word) (record {
+      is = λ is. let found = nothing_sought call.at.graph any_name where_ (name_in (called call)) (fitting call.at (later.scopes is)) (region_there call.at (called call) where_ (later.scopes is) means) (sought_there (called call) call.at where_) refl clear none in (
+        unknown_call any_name (record {
+          room = room;
+          call = call;
+          is_sought = last_sought call.at.graph call.at.here.scope (called call) any_name sought.Empty (undeclared_fault (last_ahead call.named)) where_ (some_parts call.named call.begins call.whole) tt refl means found.0;
+          by_types = by_types (later.scopes is);
+        }),
+        found.1,
+      );
       bare = refl;
     })
 
--- in brackets no types are asked
-bracket_unknown : (state : CxxState) (ahead : Ahead) (room : ℕ) (call : IsUnitCall room state ahead) → IsLater state call.at → IsClear (called call) → set_in call.at.graph (called call) ≡ [] → is_none_left (brackets_of call.is_bare) ≡ false → Told state ahead (undeclared_at call.name.place call.name.spelling)
-bracket_unknown state ahead room call later clear none bracket = call_unknown state ahead room call later clear none (λ is. by call.is_bare bracket)
+-- 3.4.2: whether the types of its arguments are asked
+word_asked : (is_open : Bool) (path : CxxPath) → bare_word (is_none_left (brackets_of is_open) && is_plain_path path) (last_part path.parts).word ≡ asked_word is_open path
+word_asked true path = by (is_plain_path path)
   where
-    by : (is_bare : Bool) → is_none_left (brackets_of is_bare) ≡ false → functions_by_types call.at.graph call.name.spelling is_bare (operands call) ≡ []
-    by true e = absurd cc
-    by false e = refl
+    by : (b : Bool) → bare_word b (last_part path.parts).word ≡ (if b then Some (last_part path.parts).word else None)
+    by true = refl
+    by false = refl
+word_asked false path = refl
+
+-- they are not
+unasked_none : (graph : CxxGraph) (is_open : Bool) (path : CxxPath) (operands : List CxxOperand) → (is_none_left (brackets_of is_open) && is_plain_path path) ≡ false → functions_by_types graph path is_open operands ≡ []
+unasked_none graph is_open path operands unasked = ap (λ (word : Option (List ℕ)). associated_functions graph word operands) (sym (word_asked is_open path) ∙ ap (λ (b : Bool). bare_word b (last_part path.parts).word) unasked)
+
+-- whether the name of the tree of a call is bare
+open_or_not : {room : ℕ} {state : CxxState} {ahead : Ahead} (call : IsUnitCall room state ahead) (from : Ahead) → is_bare (tree_of_call call from).label ≡ (is_none_left (brackets_of call.is_open) && is_plain_path (called call))
+open_or_not call from = refl
+
+call_unasked : (state : CxxState) (ahead : Ahead) (room : ℕ) (call : IsUnitCall room state ahead) (from : Ahead) → is_bare (tree_of_call call from).label ≡ false → NothingFound (ToldSince state ahead) (tree_of_call call from).label call.at ahead
+call_unasked state ahead room call from unasked where_ means clear none later = subst (IsUntold state ahead) (sym (word_is (called call).parts)) (call_unknown state ahead room call later where_ means clear none (λ is. unasked_none call.at.graph call.is_open (called call) (operands call) (sym (open_or_not call from) ∙ unasked)))
 
 -- where the question of its name is answered
 abbrev AreDeclared : {room : ℕ} {state : CxxState} {ahead : Ahead} → IsUnitCall room state ahead → Label → List Numbered × CxxState → Type 0
 AreDeclared call label one = AreNames (name_here (path_in label) call.at) (Ok one)
 
--- what its name means, and what tells its default arguments
-abbrev meant_at : {room : ℕ} {state : CxxState} {ahead : Ahead} → IsUnitCall room state ahead → List Numbered
-meant_at call = with_givers call.at.graph call.at.here.scope (found call.at.graph call.at.here.scope (spelled call.name.spelling))
-
--- a name that has no brackets round it, and no declarations
-bare_call : (label : Label) (all values : List Numbered) → IsAskedSo label all values → values ≡ [] → (all ≡ []) × (is_none_left label.spelling ≡ true)
+-- a name that has no brackets round it, no qualifiers, and no declarations
+bare_call : (label : Label) (all values : List Numbered) → IsAskedSo label all values → values ≡ [] → (all ≡ []) × (is_bare label ≡ true)
 bare_call label [] [] asked none = (refl, asked)
 bare_call label (one ∷ others) [] asked none = absurd cc
 bare_call label all (one ∷ others) asked none = absurd cc
 
-besides_none : (graph : CxxGraph) (scope : ℕ) (word : List ℕ) (is_bare : Bool) (operands : List CxxOperand) → AreSound graph.facts → values_of graph scope (spelled word) ≡ [] → values_besides graph scope word is_bare operands ≡ [] → functions_by_types graph word is_bare operands ≡ []
+besides_none : (graph : CxxGraph) (scope : ℕ) (where_ : Region) (path : CxxPath) (is_open : Bool) (operands : List CxxOperand) → AreSound graph.facts → values_of graph where_ (name_in path) ≡ [] → values_besides graph scope where_ path is_open operands ≡ [] → functions_by_types graph path is_open operands ≡ []
 unfolding with_givers
-besides_none graph scope word is_bare operands sound none e =
-    none_by_types graph (asked_word is_bare word) operands sound (subst (λ (values : List Numbered). numbered_at graph (fresh_among values (functions_by_types graph word is_bare operands)) ≡ []) none
-    (none_left (numbered_at graph (fresh_among (values_of graph scope (spelled word)) (functions_by_types graph word is_bare operands))) (givers graph scope (numbered_at graph (fresh_among (values_of graph scope (spelled word)) (functions_by_types graph word is_bare operands)))) e))
+besides_none graph scope where_ path is_open operands sound none e =
+    none_by_types graph (asked_word is_open path) operands sound (subst (λ (values : List Numbered). numbered_at graph (fresh_among values (functions_by_types graph path is_open operands)) ≡ []) none
+    (none_left (numbered_at graph (fresh_among (values_of graph where_ (name_in path)) (functions_by_types graph path is_open operands))) (givers graph scope (numbered_at graph (fresh_among (values_of graph where_ (name_in path)) (functions_by_types graph path is_open operands)))) e))
 
 right_none : {A : Type 0} (xs ys : List A) → xs ++ ys ≡ [] → ys ≡ []
 right_none [] ys e = e
 right_none (x ∷ xs) ys e = absurd cc
 
-nothing_told : (state : CxxState) (ahead : Ahead) (room : ℕ) (call : IsUnitCall room state ahead) → IsLater state call.at → IsClear (called call) → (from : Ahead) → IsAskedSo (tree_of_call call from).label (meant_at call) (values_of call.at.graph call.at.here.scope (spelled call.name.spelling)) → NothingTold call state ahead
-nothing_told state ahead room call later clear from asked nothing = by call.is_bare refl
+nothing_told : (state : CxxState) (ahead : Ahead) (room : ℕ) (call : IsUnitCall room state ahead) → IsLater state call.at → (clear : IsFoundClear call) (from : Ahead) → IsAskedSo (tree_of_call call from).label (meant_there (called call) call.at clear.where_) (values_of call.at.graph clear.where_ (name_in (called call))) → NothingTold call clear state ahead
+nothing_told state ahead room call later clear from is_so nothing =
+    subst (λ (word : Option (List ℕ)). Told state ahead (undeclared_at (place_of_call call) (word_or_none word))) (sym (ap (λ (b : Bool). bare_word b (last_ahead call.named).word) bare.1) ∙ word_asked call.is_open (called call)) told
   where
     values : List Numbered
-    values = values_of call.at.graph call.at.here.scope (spelled call.name.spelling)
+    values = values_of call.at.graph clear.where_ (name_in (called call))
 
     besides : List Numbered
-    besides = values_besides call.at.graph call.at.here.scope call.name.spelling call.is_bare (operands call)
+    besides = values_besides call.at.graph call.at.here.scope clear.where_ (called call) call.is_open (operands call)
 
     no_values : values ≡ []
     no_values = none_left values besides nothing
 
-    bare : (meant_at call ≡ []) × (is_none_left (brackets_of call.is_bare) ≡ true)
-    bare = bare_call (tree_of_call call from).label (meant_at call) values asked no_values
+    bare : (meant_there (called call) call.at clear.where_ ≡ []) × (is_bare (tree_of_call call from).label ≡ true)
+    bare = bare_call (tree_of_call call from).label (meant_there (called call) call.at clear.where_) values is_so no_values
 
-    no_bracket : false ≡ true → ⊥
-    no_bracket e = cc
+    told : Told state ahead (undeclared_at (place_of_call call) (last_ahead call.named).word)
+    told = call_unknown state ahead room call later clear.where_ clear.qualifies clear.clear (found_none (called call) call.at clear.where_ bare.0) (λ is. besides_none call.at.graph call.at.here.scope clear.where_ (called call) call.is_open (operands call) is.sound no_values (right_none values besides nothing))
 
-    told : Told state ahead (undeclared_at call.name.place call.name.spelling)
-    told = call_unknown state ahead room call later clear (found_none (path_of call.name) call.at bare.0) (λ is. besides_none call.at.graph call.at.here.scope call.name.spelling call.is_bare (operands call) is.sound no_values (right_none values besides nothing))
-
-    by : (is_bare : Bool) → call.is_bare ≡ is_bare → Told state ahead (undeclared_at call.name.place (word_or_none (asked_word call.is_bare call.name.spelling)))
-    by true is = subst (λ (b : Bool). Told state ahead (undeclared_at call.name.place (word_or_none (asked_word b call.name.spelling)))) (sym is) told
-    by false is = absurd (no_bracket (subst (λ (b : Bool). is_none_left (brackets_of b) ≡ true) is bare.1))
-
-word_asked : (is_bare : Bool) (word : List ℕ) → bare_word (brackets_of is_bare) word ≡ asked_word is_bare word
-word_asked true word = refl
-word_asked false word = refl
+-- the word of its question
+word_of_call : {room : ℕ} {state : CxxState} {ahead : Ahead} (call : IsUnitCall room state ahead) (from : Ahead) → bare_word (is_bare (tree_of_call call from).label) (word_in (tree_of_call call from).label).word ≡ asked_word call.is_open (called call)
+word_of_call call from = ap (λ (part : CxxPathPart). bare_word (is_bare (tree_of_call call from).label) part.word) (word_is (called call).parts) ∙ word_asked call.is_open (called call)
 
 asked_by : (state : CxxState) (ahead rest : Ahead) (room : ℕ) (call : IsUnitCall room state ahead) → IsLater state call.at → (from : Ahead) (one : List Numbered × CxxState) → AreDeclared call (tree_of_call call from).label one
-    → AskedOf IsLater (λ t ahead' why. Told state ahead why) answers (tree_of_call call from) call.arguments one.0 one.1 rest
+    → AskedOf IsLater (ToldSince state ahead) answers (tree_of_call call from) call.arguments one.0 one.1 rest
 unfolding questions
 asked_by state ahead rest room call later from one e =
-    let so = one_is (path_of call.name) call.at one (names_so (path_of call.name) call.at) e in
-    subst (λ (x : List Numbered × CxxState). AskedOf IsLater (λ t ahead' why. Told state ahead why) answers (tree_of_call call from) call.arguments x.0 x.1 rest) so.1 (λ asked.
-    subst (λ (word : Option (List ℕ)). ToldBy IsLater (λ t ahead' why. Told state ahead why) call.at rest (call_here (record (asked_for call) { word = word }) call.at)) (sym (word_asked call.is_bare call.name.spelling))
-    (call_asked_tells state ahead rest room call so.0 (nothing_told state ahead room call later so.0 from asked)))
+    let so = one_is (called call) call.at one (names_so (called call) call.at) e in
+    let clear : IsFoundClear call = record { where_ = so.where_; qualifies = so.means; clear = so.clear } in
+    subst (λ (x : List Numbered × CxxState). AskedOf IsLater (ToldSince state ahead) answers (tree_of_call call from) call.arguments x.0 x.1 rest) so.is (λ asked.
+    subst (λ (word : Option (List ℕ)). ToldBy IsLater (ToldSince state ahead) call.at rest (call_here (record (asked_for call clear) { word = word }) call.at)) (sym (word_of_call call from))
+    (call_asked_tells state ahead rest room call clear (λ why told later. told) (nothing_told state ahead room call later clear from asked)))
 
 asked_of : (state : CxxState) (ahead rest : Ahead) (room : ℕ) (call : IsUnitCall room state ahead) → IsLater state call.at → (from : Ahead) (one : List Numbered × CxxState) → AreDeclared call (tree_of_call call from).label one
-    → AskedOf IsLater (λ t ahead' why. Told state ahead why) answers (tree_of_call call from) (children_of (tree_of_call call from)) one.0 one.1 rest
+    → AskedOf IsLater (ToldSince state ahead) answers (tree_of_call call from) (children_of (tree_of_call call from)) one.0 one.1 rest
 asked_of state ahead rest room call later from one e =
-    subst (λ (trees : List CxxTree). AskedOf IsLater (λ t ahead' why. Told state ahead why) answers (tree_of_call call from) trees one.0 one.1 rest) (sym (trees_same call.arguments)) (asked_by state ahead rest room call later from one e)
+    subst (λ (trees : List CxxTree). AskedOf IsLater (ToldSince state ahead) answers (tree_of_call call from) trees one.0 one.1 rest) (sym (trees_same call.arguments)) (asked_by state ahead rest room call later from one e)
+
+-- 8.3.6: of a later state it is known where the called name is looked up, or why nowhere
+call_defaults : (state : CxxState) (ahead : Ahead) (room : ℕ) (call : IsUnitCall room state ahead) → DefaultsTell IsLater (ToldSince state ahead) answers (called call)
+unfolding questions fallback_here
+call_defaults state ahead room call = record { fallback = λ function index t rest. by function index t rest (region_of t.graph t.here.scope (called call)) refl }
+  where
+    by : (function index : ℕ) (t : CxxState) (rest : Ahead) (o : Answer Region) → region_of t.graph t.here.scope (called call) ≡ o → ToldBy IsLater (ToldSince state ahead) t rest (o >>= λ where_. fallback_by t (first_given t.graph.facts (scope_of_giver (giver t.graph (scope_of_region where_) function)) function index t.given))
+    by function index t rest (Ok where_) means = fallback_by_tells (later_is_told_since state ahead) t (first_given t.graph.facts (scope_of_giver (giver t.graph (scope_of_region where_) function)) function index t.given) rest
+    by function index t rest (Err why) e = tells_refusal why (λ later. name_of_call state ahead room call t later why (region_told t call.named call.begins call.whole why e))
 
 -- what is asked in a later state
-asked_later : (state : CxxState) (ahead rest : Ahead) (at : CxxState) {r : Answer (CxxTree × CxxState)} → IsLater state at → ToldBy IsLater (λ t ahead' why. Told state ahead why) at rest r → ToldBy IsLater Told state ahead r
+asked_later : (state : CxxState) (ahead rest : Ahead) (at : CxxState) {r : Answer (CxxTree × CxxState)} → IsLater state at → ToldBy IsLater (ToldSince state ahead) at rest r → ToldBy IsLater Told state ahead r
 asked_later state ahead rest at first (tells_answer one later) = tells_answer one (later_is_kept.later state at one.1 first later)
-asked_later state ahead rest at first (tells_refusal why true_of) = tells_refusal why true_of
+asked_later state ahead rest at first (tells_refusal why true_of) = tells_refusal why (true_of first)
 
 call_ahead_tells : (room : ℕ) (state : CxxState) (ahead : Ahead) (call : IsUnitCall room state ahead) → IsLater state call.at → (from : Ahead) → ToldBy IsLater Told state ahead (elaborate answers (tree_of_call call from) call.at)
 unfolding questions
 call_ahead_tells room state ahead call later from =
-    let is = later_is_told_of state ahead in
-    asked_later state ahead ahead call.at later (call_tells is (questions_tell is) (brackets_of call.is_bare) call.name call.arguments from call.rest call.at ahead
-    (called_answers is (tree_of_call call from).label call.at ahead (call_twofold state ahead room call later) (bracket_unknown state ahead room call later))
+    let is = later_is_told_since state ahead in
+    asked_later state ahead ahead call.at later (call_tells is (questions_tell is) (brackets_of call.is_open) (called call) (call_defaults state ahead room call) call.arguments from call.rest call.at ahead
+    (called_answers is (tree_of_call call from).label call.at ahead (call_refused state ahead room call) (call_unasked state ahead room call from))
     (asked_of state ahead ahead room call later from))
 
 -- ---- default arguments (8.3.6)

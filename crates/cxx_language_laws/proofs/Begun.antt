@@ -1,32 +1,40 @@
 -- The scope of a list of parameters has begun where its declarator was read (3.3.2, 8.3.5).
 use Rattle.std.proofs.Common.{arith, ◌≡◌, ◌<◌, refl, subst}
 use Rattle.std.proofs.lemmas.Option.{same_Some}
-use Rattle.std.specs.Prelude.{ℕ, zero, suc, Bool, true, false, not, if◌then◌else◌, ◌||◌, length, List, [], ◌∷◌, ◌++◌, Some, Ok, Err}
+use Rattle.std.specs.Prelude.{ℕ, zero, suc, Bool, true, false, not, if◌then◌else◌, ◌&&◌, ◌||◌, length, List, [], ◌∷◌, ◌++◌, Some, Ok, Err}
 use Rattle.cxx_model.specs.declared.keyword.TheConstants as keyword
 use Rattle.cxx_model.specs.declared.limits.TheConstants as limits
+use Rattle.cxx_model.specs.declared.lookup.Found.{Found}
+use Rattle.cxx_model.specs.declared.lookup.Found.TheVariants as sought
 use Rattle.cxx_model.specs.declared.punct.TheConstants as punct
-use Rattle.cxx_model.specs.Stops.{Answer, Stopped}
+use Rattle.cxx_model.specs.Stops.{Answer, Stopped, ◌>>=◌}
+use Rattle.cxx_meaning.specs.Lookups.Wanted.{any_name}
+use Rattle.cxx_reading.specs.declared.region.Region.{Region}
 use Rattle.cxx_reading.specs.declared.specifier.Naming.{Naming}
 use Rattle.cxx_reading.specs.declared.specifier.Naming.TheVariants as naming
 use Rattle.cxx_reading.specs.declared.specifier.SpecifierPlace.TheVariants as where_
 use Rattle.cxx_reading.specs.Declarators.{Declarator, Layer, pointer_layer, reference_layer, array_layer, function_layer, ParameterTypes, adjusted_types, no_declarator_yet, is_named, own_parameters, parameter_type}
-use Rattle.cxx_reading.specs.Declaring.{scope_count}
+use Rattle.cxx_reading.specs.Declaring.{at_scope, scope_count}
 use Rattle.cxx_reading.specs.Kinds.{Fallback, Kinds, Readers}
-use Rattle.cxx_reading.specs.Reads.{Ahead, Got, Reads, Turn, More, Done, then_read, ask, tokens, go_on, repeat, kind_ahead, count_ahead, behind}
+use Rattle.cxx_reading.specs.Members.{enter_member, entered_found}
+use Rattle.cxx_reading.specs.Paths.{name_in, region_of, scope_of_region, sought_in}
+use Rattle.cxx_reading.specs.Reads.{Ahead, Got, Reads, Turn, More, Done, then_read, answered, ask, tokens, go_on, repeat, kind_ahead, count_ahead, behind}
 use Rattle.cxx_reading.specs.Shapes.{begins_type}
 use Rattle.cxx_reading.specs.Specifiers.{specifiers_at}
 use Rattle.cxx_reading.specs.State.{CxxState}
-use Rattle.cxx_reading.specs.Syntax.{Suffixed, is_required, is_never, bound_by, array_suffix, function_suffix, function_by, bracket_suffix, suffix_at, give_declarator, suffixes_at, name_read, name_part, grouped_part, grouped_by, bracket_part, star_part, ampersand_part, declarator_at, pointed_at, referred_at, grouped_at, specified_type, place_of_declarator, parameter_fits, parameter_tree, default_at, with_parameter, with_ellipsis, list_ended, comma_passed, parameter_ended, parameter_at, parameter_step, past_most, parameters_over, no_parameters, some_parameters, turn_result, is_void_list, list_at, parameters_at}
-use Rattle.cxx_reading.specs.Tokens.{is_punct, is_keyword, is_name, is_qualified, no_declarator, punct_taken}
+use Rattle.cxx_reading.specs.Syntax.{Suffixed, is_required, is_never, may_qualify, member_read, qualified_part, bound_by, array_suffix, function_suffix, function_by, bracket_suffix, suffix_at, give_declarator, suffixes_at, name_read, name_part, grouped_part, grouped_by, bracket_part, star_part, ampersand_part, declarator_at, pointed_at, referred_at, grouped_at, specified_type, place_of_declarator, parameter_fits, parameter_tree, default_at, with_parameter, with_ellipsis, list_ended, comma_passed, parameter_ended, parameter_at, parameter_step, past_most, parameters_over, no_parameters, some_parameters, turn_result, is_void_list, list_at, parameters_at}
+use Rattle.cxx_reading.specs.Tokens.{begins_name, is_punct, is_keyword, is_plain_name, no_declarator, punct_taken}
+use Rattle.cxx_reading.specs.Trees.{CxxPath, last_part}
 use Rattle.cxx_knot.specs.Readers.{both}
 use Rattle.cxx_language.specs.Answers.{asking}
 use Rattle.cxx_language.specs.Asked.{asked, inner_at}
+use Rattle.cxx_language_laws.specs.Told.{IsGrown}
 use Rattle.cxx_language_laws.proofs.Asked.{kinds_tell, offers_tell, phrases_tell}
 use Rattle.cxx_language_laws.proofs.Both.{both_tell}
-use Rattle.cxx_language_laws.proofs.Later.{IsLater, later_is_kept}
+use Rattle.cxx_language_laws.proofs.Later.{IsLater, grown_later, grown_same}
 use Rattle.cxx_language_laws.proofs.Lists.{ListIn, list_in, no_list, list_begins}
 use Rattle.cxx_language_laws.proofs.Reached.{Told, later_is_told, count_more}
-use Rattle.cxx_language_laws.proofs.Tells.{KindsTell, ReadersTell, ToldIn, tells_read, tells_stop, punct_in, tokens_in, token_told, unit_is_told, returned_in, past_in, names_tell}
+use Rattle.cxx_language_laws.proofs.Tells.{KindsTell, ReadersTell, ToldIn, tells_read, tells_stop, punct_in, tokens_in, token_told, unit_is_told, returned_in, past_in, names_tell, path_told}
 use Rattle.cxx_language_laws.proofs.TellsDefaults.{fallback_at_tells}
 use Rattle.cxx_language_laws.proofs.TellsShapes.{abstract_tells}
 use Rattle.cxx_language_laws.proofs.TellsSyntax.{FallbackTells, cv_tells, exceptions_tell, parameter_list_tells}
@@ -34,7 +42,7 @@ use Rattle.cxx_language_laws.proofs.TellsSyntax.{FallbackTells, cv_tells, except
 -- ---- what is read, with what holds of it behind it
 
 pub data Brings {A : Type 0} (P : CxxState → A → Type 0) (state : CxxState) : Answer (Got CxxState A) → Type 0 where
-  brings : (one : Got CxxState A) → IsLater state one.state → P one.state one.value → Brings P state (Ok one)
+  brings : (one : Got CxxState A) → IsGrown state one.state → P one.state one.value → Brings P state (Ok one)
   brings_none : (why : Stopped) → Brings P state (Err why)
 
 abbrev pub EachBrings : {A : Type 0} → (CxxState → A → Type 0) → Reads CxxState A → Type 0
@@ -44,19 +52,19 @@ abbrev Anything : {A : Type 0} → CxxState → A → Type 0
 Anything state value = Unit {0}
 
 brings_here : {A : Type 0} {P : CxxState → A → Type 0} (value : A) (state : CxxState) (rest : Ahead) → P state value → Brings P state (Ok (record { value = value; state = state; rest = rest }))
-brings_here value state rest is = brings (record { value = value; state = state; rest = rest }) (later_is_kept.same state) is
+brings_here value state rest is = brings (record { value = value; state = state; rest = rest }) (grown_same state state refl) is
 
-brings_from : {A : Type 0} {P : CxxState → A → Type 0} (s t : CxxState) → IsLater s t → {r : Answer (Got CxxState A)} → Brings P t r → Brings P s r
-brings_from s t later (brings one more is) = brings one (later_is_kept.later s t one.state later more) is
-brings_from s t later (brings_none why) = brings_none why
+brings_from : {A : Type 0} {P : CxxState → A → Type 0} (s t : CxxState) → IsGrown s t → {r : Answer (Got CxxState A)} → Brings P t r → Brings P s r
+brings_from s t grown (brings one more is) = brings one (grown_later s t one.state grown more) is
+brings_from s t grown (brings_none why) = brings_none why
 
 brings_then : {A B : Type 0} {P : CxxState → A → Type 0} {Q : CxxState → B → Type 0} {s : CxxState} {r : Answer (Got CxxState A)} {go : A → Reads CxxState B} → Brings P s r
-    → ((x : A) (t : CxxState) (rest : Ahead) → IsLater s t → P t x → Brings Q t (go x t rest)) → Brings Q s (then_read r go)
-brings_then {s = s} (brings one later is) next = brings_from s one.state later (next one.value one.state one.rest later is)
+    → ((x : A) (t : CxxState) (rest : Ahead) → IsGrown s t → P t x → Brings Q t (go x t rest)) → Brings Q s (then_read r go)
+brings_then {s = s} (brings one grown is) next = brings_from s one.state grown (next one.value one.state one.rest grown is)
 brings_then (brings_none why) next = brings_none why
 
 told_brings : {A : Type 0} {state : CxxState} {ahead : Ahead} {r : Answer (Got CxxState A)} → ToldIn IsLater Told state ahead r → Brings Anything state r
-told_brings (tells_read one later stands) = brings one later tt
+told_brings (tells_read one later stands) = brings one later.grown tt
 told_brings (tells_stop why told) = brings_none why
 
 if_brings : {A : Type 0} {P : CxxState → A → Type 0} {state : CxxState} (b : Bool) {x y : Answer (Got CxxState A)} → Brings P state x → Brings P state y → Brings P state (if b then x else y)
@@ -90,15 +98,15 @@ abbrev pub HaveBegun : CxxState → List Layer → Type 0
 HaveBegun state [] = Unit {0}
 HaveBegun state (layer ∷ layers) = HasBegun state layer × HaveBegun state layers
 
-has_later : (s t : CxxState) → IsLater s t → (layer : Layer) → HasBegun s layer → HasBegun t layer
-has_later s t later (function_layer parameters ellipsis scope) is = let more = count_more s t later.grown in omega (arith, more, is)
-has_later s t later (pointer_layer cv) is = tt
-has_later s t later reference_layer is = tt
-has_later s t later (array_layer bound) is = tt
+has_later : (s t : CxxState) → IsGrown s t → (layer : Layer) → HasBegun s layer → HasBegun t layer
+has_later s t grown (function_layer parameters ellipsis scope) is = let more = count_more s t grown in omega (arith, more, is)
+has_later s t grown (pointer_layer cv) is = tt
+has_later s t grown reference_layer is = tt
+has_later s t grown (array_layer bound) is = tt
 
-have_later : (s t : CxxState) → IsLater s t → (layers : List Layer) → HaveBegun s layers → HaveBegun t layers
-have_later s t later [] are = tt
-have_later s t later (layer ∷ layers) are = (has_later s t later layer are.0, have_later s t later layers are.1)
+have_later : (s t : CxxState) → IsGrown s t → (layers : List Layer) → HaveBegun s layers → HaveBegun t layers
+have_later s t grown [] are = tt
+have_later s t grown (layer ∷ layers) are = (has_later s t grown layer are.0, have_later s t grown layers are.1)
 
 have_outward : (state : CxxState) (layers : List Layer) (layer : Layer) → HaveBegun state layers → HasBegun state layer → HaveBegun state (layers ++ layer ∷ [])
 have_outward state [] layer are is = (is, tt)
@@ -145,9 +153,9 @@ function_begins inner so_far state ahead are =
     brings_then (inner.parameters state (behind ahead)) (λ list t rest later begun.
     brings_then (told_brings (tokens_in later_is_told (cv_tells unit_is_told) t rest)) (λ cv u rest more none.
     brings_then (told_brings (tokens_in later_is_told (exceptions_tell unit_is_told) u rest)) (λ exceptions v rest most none.
-    let last = later_is_kept.later t u v more most in
+    let last = grown_later t u v more most in
     let layer = function_layer (adjusted_types list.types) list.ellipsis list.scope in
-    brings_here _ v rest (have_outward v so_far.declarator.layers layer (have_later state v (later_is_kept.later state t v later last) so_far.declarator.layers are) (has_later t v last layer begun)))))
+    brings_here _ v rest (have_outward v so_far.declarator.layers layer (have_later state v (grown_later state t v later last) so_far.declarator.layers are) (has_later t v last layer begun)))))
 
 function_by_begins : {inner : Readers CxxState} → ReadersBegin inner → (so_far : Suffixed) (is_list : Bool) (state : CxxState) (ahead : Ahead) → SuffixBegun state so_far → Brings TurnBegun state (function_by inner so_far is_list state ahead)
 function_by_begins inner so_far true state ahead are = function_begins inner so_far state ahead are
@@ -169,13 +177,31 @@ suffixes_begin : {inner : Readers CxxState} → ReadersBegin inner → (declarat
 unfolding suffixes_at
 suffixes_begin {inner = i} inner declarator state ahead are = repeat_brings (suffix_at i) give_declarator (suffix_begins inner) (λ so_far s ahead are. brings_here so_far.declarator s ahead are) (count_ahead ahead) (record { declarator = declarator; in_row = false }) state ahead are
 
-name_begins : {inner : Readers CxxState} → ReadersBegin inner → (naming : Naming) → EachBrings Begun (name_part inner naming)
+-- 8.3: where the name of a member is entered, nothing is declared
+data Grows (state : CxxState) : Answer (Unit {0} × CxxState) → Type 0 where
+  it_grows : (one : Unit {0} × CxxState) → IsGrown state one.1 → Grows state (Ok one)
+  no_growth : (why : Stopped) → Grows state (Err why)
+
+record EachGrows (asks : Kinds CxxState) : Type 0 where
+  entered : (path : CxxPath) (state : CxxState) → Grows state (asks.entered path state)
+
+grown_brings : {state : CxxState} {r : Answer (Unit {0} × CxxState)} (rest : Ahead) → Grows state r → Brings Anything state (answered r rest)
+grown_brings rest (it_grows one grown) = brings (record { value = one.0; state = one.1; rest = rest }) grown tt
+grown_brings rest (no_growth why) = brings_none why
+
+qualified_begins : {asks : Kinds CxxState} → EachGrows asks → {inner : Readers CxxState} → ReadersBegin inner → EachBrings Begun (qualified_part asks inner)
+unfolding qualified_part
+qualified_begins asks inner state ahead =
+    brings_then (told_brings (path_told later_is_told state ahead)) (λ path t rest later none.
+    brings_then (grown_brings rest (asks.entered path t)) (λ entered u rest more none. suffixes_begin inner (member_read (last_part path.parts)) u rest tt))
+
+name_begins : {asks : Kinds CxxState} → EachGrows asks → {inner : Readers CxxState} → ReadersBegin inner → (naming : Naming) → EachBrings Begun (name_part asks inner naming)
 unfolding name_part no_declarator
-name_begins inner naming state ahead =
+name_begins asks inner naming state ahead =
     if_brings (is_never naming) (suffixes_begin inner no_declarator_yet state ahead tt) (
-    if_brings (is_qualified ahead) (brings_none _) (
-    if_brings (is_name (kind_ahead ahead)) (brings_then (told_brings (token_told later_is_told state ahead)) (λ token t rest later none. suffixes_begin inner (name_read token) t rest tt)) (
-    if_brings (is_required naming) (if_brings (is_qualified ahead || is_keyword keyword.OPERATOR (kind_ahead ahead)) (brings_none _) (brings_none _)) (suffixes_begin inner no_declarator_yet state ahead tt))))
+    if_brings (is_plain_name ahead) (brings_then (told_brings (token_told later_is_told state ahead)) (λ token t rest later none. suffixes_begin inner (name_read token) t rest tt)) (
+    if_brings (may_qualify naming && begins_name ahead) (qualified_begins asks inner state ahead) (
+    if_brings (is_required naming) (if_brings (is_keyword keyword.OPERATOR (kind_ahead ahead)) (brings_none _) (brings_none _)) (suffixes_begin inner no_declarator_yet state ahead tt))))
 
 grouped_part_begins : {inner : Readers CxxState} → ReadersBegin inner → (naming : Naming) → EachBrings Begun (grouped_part inner naming)
 unfolding grouped_part
@@ -191,27 +217,27 @@ bracket_part_begins asks inner naming state ahead =
     if_brings (is_required naming) (grouped_part_begins inner naming state ahead)
     (brings_then (told_brings (abstract_tells later_is_told (names_tell asks) state ahead)) (λ is_list t rest later none. grouped_by_begins inner naming is_list t rest))
 
-declarator_begins : {asks : Kinds CxxState} → KindsTell IsLater Told asks → {inner : Readers CxxState} → ReadersBegin inner → (naming : Naming) → EachBrings Begun (declarator_at asks inner naming)
+declarator_begins : {asks : Kinds CxxState} → KindsTell IsLater Told asks → EachGrows asks → {inner : Readers CxxState} → ReadersBegin inner → (naming : Naming) → EachBrings Begun (declarator_at asks inner naming)
 unfolding declarator_at star_part ampersand_part
-declarator_begins asks inner naming state ahead =
+declarator_begins asks grows inner naming state ahead =
     if_brings (is_punct punct.STAR (kind_ahead ahead)) (inner.pointed naming state (behind ahead)) (
     if_brings (is_punct punct.AMPERSAND (kind_ahead ahead)) (inner.referred naming state (behind ahead)) (
-    if_brings (is_punct punct.LEFT_PARENTHESIS (kind_ahead ahead)) (bracket_part_begins asks inner naming state ahead) (name_begins inner naming state ahead)))
+    if_brings (is_punct punct.LEFT_PARENTHESIS (kind_ahead ahead)) (bracket_part_begins asks inner naming state ahead) (name_begins grows inner naming state ahead)))
 
-pointed_begins : {asks : Kinds CxxState} → KindsTell IsLater Told asks → {inner : Readers CxxState} → ReadersBegin inner → (naming : Naming) → EachBrings Begun (pointed_at asks inner naming)
+pointed_begins : {asks : Kinds CxxState} → KindsTell IsLater Told asks → EachGrows asks → {inner : Readers CxxState} → ReadersBegin inner → (naming : Naming) → EachBrings Begun (pointed_at asks inner naming)
 unfolding pointed_at
-pointed_begins asks inner naming state ahead =
+pointed_begins asks grows inner naming state ahead =
     brings_then (told_brings (tokens_in later_is_told (cv_tells unit_is_told) state ahead)) (λ cv t rest later none.
-    brings_then (declarator_begins asks inner naming t rest) (λ inside u rest later are. brings_here _ u rest (have_outward u inside.layers (pointer_layer cv) are tt)))
+    brings_then (declarator_begins asks grows inner naming t rest) (λ inside u rest later are. brings_here _ u rest (have_outward u inside.layers (pointer_layer cv) are tt)))
 
-referred_begins : {asks : Kinds CxxState} → KindsTell IsLater Told asks → {inner : Readers CxxState} → ReadersBegin inner → (naming : Naming) → EachBrings Begun (referred_at asks inner naming)
+referred_begins : {asks : Kinds CxxState} → KindsTell IsLater Told asks → EachGrows asks → {inner : Readers CxxState} → ReadersBegin inner → (naming : Naming) → EachBrings Begun (referred_at asks inner naming)
 unfolding referred_at
-referred_begins asks inner naming state ahead = brings_then (declarator_begins asks inner naming state ahead) (λ inside t rest later are. brings_here _ t rest (have_outward t inside.layers reference_layer are tt))
+referred_begins asks grows inner naming state ahead = brings_then (declarator_begins asks grows inner naming state ahead) (λ inside t rest later are. brings_here _ t rest (have_outward t inside.layers reference_layer are tt))
 
-grouped_begins : {asks : Kinds CxxState} → KindsTell IsLater Told asks → {inner : Readers CxxState} → ReadersBegin inner → (naming : Naming) → EachBrings Begun (grouped_at asks inner naming)
+grouped_begins : {asks : Kinds CxxState} → KindsTell IsLater Told asks → EachGrows asks → {inner : Readers CxxState} → ReadersBegin inner → (naming : Naming) → EachBrings Begun (grouped_at asks inner naming)
 unfolding grouped_at
-grouped_begins asks inner naming state ahead =
-    brings_then (declarator_begins asks inner naming state ahead) (λ inside t rest later are.
+grouped_begins asks grows inner naming state ahead =
+    brings_then (declarator_begins asks grows inner naming state ahead) (λ inside t rest later are.
     brings_then (told_brings (tokens_in later_is_told (punct_in unit_is_told punct.RIGHT_PARENTHESIS) t rest)) (λ closed u rest more none. brings_here inside u rest (have_later t u more inside.layers are)))
 
 -- ---- lists of parameters
@@ -314,10 +340,28 @@ parameters_begin room {fallback = f} fallback {inner = i} inner state ahead =
     brings_list (list_begins (list_at (asked room).kinds f i) (parameter_list_tells later_is_told (kinds_tell room) fallback inner) (λ scope s ahead one e. reading_is scope one (list_of (asked room).kinds f i scope s ahead) e) state ahead)
   where
     brings_list : {r : Answer (Got CxxState ParameterTypes)} → ListIn state r → Brings ListBegun state r
-    brings_list (list_in one later begun) = brings one later begun
+    brings_list (list_in one later begun) = brings one later.grown begun
     brings_list (no_list why) = brings_none why
 
 -- ---- the knot
+
+member_grows : (path : CxxPath) (state : CxxState) → Grows state (enter_member path state)
+unfolding enter_member
+member_grows path state = by (region_of state.graph state.here.scope path)
+  where
+    found : (where_ : Region) (x : Found) → Grows state (entered_found (last_part path.parts) where_ x state)
+    found where_ (sought.Ambiguous one two) = no_growth _
+    found where_ (sought.Set targets) = it_grows (tt, at_scope (scope_of_region where_) state) (grown_same state (at_scope (scope_of_region where_) state) refl)
+    found where_ (sought.Member class of) = no_growth _
+    found where_ sought.Empty = no_growth _
+
+    by : (o : Answer Region) → Grows state (o >>= λ where_. entered_found (last_part path.parts) where_ (sought_in state.graph any_name where_ (name_in path)) state)
+    by (Ok where_) = found where_ (sought_in state.graph any_name where_ (name_in path))
+    by (Err why) = no_growth why
+
+each_grows : (room : ℕ) → EachGrows (asked room).kinds
+unfolding asking
+each_grows room = record { entered = member_grows }
 
 begins_at : (room : ℕ) → ReadersBegin (inner_at room).types
 unfolding both
@@ -334,12 +378,12 @@ begins_at (suc room) =
     let at = phrases_tell room inside.tells in
     record {
       tells = (both_tell (suc room)).types;
-      pointed = pointed_begins kinds inside;
-      referred = referred_begins kinds inside;
-      grouped = grouped_begins kinds inside;
+      pointed = pointed_begins kinds (each_grows room) inside;
+      referred = referred_begins kinds (each_grows room) inside;
+      grouped = grouped_begins kinds (each_grows room) inside;
       parameters = parameters_begin room (fallback_at_tells later_is_told (asked room) (offers_tell room) at (both_tell room).phrases) inside.tells;
     }
 
 -- clause 8: each list that a declarator brings has begun
 pub declarator_has_begun : (room : ℕ) (naming : Naming) → EachBrings Begun (declarator_at (asked room).kinds (inner_at room).types naming)
-declarator_has_begun room naming = declarator_begins (kinds_tell room) (begins_at room) naming
+declarator_has_begun room naming = declarator_begins (kinds_tell room) (each_grows room) (begins_at room) naming

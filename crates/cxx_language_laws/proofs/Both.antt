@@ -23,9 +23,9 @@ pub both_tell : (room : ℕ) → BothTell room
 unfolding both
 both_tell zero = record {
   types = record {
-    pointed = λ naming state ahead. quiet_in later_is_told refl;
-    referred = λ naming state ahead. quiet_in later_is_told refl;
-    grouped = λ naming state ahead. quiet_in later_is_told refl;
+    pointed = λ naming plain state ahead. quiet_in later_is_told refl;
+    referred = λ naming plain state ahead. quiet_in later_is_told refl;
+    grouped = λ naming plain state ahead. quiet_in later_is_told refl;
     bound = λ is_first state ahead. quiet_in later_is_told refl;
     parameters = λ state ahead. quiet_in later_is_told refl;
     enumerators = λ number state ahead. quiet_in later_is_told refl;

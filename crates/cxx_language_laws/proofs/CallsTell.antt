@@ -8,15 +8,18 @@ use Rattle.cxx_model.specs.declared.limits.TheConstants as limits
 use Rattle.cxx_model.specs.declared.place.Place.{Place}
 use Rattle.cxx_model.specs.declared.stop.LimitKind.TheVariants.{Arguments}
 use Rattle.cxx_model.specs.declared.fault.FaultText.TheVariants as says
-use Rattle.cxx_model.specs.Facts.Declarations.{CxxGraph, spelled}
+use Rattle.cxx_model.specs.Facts.Declarations.{CxxGraph}
 use Rattle.cxx_model.specs.Stops.{Answer, Stopped, Limited, undeclared_at}
 use Rattle.cxx_meaning.specs.Conversions.Asking.{Asked, ◌>>=◌}
 use Rattle.cxx_meaning.specs.Conversions.Standard.{CxxOperand}
 use Rattle.cxx_meaning.specs.Lookups.Wanted.{any_name}
+use Rattle.cxx_reading.specs.declared.region.Region.{Region}
 use Rattle.cxx_reading.specs.Initializers.{with_call}
+use Rattle.cxx_reading.specs.Paths.{name_in, region_of, sought_in}
 use Rattle.cxx_reading.specs.Reads.{Ahead}
-use Rattle.cxx_reading.specs.Seen.{Numbered, sought_from}
+use Rattle.cxx_reading.specs.Seen.{Numbered}
 use Rattle.cxx_reading.specs.State.{CxxState, CxxCall}
+use Rattle.cxx_reading.specs.Trees.{CxxPath}
 use Rattle.cxx_expr.specs.Questions.{CxxQuestion}
 use Rattle.cxx_overload.specs.Calls.{CxxDecision, decided}
 use Rattle.cxx_overload.specs.Candidates.{CxxCandidate, candidates}
@@ -26,7 +29,7 @@ use Rattle.cxx_overload.specs.Viability.{Rated, by_count, by_sequences, first_wi
 use Rattle.cxx_overload.specs.Words.{IsOutcome}
 use Rattle.cxx_answers.specs.Answers.{call_here, called_as, decided_among, functions_of_call, word_or_none}
 use Rattle.cxx_language_laws.specs.Best.{IsBestCall, IsClear, IsRatedSo, asked_word, values_of, values_of_call}
-use Rattle.cxx_language_laws.specs.Told.{IsUnitCall, called, meant, operands, no_viable_function, ambiguous_call}
+use Rattle.cxx_language_laws.specs.Told.{IsFoundClear, IsUnitCall, called, meant, operands, place_of_call, no_viable_function, ambiguous_call}
 use Rattle.cxx_language_laws.proofs.Later.{IsLater, grown_same, each_widened}
 use Rattle.cxx_language_laws.proofs.QuestionsTell.{if_by}
 use Rattle.cxx_language_laws.proofs.Reached.{Told, reached_here, IsChosen}
@@ -92,18 +95,20 @@ call_added state call best = record {
   here = λ is. refl;
 }
 
-best_call : (state : CxxState) (new : CxxState) (place : Place) (operands : List CxxOperand) (scope : ℕ) (word : List ℕ) (is_bare : Bool) (decision : CxxDecision) → new.graph ≡ state.graph → IsClear (sought_from state.graph any_name scope (spelled word)) → IsDecided place operands state.graph (values_of_call state.graph scope word is_bare operands) decision → IsBestCall new decision.call
-best_call state new place operands scope word is_bare decision same clear is = subst (IsBestCall new) (sym is.keeps) (record {
+best_call : (state : CxxState) (new : CxxState) (place : Place) (operands : List CxxOperand) (scope : ℕ) (path : CxxPath) (is_open : Bool) (where_ : Region) (decision : CxxDecision) → new.graph ≡ state.graph → region_of state.graph scope path ≡ Ok where_ → IsClear (sought_in state.graph any_name where_ (name_in path)) → IsDecided place operands state.graph (values_of_call state.graph scope where_ path is_open operands) decision → IsBestCall new decision.call
+best_call state new place operands scope path is_open where_ decision same qualifies clear is = subst (IsBestCall new) (sym is.keeps) (record {
   before = state.graph;
   later = [];
   stands = ap (λ (g : CxxGraph). g.facts) same ∙ sym (append-nil state.graph.facts);
   scope = scope;
-  word = word;
-  is_bare = is_bare;
+  path = path;
+  is_open = is_open;
+  where_ = where_;
+  qualifies = qualifies;
   clear = clear;
   all = is.all;
   rated_so = is.rated_so;
-  reasons = rated_hold state.graph operands (candidates (values_of_call state.graph scope word is_bare operands)) is.all is.rated_so;
+  reasons = rated_hold state.graph operands (candidates (values_of_call state.graph scope where_ path is_open operands)) is.all is.rated_so;
   meant = is.meant;
   best = is.best;
   keeps = refl;
@@ -111,33 +116,33 @@ best_call state new place operands scope word is_bare decision same clear is = s
 
 -- ---- a call that is not
 
-fault_told : (state : CxxState) (ahead : Ahead) (room : ℕ) (call : IsUnitCall room state ahead) → IsClear (called call) → (why : Stopped) → IsUndecided call.name.place (operands call) call.at.graph (meant call) why → Told state ahead why
+fault_told : (state : CxxState) (ahead : Ahead) (room : ℕ) (call : IsUnitCall room state ahead) (clear : IsFoundClear call) (why : Stopped) → IsUndecided (place_of_call call) (operands call) call.at.graph (meant call clear) why → Told state ahead why
 fault_told state ahead room call clear why (inl many) = subst (Told state ahead) (sym many.why_is) tt
 fault_told state ahead room call clear why (inr (inl class)) = subst (Told state ahead) (sym class.why_is) tt
-fault_told state ahead room call clear why (inr (inr (inl none))) = subst (Told state ahead) (sym none.why_is) (reached_here state ahead (IsChosen (record { place = call.name.place; text = says.NoViableFunction; evidence = none.lines })) (no_viable_function room call clear (subst (NoneViable call.name.place (operands call) call.at.graph (meant call)) none.why_is none)))
-fault_told state ahead room call clear why (inr (inr (inr tied))) = subst (Told state ahead) (sym tied.why_is) (reached_here state ahead (IsChosen (record { place = call.name.place; text = says.AmbiguousCall; evidence = tied.lines })) (ambiguous_call room call clear (subst (IsAmbiguous call.name.place (operands call) call.at.graph (meant call)) tied.why_is tied)))
+fault_told state ahead room call clear why (inr (inr (inl none))) = subst (Told state ahead) (sym none.why_is) (reached_here state ahead (IsChosen (record { place = place_of_call call; text = says.NoViableFunction; evidence = none.lines })) (no_viable_function room call clear (subst (NoneViable (place_of_call call) (operands call) call.at.graph (meant call clear)) none.why_is none)))
+fault_told state ahead room call clear why (inr (inr (inr tied))) = subst (Told state ahead) (sym tied.why_is) (reached_here state ahead (IsChosen (record { place = place_of_call call; text = says.AmbiguousCall; evidence = tied.lines })) (ambiguous_call room call clear (subst (IsAmbiguous (place_of_call call) (operands call) call.at.graph (meant call clear)) tied.why_is tied)))
 
 -- ---- the question of a call
 
 -- what is asked for it
-abbrev pub asked_for : {room : ℕ} {before : CxxState} {ahead : Ahead} → IsUnitCall room before ahead → CxxQuestion
-asked_for call = record { place = call.name.place; word = asked_word call.is_bare call.name.spelling; functions = values_of call.at.graph call.at.here.scope (spelled call.name.spelling); operands = operands call }
+abbrev pub asked_for : {room : ℕ} {before : CxxState} {ahead : Ahead} (call : IsUnitCall room before ahead) → IsFoundClear call → CxxQuestion
+asked_for call clear = record { place = place_of_call call; word = asked_word call.is_open (called call); functions = values_of call.at.graph clear.where_ (name_in (called call)); operands = operands call }
 
 -- it is told where a call may mean nothing
-abbrev pub NothingTold : {room : ℕ} {state : CxxState} {ahead : Ahead} → IsUnitCall room state ahead → CxxState → Ahead → Type 0
-NothingTold call state ahead = meant call ≡ [] → Told state ahead (undeclared_at call.name.place (word_or_none (asked_word call.is_bare call.name.spelling)))
+abbrev pub NothingTold : {room : ℕ} {state : CxxState} {ahead : Ahead} (call : IsUnitCall room state ahead) → IsFoundClear call → CxxState → Ahead → Type 0
+NothingTold call clear state ahead = meant call clear ≡ [] → Told state ahead (undeclared_at (place_of_call call) (word_or_none (asked_word call.is_open (called call))))
 
-decided_tells : (state : CxxState) (ahead rest : Ahead) (room : ℕ) (call : IsUnitCall room state ahead) → IsClear (called call) → (answer : Answer CxxDecision) → decided call.name.place (operands call) call.at.graph (meant call) ≡ answer
-    → ToldBy IsLater (λ t ahead' why. Told state ahead why) call.at rest (called_as call.at answer)
-decided_tells state ahead rest room call clear (Ok one) is = tells_answer _ (call_added call.at one.call (best_call call.at (with_call one.call call.at) call.name.place (operands call) call.at.here.scope call.name.spelling call.is_bare one refl clear (decision_best _ _ _ _ one is)))
-decided_tells state ahead rest room call clear (Err why) is = tells_refusal why (fault_told state ahead room call clear why (undecided_why _ _ _ _ why is))
+decided_tells : {told : CxxState → Ahead → Stopped → Type 0} (state : CxxState) (ahead rest : Ahead) (room : ℕ) (call : IsUnitCall room state ahead) (clear : IsFoundClear call) → ((why : Stopped) → Told state ahead why → told call.at rest why) → (answer : Answer CxxDecision) → decided (place_of_call call) (operands call) call.at.graph (meant call clear) ≡ answer
+    → ToldBy IsLater told call.at rest (called_as call.at answer)
+decided_tells state ahead rest room call clear goes (Ok one) is = tells_answer _ (call_added call.at one.call (best_call call.at (with_call one.call call.at) (place_of_call call) (operands call) call.at.here.scope (called call) call.is_open clear.where_ one refl clear.qualifies clear.clear (decision_best _ _ _ _ one is)))
+decided_tells state ahead rest room call clear goes (Err why) is = tells_refusal why (goes why (fault_told state ahead room call clear why (undecided_why _ _ _ _ why is)))
 
-among_tells : (state : CxxState) (ahead rest : Ahead) (room : ℕ) (call : IsUnitCall room state ahead) → IsClear (called call) → NothingTold call state ahead → (all : List Numbered) → meant call ≡ all
-    → ToldBy IsLater (λ t ahead' why. Told state ahead why) call.at rest (called_as call.at (decided_among (asked_for call) call.at all))
-among_tells state ahead rest room call clear nothing [] is = tells_refusal _ (nothing is)
-among_tells state ahead rest room call clear nothing (one ∷ others) is = decided_tells state ahead rest room call clear (decided call.name.place (operands call) call.at.graph (one ∷ others)) (ap (decided call.name.place (operands call) call.at.graph) is)
+among_tells : {told : CxxState → Ahead → Stopped → Type 0} (state : CxxState) (ahead rest : Ahead) (room : ℕ) (call : IsUnitCall room state ahead) (clear : IsFoundClear call) → ((why : Stopped) → Told state ahead why → told call.at rest why) → NothingTold call clear state ahead → (all : List Numbered) → meant call clear ≡ all
+    → ToldBy IsLater told call.at rest (called_as call.at (decided_among (asked_for call clear) call.at all))
+among_tells state ahead rest room call clear goes nothing [] is = tells_refusal _ (goes _ (nothing is))
+among_tells state ahead rest room call clear goes nothing (one ∷ others) is = decided_tells state ahead rest room call clear goes (decided (place_of_call call) (operands call) call.at.graph (one ∷ others)) (ap (decided (place_of_call call) (operands call) call.at.graph) is)
 
 -- in the state in which the arguments of the call are read
-pub call_asked_tells : (state : CxxState) (ahead rest : Ahead) (room : ℕ) (call : IsUnitCall room state ahead) → IsClear (called call) → NothingTold call state ahead → ToldBy IsLater (λ t ahead' why. Told state ahead why) call.at rest (call_here (asked_for call) call.at)
+pub call_asked_tells : {told : CxxState → Ahead → Stopped → Type 0} (state : CxxState) (ahead rest : Ahead) (room : ℕ) (call : IsUnitCall room state ahead) (clear : IsFoundClear call) → ((why : Stopped) → Told state ahead why → told call.at rest why) → NothingTold call clear state ahead → ToldBy IsLater told call.at rest (call_here (asked_for call clear) call.at)
 unfolding call_here functions_of_call
-call_asked_tells state ahead rest room call clear nothing = if_by (nat_lt limits.MOST_ARGUMENTS (length (operands call))) (tells_refusal (Limited Arguments) tt) (among_tells state ahead rest room call clear nothing (meant call) refl)
+call_asked_tells state ahead rest room call clear goes nothing = if_by (nat_lt limits.MOST_ARGUMENTS (length (operands call))) (tells_refusal (Limited Arguments) (goes (Limited Arguments) tt)) (among_tells state ahead rest room call clear goes nothing (meant call clear) refl)

@@ -10,8 +10,9 @@ use Rattle.cxx_model.specs.Types.Trees.{CxxType}
 use Rattle.cxx_reading.specs.declared.specifier.Naming.TheVariants as naming
 use Rattle.cxx_reading.specs.declared.specifier.SpecifierPlace.TheVariants as where_
 use Rattle.cxx_reading.specs.Declarators.{Declarator, declared_type, Specifiers, is_function_type, own_parameters}
-use Rattle.cxx_reading.specs.Declaring.{begin_body, declare_object, define_object, define_declared, end_body, number_id, scope_count}
+use Rattle.cxx_reading.specs.Declaring.{at_scope, begin_body, declare_object, define_object, define_declared, end_body, number_id, scope_count}
 use Rattle.cxx_reading.specs.Reads.{Ahead, Asks, Got, Reads, More, Done, ◌>>=◌, then_read, answered, ask, taken, give, count_ahead, kind_ahead, place_ahead, behind}
+use Rattle.cxx_reading.specs.Members.{stand_in}
 use Rattle.cxx_reading.specs.Productions as unit_production
 use Rattle.cxx_reading.specs.Spaces.{close_space, open_space, open_unnamed}
 use Rattle.cxx_reading.specs.State.{CxxState}
@@ -27,19 +28,20 @@ use Rattle.cxx_language.specs.Made.{defined_object, extern_object}
 use Rattle.cxx_language.specs.Objects.{begins_initializer}
 use Rattle.cxx_language.specs.Spaces.{behind_namespace, give_part, namespace_at, part_tree, space_opened, space_or_alias}
 use Rattle.cxx_language.specs.Statements.{parts_at}
-use Rattle.cxx_language.specs.Units.{Declares, alone, behind_list, declaration_at, declaration_by, declaration_tree, declarator_step, declarators_at, declarators_of, declared_by, declared_function, ended_behind, ended_by, function_ended, init_declarator_at, linkage_by, linkage_opened, linked_by, linked_one, not_ended, plain_declaration_at, simple_declaration_at}
-use Rattle.cxx_language_laws.specs.Stopping.{BeginsBody, Gives, Initializes, IsLinked, IsNoSpace, Leads, OpensSpace, Part, a_body, a_declaration, a_namespace, a_simple_declaration, alias_name, an_initializer, begins_body, by_definition, by_extern, declarator_of, in_alias, in_declaration, in_declarator, in_space, in_specifiers, next_declaration, opens_named, opens_unnamed, some_declarations, to_directive, to_linked_directive, to_linked_namespace, to_namespace, next_declarator, some_declarators, to_body, to_braces, to_declarators, to_initializer, to_linked, to_unlinked}
+use Rattle.cxx_language.specs.Units.{Declares, alone, behind_list, declaration_at, declaration_by, declaration_tree, declarator_step, declarators_at, declarators_of, declared_by, declared_function, ended_behind, ended_by, function_ended, init_declarator_at, linkage_by, member_agrees, linkage_opened, linked_by, linked_one, not_ended, plain_declaration_at, simple_declaration_at}
+use Rattle.cxx_language_laws.specs.Stopping.{BeginsBody, Gives, Initializes, IsLinked, IsNoSpace, Leads, OpensSpace, Part, a_body, a_declaration, a_namespace, a_simple_declaration, alias_name, an_initializer, begins_body, by_definition, by_extern, declarator_of, in_alias, in_declaration, in_declarator, in_space, in_specifiers, next_declaration, opens_named, opens_unnamed, some_declarations, to_using, to_linked_using, to_linked_namespace, to_namespace, next_declarator, some_declarators, to_body, to_braces, to_declarators, to_initializer, to_linked, to_unlinked}
 use Rattle.cxx_language_laws.specs.Told.{EndsIn}
 use Rattle.cxx_language_laws.proofs.Begun.{Begun, Brings, HaveBegun, brings, brings_none, declarator_has_begun, own_has_begun}
 use Rattle.cxx_language_laws.proofs.Declared.{declared_synonym_tells, declarator_ended_tells, give_trees_tells, linkages_tell, linked_tree_tells, no_declaration_tells, nothing_tells, one_tree_tells}
-use Rattle.cxx_language_laws.proofs.DeclaratorsStop.{declarator_stops, defined_part_stops, extern_part_stops, fits_stops, specifiers_stop, which_reads}
-use Rattle.cxx_language_laws.proofs.Later.{IsLater, declared_is_there, defined_is_there, define_later_tells, define_tells, function_answer_tells, later_is_kept, later_is_quiet, object_tells}
+use Rattle.cxx_language_laws.proofs.DeclaratorsStop.{agrees_stops, defined_part_stops, extern_part_stops, fits_stops, member_stops, specifiers_stop, which_reads}
+use Rattle.cxx_language_laws.proofs.Later.{IsLater, declared_is_there, defined_is_there, define_later_tells, define_tells, function_answer_tells, grown_later, grown_same, later_is_kept, same_calls, later_is_quiet, object_tells}
 use Rattle.cxx_language_laws.proofs.Opened.{InSpace, open_space_tells, open_unnamed_tells, space_closed}
-use Rattle.cxx_language_laws.proofs.Reached.{behind_by, behind_by_later, behind_later, count_more}
+use Rattle.cxx_language_laws.proofs.Reached.{IsElsewhere, behind_by, behind_by_later, behind_later, count_more}
+use Rattle.cxx_language_laws.proofs.Scopes.{scope_is_there, scopes_at}
 use Rattle.cxx_language_laws.proofs.Lists.{left}
-use Rattle.cxx_language_laws.proofs.Spaces.{alias_or_not_stops, directive_stops}
+use Rattle.cxx_language_laws.proofs.Spaces.{alias_or_not_stops, using_stops}
 use Rattle.cxx_language_laws.proofs.StatementsStop.{body_stops}
-use Rattle.cxx_language_laws.proofs.Stopping.{ChainedOf, Inside, Stops, calm, calm_from, leads_here, leads_in, quiet_told, repeat_stops, then_asked, then_asked_from, then_calm, told_within, which_in, whole_calm, whole_stops, within_part}
+use Rattle.cxx_language_laws.proofs.Stopping.{ChainedOf, Inside, InsideBy, IsHeld, Stops, asked_held, calm, calm_from, calm_held, elsewhere_is_held, leads_elsewhere, leads_here, leads_in, quiet_held, quiet_told, repeat_stops, then_calm, then_held, told_within, which_in, whole_calm, whole_stops, within_part}
 use Rattle.cxx_language_laws.proofs.Tells.{Quietly, Tells, ToldBy, tells_answer, tells_read, tells_refusal, tells_stop, behind_stands, twice_behind, ends_later, then_from, then_in, if_in, same_in, next_in, give_in, looked_in, past_stands, quiet_in}
 use Rattle.cxx_language_laws.proofs.TellsBodies.{IsInBlock, begun_body, body_later, body_reached, ended_body, enter_tells, in_list}
 
@@ -49,79 +51,79 @@ use Rattle.cxx_language_laws.proofs.TellsBodies.{IsInBlock, begun_body, body_lat
 abbrev behind_body : ℕ → List CxxTree → Reads CxxState (List CxxTree)
 behind_body outside statements = ask (end_body outside) >>= λ ended. give statements
 
-body_ends : {part : Part} {state : CxxState} {ahead : Ahead} (room list number : ℕ) (result : CxxType) (between t : CxxState) (rest : Ahead) → list < scope_count between.graph → IsLater state between → EndsIn ahead.tokens rest.tokens
-    → IsLater (begun_body list number result between) t → Leads part state ahead (a_body room) t (behind rest) → {r : Answer (Got CxxState (List CxxTree))} → Stops (a_body room) t (behind rest) r → Inside part state ahead (then_read r (behind_body between.here.scope))
+body_ends : {kept : CxxState → CxxState → Type 0} → IsHeld kept → {part : Part} {state : CxxState} {ahead : Ahead} (room list number : ℕ) (result : CxxType) (between t : CxxState) (rest : Ahead) → list < scope_count between.graph → kept state between → EndsIn ahead.tokens rest.tokens
+    → IsLater (begun_body list number result between) t → Leads part state ahead (a_body room) t (behind rest) → {r : Answer (Got CxxState (List CxxTree))} → Stops (a_body room) t (behind rest) r → InsideBy kept part state ahead (then_read r (behind_body between.here.scope))
 unfolding end_body
-body_ends {state = state} {ahead = ahead} room list number result between t rest there first stands begun leads (tells_read one later ends) =
+body_ends held {state = state} {ahead = ahead} room list number result between t rest there first stands begun leads (tells_read one later ends) =
     let all = later_is_kept.later (begun_body list number result between) t one.state begun later in
-    tells_read (record { value = one.value; state = ended_body between.here.scope one.state; rest = one.rest }) (later_is_kept.later state between (ended_body between.here.scope one.state) first (body_later list number result between one.state there all)) (ends_later ahead.tokens (behind rest).tokens one.rest.tokens (past_stands ahead rest stands) ends)
-body_ends {part = part} {state = state} {ahead = ahead} room list number result between t rest there first stands begun leads (tells_stop why true_of) =
-    let reached = behind_later state between (begun_body list number result between) (behind_by_later state between first) (behind_by between (begun_body list number result between) (body_reached list number result between there)) in
+    tells_read (record { value = one.value; state = ended_body between.here.scope one.state; rest = one.rest }) (held.further state between (ended_body between.here.scope one.state) first (body_later list number result between one.state there all)) (ends_later ahead.tokens (behind rest).tokens one.rest.tokens (past_stands ahead rest stands) ends)
+body_ends held {part = part} {state = state} {ahead = ahead} room list number result between t rest there first stands begun leads (tells_stop why true_of) =
+    let reached = behind_later state between (begun_body list number result between) (held.behind state between first) (behind_by between (begun_body list number result between) (body_reached list number result between there)) in
     tells_stop why (told_within part (a_body room) state t ahead (behind rest) why leads (behind_later state (begun_body list number result between) t reached (behind_by_later (begun_body list number result between) t begun)) (past_stands ahead rest stands) true_of)
 
-begun_stops : {part : Part} {state : CxxState} {ahead : Ahead} (room list number : ℕ) (result : CxxType) (between : CxxState) (rest : Ahead) → list < scope_count between.graph → IsLater state between → EndsIn ahead.tokens rest.tokens
+begun_stops : {kept : CxxState → CxxState → Type 0} → IsHeld kept → {part : Part} {state : CxxState} {ahead : Ahead} (room list number : ℕ) (result : CxxType) (between : CxxState) (rest : Ahead) → list < scope_count between.graph → kept state between → EndsIn ahead.tokens rest.tokens
     → {r : Answer (Unit {0} × CxxState)} → ToldBy (IsInBlock (Some (number_id number))) Quietly (in_list list result between) rest r → ((begun : Unit {0} × CxxState) → r ≡ Ok begun → Leads part state ahead (a_body room) begun.1 (behind rest))
-    → Inside part state ahead (then_read (answered r rest) (λ begun. taken >>= λ opened. body_at parts_at room >>= behind_body between.here.scope))
-begun_stops room list number result between rest there later stands (tells_answer one begun) leads = body_ends room list number result between one.1 rest there later stands begun (leads one refl) (body_stops room one.1 (behind rest))
-begun_stops {part = part} {state = state} {ahead = ahead} room list number result between rest there later stands (tells_refusal why quiet) leads = tells_stop why (quiet_told within_part part state ahead why quiet)
+    → InsideBy kept part state ahead (then_read (answered r rest) (λ begun. taken >>= λ opened. body_at parts_at room >>= behind_body between.here.scope))
+begun_stops held room list number result between rest there later stands (tells_answer one begun) leads = body_ends held room list number result between one.1 rest there later stands begun (leads one refl) (body_stops room one.1 (behind rest))
+begun_stops held room list number result between rest there later stands (tells_refusal why quiet) leads = quiet_held quiet
 
-statements_stop : {part : Part} {state : CxxState} {ahead : Ahead} (room list number : ℕ) (result : CxxType) (between : CxxState) (rest : Ahead) → list < scope_count between.graph → IsLater state between → EndsIn ahead.tokens rest.tokens
+statements_stop : {kept : CxxState → CxxState → Type 0} → IsHeld kept → {part : Part} {state : CxxState} {ahead : Ahead} (room list number : ℕ) (result : CxxType) (between : CxxState) (rest : Ahead) → list < scope_count between.graph → kept state between → EndsIn ahead.tokens rest.tokens
     → ((less : ℕ) (begun : Unit {0} × CxxState) → room ≡ suc less → begin_body list number result between ≡ Ok begun → Leads part state ahead (a_body less) begun.1 (behind rest))
-    → Inside part state ahead (statements_within room list number result between rest)
+    → InsideBy kept part state ahead (statements_within room list number result between rest)
 unfolding statements_within begin_body
-statements_stop zero list number result between rest there later stands leads = calm (quiet_in later_is_quiet refl)
-statements_stop (suc room) list number result between rest there later stands leads = begun_stops room list number result between rest there later stands (enter_tells (Some (number_id number)) (in_list list result between) rest) (λ begun is. leads room begun refl is)
+statements_stop held zero list number result between rest there later stands leads = quiet_held refl
+statements_stop held (suc room) list number result between rest there later stands leads = begun_stops held room list number result between rest there later stands (enter_tells (Some (number_id number)) (in_list list result between) rest) (λ begun is. leads room begun refl is)
 
 -- of the function with a number
 abbrev LeadsToBody : Part → CxxState → Ahead → ℕ → Lexeme → CxxType → ℕ → ℕ → CxxState → Ahead → Type 0
 LeadsToBody part state ahead room name of number list between rest = (less : ℕ) (defined begun : Unit {0} × CxxState) → room ≡ suc less → define_declared name number between ≡ Ok defined → begin_body list number (result_of of) defined.1 ≡ Ok begun → Leads part state ahead (a_body less) begun.1 (behind rest)
 
-function_body_stops : {part : Part} {state : CxxState} {ahead : Ahead} (room : ℕ) (name : Lexeme) (of : CxxType) (number list : ℕ) (between : CxxState) (rest : Ahead) → list < scope_count between.graph → IsLater state between → EndsIn ahead.tokens rest.tokens
-    → LeadsToBody part state ahead room name of number list between rest → Inside part state ahead (function_body room name of number list between rest)
+function_body_stops : {kept : CxxState → CxxState → Type 0} → IsHeld kept → {part : Part} {state : CxxState} {ahead : Ahead} (room : ℕ) (name : Lexeme) (of : CxxType) (number list : ℕ) (between : CxxState) (rest : Ahead) → list < scope_count between.graph → kept state between → EndsIn ahead.tokens rest.tokens
+    → LeadsToBody part state ahead room name of number list between rest → InsideBy kept part state ahead (function_body room name of number list between rest)
 unfolding function_body
-function_body_stops room name of number list between rest there later stands leads =
-    then_asked_from _ (define_declared name number) (define_later_tells name number between rest) later stands (λ defined is keeps later.
+function_body_stops held room name of number list between rest there later stands leads =
+    asked_held held _ (define_declared name number) (define_later_tells name number between rest) later (λ defined is keeps later.
     let more = count_more between defined.1 keeps.grown in
-    then_calm (statements_stop room list number (result_of of) defined.1 rest (omega (arith, there, more)) later stands (λ less begun is_more begins. leads less defined begun is_more is begins)) (λ statements state ahead.
+    then_held held (statements_stop held room list number (result_of of) defined.1 rest (omega (arith, there, more)) later stands (λ less begun is_more begins. leads less defined begun is_more is begins)) (λ statements state ahead.
     then_in later_is_quiet (looked_in later_is_quiet state ahead) (λ to. give_in later_is_quiet (tree_of (record (label_from production.block [] rest to) { target = Some (length defined.1.graph.facts) }) statements))))
 
-behind_list_stops : {part : Part} {state : CxxState} {ahead : Ahead} (room : ℕ) (name : Lexeme) (of : CxxType) (number list : ℕ) (between : CxxState) (rest : Ahead) → list < scope_count between.graph → IsLater state between → EndsIn ahead.tokens rest.tokens
-    → (is_punct punct.LEFT_BRACE (kind_ahead rest) ≡ true → LeadsToBody part state ahead room name of number list between rest) → Inside part state ahead (behind_list room name of number (Some list) between rest)
-behind_list_stops room name of number list between rest there later stands leads =
-    which_in (is_punct punct.LEFT_BRACE (kind_ahead rest)) (λ brace. then_calm (function_body_stops room name of number list between rest there later stands (leads brace)) one_tree_tells) (λ none. calm (
-    if_in (is_keyword keyword.TRY (kind_ahead rest)) (quiet_in later_is_quiet refl) (quiet_in later_is_quiet refl)))
+behind_list_stops : {kept : CxxState → CxxState → Type 0} → IsHeld kept → {part : Part} {state : CxxState} {ahead : Ahead} (room : ℕ) (name : Lexeme) (of : CxxType) (number list : ℕ) (between : CxxState) (rest : Ahead) → list < scope_count between.graph → kept state between → EndsIn ahead.tokens rest.tokens
+    → (is_punct punct.LEFT_BRACE (kind_ahead rest) ≡ true → LeadsToBody part state ahead room name of number list between rest) → InsideBy kept part state ahead (behind_list room name of number (Some list) between rest)
+behind_list_stops held room name of number list between rest there later stands leads =
+    which_in (is_punct punct.LEFT_BRACE (kind_ahead rest)) (λ brace. then_held held (function_body_stops held room name of number list between rest there later stands (leads brace)) one_tree_tells) (λ none.
+    if_in (is_keyword keyword.TRY (kind_ahead rest)) (quiet_held refl) (quiet_held refl))
 
-not_ended_stops : {part : Part} {state : CxxState} {ahead : Ahead} (room : ℕ) (is_first : Bool) (name : Lexeme) (of : CxxType) (number : ℕ) (own : Option ℕ) (between : CxxState) (rest : Ahead) → ((list : ℕ) → own ≡ Some list → list < scope_count between.graph) → IsLater state between → EndsIn ahead.tokens rest.tokens
-    → ((list : ℕ) → is_first ≡ true → own ≡ Some list → is_punct punct.LEFT_BRACE (kind_ahead rest) ≡ true → LeadsToBody part state ahead room name of number list between rest) → Inside part state ahead (not_ended room is_first name of number own between rest)
-not_ended_stops room true name of number None between rest there later stands leads = calm (quiet_in later_is_quiet refl)
-not_ended_stops room true name of number (Some list) between rest there later stands leads = behind_list_stops room name of number list between rest (there list refl) later stands (leads list refl refl)
-not_ended_stops room false name of number own between rest there later stands leads = calm (quiet_in later_is_quiet refl)
+not_ended_stops : {kept : CxxState → CxxState → Type 0} → IsHeld kept → {part : Part} {state : CxxState} {ahead : Ahead} (room : ℕ) (is_first : Bool) (name : Lexeme) (of : CxxType) (number : ℕ) (own : Option ℕ) (between : CxxState) (rest : Ahead) → ((list : ℕ) → own ≡ Some list → list < scope_count between.graph) → kept state between → EndsIn ahead.tokens rest.tokens
+    → ((list : ℕ) → is_first ≡ true → own ≡ Some list → is_punct punct.LEFT_BRACE (kind_ahead rest) ≡ true → LeadsToBody part state ahead room name of number list between rest) → InsideBy kept part state ahead (not_ended room is_first name of number own between rest)
+not_ended_stops held room true name of number None between rest there later stands leads = quiet_held refl
+not_ended_stops held room true name of number (Some list) between rest there later stands leads = behind_list_stops held room name of number list between rest (there list refl) later stands (leads list refl refl)
+not_ended_stops held room false name of number own between rest there later stands leads = quiet_held refl
 
-function_ended_stops : {part : Part} {state : CxxState} {ahead : Ahead} (room : ℕ) (is_first : Bool) (declarator : Declarator) (of : CxxType) (number : ℕ) (between : CxxState) (rest : Ahead) → ((list : ℕ) → own_parameters declarator.layers ≡ Some list → list < scope_count between.graph) → IsLater state between → EndsIn ahead.tokens rest.tokens
+function_ended_stops : {kept : CxxState → CxxState → Type 0} → IsHeld kept → {part : Part} {state : CxxState} {ahead : Ahead} (room : ℕ) (is_first : Bool) (declarator : Declarator) (of : CxxType) (number : ℕ) (between : CxxState) (rest : Ahead) → ((list : ℕ) → own_parameters declarator.layers ≡ Some list → list < scope_count between.graph) → kept state between → EndsIn ahead.tokens rest.tokens
     → ((list : ℕ) → is_first ≡ true → own_parameters declarator.layers ≡ Some list → is_punct punct.LEFT_BRACE (kind_ahead rest) ≡ true → LeadsToBody part state ahead room (name_of_declarator declarator) of number list between rest)
-    → Inside part state ahead (function_ended room is_first declarator of number between rest)
+    → InsideBy kept part state ahead (function_ended room is_first declarator of number between rest)
 unfolding function_ended
-function_ended_stops room is_first declarator of number between rest there later stands leads =
-    which_in (ends_declarator (kind_ahead rest)) (λ ends. calm_from later stands (same_in later_is_quiet [] between rest)) (λ none. not_ended_stops room is_first (name_of_declarator declarator) of number (own_parameters declarator.layers) between rest there later stands leads)
+function_ended_stops held room is_first declarator of number between rest there later stands leads =
+    which_in (ends_declarator (kind_ahead rest)) (λ ends. calm_held held later stands (same_in later_is_quiet [] between rest)) (λ none. not_ended_stops held room is_first (name_of_declarator declarator) of number (own_parameters declarator.layers) between rest there later stands leads)
 
 -- with room for one more bracket
-leads_to_body : (room less : ℕ) (said : Said) (so_far : Listed) (declarator : Declarator) (state between after : CxxState) (ahead rest : Ahead) → room ≡ suc less → so_far.is_first ≡ true → Gives (declarator_of room) state ahead declarator between rest
+leads_to_body : (room less : ℕ) (said : Said) (so_far : Listed) (declarator : Declarator) (state between after : CxxState) (ahead rest : Ahead) → room ≡ suc less → so_far.is_first ≡ true → Gives (declarator_of room naming.Qualified) state ahead declarator between rest
     → said.is_typedef ≡ false → is_function_type (declared_type declarator.layers said.of) ≡ true → BeginsBody said declarator between after → is_punct punct.LEFT_BRACE (kind_ahead rest) ≡ true → Leads (some_declarators room said so_far) state ahead (a_body less) after (behind rest)
 leads_to_body room less said so_far declarator state between after ahead rest is_more is_first is no_synonym function begins brace =
     subst (λ (n : ℕ). Leads (some_declarators n said so_far) state ahead (a_body less) after (behind rest)) (sym is_more)
-    (to_body is_first (subst (λ (n : ℕ). Gives (declarator_of n) state ahead declarator between rest) is_more is) no_synonym function begins brace)
+    (to_body is_first (subst (λ (n : ℕ). Gives (declarator_of n naming.Qualified) state ahead declarator between rest) is_more is) no_synonym function begins brace)
 
-declared_function_stops : (room : ℕ) (said : Said) (so_far : Listed) (declarator : Declarator) (from : Ahead) (state between : CxxState) (ahead rest : Ahead) → Gives (declarator_of room) state ahead declarator between rest → HaveBegun between declarator.layers
-    → said.is_typedef ≡ false → is_function_type (declared_type declarator.layers said.of) ≡ true → IsLater state between → EndsIn ahead.tokens rest.tokens
-    → Inside (some_declarators room said so_far) state ahead (declared_function room said so_far.is_first declarator from between rest)
+declared_function_stops : {kept : CxxState → CxxState → Type 0} → IsHeld kept → (room : ℕ) (said : Said) (so_far : Listed) (declarator : Declarator) (from : Ahead) (state between : CxxState) (ahead rest : Ahead) → Gives (declarator_of room naming.Qualified) state ahead declarator between rest → HaveBegun between declarator.layers
+    → said.is_typedef ≡ false → is_function_type (declared_type declarator.layers said.of) ≡ true → kept state between → EndsIn ahead.tokens rest.tokens
+    → InsideBy kept (some_declarators room said so_far) state ahead (declared_function room said so_far.is_first declarator from between rest)
 unfolding declared_function
-declared_function_stops room said so_far declarator from state between ahead rest is begun no_synonym function later stands =
+declared_function_stops held room said so_far declarator from state between ahead rest is begun no_synonym function later stands =
     let name = name_of_declarator declarator in
     let of = declared_type declarator.layers said.of in
     let own = own_parameters declarator.layers in
-    then_asked_from _ (declare_function own name of) (function_answer_tells own name of between rest) later stands (λ answer is_declared keeps later.
+    asked_held held _ (declare_function own name of) (function_answer_tells own name of between rest) later (λ answer is_declared keeps later.
     let more = count_more between answer.1 keeps.grown in
-    then_calm (function_ended_stops room so_far.is_first declarator of answer.0 answer.1 rest (λ list is_own. let there = own_has_begun between declarator.layers list begun is_own in omega (arith, there, more)) later stands
+    then_held held (function_ended_stops held room so_far.is_first declarator of answer.0 answer.1 rest (λ list is_own. let there = own_has_begun between declarator.layers list begun is_own in omega (arith, there, more)) later stands
     (λ list is_first is_own brace less defined body is_more is_defined begins. leads_to_body room less said so_far declarator state between body.1 ahead rest is_more is_first is no_synonym function (begins_body list answer defined body is_own is_declared is_defined begins) brace))
     (λ body. give_in later_is_quiet _))
 
@@ -134,34 +136,34 @@ alone_tells tree = give_in later_is_quiet _
 abbrev LeadsOn : ℕ → Said → Listed → Declarator → CxxState → Ahead → CxxState → Ahead → Type 0
 LeadsOn room said so_far declarator state ahead between rest = (number : ℕ) (after : CxxState) → Initializes said declarator between number after → begins_initializer rest ≡ true → Leads (some_declarators room said so_far) state ahead (an_initializer room (name_of_declarator declarator) (declared_type declarator.layers said.of) number) after rest
 
-extern_object_stops : (room : ℕ) (said : Said) (so_far : Listed) (declarator : Declarator) (from : Ahead) (state between : CxxState) (ahead rest : Ahead) → said.is_extern ≡ true → LeadsOn room said so_far declarator state ahead between rest → IsLater state between → EndsIn ahead.tokens rest.tokens
-    → Inside (some_declarators room said so_far) state ahead (extern_object room said declarator from between rest)
+extern_object_stops : {kept : CxxState → CxxState → Type 0} → IsHeld kept → (room : ℕ) (said : Said) (so_far : Listed) (declarator : Declarator) (from : Ahead) (state between : CxxState) (ahead rest : Ahead) → said.is_extern ≡ true → LeadsOn room said so_far declarator state ahead between rest → kept state between → EndsIn ahead.tokens rest.tokens
+    → InsideBy kept (some_declarators room said so_far) state ahead (extern_object room said declarator from between rest)
 unfolding extern_object
-extern_object_stops room said so_far declarator from state between ahead rest is_extern leads later stands =
+extern_object_stops held room said so_far declarator from state between ahead rest is_extern leads later stands =
     let name = name_of_declarator declarator in
     let of = declared_type declarator.layers said.of in
-    then_asked _ (declare_object name of) (object_tells name of between rest) later stands (λ answer is_declared later.
-    then_calm (extern_part_stops answer.1 rest room name of answer.0 (declared_is_there name of between answer is_declared) (λ begins defined is_defined. leads answer.0 defined.1 (by_extern answer defined is_extern is_declared is_defined) begins) later stands) (λ parts state ahead.
+    asked_held held _ (declare_object name of) (object_tells name of between rest) later (λ answer is_declared keeps later.
+    then_held held (extern_part_stops held answer.1 rest room name of answer.0 (declared_is_there name of between answer is_declared) (λ begins defined is_defined. leads answer.0 defined.1 (by_extern answer defined is_extern is_declared is_defined) begins) later stands) (λ parts state ahead.
     then_in later_is_quiet (looked_in later_is_quiet state ahead) (λ to. give_in later_is_quiet (declarator_tree true name of answer.0 (declarator.parts ++ parts) from to))))
 
-defined_object_stops : (room : ℕ) (said : Said) (so_far : Listed) (declarator : Declarator) (from : Ahead) (state between : CxxState) (ahead rest : Ahead) → said.is_extern ≡ false → LeadsOn room said so_far declarator state ahead between rest → IsLater state between → EndsIn ahead.tokens rest.tokens
-    → Inside (some_declarators room said so_far) state ahead (defined_object room said declarator from between rest)
+defined_object_stops : {kept : CxxState → CxxState → Type 0} → IsHeld kept → (room : ℕ) (said : Said) (so_far : Listed) (declarator : Declarator) (from : Ahead) (state between : CxxState) (ahead rest : Ahead) → said.is_extern ≡ false → LeadsOn room said so_far declarator state ahead between rest → kept state between → EndsIn ahead.tokens rest.tokens
+    → InsideBy kept (some_declarators room said so_far) state ahead (defined_object room said declarator from between rest)
 unfolding defined_object
-defined_object_stops room said so_far declarator from state between ahead rest no_extern leads later stands =
+defined_object_stops held room said so_far declarator from state between ahead rest no_extern leads later stands =
     let name = name_of_declarator declarator in
     let of = declared_type declarator.layers said.of in
-    then_asked _ (define_object name of) (define_tells name of between rest) later stands (λ answer is_defined later.
-    then_calm (defined_part_stops answer.1 rest room name of answer.0 (defined_is_there name of between answer is_defined) (leads answer.0 answer.1 (by_definition answer no_extern is_defined)) later stands) (λ parts state ahead.
+    asked_held held _ (define_object name of) (define_tells name of between rest) later (λ answer is_defined keeps later.
+    then_held held (defined_part_stops held answer.1 rest room name of answer.0 (defined_is_there name of between answer is_defined) (leads answer.0 answer.1 (by_definition answer no_extern is_defined)) later stands) (λ parts state ahead.
     then_in later_is_quiet (looked_in later_is_quiet state ahead) (λ to. give_in later_is_quiet (declarator_tree false name of answer.0 (declarator.parts ++ parts) from to))))
 
-declared_by_stops : (room : ℕ) (said : Said) (so_far : Listed) (from : Ahead) (declarator : Declarator) (state between : CxxState) (ahead rest : Ahead) → Gives (declarator_of room) state ahead declarator between rest → HaveBegun between declarator.layers → IsLater state between → EndsIn ahead.tokens rest.tokens
-    → Inside (some_declarators room said so_far) state ahead (declared_by room said so_far.is_first from declarator between rest)
-declared_by_stops room said so_far from declarator state between ahead rest is begun later stands =
-    which_reads said.is_typedef _ _ between rest (λ synonym. calm_from later stands (then_in later_is_quiet (declared_synonym_tells said declarator from between rest) alone_tells)) (λ no_synonym.
-    which_reads (is_function_type (declared_type declarator.layers said.of)) _ _ between rest (λ function. declared_function_stops room said so_far declarator from state between ahead rest is begun no_synonym function later stands) (λ no_function.
+declared_by_stops : {kept : CxxState → CxxState → Type 0} → IsHeld kept → (room : ℕ) (said : Said) (so_far : Listed) (from : Ahead) (declarator : Declarator) (state between : CxxState) (ahead rest : Ahead) → Gives (declarator_of room naming.Qualified) state ahead declarator between rest → HaveBegun between declarator.layers → kept state between → EndsIn ahead.tokens rest.tokens
+    → InsideBy kept (some_declarators room said so_far) state ahead (declared_by room said so_far.is_first from declarator between rest)
+declared_by_stops held room said so_far from declarator state between ahead rest is begun later stands =
+    which_reads said.is_typedef _ _ between rest (λ synonym. calm_held held later stands (then_in later_is_quiet (declared_synonym_tells said declarator from between rest) alone_tells)) (λ no_synonym.
+    which_reads (is_function_type (declared_type declarator.layers said.of)) _ _ between rest (λ function. declared_function_stops held room said so_far declarator from state between ahead rest is begun no_synonym function later stands) (λ no_function.
     let leads : LeadsOn room said so_far declarator state ahead between rest = λ number after initializes begins. to_initializer is no_synonym no_function initializes begins in
-    which_reads said.is_extern _ _ between rest (λ is_extern. then_calm (extern_object_stops room said so_far declarator from state between ahead rest is_extern leads later stands) alone_tells)
-    (λ no_extern. then_calm (defined_object_stops room said so_far declarator from state between ahead rest no_extern leads later stands) alone_tells)))
+    which_reads said.is_extern _ _ between rest (λ is_extern. then_held held (extern_object_stops held room said so_far declarator from state between ahead rest is_extern leads later stands) alone_tells)
+    (λ no_extern. then_held held (defined_object_stops held room said so_far declarator from state between ahead rest no_extern leads later stands) alone_tells)))
 
 is_begun : {r : Answer (Got CxxState Declarator)} {state : CxxState} (one : Got CxxState Declarator) → Brings Begun state r → r ≡ Ok one → HaveBegun one.state one.value.layers
 is_begun one (brings other later are) e = subst (λ (g : Got CxxState Declarator). HaveBegun g.state g.value.layers) (by e) are
@@ -173,11 +175,50 @@ is_begun one (brings other later are) e = subst (λ (g : Got CxxState Declarator
     by e = cc
 is_begun one (brings_none why) e = absurd cc
 
+-- behind it the reader stands where it stood before
+abbrev back : CxxState → Declares → Reads CxxState Declares
+back state one = ask (stand_in state.here.scope) >>= λ left. give one
+
+returns_later : (state t : CxxState) → IsElsewhere state t → IsLater state (at_scope state.here.scope t)
+returns_later state t is = record {
+  grown = grown_later state t (at_scope state.here.scope t) is.grown (grown_same t (at_scope state.here.scope t) refl);
+  scopes = λ scopes. let there = scope_is_there state scopes in let more = count_more state t is.grown in scopes_at state.here.scope t (omega (arith, there, more)) (is.scopes scopes);
+  best = λ all. same_calls t (at_scope state.here.scope t) (grown_same t (at_scope state.here.scope t) refl) refl (is.best all);
+  here = λ scopes. refl;
+}
+
+returns_stops : {part : Part} (state : CxxState) (ahead : Ahead) {r : Answer (Got CxxState Declares)} → InsideBy IsElsewhere part state ahead r → Inside part state ahead (then_read r (back state))
+returns_stops state ahead (tells_read one elsewhere stands) = tells_read (record { value = one.value; state = at_scope state.here.scope one.state; rest = one.rest }) (returns_later state one.state elsewhere) stands
+returns_stops state ahead (tells_stop why told) = tells_stop why told
+
+-- what stops it, up to there
+member_declared_stops : (room : ℕ) (said : Said) (so_far : Listed) (state : CxxState) (ahead : Ahead)
+    → InsideBy IsElsewhere (some_declarators room said so_far) state ahead (then_read (declarator_of room naming.Qualified state ahead) (λ declarator. declared_fits said declarator >>= λ fits. member_agrees said declarator >>= λ agrees. declared_by room said so_far.is_first ahead declarator))
+member_declared_stops room said so_far state ahead =
+    then_from (λ declarator. declared_fits said declarator >>= λ fits. member_agrees said declarator >>= λ agrees. declared_by room said so_far.is_first ahead declarator) (leads_elsewhere in_declarator (member_stops room state ahead)) (λ one is elsewhere stands.
+    fits_stops said one.value (λ fits. member_agrees said one.value >>= λ agrees. declared_by room said so_far.is_first ahead one.value) one.state one.rest (
+    agrees_stops said one.value (λ agrees. declared_by room said so_far.is_first ahead one.value) one.state one.rest
+    (declared_by_stops elsewhere_is_held room said so_far ahead one.value state one.state ahead one.rest is (is_begun one (declarator_has_begun room naming.Qualified state ahead) is) elsewhere stands)))
+
+-- readers one behind another
+behind_both : {A B C D E : Type 0} (r : Answer (Got CxxState A)) (fits : A → Reads CxxState B) (agrees : A → Reads CxxState C) (one : A → Reads CxxState D) (last : D → Reads CxxState E)
+    → then_read r (λ x. fits x >>= λ y. agrees x >>= λ z. one x >>= last) ≡ then_read (then_read r (λ x. fits x >>= λ y. agrees x >>= λ z. one x)) last
+behind_both (Err why) fits agrees one last = refl
+behind_both {B = B} {C = C} (Ok got) fits agrees one last = by_fits (fits got.value got.state got.rest)
+  where
+    by_agrees : (r : Answer (Got CxxState C)) → then_read r (λ z. one got.value >>= last) ≡ then_read (then_read r (λ z. one got.value)) last
+    by_agrees (Err why) = refl
+    by_agrees (Ok two) = refl
+
+    by_fits : (r : Answer (Got CxxState B)) → then_read r (λ y. agrees got.value >>= λ z. one got.value >>= last) ≡ then_read (then_read r (λ y. agrees got.value >>= λ z. one got.value)) last
+    by_fits (Err why) = refl
+    by_fits (Ok two) = by_agrees (agrees got.value two.state two.rest)
+
 init_declarator_stops : (room : ℕ) (said : Said) (so_far : Listed) (state : CxxState) (ahead : Ahead) → Inside (some_declarators room said so_far) state ahead (init_declarator_at room said so_far.is_first state ahead)
 unfolding init_declarator_at
 init_declarator_stops room said so_far state ahead =
-    then_from (λ declarator. declared_fits said declarator >>= λ fits. declared_by room said so_far.is_first ahead declarator) (leads_here in_declarator (declarator_stops room state ahead)) (λ one is later stands.
-    fits_stops said one.value (λ fits. declared_by room said so_far.is_first ahead one.value) one.state one.rest (declared_by_stops room said so_far ahead one.value state one.state ahead one.rest is (is_begun one (declarator_has_begun room naming.Required state ahead) is) later stands))
+    subst (Inside (some_declarators room said so_far) state ahead) (sym (behind_both (declarator_of room naming.Qualified state ahead) (declared_fits said) (member_agrees said) (declared_by room said so_far.is_first ahead) (back state)))
+    (returns_stops state ahead (member_declared_stops room said so_far state ahead))
 
 ended_behind_tells : (so_far : Listed) (tree : CxxTree) (body : List CxxTree) → Tells IsLater Quietly (ended_behind so_far tree body)
 ended_behind_tells so_far tree [] = declarator_ended_tells so_far tree
@@ -278,7 +319,7 @@ linked_one_stops : (room : ℕ) → EachOpened room → (state after : CxxState)
 unfolding linked_one
 linked_one_stops room each state after ahead rest is later stands =
     which_in (is_keyword keyword.NAMESPACE (kind_ahead rest)) (λ word. leads_in (to_linked_namespace is word) later stands (namespace_stops room each after rest)) (λ no_namespace.
-    which_in (is_keyword keyword.USING (kind_ahead rest)) (λ using. leads_in (to_linked_directive is (record { no_namespace = no_namespace; is_using = using })) later stands (directive_stops after rest))
+    which_in (is_keyword keyword.USING (kind_ahead rest)) (λ using. leads_in (to_linked_using is (record { no_namespace = no_namespace; is_using = using })) later stands (using_stops after rest))
     (λ no_using. leads_in (to_linked is (record { no_namespace = no_namespace; no_using = no_using })) later stands (plain_stops room true after rest)))
 
 linked_by_stops : (room : ℕ) → EachOpened room → (state after : CxxState) (ahead rest : Ahead) → IsNoSpace ahead → Gives linkages_passed state ahead true after rest → IsLater state after → EndsIn ahead.tokens rest.tokens
@@ -298,7 +339,7 @@ unfolding declaration_at declaration_by
 a_declaration_stops room each state ahead =
     whole_stops (λ fault is. is) (
     which_in (is_keyword keyword.NAMESPACE (kind_ahead ahead)) (λ word. leads_here (to_namespace word) (namespace_stops room each state ahead)) (λ no_namespace.
-    which_in (is_keyword keyword.USING (kind_ahead ahead)) (λ using. leads_here (to_directive (record { no_namespace = no_namespace; is_using = using })) (directive_stops state ahead)) (λ no_using.
+    which_in (is_keyword keyword.USING (kind_ahead ahead)) (λ using. leads_here (to_using (record { no_namespace = no_namespace; is_using = using })) (using_stops state ahead)) (λ no_using.
     let no_space : IsNoSpace ahead = record { no_namespace = no_namespace; no_using = no_using } in
     then_from (linkage_by room (linkage_opened room) ahead) (calm (linkages_tell state ahead)) (λ one is later stands. linkage_by_stops room each one.value state one.state ahead one.rest no_space is later stands))))
 

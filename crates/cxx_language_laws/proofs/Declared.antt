@@ -11,7 +11,7 @@ use Rattle.cxx_model.specs.Types.Trees.{CxxType}
 use Rattle.cxx_reading.specs.Declarators.{Declarator, declared_type, Specifiers, is_reference}
 use Rattle.cxx_reading.specs.Reads.{Ahead, More, Done, give, count_ahead, kind_ahead, word_ahead, behind}
 use Rattle.cxx_reading.specs.State.{CxxState}
-use Rattle.cxx_reading.specs.Tokens.{is_punct, is_qualified, begins_unbuilt, form_of_keyword, form_of_kind, no_declaration}
+use Rattle.cxx_reading.specs.Tokens.{is_punct, begins_unbuilt, form_of_keyword, form_of_kind, no_declaration}
 use Rattle.cxx_reading.specs.Trees.{CxxTree}
 use Rattle.cxx_reading.specs.Units.{is_unbounded, declarator_tree, name_in as name_of_declarator, is_const_type, uninitialized, ends_declarator, one_tree, synonym_ended, declared_synonym, with_declarator, declarator_ended, give_trees, is_some_storage, nothing_declared, is_linkage, is_language, linkage_step, linkages_passed, linkage_tree, linked_tree, Said, Listed}
 use Rattle.cxx_language_laws.proofs.Later.{IsLater, later_is_quiet, synonym_tells}
@@ -53,7 +53,7 @@ form_quiet _ = refl
 
 pub no_declaration_tells : {A : Type 0} → Tells IsLater Quietly (no_declaration {S = CxxState} {A = A})
 unfolding no_declaration
-no_declaration_tells state ahead = if_in (is_qualified ahead) (quiet_in later_is_quiet refl) (quiet_in later_is_quiet (form_quiet (kind_ahead ahead)))
+no_declaration_tells state ahead = quiet_in later_is_quiet (form_quiet (kind_ahead ahead))
 
 pub linkage_step_tells : (any : Bool) → Tells IsLater Quietly (linkage_step any)
 unfolding linkage_step

@@ -16,9 +16,9 @@ use Rattle.cxx_model.specs.Types.Trees.{CxxType}
 use Rattle.cxx_meaning.specs.Conversions.Enumerations.{values_in}
 use Rattle.cxx_reading.specs.Declaring.{with_fact, added, free, free_by, free_linked, declare, declare_linked_object, declare_synonym, declared_here, first_function, first_member_function, first_member_object, first_object, first_object_here, home_here, is_object, is_same_function, linked_as, linked_object_here, name_of, number_id, parameter_object, with_linked, word_of, declare_object, define_object, define_declared, undefined, undefined_by, defined_as, with_definition, declare_parameter, declare_enumeration, begun_as, declare_enumerator, declare_value, held, end_enumeration, kind_here, type_here, most_facts, fact_here, object_here, enumeration_count}
 use Rattle.cxx_reading.specs.Linked.{is_linked_as, is_space_at, linked_among, linked_in, sooner_fact}
+use Rattle.cxx_reading.specs.Paths.{space_in}
 use Rattle.cxx_reading.specs.Reads.{Ahead, Asks}
 use Rattle.cxx_reading.specs.Seen.{Numbered, declared_from, declared_in, declares_in, numbered_at, numbered_by}
-use Rattle.cxx_reading.specs.Spaces.{space_in}
 use Rattle.cxx_reading.specs.State.{CxxState, CxxCall, CxxGiven, CxxOffered}
 use Rattle.cxx_reading.specs.Trees.{CxxPath}
 use Rattle.cxx_reading.proofs.Keeps.{IsKept}
@@ -59,8 +59,10 @@ widened old new grown call best = record {
   later = best.later ++ grown.own;
   stands = ap (λ (g : CxxGraph). g.facts) grown.declared ∙ (ap (λ fs. fs ++ grown.own) best.stands ∙ append_assoc best.before.facts best.later grown.own);
   scope = best.scope;
-  word = best.word;
-  is_bare = best.is_bare;
+  path = best.path;
+  is_open = best.is_open;
+  where_ = best.where_;
+  qualifies = best.qualifies;
   clear = best.clear;
   all = best.all;
   rated_so = best.rated_so;
@@ -102,7 +104,7 @@ pub data QuietBy {A : Type 0} : Answer A → Type 0 where
   quiet_answer : (one : A) → QuietBy (Ok one)
   quiet_refusal : (why : Stopped) → IsQuiet why → QuietBy (Err why)
 
-by_then : {A B : Type 0} (state : CxxState) (ahead : Ahead) {first : Answer A} (go : A → Answer (B × CxxState)) → QuietBy first → ((x : A) → ToldBy IsLater Quietly state ahead (go x)) → ToldBy IsLater Quietly state ahead (first >>= go)
+pub by_then : {A B : Type 0} (state : CxxState) (ahead : Ahead) {first : Answer A} (go : A → Answer (B × CxxState)) → QuietBy first → ((x : A) → ToldBy IsLater Quietly state ahead (go x)) → ToldBy IsLater Quietly state ahead (first >>= go)
 by_then state ahead go (quiet_answer one) tells = tells one
 by_then state ahead go (quiet_refusal why quiet) tells = quietly state ahead why quiet
 

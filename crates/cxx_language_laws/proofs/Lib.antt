@@ -22,6 +22,7 @@ pub mod Shown
 pub mod Sought
 pub mod Later
 pub mod Reached
+pub mod Regions
 pub mod Lists
 pub mod CallsTell
 pub mod TellsValues
@@ -29,6 +30,7 @@ pub mod TellsDefaults
 pub mod Asked
 pub mod Both
 pub mod Begun
+pub mod Members
 pub mod Declared
 pub mod Objects
 pub mod Spaces

@@ -12,9 +12,10 @@ use Rattle.cxx_model.specs.Facts.Declarations.{CxxFact, CxxGraph, CxxName, spell
 use Rattle.cxx_model.specs.Stops.{Answer, Limited, ◌>>=◌}
 use Rattle.cxx_model.specs.Text.Lexemes.{Lexeme}
 use Rattle.cxx_reading.specs.Declaring.{added, at_scope, most_facts, scope_count, with_fact}
+use Rattle.cxx_reading.specs.Paths.{or_later, space_in}
 use Rattle.cxx_reading.specs.Reads.{Ahead}
 use Rattle.cxx_reading.specs.Seen.{Numbered, declared_in, scope_of_option}
-use Rattle.cxx_reading.specs.Spaces.{declare_unnamed, directive_fact, first_opening, is_original_by, new_space, new_unnamed, open_again, open_by, open_new, open_space, open_unnamed, opened_among, opened_before, or_later, original_by, space_fact, space_in, unnamed_among, unnamed_before, unnamed_opened, within}
+use Rattle.cxx_reading.specs.Spaces.{declare_unnamed, directive_fact, first_opening, is_original_by, new_space, new_unnamed, open_again, open_by, open_new, open_space, open_unnamed, opened_among, opened_before, original_by, space_fact, unnamed_among, unnamed_before, unnamed_opened, within}
 use Rattle.cxx_reading.specs.State.{CxxState}
 use Rattle.cxx_language_laws.specs.Best.{AreBestCalls}
 use Rattle.cxx_language_laws.specs.Told.{IsGrown}

@@ -19,10 +19,10 @@ use Rattle.cxx_meaning.specs.Lookups.Member.{class_of_scope}
 use Rattle.cxx_meaning.specs.Lookups.Ordinary.{Here, IsFirst, Nowhere, Outside, found_in_scope, found_in_sightings, sightings_at, standing_if, standing_shown}
 use Rattle.cxx_meaning.specs.Lookups.Pending.{Asked}
 use Rattle.cxx_meaning.specs.Lookups.Scopes.{kind_of}
-use Rattle.cxx_meaning.specs.Lookups.Sightings.{Sighting, both_functions, entities, entity_meant, found_of, is_hidden_among, is_hidden_by, least_of, looked_up, named_by, number_id, odd_pair, sighting_in, sighting_of, standing, unhidden, wanted_one, when}
+use Rattle.cxx_meaning.specs.Lookups.Sightings.{Sighting, both_functions, entities, entity_meant, found_of, is_hidden_among, is_hidden_by, least_of, looked_up, named_by, odd_pair, sighting_in, sighting_of, standing, unhidden, wanted_one, when}
 use Rattle.cxx_meaning.specs.Lookups.Wanted.{Wanted, hides_types, is_hideable, is_wanted}
 use Rattle.cxx_meaning.proofs.Nearest.{nothing_is_none}
-use Rattle.cxx_language_laws.proofs.Scopes.{AreSound, IsPlain, IsSound}
+use Rattle.cxx_language_laws.proofs.Scopes.{AreSound, IsPlain, IsSound, none_is_past}
 
 -- ---- lists
 
@@ -78,29 +78,19 @@ pub record IsOne (graph : CxxGraph) (wanted : Wanted) (one : Sighting) : Type 0 
   pub what : one.what ≡ fact.what
   pub is_wanted_so : is_wanted graph wanted one.what ≡ true
 
--- nothing is a using-declaration
-meant_itself : (all : List CxxFact) (number : ℕ) (what : Declares) → IsSound all what → meant_by all number what ≡ record { number = number; what = what }
-meant_itself all number (facts.using _) is = absurd is
-meant_itself all number (facts.scope _ _) is = refl
-meant_itself all number (facts.object _ _ _ _ _) is = refl
-meant_itself all number (facts.function _ _ _ _ _) is = refl
-meant_itself all number (facts.enumeration _) is = refl
-meant_itself all number (facts.enumerator _ _) is = refl
-meant_itself all number (facts.synonym _) is = refl
-meant_itself all number (facts.namespace _) is = refl
-meant_itself all number (facts.directive _) is = refl
-meant_itself all number (facts.template _ _ _ _ _) is = absurd is
-meant_itself all number (facts.value_parameter _ _ _) is = absurd is
-meant_itself all number (facts.injected _) is = absurd is
-meant_itself all number (facts.class _ _) is = absurd is
-meant_itself all number (facts.complete _) is = absurd is
-meant_itself all number (facts.passed _) is = absurd is
-meant_itself all number (facts.ancestor _ _ _ _) is = absurd is
-meant_itself all number (facts.friend _ _) is = absurd is
+-- what a declaration stands for, which there is (7.3.3)
+record MeantThere (all : List CxxFact) (meant : Meant) : Type 0 where
+  fact : CxxFact
+  stands : slice_get all meant.number ≡ Some fact
+  what : meant.what ≡ fact.what
 
--- the declaration of a fact
-pub sighted : (graph : CxxGraph) (number : ℕ) (fact : CxxFact) → IsSound graph.facts fact.what → sighting_of graph.facts number fact ≡ record { scope = record { 0 = fact.scope }; itself = number_id number; meant = number_id number; what = fact.what }
-sighted graph number fact is = ap (λ (m : Meant). record { scope = record { 0 = fact.scope }; itself = number_id number; meant = number_id m.number; what = m.what }) (meant_itself graph.facts number fact.what is)
+meant_there : (all : List CxxFact) (number : ℕ) (fact : CxxFact) → slice_get all number ≡ Some fact → (what : Declares) → what ≡ fact.what → IsSound all what → MeantThere all (meant_by all number what)
+meant_there all number fact at (facts.using target) e is = by (slice_get all target.0) refl
+  where
+    by : (o : Option CxxFact) → slice_get all target.0 ≡ o → MeantThere all (meant_by all number (facts.using target))
+    by None none = absurd (none_is_past all target.0 is none)
+    by (Some one) there = rw there (record { fact = one; stands = there; what = refl })
+meant_there all number fact at _ e is = record { fact = fact; stands = at; what = e }
 
 when_some : (t : Bool) (x y : Sighting) → when t x ≡ Some y → (t ≡ true) × (x ≡ y)
 when_some true x y e = (refl, same_Some x y e)
@@ -114,13 +104,13 @@ one_seen : (graph : CxxGraph) (cut : ℕ) (wanted : Wanted) (name : CxxName) (sc
 unfolding sighting_in
 one_seen graph cut wanted name scope number fact one sound at e =
     let kept = when_some (is_wanted graph wanted (sighting_of graph.facts number fact).what) (sighting_of graph.facts number fact) one (if_some _ (wanted_one graph wanted (sighting_of graph.facts number fact)) one e) in
-    let is = sym (sighted graph number fact (sound number fact at)) ∙ kept.1 in
+    let there = meant_there graph.facts number fact at fact.what refl (sound number fact at) in
     record {
-      number = number;
-      fact = fact;
-      stands = at;
-      meant = sym (ap (λ (s : Sighting). s.meant.0) is);
-      what = sym (ap (λ (s : Sighting). s.what) is);
+      number = (meant_by graph.facts number fact.what).number;
+      fact = there.fact;
+      stands = there.stands;
+      meant = sym (ap (λ (s : Sighting). s.meant.0) kept.1);
+      what = sym (ap (λ (s : Sighting). s.what) kept.1) ∙ there.what;
       is_wanted_so = subst (λ (s : Sighting). is_wanted graph wanted s.what ≡ true) kept.1 kept.0;
     }
 
@@ -335,7 +325,7 @@ found_of_so P graph (one ∷ others) is each rising = by (find (λ two. not (bot
     by None e = rw e (set_looked one others each.0)
     by (Some two) e = rw e (two_looked one two (found_two P graph one two others rising.0 each.1 e))
 
-looked_so : (P : ℕ → Type 0) (graph : CxxGraph) (all : List Sighting) → IsSome all → AllByRecursion (IsSo P) all → IsLooked P graph (looked_up graph all)
+pub looked_so : (P : ℕ → Type 0) (graph : CxxGraph) (all : List Sighting) → IsSome all → AllByRecursion (IsSo P) all → IsLooked P graph (looked_up graph all)
 unfolding unhidden
 looked_so P graph all is each = found_of_so P graph (entities (unhidden graph all)) (entities_some (unhidden graph all) (unhidden_some graph all is)) (entities_so P (unhidden graph all) (filtered_all (IsSo P) (λ one. not (is_hidden_among graph all one)) all each)) (entities_rising (unhidden graph all))
 

@@ -7,8 +7,8 @@ use Rattle.cxx_phrases.specs.declared.level.Level.{Level}
 use Rattle.cxx_phrases.specs.Forms.{name_tree, call_tree}
 use Rattle.cxx_phrases.specs.Phrases.{Phrases, Inner}
 use Rattle.cxx_phrases.specs.Productions as phrase
-use Rattle.cxx_reading.specs.Reads.{Ahead, Reads, then_read, answered, kind_ahead, behind}
-use Rattle.cxx_reading.specs.Tokens.{is_name}
+use Rattle.cxx_reading.specs.Reads.{Ahead, Reads, then_read, answered}
+use Rattle.cxx_reading.specs.Tokens.{begins_name, behind_name, is_whole_name, path_ahead}
 use Rattle.cxx_reading.specs.Trees.{CxxTree, CxxPath}
 use Rattle.cxx_language_laws.specs.Told.{IsCall}
 use Rattle.cxx_language_laws.proofs.Tells.{IsTold, ToldIn, tells_stop, Tells, ToldBy, tells_answer, tells_refusal, Answers, whole_stands, from_in}
@@ -27,9 +27,9 @@ pub record PhrasesTell {S : Type 0} (kept : S → S → Type 0) (told : S → Ah
   pub type_named : (path : CxxPath) → Answers kept told (asks.type_named path)
   pub whole : (tree : CxxTree) → IsPlain tree → Answers kept told (asks.whole tree)
   -- 5.1: of a name that is ahead
-  pub name : (state : S) (ahead : Ahead) → is_name (kind_ahead ahead) ≡ true → ToldBy kept told state ahead (asks.whole (name_tree ahead (behind ahead)) state)
+  pub name : (state : S) (ahead : Ahead) → begins_name ahead ≡ true → is_whole_name ahead ≡ true → ToldBy kept told state ahead (asks.whole (name_tree (path_ahead ahead) ahead (behind_name ahead)) state)
   -- 5.2.2: of a call that stands ahead
-  pub call : (state : S) (ahead : Ahead) (is : IsCall asks inner state ahead) → kept state is.at → (from : Ahead) → ToldBy kept told state ahead (asks.whole (call_tree (brackets_of is.is_bare) is.name is.arguments from is.rest) is.at)
+  pub call : (state : S) (ahead : Ahead) (is : IsCall asks inner state ahead) → kept state is.at → (from : Ahead) → ToldBy kept told state ahead (asks.whole (call_tree (brackets_of is.is_open) (path_ahead is.named) is.arguments from is.rest) is.at)
   pub type_id : Tells kept told asks.type_id
 
 pub record InnerTell {S : Type 0} (kept : S → S → Type 0) (told : S → Ahead → Stopped → Type 0) (inner : Inner S) : Type 0 where

@@ -6,6 +6,7 @@ use Rattle.cxx_model.specs.Stops.{Answer, Stopped}
 use Rattle.cxx_model.specs.Types.Trees.{CxxType}
 use Rattle.cxx_reading.specs.Reads.{Ahead, Asks}
 use Rattle.cxx_reading.specs.State.{CxxState}
+use Rattle.cxx_reading.specs.Trees.{CxxPath}
 use Rattle.cxx_expr.specs.Asking.{then_asked}
 use Rattle.cxx_expr.specs.Questions.{Questions}
 use Rattle.cxx_language_laws.proofs.Tells.{IsTold, IsQuiet, ToldBy, tells_answer, tells_refusal, Answers, whole_stands}
@@ -13,8 +14,11 @@ use Rattle.cxx_language_laws.proofs.Tells.{IsTold, IsQuiet, ToldBy, tells_answer
 -- all but for names and calls
 pub record QuestionsTell (kept : CxxState → CxxState → Type 0) (told : CxxState → Ahead → Stopped → Type 0) (q : Questions) : Type 0 where
   pub bound : (place : Place) (target : ℕ) → Answers kept told (q.bound place target)
-  pub fallback : (function index : ℕ) → Answers kept told (q.fallback function index)
   pub size : (of : CxxType) → Answers kept told (q.size of)
+
+-- the default arguments of a call by a name (8.3.6)
+pub record DefaultsTell (kept : CxxState → CxxState → Type 0) (told : CxxState → Ahead → Stopped → Type 0) (q : Questions) (path : CxxPath) : Type 0 where
+  pub fallback : (function index : ℕ) → Answers kept told (q.fallback path function index)
 
 -- ---- one question after another
 

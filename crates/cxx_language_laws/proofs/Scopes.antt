@@ -16,7 +16,8 @@ use Rattle.cxx_model.specs.Facts.Declarations.{CxxFact, CxxGraph, Declares, unna
 use Rattle.cxx_model.specs.Facts.Entities.{scope_kinds}
 use Rattle.cxx_reading.specs.Declaring.{with_fact, at_scope, scope_count, place_of_scope}
 use Rattle.cxx_reading.specs.Seen.{scope_of_option, parent_of}
-use Rattle.cxx_reading.specs.Spaces.{first_opening, is_number, space_in}
+use Rattle.cxx_reading.specs.Paths.{space_in}
+use Rattle.cxx_reading.specs.Spaces.{first_opening, is_number}
 use Rattle.cxx_reading.specs.State.{CxxState, first_state, unit_scope}
 
 -- ---- scopes in a list of facts
@@ -80,7 +81,7 @@ abbrev pub IsFirstThere : ℕ → Option FactId → Type 0
 IsFirstThere count None = Unit {0}
 IsFirstThere count (Some first) = first.0 < count
 
--- nothing is declared but what is read so far: no class, template, friend or using-declaration
+-- nothing is declared but what is read so far: no class, template or friend
 abbrev pub IsSound : List CxxFact → Declares → Type 0
 IsSound all (facts.scope parent kind) = IsPlain kind
 IsSound all (facts.object of member is_mutable value first) = IsFirstThere (length all) first
@@ -90,6 +91,7 @@ IsSound all (facts.enumerator n value) = Unit {0}
 IsSound all (facts.synonym of) = Unit {0}
 IsSound all (facts.namespace inner) = inner.0 < length (scope_facts all)
 IsSound all (facts.directive nominated) = Unit {0}
+IsSound all (facts.using target) = target.0 < length all
 IsSound all _ = ⊥
 
 abbrev pub AreSound : List CxxFact → Type 0
@@ -114,6 +116,7 @@ sound_still xs x (facts.enumerator n value) is = tt
 sound_still xs x (facts.synonym of) is = tt
 sound_still xs x (facts.namespace inner) is = let more = scopes_length xs x in omega (arith, is, more)
 sound_still xs x (facts.directive nominated) is = tt
+sound_still xs x (facts.using target) is = let more = length_more xs x in omega (arith, is, more)
 sound_still xs x (facts.template _ _ _ _ _) is = absurd is
 sound_still xs x (facts.value_parameter _ _ _) is = absurd is
 sound_still xs x (facts.injected _) is = absurd is
@@ -121,7 +124,6 @@ sound_still xs x (facts.class _ _) is = absurd is
 sound_still xs x (facts.complete _) is = absurd is
 sound_still xs x (facts.passed _) is = absurd is
 sound_still xs x (facts.ancestor _ _ _ _) is = absurd is
-sound_still xs x (facts.using _) is = absurd is
 sound_still xs x (facts.friend _ _) is = absurd is
 
 sound_more : (xs : List CxxFact) (last : CxxFact) → AreSound xs → IsSound xs last.what → AreSound (xs ++ last ∷ [])

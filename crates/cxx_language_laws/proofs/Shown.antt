@@ -45,7 +45,7 @@ find_in {A = A} test (y ∷ ys) x e = by (test y) e (find_in test ys x)
     by true e later = subst (λ z. Contains (y ∷ ys) z) (is_it e) (first_of y ys)
     by false e later = later_of y ys x (later e)
 
-right_none : {A : Type 0} (xs ys : List A) → xs ++ ys ≡ [] → ys ≡ []
+pub right_none : {A : Type 0} (xs ys : List A) → xs ++ ys ≡ [] → ys ≡ []
 right_none [] ys e = e
 right_none (x ∷ xs) ys e = absurd cc
 

@@ -1,132 +1,102 @@
 -- What a lookup finds where the reader stands: nothing where no scope outward declares the name, and else declarations that
 -- there are (3.4).
-use Rattle.std.proofs.Common.{arith, ◌≡◌, ℕ, suc, ◌<◌, ◌+◌, Bool, true, false, not, cond, ◌&&◌, ◌||◌, nat_eq, nat_lt, List, [], ◌∷◌, ◌++◌, length, Option, Some, None, Result, Ok, Err, refl, sym, ap, subst, ◌∙◌}
-use Rattle.std.proofs.lemmas.Bool.{lt-ltb}
+use Rattle.std.proofs.Common.{arith, ◌≡◌, inl, inr, ℕ, zero, suc, ◌<◌, ◌+◌, Bool, true, false, cond, List, [], ◌∷◌, ◌++◌, length, Option, Some, None, Result, Ok, Err, refl, sym, ap, subst, ◌∙◌}
+use Rattle.std.proofs.lemmas.List.Elements.{Contains-append_left}
 use Rattle.std.proofs.lemmas.Option.{slice_get_within}
-use Rattle.std.specs.List.{AllByRecursion, slice_get}
+use Rattle.std.specs.List.{AllByRecursion, Contains, slice_get}
 use Rattle.cxx_model.specs.declared.lookup.Associated.{Associated}
 use Rattle.cxx_model.specs.declared.lookup.Found.{Found}
 use Rattle.cxx_model.specs.declared.lookup.Found.TheVariants as found
 use Rattle.cxx_model.specs.declared.types.ClassId.{ClassId}
 use Rattle.cxx_model.specs.declared.types.FactId.{FactId}
 use Rattle.cxx_model.specs.declared.types.ScopeId.{ScopeId}
+use Rattle.cxx_model.proofs.Champion.{first_of, first_or_later}
+use Rattle.cxx_model.specs.Facts.Conflicts.{scope_facts}
 use Rattle.cxx_model.specs.Facts.Declarations as facts
 use Rattle.cxx_model.specs.Facts.Declarations.{CxxFact, CxxGraph, CxxName, Declares, spelled}
-use Rattle.cxx_model.specs.Facts.Entities.{entity_by, first_or, is_seen, is_space, of_fact}
+use Rattle.cxx_model.specs.Facts.Entities.{entity_by, first_or, of_fact}
 use Rattle.cxx_meaning.specs.Conversions.Standard.{CxxOperand}
 use Rattle.cxx_meaning.specs.Lookups.Associated.{adl, associated, befriended, functions_among, space_id, standing_in_each, target_by, target_of}
 use Rattle.cxx_meaning.specs.Lookups.Directives.{Shown, shows}
-use Rattle.cxx_meaning.specs.Lookups.Gathered.{before, gathered}
+use Rattle.cxx_meaning.specs.Lookups.Gathered.{gathered, holds_scope, spread, with_facts, with_scope, with_scopes}
 use Rattle.cxx_meaning.specs.Lookups.Ordinary.{IsFirst, found_in_scope, found_in_sightings, or_outside, ordinary, ordinary_in, sightings_at}
 use Rattle.cxx_meaning.specs.Lookups.Pending.{Asked}
-use Rattle.cxx_meaning.specs.Lookups.Scopes.{chain, kind_of, unit_scope}
-use Rattle.cxx_meaning.specs.Lookups.Sightings.{Sighting, befriends, is_by_friend, is_named, number_id, sighting_in, sighting_of, standing, wanted_one, when}
-use Rattle.cxx_meaning.specs.Lookups.Wanted.{Wanted, any_name, is_function, is_wanted, names_space, namespaces_only}
+use Rattle.cxx_meaning.specs.Lookups.Qualified.{leads_to, searched, sightings_of, standing_in}
+use Rattle.cxx_meaning.specs.Lookups.Scopes.{chain, unit_scope}
+use Rattle.cxx_meaning.specs.Lookups.Sightings.{Sighting, entities, found_of, looked_up, standing, unhidden}
+use Rattle.cxx_meaning.specs.Lookups.Wanted.{Wanted, any_name, is_function, names_space, namespaces_only}
 use Rattle.cxx_meaning.proofs.Nearest.{first_is_found}
-use Rattle.cxx_reading.specs.Linked.{scope_id}
-use Rattle.cxx_reading.specs.Seen.{declared_from, declared_in, declares_in, fact_numbers, found_or_none, kept, numbered_at, numbered_by, set_in, sought_from}
-use Rattle.cxx_reading.specs.Spaces.{first_space, or_later, space_in}
+use Rattle.cxx_reading.specs.declared.region.Region.{Region}
+use Rattle.cxx_reading.specs.declared.region.Region.TheVariants as region
+use Rattle.cxx_reading.specs.Paths.{first_space, or_later, sought_in, space_in}
+use Rattle.cxx_reading.specs.Seen.{fact_numbers, found_or_none, numbered_at, numbered_by, set_in, sought_from}
 use Rattle.cxx_reading.specs.State.{CxxState}
 use Rattle.cxx_answers.specs.Answers.{associated_functions, found_in_sets, fresh_among, types_of_operands}
 use Rattle.cxx_language_laws.specs.Best.{IsClear}
-use Rattle.cxx_language_laws.specs.Told.{IsNotAround}
-use Rattle.cxx_language_laws.proofs.Outward.{HasNone, IsLooked, IsOne, IsSo, IsTwo, OfNumber, Outward, ScopeAnswers, all_of, beside_all, each_seen, entities_so, filtered_all, gathered_all, none_outward, outward, scope_finds, set_looked, sighted, some_outward, two_looked}
-use Rattle.cxx_language_laws.proofs.Shown.{reached_none, unit_in}
-use Rattle.cxx_language_laws.proofs.Scopes.{AreSound, InScopes, IsFirstThere, IsSound, none_is_past}
-
--- ---- what a scope has
-
-befriends_none : (all : List CxxFact) (number : ℕ) (what : Declares) → IsSound all what → befriends number what ≡ false
-befriends_none all number (facts.friend _ _) is = absurd is
-befriends_none all number _ is = refl
-
-by_friend_none : (all : List CxxFact) (number : ℕ) (fact : CxxFact) → AreSound all → is_by_friend all number fact ≡ false
-unfolding is_by_friend
-by_friend_none all number fact sound = by (is_space (kind_of all (record { 0 = fact.scope }))) (slice_get all (number + 1)) refl
-  where
-    by : (b : Bool) (o : Option CxxFact) → slice_get all (number + 1) ≡ o → is_by_friend all number fact ≡ false
-    by b None e = rw e (both (is_space (kind_of all (record { 0 = fact.scope }))))
-      where
-        both : (b : Bool) → (b && false) ≡ false
-        both true = refl
-        both false = refl
-    by b (Some next) e = rw e (both (is_space (kind_of all (record { 0 = fact.scope }))) (befriends number next.what) (befriends_none all number next.what (sound (number + 1) next e)))
-      where
-        both : (b c : Bool) → c ≡ false → (b && c) ≡ false
-        both true c is = is
-        both false c is = refl
-
-all_hold : (a b c d : Bool) → (a && b) ≡ true → c ≡ true → d ≡ false → (a && (b && (c && not d))) ≡ true
-all_hold true true true false e f g = refl
-all_hold true true true true e f g = absurd cc
-all_hold true true false d e f g = absurd cc
-all_hold true false c d e f g = absurd cc
-all_hold false b c d e f g = absurd cc
-
-seen_there : (all : List CxxFact) (number : ℕ) (fact : CxxFact) → number < length all → is_seen all (length all) number fact ≡ true
-seen_there all number fact below = by (nat_lt number (length all)) (lt-ltb number (length all) below) _
-  where
-    by : (b : Bool) → b ≡ true → (c : Bool) → (b || c) ≡ true
-    by true e c = refl
-    by false e c = absurd cc
-
--- what is not gathered is not wanted
-passed_over : (graph : CxxGraph) (wanted : Wanted) (name : CxxName) (scope : ScopeId) (number : ℕ) (fact : CxxFact) → AreSound graph.facts → slice_get graph.facts number ≡ Some fact → declares_in scope.0 name fact ≡ true → sighting_in graph (length graph.facts) wanted name scope number fact ≡ None → is_wanted graph wanted fact.what ≡ false
-unfolding sighting_in
-passed_over graph wanted name scope number fact sound at declares none = by (is_wanted graph wanted fact.what) refl (sym reads ∙ none)
-  where
-    holds : (nat_eq fact.scope scope.0 && (is_named name fact && (is_seen graph.facts (length graph.facts) number fact && not (is_by_friend graph.facts number fact)))) ≡ true
-    holds = all_hold (nat_eq fact.scope scope.0) (is_named name fact) (is_seen graph.facts (length graph.facts) number fact) (is_by_friend graph.facts number fact) declares (seen_there graph.facts number fact (slice_get_within graph.facts number fact at)) (by_friend_none graph.facts number fact sound)
-
-    itself : Sighting
-    itself = record { scope = record { 0 = fact.scope }; itself = number_id number; meant = number_id number; what = fact.what }
-
-    reads : sighting_in graph (length graph.facts) wanted name scope number fact ≡ when (is_wanted graph wanted fact.what) itself
-    reads = ap (λ (b : Bool). cond b (wanted_one graph wanted (sighting_of graph.facts number fact)) None) holds ∙ ap (wanted_one graph wanted) (sighted graph number fact (sound number fact at))
-
-    by : (b : Bool) → is_wanted graph wanted fact.what ≡ b → when b itself ≡ None → b ≡ false
-    by true e none = absurd cc
-    by false e none = refl
-
-before_none : {A : Type 0} (o : Option A) (others : List A) → before o others ≡ [] → (o ≡ None) × (others ≡ [])
-before_none None others e = (refl, e)
-before_none (Some x) others e = absurd cc
-
-none_from : (graph : CxxGraph) (wanted : Wanted) (name : CxxName) (scope : ScopeId) → AreSound graph.facts → (all : List CxxFact) (number : ℕ) → ((i : ℕ) (fact : CxxFact) → slice_get all i ≡ Some fact → slice_get graph.facts (number + i) ≡ Some fact)
-    → gathered (sighting_in graph (length graph.facts) wanted name scope) number all ≡ [] → kept (is_wanted graph wanted) (declared_from scope.0 name number all) ≡ []
-none_from graph wanted name scope sound [] number at e = refl
-none_from graph wanted name scope sound (fact ∷ others) number at e =
-    let next : number + 1 ≡ suc number = omega arith in
-    let both = before_none (sighting_in graph (length graph.facts) wanted name scope number fact) (gathered (sighting_in graph (length graph.facts) wanted name scope) (number + 1) others) e in
-    let same : number ≡ number + 0 = omega arith in
-    by (declares_in scope.0 name fact) refl both.0 (ap (slice_get graph.facts) same ∙ at 0 fact refl)
-    (ap (λ n. kept (is_wanted graph wanted) (declared_from scope.0 name n others)) (sym next) ∙ none_from graph wanted name scope sound others (number + 1) (λ i one is. let further : number + 1 + i ≡ number + suc i = omega arith in ap (slice_get graph.facts) further ∙ at (suc i) one is) both.1)
-  where
-    chosen : (b : Bool) → b ≡ false → kept (is_wanted graph wanted) (declared_from scope.0 name (suc number) others) ≡ [] → cond b (record { number = number; fact = fact } ∷ kept (is_wanted graph wanted) (declared_from scope.0 name (suc number) others)) (kept (is_wanted graph wanted) (declared_from scope.0 name (suc number) others)) ≡ []
-    chosen true e rest = absurd cc
-    chosen false e rest = rest
-
-    by : (b : Bool) → declares_in scope.0 name fact ≡ b → sighting_in graph (length graph.facts) wanted name scope number fact ≡ None → slice_get graph.facts number ≡ Some fact → kept (is_wanted graph wanted) (declared_from scope.0 name (suc number) others) ≡ []
-        → kept (is_wanted graph wanted) (cond b (record { number = number; fact = fact } ∷ declared_from scope.0 name (suc number) others) (declared_from scope.0 name (suc number) others)) ≡ []
-    by false is none stands rest = rest
-    by true is none stands rest = chosen (is_wanted graph wanted fact.what) (passed_over graph wanted name scope number fact sound stands is none) rest
-
-none_declared : (graph : CxxGraph) (wanted : Wanted) (name : CxxName) (scope : ScopeId) → AreSound graph.facts → HasNone graph wanted name (length graph.facts) scope → kept (is_wanted graph wanted) (declared_in graph scope.0 name) ≡ []
-unfolding standing declared_in
-none_declared graph wanted name scope sound e = none_from graph wanted name scope sound graph.facts 0 (λ i fact is. let same : 0 + i ≡ i = omega arith in ap (slice_get graph.facts) same ∙ is) e
+use Rattle.cxx_language_laws.specs.Told.{IsNotAround, IsNotInside, IsNotThere}
+use Rattle.cxx_language_laws.proofs.Outward.{HasNone, IsLooked, IsOne, IsSo, IsTwo, OfNumber, Outward, ScopeAnswers, all_of, beside_all, each_seen, entities_so, filtered_all, gathered_all, looked_so, none_left, none_outward, outward, scope_finds, set_looked, some_outward, two_looked}
+use Rattle.cxx_language_laws.proofs.Shown.{reached_none, right_none, unit_in}
+use Rattle.cxx_language_laws.proofs.Scopes.{AreHeld, AreSound, InScopes, IsFirstThere, IsSound, none_is_past}
 
 -- ---- the scopes outward
 
-not_around : (state : CxxState) → InScopes state → (wanted : Wanted) (name : CxxName) → AllByRecursion (HasNone state.graph wanted name (length state.graph.facts)) (chain state.graph.facts (scope_id state.here.scope)) → IsFirst state.graph wanted name (length state.graph.facts) [] (chain state.graph.facts (scope_id state.here.scope)) found.Empty
-    → IsNotAround state.graph wanted state.here.scope name
-not_around state is wanted name each first = record {
-  outward = λ one m. none_declared state.graph wanted name one is.sound (all_of (HasNone state.graph wanted name (length state.graph.facts)) scopes each one m);
-  by_directives = λ one space m there. none_declared state.graph wanted name space is.sound (reached_none state.graph wanted name (length state.graph.facts) is.sound is.held state.here.scope (scope_id state.here.scope) (omega arith) is.within [] first one space m there);
-  in_unit = none_declared state.graph wanted name unit_scope is.sound (all_of (HasNone state.graph wanted name (length state.graph.facts)) scopes each unit_scope (unit_in state.graph.facts is.held state.here.scope (scope_id state.here.scope) (omega arith) is.within));
+-- from a scope that there is
+abbrev pub IsStanding : CxxGraph → ScopeId → Type 0
+IsStanding graph scope = scope.0 < length (scope_facts graph.facts)
+
+not_around : (graph : CxxGraph) → AreSound graph.facts → AreHeld (scope_facts graph.facts) → (wanted : Wanted) (scope : ScopeId) (name : CxxName) → IsStanding graph scope → AllByRecursion (HasNone graph wanted name (length graph.facts)) (chain graph.facts scope) → IsFirst graph wanted name (length graph.facts) [] (chain graph.facts scope) found.Empty
+    → IsNotAround graph wanted scope name
+not_around graph sound held wanted scope name within each first = record {
+  outward = λ one m. all_of (HasNone graph wanted name (length graph.facts)) (chain graph.facts scope) each one m;
+  by_directives = λ one space m there. reached_none graph wanted name (length graph.facts) sound held scope.0 scope (omega arith) within [] first one space m there;
+  in_unit = all_of (HasNone graph wanted name (length graph.facts)) (chain graph.facts scope) each unit_scope (unit_in graph.facts held scope.0 scope (omega arith) within);
 }
+
+-- ---- the namespaces that are searched (3.4.3.2)
+
+with_scope_keeps : (scopes : List ScopeId) (scope one : ScopeId) → Contains scopes one → Contains (with_scope scopes scope) one
+with_scope_keeps scopes scope one m = by (holds_scope scopes scope)
   where
-    scopes : List ScopeId
-    scopes = chain state.graph.facts (scope_id state.here.scope)
+    by : (b : Bool) → Contains (cond b scopes (scopes ++ scope ∷ [])) one
+    by true = m
+    by false = Contains-append_left scopes (scope ∷ []) one m
+
+with_scopes_keep : (scopes others : List ScopeId) (one : ScopeId) → Contains scopes one → Contains (with_scopes scopes others) one
+unfolding with_scopes
+with_scopes_keep scopes [] one m = m
+with_scopes_keep scopes (scope ∷ others) one m = with_scopes_keep (with_scope scopes scope) others one (with_scope_keeps scopes scope one m)
+
+spread_keeps : (next : ScopeId → List ScopeId) (room place : ℕ) (scopes : List ScopeId) (one : ScopeId) → Contains scopes one → Contains (spread next room place scopes) one
+unfolding spread
+spread_keeps next zero place scopes one m = m
+spread_keeps next (suc room) place scopes one m = by (slice_get scopes place) refl (λ scope. spread_keeps next room (place + 1) (with_scopes scopes (next scope)) one (with_scopes_keep scopes (next scope) one m))
+  where
+    by : (o : Option ScopeId) → slice_get scopes place ≡ o → ((scope : ScopeId) → Contains (spread next room (place + 1) (with_scopes scopes (next scope))) one) → Contains (spread next (suc room) place scopes) one
+    by None e later = rw e m
+    by (Some scope) e later = rw e (later scope)
+
+itself_searched : (graph : CxxGraph) (cut : ℕ) (wanted : Wanted) (name : CxxName) (space : ScopeId) → Contains (searched graph cut wanted name space) space
+unfolding searched
+itself_searched graph cut wanted name space = spread_keeps (leads_to graph cut wanted name) (length graph.facts) 0 (space ∷ []) space (first_of space [])
+
+each_none : (graph : CxxGraph) (cut : ℕ) (wanted : Wanted) (name : CxxName) (spaces : List ScopeId) → standing_in graph cut wanted name spaces ≡ [] → (one : ScopeId) → Contains spaces one → HasNone graph wanted name cut one
+unfolding standing_in
+each_none graph cut wanted name [] e one m = absurd (omega (arith, m.1))
+each_none graph cut wanted name (space ∷ others) e one m = elim (first_or_later space others one m) [
+  | inl here ↦ subst (HasNone graph wanted name cut) here (none_left (standing graph cut wanted name space) (standing_in graph cut wanted name others) e)
+  | inr there ↦ each_none graph cut wanted name others (right_none (standing graph cut wanted name space) (standing_in graph cut wanted name others) e) one there
+]
+
+not_inside : (graph : CxxGraph) (wanted : Wanted) (space : ScopeId) (name : CxxName) → sightings_of graph (length graph.facts) wanted name space ≡ [] → IsNotInside graph wanted space name
+not_inside graph wanted space name e = record {
+  itself = each_none graph (length graph.facts) wanted name (searched graph (length graph.facts) wanted name space) e space (itself_searched graph (length graph.facts) wanted name space);
+  by_directives = each_none graph (length graph.facts) wanted name (searched graph (length graph.facts) wanted name space) e;
+}
+
+spaces_seen : (graph : CxxGraph) (cut : ℕ) (wanted : Wanted) (name : CxxName) (spaces : List ScopeId) → AreSound graph.facts → AllByRecursion (IsOne graph wanted) (standing_in graph cut wanted name spaces)
+unfolding standing_in
+spaces_seen graph cut wanted name [] sound = tt
+spaces_seen graph cut wanted name (space ∷ others) sound = beside_all (IsOne graph wanted) (standing graph cut wanted name space) (standing_in graph cut wanted name others) (each_seen graph cut wanted name space sound) (spaces_seen graph cut wanted name others sound)
 
 -- ---- the lookup where the reader stands
 
@@ -155,22 +125,55 @@ never_asks graph wanted name cut sound (scope ∷ outer) shown class e = by (fou
     by (Ok None) is e further = further e
     by (Err other) is e further = no_class_asked (found_in_sightings graph (sightings_at graph cut wanted name (shown ++ shows graph.facts cut scope) scope)) other (sym (scope_finds graph wanted name cut (shown ++ shows graph.facts cut scope) scope sound) ∙ is)
 
--- what is sought where the reader stands: nothing, and then no scope outward has it, or something
-pub data IsSoughtSo (P : ℕ → Type 0) (state : CxxState) (wanted : Wanted) (name : CxxName) : Found → Type 0 where
-  nothing_there : IsNotAround state.graph wanted state.here.scope name → IsSoughtSo P state wanted name found.Empty
-  some_there : (x : Found) → IsLooked P state.graph x → IsSoughtSo P state wanted name x
+-- what is sought in a region: nothing, and then nothing there has it, or something
+pub data IsSoughtSo (P : ℕ → Type 0) (graph : CxxGraph) (wanted : Wanted) (where_ : Region) (name : CxxName) : Found → Type 0 where
+  nothing_there : IsNotThere graph wanted where_ name → IsSoughtSo P graph wanted where_ name found.Empty
+  some_there : (x : Found) → IsLooked P graph x → IsSoughtSo P graph wanted where_ name x
 
-pub sought_so : (P : ℕ → Type 0) (state : CxxState) (wanted : Wanted) (name : CxxName) → InScopes state → ((one : Sighting) → IsOne state.graph wanted one → IsSo P one) → IsSoughtSo P state wanted name (sought_from state.graph wanted state.here.scope name)
+-- in which the declarations are as they should be
+pub record AreFitting (graph : CxxGraph) : Type 0 where
+  pub sound : AreSound graph.facts
+  pub held : AreHeld (scope_facts graph.facts)
+
+pub fitting : (state : CxxState) → InScopes state → AreFitting state.graph
+fitting state is = record { sound = is.sound; held = is.held }
+
+-- a region that there is
+abbrev pub IsRegion : CxxGraph → Region → Type 0
+IsRegion graph (region.Outward scope) = IsStanding graph scope
+IsRegion graph (region.Inside space) = Unit {0}
+
+outward_so : (P : ℕ → Type 0) (graph : CxxGraph) (wanted : Wanted) (scope : ScopeId) (name : CxxName) → AreFitting graph → IsStanding graph scope → ((one : Sighting) → IsOne graph wanted one → IsSo P one) → IsSoughtSo P graph wanted (region.Outward scope) name (sought_from graph wanted scope.0 name)
 unfolding sought_from
-sought_so P state wanted name is each = by (ordinary state.graph wanted (scope_id state.here.scope) name (length state.graph.facts)) refl
+outward_so P graph wanted scope name is within each = by (ordinary graph wanted scope name (length graph.facts)) refl
   where
-    of_outward : (x : Found) → IsFirst state.graph wanted name (length state.graph.facts) [] (chain state.graph.facts (scope_id state.here.scope)) x → Outward P state.graph wanted name (length state.graph.facts) (chain state.graph.facts (scope_id state.here.scope)) x → IsSoughtSo P state wanted name x
-    of_outward _ first (none_outward are) = nothing_there (not_around state is wanted name are first)
+    of_outward : (x : Found) → IsFirst graph wanted name (length graph.facts) [] (chain graph.facts scope) x → Outward P graph wanted name (length graph.facts) (chain graph.facts scope) x → IsSoughtSo P graph wanted (region.Outward scope) name x
+    of_outward _ first (none_outward are) = nothing_there (not_around graph is.sound is.held wanted scope name within are first)
     of_outward x first (some_outward _ so) = some_there x so
 
-    by : (o : Asked Found) → ordinary state.graph wanted (scope_id state.here.scope) name (length state.graph.facts) ≡ o → IsSoughtSo P state wanted name (found_or_none o)
-    by (Ok x) e = let first = first_is_found state.graph wanted (scope_id state.here.scope) name (length state.graph.facts) x e in of_outward x first (outward P state.graph wanted name (length state.graph.facts) is.sound each [] (chain state.graph.facts (scope_id state.here.scope)) x first)
-    by (Err class) e = absurd (never_asks state.graph wanted name (length state.graph.facts) is.sound (chain state.graph.facts (scope_id state.here.scope)) [] class e)
+    by : (o : Asked Found) → ordinary graph wanted scope name (length graph.facts) ≡ o → IsSoughtSo P graph wanted (region.Outward scope) name (found_or_none o)
+    by (Ok x) e = let first = first_is_found graph wanted scope name (length graph.facts) x e in of_outward x first (outward P graph wanted name (length graph.facts) is.sound each [] (chain graph.facts scope) x first)
+    by (Err class) e = absurd (never_asks graph wanted name (length graph.facts) is.sound (chain graph.facts scope) [] class e)
+
+nothing_looked : (graph : CxxGraph) → looked_up graph [] ≡ found.Empty
+unfolding found_of entities unhidden with_facts
+nothing_looked graph = refl
+
+each_of_all : (P : ℕ → Type 0) (graph : CxxGraph) (wanted : Wanted) → ((one : Sighting) → IsOne graph wanted one → IsSo P one) → (all : List Sighting) → AllByRecursion (IsOne graph wanted) all → AllByRecursion (IsSo P) all
+each_of_all P graph wanted each [] are = tt
+each_of_all P graph wanted each (one ∷ others) are = (each one are.0, each_of_all P graph wanted each others are.1)
+
+inside_so : (P : ℕ → Type 0) (graph : CxxGraph) (wanted : Wanted) (space : ScopeId) (name : CxxName) → AreFitting graph → ((one : Sighting) → IsOne graph wanted one → IsSo P one) → IsSoughtSo P graph wanted (region.Inside space) name (looked_up graph (sightings_of graph (length graph.facts) wanted name space))
+inside_so P graph wanted space name is each = by (sightings_of graph (length graph.facts) wanted name space) refl (each_of_all P graph wanted each (sightings_of graph (length graph.facts) wanted name space) (spaces_seen graph (length graph.facts) wanted name (searched graph (length graph.facts) wanted name space) is.sound))
+  where
+    by : (all : List Sighting) → sightings_of graph (length graph.facts) wanted name space ≡ all → AllByRecursion (IsSo P) all → IsSoughtSo P graph wanted (region.Inside space) name (looked_up graph all)
+    by [] e are = subst (IsSoughtSo P graph wanted (region.Inside space) name) (sym (nothing_looked graph)) (nothing_there (not_inside graph wanted space name e))
+    by (one ∷ others) e are = some_there (looked_up graph (one ∷ others)) (looked_so P graph (one ∷ others) tt are)
+
+pub sought_so : (P : ℕ → Type 0) (graph : CxxGraph) (wanted : Wanted) (where_ : Region) (name : CxxName) → AreFitting graph → IsRegion graph where_ → ((one : Sighting) → IsOne graph wanted one → IsSo P one) → IsSoughtSo P graph wanted where_ name (sought_in graph wanted where_ name)
+unfolding sought_in
+sought_so P graph wanted (region.Outward scope) name is there each = outward_so P graph wanted scope name is there each
+sought_so P graph wanted (region.Inside space) name is there each = inside_so P graph wanted space name is each
 
 -- ---- declarations that there are
 
@@ -192,6 +195,7 @@ entity_there all number n (facts.object _ _ _ _ first) below is e = first_there 
 entity_there all number n (facts.function _ _ _ _ first) below is e = first_there (length all) number n first below is e
 entity_there all number n (facts.scope _ _) below is e = first_there (length all) number n None below tt e
 entity_there all number n (facts.enumerator _ _) below is e = first_there (length all) number n None below tt e
+entity_there all number n (facts.using _) below is e = first_there (length all) number n None below tt e
 entity_there all number n (facts.directive _) below is e = first_there (length all) number n None below tt e
 entity_there all number n (facts.enumeration _) below is e = absurd cc
 entity_there all number n (facts.synonym _) below is e = absurd cc
@@ -203,7 +207,6 @@ entity_there all number n (facts.class _ _) below is e = absurd is
 entity_there all number n (facts.complete _) below is e = absurd is
 entity_there all number n (facts.passed _) below is e = absurd is
 entity_there all number n (facts.ancestor _ _ _ _) below is e = absurd is
-entity_there all number n (facts.using _) below is e = absurd is
 entity_there all number n (facts.friend _ _) below is e = absurd is
 
 pub one_there : (graph : CxxGraph) (wanted : Wanted) → AreSound graph.facts → (one : Sighting) → IsOne graph wanted one → IsSo (IsThere graph) one
@@ -222,18 +225,19 @@ some_numbered graph n others there e = by (slice_get graph.facts n) refl e
     by None is e = none_is_past graph.facts n there is
     by (Some fact) is e = cc
 
--- 3.4.1: what is no ambiguity and has no declarations is nothing
-pub nothing_sought : (state : CxxState) (wanted : Wanted) (name : CxxName) → InScopes state → IsClear (sought_from state.graph wanted state.here.scope name) → set_in state.graph (sought_from state.graph wanted state.here.scope name) ≡ [] → (sought_from state.graph wanted state.here.scope name ≡ found.Empty) × IsNotAround state.graph wanted state.here.scope name
-nothing_sought state wanted name is clear none = by (sought_from state.graph wanted state.here.scope name) (sought_so (IsThere state.graph) state wanted name is (one_there state.graph wanted is.sound)) clear none
+-- 3.4: what is no ambiguity and has no declarations is nothing
+pub nothing_sought : (graph : CxxGraph) (wanted : Wanted) (where_ : Region) (name : CxxName) → AreFitting graph → IsRegion graph where_ → (x : Found) → sought_in graph wanted where_ name ≡ x → IsClear x → set_in graph x ≡ [] → (sought_in graph wanted where_ name ≡ found.Empty) × IsNotThere graph wanted where_ name
+nothing_sought graph wanted where_ name is there x e clear none = by x (subst (IsSoughtSo (IsThere graph) graph wanted where_ name) e (sought_so (IsThere graph) graph wanted where_ name is there (one_there graph wanted is.sound))) e clear none
   where
-    by : (x : Found) → IsSoughtSo (IsThere state.graph) state wanted name x → IsClear x → set_in state.graph x ≡ [] → (x ≡ found.Empty) × IsNotAround state.graph wanted state.here.scope name
-    by _ (nothing_there around) clear none = (refl, around)
-    by _ (some_there _ (set_looked one others there)) clear none = absurd (some_numbered state.graph one.0 (fact_numbers others) there none)
-    by _ (some_there _ (two_looked one two so)) clear none = absurd clear
+    by : (x : Found) → IsSoughtSo (IsThere graph) graph wanted where_ name x → sought_in graph wanted where_ name ≡ x → IsClear x → set_in graph x ≡ [] → (sought_in graph wanted where_ name ≡ found.Empty) × IsNotThere graph wanted where_ name
+    by _ (nothing_there none_there) e clear none = (e, none_there)
+    by _ (some_there _ (set_looked one others there)) e clear none = absurd (some_numbered graph one.0 (fact_numbers others) there none)
+    by _ (some_there _ (two_looked one two so)) e clear none = absurd clear
 
 -- 3.4: two that are found are declared
-pub two_sought : (state : CxxState) (wanted : Wanted) (name : CxxName) (one two : FactId) → InScopes state → sought_from state.graph wanted state.here.scope name ≡ found.Ambiguous one two → IsTwo (IsThere state.graph) state.graph one two
-two_sought state wanted name one two is e = by (found.Ambiguous one two) refl (subst (IsSoughtSo (IsThere state.graph) state wanted name) e (sought_so (IsThere state.graph) state wanted name is (one_there state.graph wanted is.sound)))
+pub two_looked_so : (P : ℕ → Type 0) (graph : CxxGraph) (x : Found) (one two : FactId) → x ≡ found.Ambiguous one two → IsLooked P graph x → IsTwo P graph one two
+two_looked_so P graph _ one two e (set_looked m others there) = absurd cc
+two_looked_so P graph _ one two e (two_looked m n so) = subst (λ (x : FactId). IsTwo P graph x two) (ap first_in e) (subst (λ (y : FactId). IsTwo P graph m y) (ap second_in e) so)
   where
     first_in : Found → FactId
     first_in (found.Ambiguous m n) = m
@@ -243,10 +247,12 @@ two_sought state wanted name one two is e = by (found.Ambiguous one two) refl (s
     second_in (found.Ambiguous m n) = n
     second_in _ = two
 
-    by : (x : Found) → x ≡ found.Ambiguous one two → IsSoughtSo (IsThere state.graph) state wanted name x → IsTwo (IsThere state.graph) state.graph one two
-    by _ e (nothing_there around) = absurd cc
-    by _ e (some_there _ (set_looked m others there)) = absurd cc
-    by _ e (some_there _ (two_looked m n so)) = subst (λ (x : FactId). IsTwo (IsThere state.graph) state.graph x two) (ap first_in e) (subst (λ (y : FactId). IsTwo (IsThere state.graph) state.graph m y) (ap second_in e) so)
+pub two_sought : (graph : CxxGraph) (wanted : Wanted) (where_ : Region) (name : CxxName) (one two : FactId) → AreFitting graph → IsRegion graph where_ → sought_in graph wanted where_ name ≡ found.Ambiguous one two → IsTwo (IsThere graph) graph one two
+two_sought graph wanted where_ name one two is there e = by (sought_in graph wanted where_ name) (sought_so (IsThere graph) graph wanted where_ name is there (one_there graph wanted is.sound)) e
+  where
+    by : (x : Found) → IsSoughtSo (IsThere graph) graph wanted where_ name x → x ≡ found.Ambiguous one two → IsTwo (IsThere graph) graph one two
+    by _ (nothing_there none_there) e = absurd cc
+    by x (some_there _ so) e = two_looked_so (IsThere graph) graph x one two e so
 
 -- ---- namespaces
 
@@ -278,14 +284,20 @@ first_there_space graph n others there e = by there.0.what there.2 (ap (λ (o : 
     by _ is e = cc
 
 -- 3.4.6: the same of namespaces
-pub no_space_sought : (state : CxxState) (name : CxxName) → InScopes state → IsClear (sought_from state.graph namespaces_only state.here.scope name) → first_space (set_in state.graph (sought_from state.graph namespaces_only state.here.scope name)) ≡ None
-    → (sought_from state.graph namespaces_only state.here.scope name ≡ found.Empty) × IsNotAround state.graph namespaces_only state.here.scope name
-no_space_sought state name is clear none = by (sought_from state.graph namespaces_only state.here.scope name) (sought_so (IsSpaceThere state.graph) state namespaces_only name is (one_space state.graph)) clear none
+pub no_space_sought : (graph : CxxGraph) (where_ : Region) (name : CxxName) → AreFitting graph → IsRegion graph where_ → (x : Found) → sought_in graph namespaces_only where_ name ≡ x → IsClear x → first_space (set_in graph x) ≡ None
+    → (sought_in graph namespaces_only where_ name ≡ found.Empty) × IsNotThere graph namespaces_only where_ name
+no_space_sought graph where_ name is there x e clear none = by x (subst (IsSoughtSo (IsSpaceThere graph) graph namespaces_only where_ name) e (sought_so (IsSpaceThere graph) graph namespaces_only where_ name is there (one_space graph))) e clear none
   where
-    by : (x : Found) → IsSoughtSo (IsSpaceThere state.graph) state namespaces_only name x → IsClear x → first_space (set_in state.graph x) ≡ None → (x ≡ found.Empty) × IsNotAround state.graph namespaces_only state.here.scope name
-    by _ (nothing_there around) clear none = (refl, around)
-    by _ (some_there _ (set_looked one others there)) clear none = absurd (first_there_space state.graph one.0 (fact_numbers others) there none)
-    by _ (some_there _ (two_looked one two so)) clear none = absurd clear
+    by : (x : Found) → IsSoughtSo (IsSpaceThere graph) graph namespaces_only where_ name x → sought_in graph namespaces_only where_ name ≡ x → IsClear x → first_space (set_in graph x) ≡ None → (sought_in graph namespaces_only where_ name ≡ found.Empty) × IsNotThere graph namespaces_only where_ name
+    by _ (nothing_there none_there) e clear none = (e, none_there)
+    by _ (some_there _ (set_looked one others there)) e clear none = absurd (first_there_space graph one.0 (fact_numbers others) there none)
+    by _ (some_there _ (two_looked one two so)) e clear none = absurd clear
+
+-- 7.3.3: what a using-declaration brings is declared
+pub brought_there : (graph : CxxGraph) (space : ScopeId) (name : CxxName) → AreFitting graph → AllByRecursion (OfNumber (IsThere graph)) (entities (sightings_of graph (length graph.facts) any_name name space))
+brought_there graph space name is =
+    let sightings = sightings_of graph (length graph.facts) any_name name space in
+    entities_so (IsThere graph) sightings (each_of_all (IsThere graph) graph any_name (one_there graph any_name is.sound) sightings (spaces_seen graph (length graph.facts) any_name name (searched graph (length graph.facts) any_name name space) is.sound))
 
 -- ---- what the types of arguments find (3.4.2)
 

@@ -1,80 +1,74 @@
--- What namespaces' other names and directives keep of the state, and what stops them (7.3.2, 7.3.4, 3.4.6).
-use Rattle.std.proofs.Common.{◌≡◌, inr, ◌∙◌, refl, sym, ap, subst}
-use Rattle.std.specs.Prelude.{ℕ, Bool, true, false, if◌then◌else◌, List, [], ◌∷◌, Option, Some, None, Ok, Err}
-use Rattle.std.specs.List.{slice_get}
+-- What namespaces' other names, using-declarations and directives keep of the state, and what stops them (7.3.2, 7.3.3,
+-- 7.3.4, 3.4.6).
+use Rattle.std.proofs.Common.{arith, ◌≡◌, inr, ◌∙◌, refl, sym, ap}
+use Rattle.std.specs.Prelude.{ℕ, ◌+◌, nat_eq, length, Bool, true, false, if◌then◌else◌, List, [], ◌∷◌, Option, Some, None, Ok, Err}
+use Rattle.std.specs.List.{AllByRecursion}
+use Rattle.std.proofs.lemmas.List.{length-append}
 use Rattle.std.proofs.lemmas.Option.{same_Some}
 use Rattle.cxx_model.specs.declared.keyword.TheConstants as keyword
 use Rattle.cxx_model.specs.declared.lookup.Found.{Found}
 use Rattle.cxx_model.specs.declared.lookup.Found.TheVariants as sought
 use Rattle.cxx_model.specs.declared.place.Place.{Place}
 use Rattle.cxx_model.specs.declared.punct.TheConstants as punct
+use Rattle.cxx_model.specs.declared.stop.LimitKind.TheVariants.{Facts}
+use Rattle.cxx_model.specs.declared.types.FactId.{FactId}
+use Rattle.cxx_model.specs.declared.types.ScopeId.{ScopeId}
 use Rattle.cxx_model.specs.Facts.Declarations.{CxxFact, CxxGraph, spelled}
-use Rattle.cxx_model.specs.Stops.{Answer, Stopped}
-use Rattle.cxx_model.specs.Text.Lexemes.{Lexeme, kind_of}
-use Rattle.cxx_meaning.specs.Lookups.Wanted.{namespaces_only}
-use Rattle.cxx_reading.specs.Declaring.{last_part}
+use Rattle.cxx_model.specs.Stops.{Answer, Stopped, Limited, ◌>>=◌ as then_answer}
+use Rattle.cxx_model.specs.Text.Lexemes.{Lexeme}
+use Rattle.cxx_meaning.specs.Lookups.Qualified.{brought_by, sightings_of}
+use Rattle.cxx_meaning.specs.Lookups.Sightings.{Sighting, entities}
+use Rattle.cxx_meaning.specs.Lookups.Wanted.{any_name, namespaces_only}
+use Rattle.cxx_reading.specs.declared.region.Region.{Region}
+use Rattle.cxx_reading.specs.declared.region.Region.TheVariants as region
+use Rattle.cxx_reading.specs.Declaring.{added, declare, most_facts, with_fact}
+use Rattle.cxx_reading.specs.Paths.{first_space, name_in, region_of, sought_in}
 use Rattle.cxx_reading.specs.Productions as production
-use Rattle.cxx_reading.specs.Reads.{Ahead, Got, Reads, ◌>>=◌, then_read, answered, ask, give, tokens, kind_ahead, behind}
-use Rattle.cxx_reading.specs.Seen.{numbered_at, numbered_by, set_in, sought_from}
-use Rattle.cxx_reading.specs.Spaces.{declare_alias, declare_directive, directive_fact, first_opening, first_space, or_later, space_by, space_fact, space_found, space_here, space_in, told}
-use Rattle.cxx_reading.specs.Specifiers.{path_of}
+use Rattle.cxx_reading.specs.Reads.{Ahead, Got, Reads, ◌>>=◌, then_read, answered, ask, give, got, tokens, kind_ahead, behind}
+use Rattle.cxx_reading.specs.Seen.{Numbered, fact_numbers, numbered_at, set_in}
+use Rattle.cxx_reading.specs.Spaces.{declare_alias, declare_directive, directive_fact, first_opening, space_by, space_fact, space_found, space_here, told}
 use Rattle.cxx_reading.specs.State.{CxxState}
-use Rattle.cxx_reading.specs.Tokens.{is_keyword, is_name, is_punct, is_qualified, not_built, refused, punct_taken, token_taken}
-use Rattle.cxx_reading.specs.Trees.{CxxTree}
-use Rattle.cxx_language.specs.Spaces.{NamedSpace, alias_at, alias_or_not, directive_at, give_part, named_space, part_tree, space_name_at, using_at}
+use Rattle.cxx_reading.specs.Tokens.{begins_name, behind_name, is_keyword, is_plain_name, is_punct, is_unbuilt_part, is_whole_name, no_part_there, not_built, path_ahead, path_taken, punct_taken, refused}
+use Rattle.cxx_reading.specs.Trees.{CxxPath, CxxPathPart, CxxTree}
+use Rattle.cxx_reading.specs.Usings.{bring_all, bring_each, bring_found, bring_here, brought_in, space_among, using_fact}
+use Rattle.cxx_language.specs.Spaces.{NamedSpace, alias_at, alias_or_not, brought_name_at, directive_at, give_part, named_space, part_tree, space_name_at, using_at, using_declaration_at}
 use Rattle.cxx_language_laws.specs.Best.{IsClear}
-use Rattle.cxx_language_laws.specs.Stopping.{Leads, Part, a_directive, an_alias}
-use Rattle.cxx_language_laws.specs.Told.{EndsIn, unknown_space}
-use Rattle.cxx_language_laws.proofs.Asked.{ahead_of, sought_ahead, twofold_ahead, undeclared_fault, unknown_ahead}
-use Rattle.cxx_language_laws.proofs.Later.{IsLater, MayBeAdded, added_tells, by_answer, calm_by, declare_tells, later_is_quiet, may_be_added}
+use Rattle.cxx_language_laws.specs.Stopping.{Leads, Part, a_using, an_alias}
+use Rattle.cxx_language_laws.specs.Told.{EndsIn, IsGrown}
+use Rattle.cxx_language_laws.proofs.Later.{IsLater, MayBeAdded, added_tells, by_answer, by_then, calm_by, declare_tells, free_quiet, grown_by, grown_later, later_is_quiet, may_be_added, same_calls}
+use Rattle.cxx_language_laws.proofs.Outward.{OfNumber}
 use Rattle.cxx_language_laws.proofs.Reached.{Told, later_is_told}
-use Rattle.cxx_language_laws.proofs.Scopes.{opened_of, opened_within}
-use Rattle.cxx_language_laws.proofs.Sought.{no_space_sought}
+use Rattle.cxx_language_laws.proofs.Regions.{IsOfSpace, IsSpaceOf, last_ahead, nothing_ahead, region_inside, region_there, region_told, set_space, twofold_ahead, unknown_ahead}
+use Rattle.cxx_language_laws.proofs.Scopes.{InScopes, MayStand, may_stand, opened_within, scopes_added}
+use Rattle.cxx_language_laws.proofs.Sought.{IsThere, brought_there, fitting, no_space_sought}
 use Rattle.cxx_language_laws.proofs.Stopping.{Inside, Stops, calm, innermost_stops, leads_in, later_here, which_in}
-use Rattle.cxx_language_laws.proofs.Tells.{Quietly, ToldBy, tells_answer, ToldIn, tells_stop, Tells, ask_in, behind_stands, ends_later, from_in, give_in, if_in, looked_in, punct_in, quiet_in, taken_in, then_in, tokens_in, unit_is_told}
+use Rattle.cxx_language_laws.proofs.Tells.{Quietly, ToldBy, tells_answer, tells_refusal, ToldIn, tells_stop, Tells, ask_from, ask_in, behind_stands, ends_later, from_in, give_in, if_in, looked_in, name_stands, path_then, punct_in, quiet_in, taken_in, then_in, tokens_in, unit_is_told}
 
 -- ---- the names of namespaces (3.4.6)
-
--- a namespace of these declarations
-abbrev pub IsSpaceOf : CxxGraph → ℕ → Type 0
-IsSpaceOf graph inner = (first : CxxFact) × (first_opening inner graph.facts ≡ Some first)
-
-numbered_space : (graph : CxxGraph) (all : List ℕ) (inner : ℕ) → first_space (numbered_at graph all) ≡ Some inner → IsSpaceOf graph inner
-numbered_space graph [] inner e = absurd cc
-numbered_space graph (number ∷ others) inner e = by (slice_get graph.facts number) refl e (numbered_space graph others inner)
-  where
-    chosen : (fact : CxxFact) → slice_get graph.facts number ≡ Some fact → (o : Option ℕ) → space_in fact.what ≡ o → or_later o (first_space (numbered_at graph others)) ≡ Some inner → (first_space (numbered_at graph others) ≡ Some inner → IsSpaceOf graph inner) → IsSpaceOf graph inner
-    chosen fact at None is e later = later e
-    chosen fact at (Some one) is e later = opened_of graph.facts number inner fact at (is ∙ e)
-
-    by : (o : Option CxxFact) → slice_get graph.facts number ≡ o → first_space (numbered_by number o (numbered_at graph others)) ≡ Some inner → (first_space (numbered_at graph others) ≡ Some inner → IsSpaceOf graph inner) → IsSpaceOf graph inner
-    by None at e later = later e
-    by (Some fact) at e later = chosen fact at (space_in fact.what) refl e later
-
-set_space : (graph : CxxGraph) (x : Found) (inner : ℕ) → first_space (set_in graph x) ≡ Some inner → IsSpaceOf graph inner
-set_space graph (sought.Set all) inner e = numbered_space graph _ inner e
-set_space graph (sought.Ambiguous _ _) inner e = absurd cc
-set_space graph (sought.Member _ _) inner e = absurd cc
-set_space graph sought.Empty inner e = absurd cc
 
 -- what is answered to the question of a namespace, in the state in which it is asked
 data SpaceAnswered (state : CxxState) (ahead : Ahead) : Answer (ℕ × CxxState) → Type 0 where
   space_answered : (inner : ℕ) → IsSpaceOf state.graph inner → SpaceAnswered state ahead (Ok (inner, state))
   space_refused : (why : Stopped) → Told state ahead why → SpaceAnswered state ahead (Err why)
 
-space_unknown : (state : CxxState) (last : Place) (token : Lexeme) (others : List Lexeme) → is_name token.kind ≡ true → (x : Found) → sought_from state.graph namespaces_only state.here.scope (spelled token.spelling) ≡ x → IsClear x → (o : Option ℕ) → first_space (set_in state.graph x) ≡ o
-    → SpaceAnswered state (ahead_of last token others) (space_by (last_part (path_of token).parts) o state)
-space_unknown state last token others named x is clear (Some inner) e = space_answered inner (set_space state.graph x inner e)
-space_unknown state last token others named x is clear None e = space_refused _ (unknown_ahead state last token others (λ scopes.
-    let found = no_space_sought state (spelled token.spelling) scopes (subst IsClear (sym is) clear) (ap (λ (y : Found). first_space (set_in state.graph y)) is ∙ e) in
-    (unknown_space (sought_ahead namespaces_only sought.Empty state last token others (undeclared_fault token.place token.spelling) named refl found.0), found.1)))
+space_unknown : (state : CxxState) (ahead : Ahead) → begins_name ahead ≡ true → is_whole_name ahead ≡ true → (where_ : Region) → region_of state.graph state.here.scope (path_ahead ahead) ≡ Ok where_ → (x : Found) → sought_in state.graph namespaces_only where_ (name_in (path_ahead ahead)) ≡ x → IsClear x → (o : Option ℕ) → first_space (set_in state.graph x) ≡ o
+    → SpaceAnswered state ahead (space_by (last_ahead ahead) o state)
+space_unknown state ahead begins whole where_ means x is clear (Some inner) e = space_answered inner (set_space state.graph x inner e)
+space_unknown state ahead begins whole where_ means x is clear None e = space_refused _ (unknown_ahead namespaces_only tt state ahead begins whole where_ means (λ scopes. no_space_sought state.graph where_ (name_in (path_ahead ahead)) (fitting state scopes) (region_there state (path_ahead ahead) where_ scopes means) x is clear e))
 
-space_found_so : (state : CxxState) (last : Place) (token : Lexeme) (others : List Lexeme) → is_name token.kind ≡ true → (x : Found) → sought_from state.graph namespaces_only state.here.scope (spelled token.spelling) ≡ x
-    → SpaceAnswered state (ahead_of last token others) (space_found (last_part (path_of token).parts) x state)
-space_found_so state last token others named (sought.Ambiguous one two) is = space_refused _ (twofold_ahead namespaces_only state last token others named one two is)
-space_found_so state last token others named (sought.Set all) is = space_unknown state last token others named (sought.Set all) is tt (first_space (set_in state.graph (sought.Set all))) refl
-space_found_so state last token others named (sought.Member class found) is = space_unknown state last token others named (sought.Member class found) is tt (first_space (set_in state.graph (sought.Member class found))) refl
-space_found_so state last token others named sought.Empty is = space_unknown state last token others named sought.Empty is tt (first_space (set_in state.graph sought.Empty)) refl
+space_found_so : (state : CxxState) (ahead : Ahead) → begins_name ahead ≡ true → is_whole_name ahead ≡ true → (where_ : Region) → region_of state.graph state.here.scope (path_ahead ahead) ≡ Ok where_ → (x : Found) → sought_in state.graph namespaces_only where_ (name_in (path_ahead ahead)) ≡ x → SpaceAnswered state ahead (space_found (last_ahead ahead) x state)
+space_found_so state ahead begins whole where_ means (sought.Ambiguous one two) is = space_refused _ (twofold_ahead namespaces_only tt state ahead begins whole where_ means one two is)
+space_found_so state ahead begins whole where_ means (sought.Set all) is = space_unknown state ahead begins whole where_ means (sought.Set all) is tt (first_space (set_in state.graph (sought.Set all))) refl
+space_found_so state ahead begins whole where_ means (sought.Member class found) is = space_unknown state ahead begins whole where_ means (sought.Member class found) is tt (first_space (set_in state.graph (sought.Member class found))) refl
+space_found_so state ahead begins whole where_ means sought.Empty is = space_unknown state ahead begins whole where_ means sought.Empty is tt (first_space (set_in state.graph sought.Empty)) refl
+
+space_here_so : (state : CxxState) (ahead : Ahead) → begins_name ahead ≡ true → is_whole_name ahead ≡ true → SpaceAnswered state ahead (space_here (path_ahead ahead) state)
+unfolding space_here
+space_here_so state ahead begins whole = by (region_of state.graph state.here.scope (path_ahead ahead)) refl
+  where
+    by : (o : Answer Region) → region_of state.graph state.here.scope (path_ahead ahead) ≡ o → SpaceAnswered state ahead (then_answer o (λ where_. space_found (last_ahead ahead) (sought_in state.graph namespaces_only where_ (name_in (path_ahead ahead))) state))
+    by (Ok where_) means = space_found_so state ahead begins whole where_ means (sought_in state.graph namespaces_only where_ (name_in (path_ahead ahead))) refl
+    by (Err why) e = space_refused why (region_told state ahead begins whole why e)
 
 -- ---- a name that is read
 
@@ -82,28 +76,28 @@ data SpaceRead (state : CxxState) (ahead : Ahead) : Answer (Got CxxState NamedSp
   space_read : (one : Got CxxState NamedSpace) → IsLater state one.state → EndsIn ahead.tokens one.rest.tokens → IsSpaceOf one.state.graph one.value.inner → SpaceRead state ahead (Ok one)
   space_stops : (why : Stopped) → Told state ahead why → SpaceRead state ahead (Err why)
 
-named_space_read : (state : CxxState) (ahead rest : Ahead) (name : Lexeme) → EndsIn ahead.tokens rest.tokens → {r : Answer (ℕ × CxxState)} → SpaceAnswered state ahead r → SpaceRead state ahead (then_read (answered r rest) (λ inner. give (record { place = name.place; inner = inner })))
-named_space_read state ahead rest name stands (space_answered inner is) = space_read (record { value = record { place = name.place; inner = inner }; state = state; rest = rest }) (later_here state) stands is
-named_space_read state ahead rest name stands (space_refused why told) = space_stops why told
+named_space_read : (state : CxxState) (ahead rest : Ahead) (place : Place) → EndsIn ahead.tokens rest.tokens → {r : Answer (ℕ × CxxState)} → SpaceAnswered state ahead r → SpaceRead state ahead (then_read (answered r rest) (λ inner. give (record { place = place; inner = inner })))
+named_space_read state ahead rest place stands (space_answered inner is) = space_read (record { value = record { place = place; inner = inner }; state = state; rest = rest }) (later_here state) stands is
+named_space_read state ahead rest place stands (space_refused why told) = space_stops why told
 
 space_quiet : {state : CxxState} {ahead : Ahead} (why : Stopped) → Quietly {S = CxxState} state ahead why → SpaceRead state ahead (Err why)
 space_quiet {state = state} {ahead = ahead} why quiet = space_stops why (later_is_told.quiet state ahead why quiet)
 
 space_name_read : (state : CxxState) (ahead : Ahead) → SpaceRead state ahead (space_name_at state ahead)
-unfolding space_name_at space_here is_name
-space_name_read state ahead = qualified (is_qualified ahead) (by ahead.last ahead.tokens)
+unfolding space_name_at path_taken no_part_there
+space_name_read state ahead = by (begins_name ahead) refl
   where
-    qualified : (b : Bool) {x : Answer (Got CxxState NamedSpace)} → SpaceRead state ahead x → SpaceRead state ahead (if b then not_built state ahead else x)
-    qualified true x = space_quiet _ refl
-    qualified false x = x
+    no_part : (b : Bool) → SpaceRead state ahead (then_read (if b then not_built state (behind_name ahead) else refused state (behind_name ahead)) named_space)
+    no_part true = space_quiet _ refl
+    no_part false = space_quiet _ refl
 
-    by : (last : Place) (tokens : List Lexeme) → SpaceRead state (record { last = last; tokens = tokens }) (if is_name (kind_of tokens) then (token_taken >>= named_space) state (record { last = last; tokens = tokens }) else refused state (record { last = last; tokens = tokens }))
-    by last [] = space_quiet _ refl
-    by last (token ∷ others) = named (is_name token.kind) refl
-      where
-        named : (b : Bool) → is_name token.kind ≡ b → SpaceRead state (ahead_of last token others) (if b then (token_taken >>= named_space) state (ahead_of last token others) else refused state (ahead_of last token others))
-        named true is = named_space_read state (ahead_of last token others) (behind (ahead_of last token others)) token (behind_stands (ahead_of last token others)) (space_found_so state last token others is (sought_from state.graph namespaces_only state.here.scope (spelled token.spelling)) refl)
-        named false is = space_quiet _ refl
+    whole : (b : Bool) → is_whole_name ahead ≡ b → begins_name ahead ≡ true → SpaceRead state ahead (then_read (if b then got (path_ahead ahead) state (behind_name ahead) else no_part_there state (behind_name ahead)) named_space)
+    whole true is begins = named_space_read state ahead (behind_name ahead) (last_ahead ahead).place (name_stands ahead) (space_here_so state ahead begins is)
+    whole false is begins = no_part (is_unbuilt_part (kind_ahead (behind_name ahead)))
+
+    by : (b : Bool) → begins_name ahead ≡ b → SpaceRead state ahead (if b then (path_taken >>= named_space) state ahead else refused state ahead)
+    by true begins = whole (is_whole_name ahead) refl begins
+    by false begins = space_quiet _ refl
 
 -- what follows it
 then_space : {B : Type 0} {state : CxxState} {ahead : Ahead} {r : Answer (Got CxxState NamedSpace)} {go : NamedSpace → Reads CxxState B} → SpaceRead state ahead r
@@ -148,12 +142,97 @@ directive_tells state ahead =
     then_in later_is_told (ask_in ahead (calm_by later_is_told (directive_answer_tells space.place space.inner state ahead))) (λ declared state ahead.
     then_in later_is_told (tokens_in later_is_told (punct_in unit_is_told punct.SEMICOLON) state ahead) (λ ended. give_part_tells production.using_directive from []))))))
 
+-- ---- using-declarations (7.3.3)
+
+-- what is declared behind a state, in which the targets are declared
+declared_behind : (s t : CxxState) (ahead : Ahead) (fact : CxxFact) (word : List ℕ) → IsLater s t → fact.scope ≡ t.here.scope → (InScopes s → MayStand t.graph.facts fact) → ToldBy IsLater Quietly s ahead (declare fact word t)
+unfolding declare added
+declared_behind s t ahead fact word later here may = by_then s ahead (λ is_free. added fact t) (free_quiet t fact word) (λ is_free. by (nat_eq (length t.graph.facts + length t.graph.classes) most_facts))
+  where
+    behind_it : IsLater s (with_fact fact t)
+    behind_it = record {
+      grown = grown_later s t (with_fact fact t) later.grown (grown_by t (with_fact fact t) (fact ∷ []) refl);
+      scopes = λ is. scopes_added t fact here (may is) (later.scopes is);
+      best = λ all. same_calls t (with_fact fact t) (grown_by t (with_fact fact t) (fact ∷ []) refl) refl (later.best all);
+      here = λ is. later.here is;
+    }
+
+    by : (b : Bool) → ToldBy IsLater Quietly s ahead (if b then Err (Limited Facts) else Ok (length t.graph.facts, with_fact fact t))
+    by true = tells_refusal (Limited Facts) refl
+    by false = tells_answer (length t.graph.facts, with_fact fact t) behind_it
+
+-- what there is among some facts, there is among more
+still_there : (s t : CxxState) (number : ℕ) → IsGrown s t → IsThere s.graph number → IsThere t.graph number
+still_there s t number grown there =
+    let all = ap (λ (g : CxxGraph). length g.facts) grown.declared in
+    let more = length-append s.graph.facts grown.own in
+    omega (arith, all, more, there)
+
+bring_each_tells : (s t : CxxState) (ahead : Ahead) (part : CxxPathPart) (targets : List FactId) → IsLater s t → (InScopes s → AllByRecursion (OfNumber (IsThere s.graph)) targets) → ToldBy IsLater Quietly s ahead (bring_each part targets t)
+unfolding bring_each
+bring_each_tells s t ahead part [] later there = tells_answer (tt, t) later
+bring_each_tells s t ahead part (target ∷ others) later there =
+    by_answer s ahead _ (declared_behind s t ahead (using_fact t part target) part.word later refl (λ is. may_stand t.graph.facts (using_fact t part target) refl (still_there s t target.0 later.grown (there is).0)))
+    (λ answer more. bring_each_tells s answer.1 ahead part others more (λ is. (there is).1))
+
+bring_all_tells : (state : CxxState) (ahead : Ahead) (part : CxxPathPart) (targets : List FactId) → (InScopes state → AllByRecursion (OfNumber (IsThere state.graph)) targets) → (space : Option Numbered) → ToldBy IsLater Quietly state ahead (bring_all part targets space state)
+bring_all_tells state ahead part targets there (Some one) = tells_refusal _ refl
+bring_all_tells state ahead part targets there None = bring_each_tells state state ahead part targets (later_here state) there
+
+-- in a namespace
+brought_tells : (state : CxxState) (ahead : Ahead) → begins_name ahead ≡ true → is_whole_name ahead ≡ true → (space : ScopeId) → region_of state.graph state.here.scope (path_ahead ahead) ≡ Ok (region.Inside space)
+    → ToldBy IsLater Told state ahead (bring_found (last_ahead ahead) (brought_in state.graph (region.Inside space) (name_in (path_ahead ahead))) state)
+unfolding brought_in sought_in
+brought_tells state ahead begins whole space means = by (sought_in state.graph any_name (region.Inside space) (name_in (path_ahead ahead))) refl
+  where
+    sightings : List Sighting
+    sightings = sightings_of state.graph (length state.graph.facts) any_name (name_in (path_ahead ahead)) space
+
+    by : (x : Found) → sought_in state.graph any_name (region.Inside space) (name_in (path_ahead ahead)) ≡ x → ToldBy IsLater Told state ahead (bring_found (last_ahead ahead) (brought_by x sightings) state)
+    by (sought.Ambiguous one two) is = tells_refusal _ (twofold_ahead any_name tt state ahead begins whole (region.Inside space) means one two is)
+    by (sought.Set all) is = calm_by later_is_told (bring_all_tells state ahead (last_ahead ahead) (entities sightings) (λ scopes. brought_there state.graph space (name_in (path_ahead ahead)) (fitting state scopes)) (space_among (numbered_at state.graph (fact_numbers (entities sightings)))))
+    by (sought.Member class found) is = tells_refusal _ (nothing_ahead any_name tt state ahead begins whole (region.Inside space) means (sought.Member class found) is tt refl)
+    by sought.Empty is = tells_refusal _ (nothing_ahead any_name tt state ahead begins whole (region.Inside space) means sought.Empty is tt refl)
+
+bring_tells : (state : CxxState) (ahead : Ahead) → begins_name ahead ≡ true → is_whole_name ahead ≡ true → is_plain_name ahead ≡ false → ToldBy IsLater Told state ahead (bring_here (path_ahead ahead) state)
+unfolding bring_here
+bring_tells state ahead begins whole plain = by (region_of state.graph state.here.scope (path_ahead ahead)) refl
+  where
+    inside : (where_ : Region) → IsOfSpace where_ → region_of state.graph state.here.scope (path_ahead ahead) ≡ Ok where_ → ToldBy IsLater Told state ahead (bring_found (last_ahead ahead) (brought_in state.graph where_ (name_in (path_ahead ahead))) state)
+    inside (region.Inside space) is means = brought_tells state ahead begins whole space means
+    inside (region.Outward scope) is means = absurd is
+
+    by : (o : Answer Region) → region_of state.graph state.here.scope (path_ahead ahead) ≡ o → ToldBy IsLater Told state ahead (then_answer o (λ where_. bring_found (last_ahead ahead) (brought_in state.graph where_ (name_in (path_ahead ahead))) state))
+    by (Ok where_) means = inside where_ (region_inside state.graph state.here.scope ahead where_ begins whole plain means) means
+    by (Err why) e = tells_refusal why (region_told state ahead begins whole why e)
+
+-- what follows its name
+brought_then : {B : Type 0} (go : CxxPath → Reads CxxState B) (state : CxxState) (ahead : Ahead) → (begins_name ahead ≡ true → is_whole_name ahead ≡ true → is_plain_name ahead ≡ false → ToldIn IsLater Told state ahead (go (path_ahead ahead) state (behind_name ahead)))
+    → ToldIn IsLater Told state ahead (then_read (brought_name_at state ahead) go)
+unfolding brought_name_at
+brought_then go state ahead tells = by (begins_name ahead) refl (is_plain_name ahead) refl (is_keyword keyword.TYPENAME (kind_ahead ahead))
+  where
+    by : (b : Bool) → begins_name ahead ≡ b → (c : Bool) → is_plain_name ahead ≡ c → (d : Bool) → ToldIn IsLater Told state ahead (then_read (if b then (if c then refused state (behind ahead) else path_taken state ahead) else (if d then not_built state ahead else refused state ahead)) go)
+    by true begins true plain d = quiet_in later_is_told refl
+    by true begins false plain d = path_then later_is_told go state ahead (λ whole. tells begins whole plain)
+    by false begins c plain true = quiet_in later_is_told refl
+    by false begins c plain false = quiet_in later_is_told refl
+
+using_declaration_tells : Tells IsLater Told using_declaration_at
+unfolding using_declaration_at
+using_declaration_tells state ahead =
+    then_in later_is_told (looked_in later_is_told state ahead) (λ from state ahead.
+    then_in later_is_told (taken_in later_is_told state ahead) (λ using state ahead.
+    brought_then (λ path. ask (bring_here path) >>= λ declared. tokens (punct_taken punct.SEMICOLON) >>= λ ended. give_part production.using_declaration from []) state ahead (λ begins whole plain.
+    then_in later_is_told (ask_from (behind_name ahead) (name_stands ahead) (bring_tells state ahead begins whole plain)) (λ declared state ahead.
+    then_in later_is_told (tokens_in later_is_told (punct_in unit_is_told punct.SEMICOLON) state ahead) (λ ended. give_part_tells production.using_declaration from [])))))
+
 using_tells : Tells IsLater Told using_at
 unfolding using_at
-using_tells state ahead = if_in (is_keyword keyword.NAMESPACE (kind_ahead (behind ahead))) (directive_tells state ahead) (quiet_in later_is_told refl)
+using_tells state ahead = if_in (is_keyword keyword.NAMESPACE (kind_ahead (behind ahead))) (directive_tells state ahead) (using_declaration_tells state ahead)
 
-pub directive_stops : (state : CxxState) (ahead : Ahead) → Stops a_directive state ahead (using_at state ahead)
-directive_stops state ahead = innermost_stops tt (λ fault is. is) (using_tells state ahead)
+pub using_stops : (state : CxxState) (ahead : Ahead) → Stops a_using state ahead (using_at state ahead)
+using_stops state ahead = innermost_stops tt (λ fault is. is) (using_tells state ahead)
 
 alias_stops : (from : Ahead) (name : Lexeme) (state : CxxState) (ahead : Ahead) → Stops (an_alias from name) state ahead (alias_at from name state ahead)
 alias_stops from name state ahead = innermost_stops tt (λ fault is. is) (alias_tells from name state ahead)

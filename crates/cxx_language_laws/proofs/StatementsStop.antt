@@ -8,6 +8,7 @@ use Rattle.cxx_model.specs.declared.stop.LimitKind.TheVariants.{Nesting}
 use Rattle.cxx_model.specs.Stops.{Answer, Stopped, Limited, fault}
 use Rattle.cxx_model.specs.Text.Lexemes.{Lexeme}
 use Rattle.cxx_model.specs.Types.Trees.{CxxType}
+use Rattle.cxx_reading.specs.declared.specifier.Naming.TheVariants as naming
 use Rattle.cxx_reading.specs.declared.specifier.SpecifierPlace.TheVariants as where_
 use Rattle.cxx_reading.specs.Declarators.{Declarator, declared_type, Specifiers, is_function_type}
 use Rattle.cxx_reading.specs.Declaring.{define_object, enter_block, leave_block}
@@ -26,7 +27,7 @@ use Rattle.cxx_language.specs.Spaces.{behind_word, local_alias_at}
 use Rattle.cxx_language.specs.Blocks.{locally_declared, local_declarator_at, local_step, local_declarators_at, local_declarators_of, local_declaration_at, simple_local_at, tested_object, tested_by, tested_declarator_at, condition_tree, declared_condition_at}
 use Rattle.cxx_language.specs.Made.{defined_object}
 use Rattle.cxx_language.specs.Statements.{condition_at, condition_by, expression_for, parts_at}
-use Rattle.cxx_language_laws.specs.Stopping.{BeginsFor, Enters, Gives, HasCondition, IsNoSpace, IsOpened, Leads, Part, a_body, a_condition_initializer, a_declared_condition, a_local_declaration, a_plain_statement, a_statement, an_expression, an_inner_statement, an_unlabelled_statement, alias_name, in_local_alias, to_local_directive, beginning_of, behind_do, behind_else, behind_for, behind_if, behind_labels, behind_switch, behind_while, body_of, condition_initializer_of, declarator_of, in_body, in_bracket, in_condition, in_condition_specifiers, in_label, in_labels, in_local_declarator, in_local_specifiers, in_statement, inner_statement_of, is_conditional, is_declaration_of, next_label, next_local_declarator, next_statement, some_labels, some_local_declarators, some_statements, specifiers_of, statement_of, statement_step_of, to_answer, to_block, to_condition, to_condition_declarator, to_condition_initializer, to_declared_condition, to_expression, to_first_part, to_inner_block, to_last_condition, to_local_declaration, to_local_declarators, to_local_initializer, to_plain_statement, to_second_part, to_statement, to_third_part, unlabelled_of}
+use Rattle.cxx_language_laws.specs.Stopping.{BeginsFor, Enters, Gives, HasCondition, IsNoSpace, IsOpened, Leads, Part, a_body, a_condition_initializer, a_declared_condition, a_local_declaration, a_plain_statement, a_statement, an_expression, an_inner_statement, an_unlabelled_statement, alias_name, in_local_alias, to_local_using, beginning_of, behind_do, behind_else, behind_for, behind_if, behind_labels, behind_switch, behind_while, body_of, condition_initializer_of, declarator_of, in_body, in_bracket, in_condition, in_condition_specifiers, in_label, in_labels, in_local_declarator, in_local_specifiers, in_statement, inner_statement_of, is_conditional, is_declaration_of, next_label, next_local_declarator, next_statement, some_labels, some_local_declarators, some_statements, specifiers_of, statement_of, statement_step_of, to_answer, to_block, to_condition, to_condition_declarator, to_condition_initializer, to_declared_condition, to_expression, to_first_part, to_inner_block, to_last_condition, to_local_declaration, to_local_declarators, to_local_initializer, to_plain_statement, to_second_part, to_statement, to_third_part, unlabelled_of}
 use Rattle.cxx_language_laws.specs.Told.{EndsIn}
 use Rattle.cxx_language_laws.proofs.Asked.{constant_tells, phrases_tell}
 use Rattle.cxx_language_laws.proofs.Both.{both_tell}
@@ -38,8 +39,8 @@ use Rattle.cxx_model.specs.declared.facts.ScopeKind.TheVariants as scope_kind
 use Rattle.cxx_language_laws.proofs.Objects.{HasNumber}
 use Rattle.cxx_language_laws.proofs.Reached.{IsBehind, later_is_told, behind_by_later, behind_later}
 use Rattle.cxx_language_laws.proofs.Scopes.{entered}
-use Rattle.cxx_language_laws.proofs.Spaces.{alias_or_not_stops, directive_stops}
-use Rattle.cxx_language_laws.proofs.Stopping.{Calm, ChainedOf, Inside, Stops, calm, calm_from, innermost_stops, later_here, leads_here, leads_in, quiet_told, repeat_stops, then_asked, then_calm, told_within, which_in, whole_calm, whole_stops, within_part}
+use Rattle.cxx_language_laws.proofs.Spaces.{alias_or_not_stops, using_stops}
+use Rattle.cxx_language_laws.proofs.Stopping.{Calm, ChainedOf, later_is_held, Inside, Stops, calm, calm_from, innermost_stops, later_here, leads_here, leads_in, quiet_told, repeat_stops, then_asked, then_calm, told_within, which_in, whole_calm, whole_stops, within_part}
 use Rattle.cxx_language_laws.proofs.Tells.{IsTold, Quietly, ToldIn, Tells, ToldBy, tells_answer, tells_read, tells_refusal, tells_stop, whole_stands, ends_later, behind_stands, past_stands, twice_behind, from_in, past_in, then_from, then_in, if_in, same_in, next_in, give_in, looked_in, ask_in, punct_in, quiet_in, returned_in, tokens_in, unit_is_told}
 use Rattle.cxx_language_laws.proofs.TellsBlocks.{condition_part_tells, keep_tested_tells, local_extern_tells, local_function_tells, tested_function_tells}
 use Rattle.cxx_language_laws.proofs.TellsBodies.{IsInBlock, become_tells, enter_tells, expression_tells, is_declared_tells, statement_head_tells, step_tells}
@@ -59,17 +60,17 @@ step_stops room s ahead = innermost_stops tt (λ fault is. is) (step_tells room 
 
 -- ---- declarations in blocks
 
-local_object_stops : (room : ℕ) (said : Said) (so_far : Listed) (declarator : Declarator) (from : Ahead) (state between : CxxState) (ahead rest : Ahead) → Gives (declarator_of room) state ahead declarator between rest → said.is_typedef ≡ false
+local_object_stops : (room : ℕ) (said : Said) (so_far : Listed) (declarator : Declarator) (from : Ahead) (state between : CxxState) (ahead rest : Ahead) → Gives (declarator_of room naming.Required) state ahead declarator between rest → said.is_typedef ≡ false
     → is_function_type (declared_type declarator.layers said.of) ≡ false → said.is_extern ≡ false → IsLater state between → EndsIn ahead.tokens rest.tokens → Inside (some_local_declarators room said so_far) state ahead (defined_object room said declarator from between rest)
 unfolding defined_object
 local_object_stops room said so_far declarator from state between ahead rest is no_synonym no_function no_extern later stands =
     let name = name_of_declarator declarator in
     let of = declared_type declarator.layers said.of in
     then_asked _ (define_object name of) (define_tells name of between rest) later stands (λ answer is_defined later.
-    then_calm (defined_part_stops answer.1 rest room name of answer.0 (defined_is_there name of between answer is_defined) (λ begins. to_local_initializer is no_synonym no_function no_extern is_defined begins) later stands) (λ parts state ahead.
+    then_calm (defined_part_stops later_is_held answer.1 rest room name of answer.0 (defined_is_there name of between answer is_defined) (λ begins. to_local_initializer is no_synonym no_function no_extern is_defined begins) later stands) (λ parts state ahead.
     then_in later_is_quiet (looked_in later_is_quiet state ahead) (λ to. give_in later_is_quiet (declarator_tree false name of answer.0 (declarator.parts ++ parts) from to))))
 
-locally_stops : (room : ℕ) (said : Said) (so_far : Listed) (from : Ahead) (declarator : Declarator) (state between : CxxState) (ahead rest : Ahead) → Gives (declarator_of room) state ahead declarator between rest → IsLater state between → EndsIn ahead.tokens rest.tokens
+locally_stops : (room : ℕ) (said : Said) (so_far : Listed) (from : Ahead) (declarator : Declarator) (state between : CxxState) (ahead rest : Ahead) → Gives (declarator_of room naming.Required) state ahead declarator between rest → IsLater state between → EndsIn ahead.tokens rest.tokens
     → Inside (some_local_declarators room said so_far) state ahead (locally_declared room said from declarator between rest)
 locally_stops room said so_far from declarator state between ahead rest is later stands =
     which_reads said.is_typedef _ _ between rest (λ synonym. calm_from later stands (declared_synonym_tells said declarator from between rest)) (λ no_synonym.
@@ -113,7 +114,7 @@ unfolding local_declaration_at
 local_declaration_stops room state ahead =
     whole_stops (λ fault is. is) (
     which_in (is_keyword keyword.NAMESPACE (kind_ahead ahead)) (λ word. local_alias_stops room state ahead word) (λ no_namespace.
-    which_in (is_keyword keyword.USING (kind_ahead ahead)) (λ using. leads_here (to_local_directive (record { no_namespace = no_namespace; is_using = using })) (directive_stops state ahead))
+    which_in (is_keyword keyword.USING (kind_ahead ahead)) (λ using. leads_here (to_local_using (record { no_namespace = no_namespace; is_using = using })) (using_stops state ahead))
     (λ no_using. simple_local_stops room state ahead (record { no_namespace = no_namespace; no_using = no_using }))))
 
 -- ---- conditions
@@ -121,7 +122,7 @@ local_declaration_stops room state ahead =
 condition_initializer_stops : (room : ℕ) (name : Lexeme) (of : CxxType) (number : ℕ) (state : CxxState) (ahead : Ahead) → HasNumber number state → Stops (a_condition_initializer room name of number) state ahead (condition_initializer_of room name of number state ahead)
 condition_initializer_stops room name of number state ahead there = innermost_stops tt (λ fault is. is) (condition_part_tells room name of number state ahead there)
 
-tested_object_stops : (room : ℕ) (specifiers : Specifiers) (declarator : Declarator) (from : Ahead) (state between after : CxxState) (ahead middle rest : Ahead) → Gives (specifiers_of room where_.TypeId) state ahead specifiers between middle → Gives (declarator_of room) between middle declarator after rest
+tested_object_stops : (room : ℕ) (specifiers : Specifiers) (declarator : Declarator) (from : Ahead) (state between after : CxxState) (ahead middle rest : Ahead) → Gives (specifiers_of room where_.TypeId) state ahead specifiers between middle → Gives (declarator_of room naming.Required) between middle declarator after rest
     → is_function_type (declared_type declarator.layers (said_by false specifiers).of) ≡ false → IsLater state after → EndsIn ahead.tokens rest.tokens → Inside (a_declared_condition room) state ahead (tested_object room (said_by false specifiers) declarator from after rest)
 unfolding tested_object
 tested_object_stops room specifiers declarator from state between after ahead middle rest is_specified is_declared no_function later stands =

@@ -8,7 +8,7 @@ use Rattle.cxx_reading.specs.State.{CxxState}
 use Rattle.cxx_language_laws.specs.Stopping.{Gives, IsInnermost, IsStopped, IsStoppedIn, Leads, Part, StopsWithin, it_leads, it_stops}
 use Rattle.cxx_language_laws.specs.Told.{EndsIn}
 use Rattle.cxx_language_laws.proofs.Later.{IsLater, later_is_kept, later_is_quiet}
-use Rattle.cxx_language_laws.proofs.Reached.{IsBehind, IsChosen, IsManifold, IsUndeclared, Reached, behind_by_later, behind_later, Told as ToldOf, ToldSo as ToldSoOf}
+use Rattle.cxx_language_laws.proofs.Reached.{Arrived, ArrivedAt, ArrivedSo, IsBehind, IsChosen, IsElsewhere, IsManifold, IsUndeclared, arrived_here, behind_by_later, behind_later, elsewhere_later, Told as ToldOf}
 use Rattle.cxx_language_laws.proofs.Tells.{Saying, choosing, undeclared, ambiguous, nothing, saying, IsQuiet, Quietly, whole_stands, ends_later, ToldIn, tells_read, tells_stop, Tells, ToldBy, tells_answer, tells_refusal, from_in, then_from}
 
 -- ---- what is true of a stop
@@ -39,15 +39,15 @@ ChainedBy within_part part state ahead fault P = Within part state ahead fault P
 
 -- 13.3: a true fault of a call is reached
 abbrev pub Choosing : Fault → CxxState → Ahead → Type 0
-Choosing fault before from = Reached before from (IsChosen fault)
+Choosing fault before from = Arrived before from (IsChosen fault)
 
 -- 3.4.1: a name that is not declared is reached
 abbrev pub Unknown : Fault → List ℕ → CxxState → Ahead → Type 0
-Unknown fault word before from = Reached before from (IsUndeclared fault word)
+Unknown fault word before from = Arrived before from (IsUndeclared fault word)
 
 -- 3.4: a name that is ambiguous is reached
 abbrev pub Manifold : Fault → List ℕ → CxxState → Ahead → Type 0
-Manifold fault word before from = Reached before from (IsManifold fault word)
+Manifold fault word before from = Arrived before from (IsManifold fault word)
 
 abbrev pub ChainedSo : Sight → Part → CxxState → Ahead → Fault → Saying → Type 0
 ChainedSo sight part state ahead fault choosing = ChainedBy sight part state ahead fault (Choosing fault)
@@ -66,6 +66,10 @@ Stops part state ahead r = ToldIn IsLater (ChainedOf whole_part part) state ahea
 -- of what was read within a part
 abbrev pub Inside : {A : Type 0} → Part → CxxState → Ahead → Answer (Got CxxState A) → Type 0
 Inside part state ahead r = ToldIn IsLater (ChainedOf within_part part) state ahead r
+
+-- the same with another law of what is kept
+abbrev pub InsideBy : {A : Type 0} → (CxxState → CxxState → Type 0) → Part → CxxState → Ahead → Answer (Got CxxState A) → Type 0
+InsideBy kept part state ahead r = ToldIn kept (ChainedOf within_part part) state ahead r
 
 -- nothing is told of declarations
 abbrev pub Calm : {A : Type 0} → CxxState → Ahead → Answer (Got CxxState A) → Type 0
@@ -137,23 +141,28 @@ whole_stops {part = part} {state = state} {ahead = ahead} stops (tells_stop (Fau
 
 -- ---- innermost parts
 
-so_here : (part : Part) (state : CxxState) (ahead : Ahead) (fault : Fault) (what : Saying) → IsInnermost part → ToldSoOf state ahead fault what → ChainedSo within_part part state ahead fault what
+so_here : (part : Part) (state : CxxState) (ahead : Ahead) (fault : Fault) (what : Saying) → IsInnermost part → ArrivedSo state ahead fault what → ChainedSo within_part part state ahead fault what
 so_here part state ahead fault choosing innermost told = it_is_here innermost told
 so_here part state ahead fault (undeclared word) innermost told = it_is_here innermost told
 so_here part state ahead fault (ambiguous word) innermost told = it_is_here innermost told
 so_here part state ahead fault nothing innermost told = tt
 
-told_here : (part : Part) (state : CxxState) (ahead : Ahead) (why : Stopped) → IsInnermost part → ToldOf state ahead why → ChainedOf within_part part state ahead why
+told_here : (part : Part) (state : CxxState) (ahead : Ahead) (why : Stopped) → IsInnermost part → ArrivedAt state ahead why → ChainedOf within_part part state ahead why
 told_here part state ahead (Faulty fault) innermost told = so_here part state ahead fault (saying fault.text) innermost told
 told_here part state ahead (Limited kind) innermost told = tt
 
 inside_here : {A : Type 0} {part : Part} {state : CxxState} {ahead : Ahead} {r : Answer (Got CxxState A)} → IsInnermost part → ToldIn IsLater ToldOf state ahead r → Inside part state ahead r
 inside_here innermost (tells_read one keeps stands) = tells_read one keeps stands
-inside_here {part = part} {state = state} {ahead = ahead} innermost (tells_stop why true_of) = tells_stop why (told_here part state ahead why innermost true_of)
+inside_here {part = part} {state = state} {ahead = ahead} innermost (tells_stop why true_of) = tells_stop why (told_here part state ahead why innermost (arrived_here state ahead why true_of))
 
 -- what is true where the reader of an innermost part stops
 pub innermost_stops : {A : Type 0} {part : Part} {state : CxxState} {ahead : Ahead} {r : Answer (Got CxxState A)} → IsInnermost part → ((fault : Fault) → r ≡ Err (Faulty fault) → IsStopped part state ahead fault) → ToldIn IsLater ToldOf state ahead r → Stops part state ahead r
 innermost_stops innermost stops tells = whole_stops stops (inside_here innermost tells)
+
+-- the same where it was reached in some way
+pub arrived_whole : (part : Part) (state : CxxState) (ahead : Ahead) (why : Stopped) → IsInnermost part → ((fault : Fault) → why ≡ Faulty fault → IsStopped part state ahead fault) → ArrivedAt state ahead why → ChainedOf whole_part part state ahead why
+arrived_whole part state ahead (Faulty fault) innermost stops told = so_whole part state ahead fault (saying fault.text) (stops fault refl) (so_here part state ahead fault (saying fault.text) innermost told)
+arrived_whole part state ahead (Limited kind) innermost stops told = tt
 
 -- ---- readers in turn
 
@@ -189,9 +198,50 @@ pub then_asked : {A B : Type 0} {part : Part} {s t : CxxState} {ahead middle : A
 then_asked go question tells later stands goes = then_asked_from go question tells later stands (λ answer is keeps later. goes answer is later)
 
 -- a test decides what is read
-pub which_in : {A : Type 0} {part : Part} {state : CxxState} {ahead : Ahead} (b : Bool) {x y : Answer (Got CxxState A)} → (b ≡ true → Inside part state ahead x) → (b ≡ false → Inside part state ahead y) → Inside part state ahead (if b then x else y)
+pub which_in : {A : Type 0} {kept : CxxState → CxxState → Type 0} {part : Part} {state : CxxState} {ahead : Ahead} (b : Bool) {x y : Answer (Got CxxState A)} → (b ≡ true → InsideBy kept part state ahead x) → (b ≡ false → InsideBy kept part state ahead y) → InsideBy kept part state ahead (if b then x else y)
 which_in true x y = x refl
 which_in false x y = y refl
+
+-- ---- where the reader may stand elsewhere (8.3)
+
+-- what is kept so is kept with what comes later, and holds of a state behind
+pub record IsHeld (kept : CxxState → CxxState → Type 0) : Type 0 where
+  pub further : (s t u : CxxState) → kept s t → IsLater t u → kept s u
+  pub behind : (s t : CxxState) → kept s t → IsBehind s t
+
+pub later_is_held : IsHeld IsLater
+later_is_held = record { further = later_is_kept.later; behind = behind_by_later }
+
+pub elsewhere_is_held : IsHeld IsElsewhere
+elsewhere_is_held = record { further = elsewhere_later; behind = λ s t is. record { grown = is.grown; scopes = is.scopes } }
+
+pub leads_held : {A : Type 0} {kept : CxxState → CxxState → Type 0} → IsHeld kept → {part next : Part} {s t : CxxState} {ahead middle : Ahead} {r : Answer (Got CxxState A)} → Leads part s ahead next t middle → kept s t → EndsIn ahead.tokens middle.tokens → Stops next t middle r → InsideBy kept part s ahead r
+leads_held held {s = s} {t = t} {ahead = ahead} {middle = middle} leads keeps stands (tells_read one later ends) = tells_read one (held.further s t one.state keeps later) (ends_later ahead.tokens middle.tokens one.rest.tokens stands ends)
+leads_held held {part = part} {next = next} {s = s} {t = t} {ahead = ahead} {middle = middle} leads keeps stands (tells_stop why true_of) = tells_stop why (told_within part next s t ahead middle why leads (held.behind s t keeps) stands true_of)
+
+-- a part in which the reader comes to stand elsewhere
+pub leads_elsewhere : {A : Type 0} {part next : Part} {state : CxxState} {ahead : Ahead} {r : Answer (Got CxxState A)} → Leads part state ahead next state ahead → ToldIn IsElsewhere (ChainedOf whole_part next) state ahead r → InsideBy IsElsewhere part state ahead r
+leads_elsewhere leads (tells_read one keeps stands) = tells_read one keeps stands
+leads_elsewhere {part = part} {next = next} {state = state} {ahead = ahead} leads (tells_stop why true_of) = tells_stop why (told_within part next state state ahead ahead why leads (behind_by_later state state (later_here state)) (whole_stands ahead.tokens) true_of)
+
+pub quiet_held : {A : Type 0} {kept : CxxState → CxxState → Type 0} {part : Part} {state : CxxState} {ahead : Ahead} {why : Stopped} → IsQuiet why → InsideBy {A = A} kept part state ahead (Err why)
+quiet_held {part = part} {state = state} {ahead = ahead} {why = why} quiet = tells_stop why (quiet_told within_part part state ahead why quiet)
+
+pub calm_held : {A : Type 0} {kept : CxxState → CxxState → Type 0} → IsHeld kept → {part : Part} {s t : CxxState} {ahead middle : Ahead} {r : Answer (Got CxxState A)} → kept s t → EndsIn ahead.tokens middle.tokens → Calm t middle r → InsideBy kept part s ahead r
+calm_held held {s = s} {t = t} {ahead = ahead} {middle = middle} keeps stands (tells_read one later ends) = tells_read one (held.further s t one.state keeps later) (ends_later ahead.tokens middle.tokens one.rest.tokens stands ends)
+calm_held held keeps stands (tells_stop why quiet) = quiet_held quiet
+
+pub then_held : {A B : Type 0} {kept : CxxState → CxxState → Type 0} → IsHeld kept → {part : Part} {state : CxxState} {ahead : Ahead} {r : Answer (Got CxxState A)} {go : A → Reads CxxState B} → InsideBy kept part state ahead r → ((x : A) → Tells IsLater Quietly (go x)) → InsideBy kept part state ahead (then_read r go)
+then_held held {go = go} first second = then_from go first (λ one is_read keeps stands. calm_held held keeps stands (second one.value one.state one.rest))
+
+-- a question that is answered
+pub asked_held : {A B : Type 0} {kept : CxxState → CxxState → Type 0} → IsHeld kept → {part : Part} {s t : CxxState} {ahead middle : Ahead} (go : A → Reads CxxState B) (question : Asks CxxState A) → ToldBy IsLater Quietly t middle (question t) → kept s t
+    → ((answer : A × CxxState) → question t ≡ Ok answer → IsLater t answer.1 → kept s answer.1 → InsideBy kept part s ahead (go answer.0 answer.1 middle)) → InsideBy kept part s ahead (then_read (answered (question t) middle) go)
+asked_held {A = A} {kept = kept} held {part = part} {s = s} {t = t} {ahead = ahead} {middle = middle} go question tells keeps goes = by tells goes
+  where
+    by : {r : Answer (A × CxxState)} → ToldBy IsLater Quietly t middle r → ((answer : A × CxxState) → r ≡ Ok answer → IsLater t answer.1 → kept s answer.1 → InsideBy kept part s ahead (go answer.0 answer.1 middle)) → InsideBy kept part s ahead (then_read (answered r middle) go)
+    by (tells_answer one later) goes = goes one refl later (held.further s t one.1 keeps later)
+    by (tells_refusal why quiet) goes = quiet_held quiet
 
 -- ---- loops
 

@@ -1,11 +1,14 @@
 -- What readers keep of the state, and what is true of what stops them: both hold of each reader where they hold of each
 -- answer to a question.
 use Rattle.std.proofs.Common.{◌≡◌, refl, sym, ap, ◌∙◌}
-use Rattle.std.specs.Prelude.{ℕ, zero, suc, ℤ, Bool, true, false, List, [], ◌∷◌, ◌++◌, Option, Ok, Err, if◌then◌else◌}
+use Rattle.std.specs.Prelude.{ℕ, zero, suc, ℤ, Bool, true, false, not, List, [], ◌∷◌, ◌++◌, Option, Ok, Err, if◌then◌else◌}
 use Rattle.std.proofs.lemmas.List.{append_assoc}
 use Rattle.cxx_model.specs.declared.fault.FaultText.{FaultText}
 use Rattle.cxx_model.specs.declared.fault.FaultText.TheVariants as says
 use Rattle.cxx_model.specs.declared.place.Place.{Place}
+use Rattle.cxx_model.specs.declared.punct.TheConstants as punct
+use Rattle.cxx_model.specs.declared.tree.Kind.{Kind}
+use Rattle.cxx_model.specs.declared.tree.Kind.TheVariants as of_kind
 use Rattle.cxx_model.specs.Stops.{Answer, Stopped, Faulty, Limited}
 use Rattle.cxx_model.specs.Text.Lexemes.{Lexeme}
 use Rattle.cxx_model.specs.Types.Trees.{CxxType}
@@ -14,8 +17,8 @@ use Rattle.cxx_reading.specs.Kinds.{Kinds, Readers}
 use Rattle.cxx_reading.specs.Reads.{Ahead, Got, Reads, Asks, Turn, More, Done, ◌>>=◌, ask, then_read, got, give, answered, go_on, repeat, looked, taken, beside, tokens, behind, kind_ahead}
 use Rattle.cxx_reading.specs.Shapes.{returned}
 use Rattle.cxx_reading.specs.declared.specifier.Naming.{Naming}
-use Rattle.cxx_reading.specs.Specifiers.{path_of}
-use Rattle.cxx_reading.specs.Tokens.{token_taken, token_in, punct_taken, is_name, is_punct}
+use Rattle.cxx_reading.specs.Syntax.{may_qualify}
+use Rattle.cxx_reading.specs.Tokens.{begins_name, behind_name, is_name, is_punct, is_unbuilt_part, is_whole_name, kind_of_name, name_taken, no_part_there, not_built, part_of, part_then, passed_from, passed_to, path_ahead, path_taken, punct_taken, refused, token_taken}
 use Rattle.cxx_reading.specs.Trees.{CxxPath, CxxTree}
 use Rattle.cxx_reading.proofs.Keeps.{IsKept}
 use Rattle.cxx_language_laws.specs.Told.{EndsIn}
@@ -67,6 +70,24 @@ past_stands ahead rest stands = ends_later ahead.tokens rest.tokens (behind rest
 
 pub twice_behind : (ahead : Ahead) → EndsIn ahead.tokens (behind (behind ahead)).tokens
 twice_behind ahead = ends_later ahead.tokens (behind ahead).tokens (behind (behind ahead)).tokens (behind_stands ahead) (behind_stands (behind ahead))
+
+-- what is ahead behind the parts of a name
+passed_stands : (wanted : Bool) (last : Place) (tokens : List Lexeme) → EndsIn tokens (passed_from wanted last tokens).rest.tokens
+unfolding passed_from
+passed_stands wanted last [] = whole_stands []
+passed_stands true last (token ∷ tokens) = by (is_name token.kind) (passed_stands false token.place tokens)
+  where
+    by : (b : Bool) → EndsIn tokens (passed_from false token.place tokens).rest.tokens → EndsIn (token ∷ tokens) (if b then part_then (part_of token) (passed_from false token.place tokens) else passed_to last (token ∷ tokens) false).rest.tokens
+    by true stands = ends_later (token ∷ tokens) tokens (passed_from false token.place tokens).rest.tokens (record { first = token ∷ []; parts = refl }) stands
+    by false stands = whole_stands (token ∷ tokens)
+passed_stands false last (token ∷ tokens) = by (is_punct punct.SCOPE token.kind) (passed_stands true token.place tokens)
+  where
+    by : (b : Bool) → EndsIn tokens (passed_from true token.place tokens).rest.tokens → EndsIn (token ∷ tokens) (if b then passed_from true token.place tokens else passed_to last (token ∷ tokens) true).rest.tokens
+    by true stands = ends_later (token ∷ tokens) tokens (passed_from true token.place tokens).rest.tokens (record { first = token ∷ []; parts = refl }) stands
+    by false stands = whole_stands (token ∷ tokens)
+
+pub name_stands : (ahead : Ahead) → EndsIn ahead.tokens (behind_name ahead).tokens
+name_stands ahead = passed_stands (not (is_punct punct.SCOPE (kind_ahead ahead))) ahead.last ahead.tokens
 
 -- ---- the law
 
@@ -185,7 +206,7 @@ pub record KindsTell {S : Type 0} (kept : S → S → Type 0) (told : S → Ahea
   pub kind : (path : CxxPath) → Answers kept told (asks.kind path)
   pub type_named : (path : CxxPath) → Answers kept told (asks.type_named path)
   -- 3.4.4: of a name that is ahead
-  pub elaborated : (state : S) (ahead : Ahead) → is_name (kind_ahead ahead) ≡ true → ToldBy kept told state ahead (asks.elaborated (path_of (token_in ahead.tokens)) state)
+  pub elaborated : (state : S) (ahead : Ahead) → begins_name ahead ≡ true → is_whole_name ahead ≡ true → ToldBy kept told state ahead (asks.elaborated (path_ahead ahead) state)
   pub enumeration : (name : Option Lexeme) (place : Place) → Answers kept told (asks.enumeration name place)
   pub enumerator : (number : ℕ) (name : Lexeme) (value : Option ℤ) → Answers kept told (asks.enumerator number name value)
   pub enumerated : (number : ℕ) → Answers kept told (asks.enumerated number)
@@ -201,10 +222,11 @@ pub record NamesTell {S : Type 0} (kept : S → S → Type 0) (told : S → Ahea
 pub record ListsTell {S : Type 0} (kept : S → S → Type 0) (told : S → Ahead → Stopped → Type 0) (inner : Readers S) : Type 0 where
   pub holds_parameters : Tells kept told inner.holds_parameters
 
+-- where no name of a declarator has qualifiers
 pub record ReadersTell {S : Type 0} (kept : S → S → Type 0) (told : S → Ahead → Stopped → Type 0) (inner : Readers S) : Type 0 where
-  pub pointed : (naming : Naming) → Tells kept told (inner.pointed naming)
-  pub referred : (naming : Naming) → Tells kept told (inner.referred naming)
-  pub grouped : (naming : Naming) → Tells kept told (inner.grouped naming)
+  pub pointed : (naming : Naming) → may_qualify naming ≡ false → Tells kept told (inner.pointed naming)
+  pub referred : (naming : Naming) → may_qualify naming ≡ false → Tells kept told (inner.referred naming)
+  pub grouped : (naming : Naming) → may_qualify naming ≡ false → Tells kept told (inner.grouped naming)
   pub bound : (is_first : Bool) → Tells kept told (inner.bound is_first)
   pub parameters : Tells kept told inner.parameters
   pub enumerators : (number : ℕ) → Tells kept told (inner.enumerators number)
@@ -233,6 +255,32 @@ punct_in is n state ahead = if_in (is_punct n (kind_ahead ahead)) (next_in is tt
 
 pub give_in : {S A : Type 0} {kept : S → S → Type 0} {told : S → Ahead → Stopped → Type 0} → IsTold kept told → (value : A) (state : S) (ahead : Ahead) → ToldIn kept told state ahead (give value state ahead)
 give_in is value state ahead = same_in is value state ahead
+
+-- ---- names
+
+pub name_told : {S : Type 0} {kept : S → S → Type 0} {told : S → Ahead → Stopped → Type 0} → IsTold kept told → (state : S) (ahead : Ahead) → ToldIn kept told state ahead (name_taken state ahead)
+name_told is state ahead = tells_read (record { value = tt; state = state; rest = behind_name ahead }) (is.keeps.same state) (name_stands ahead)
+
+pub kind_tells : {S : Type 0} {kept : S → S → Type 0} {told : S → Ahead → Stopped → Type 0} → IsTold kept told → (kind : CxxPath → Asks S Kind) → ((path : CxxPath) → Answers kept told (kind path)) → Tells kept told (kind_of_name kind)
+unfolding kind_of_name
+kind_tells is kind tells state ahead = if_in (is_whole_name ahead) (ask_in ahead (tells (path_ahead ahead) state ahead)) (same_in is of_kind.Value state ahead)
+
+pub path_told : {S : Type 0} {kept : S → S → Type 0} {told : S → Ahead → Stopped → Type 0} → IsTold kept told → (state : S) (ahead : Ahead) → ToldIn kept told state ahead (path_taken state ahead)
+unfolding path_taken no_part_there
+path_told is state ahead = if_in (is_whole_name ahead) (tells_read (record { value = path_ahead ahead; state = state; rest = behind_name ahead }) (is.keeps.same state) (name_stands ahead)) (if_in (is_unbuilt_part (kind_ahead (behind_name ahead))) (quiet_in is refl) (quiet_in is refl))
+
+-- what follows a name that is whole
+pub path_then : {S B : Type 0} {kept : S → S → Type 0} {told : S → Ahead → Stopped → Type 0} → IsTold kept told → (go : CxxPath → Reads S B) (state : S) (ahead : Ahead) → (is_whole_name ahead ≡ true → ToldIn kept told state ahead (go (path_ahead ahead) state (behind_name ahead))) → ToldIn kept told state ahead (then_read (path_taken state ahead) go)
+unfolding path_taken no_part_there
+path_then {S = S} {B = B} {kept = kept} {told = told} is go state ahead tells = by (is_whole_name ahead) tells
+  where
+    none : (b : Bool) → ToldIn kept told state ahead (then_read (if b then not_built state (behind_name ahead) else refused state (behind_name ahead)) go)
+    none true = quiet_in is refl
+    none false = quiet_in is refl
+
+    by : (b : Bool) → (b ≡ true → ToldIn kept told state ahead (go (path_ahead ahead) state (behind_name ahead))) → ToldIn kept told state ahead (then_read (if b then got (path_ahead ahead) state (behind_name ahead) else no_part_there state (behind_name ahead)) go)
+    by true tells = tells refl
+    by false tells = none (is_unbuilt_part (kind_ahead (behind_name ahead)))
 
 -- what is read is not taken
 pub returned_in : {S A : Type 0} {kept : S → S → Type 0} {told : S → Ahead → Stopped → Type 0} {state : S} {r : Answer (Got S A)} (ahead : Ahead) → ToldIn kept told state ahead r → ToldIn kept told state ahead (returned ahead r)

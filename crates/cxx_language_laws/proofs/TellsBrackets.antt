@@ -1,16 +1,15 @@
 -- What the tests of brackets keep of the state, and what stops them.
 use Rattle.std.proofs.Common.{◌≡◌, refl}
-use Rattle.std.specs.Prelude.{ℕ, suc, Bool, true, false, ◌&&◌, if◌then◌else◌, List, [], ◌∷◌, Option, Some, None, Err}
-use Rattle.cxx_model.specs.declared.place.Place.{Place}
+use Rattle.std.specs.Prelude.{ℕ, suc, Bool, true, false, ◌&&◌, if◌then◌else◌, Option, Some, None, Err}
 use Rattle.cxx_model.specs.declared.punct.TheConstants as punct
 use Rattle.cxx_model.specs.Stops.{Answer, Stopped}
-use Rattle.cxx_model.specs.Text.Lexemes.{Lexeme}
 use Rattle.cxx_phrases.specs.declared.shape.TypeShape.{TypeShape}
 use Rattle.cxx_phrases.specs.declared.shape.TypeShape.TheVariants as shape
 use Rattle.cxx_phrases.specs.Brackets.{opened_step, opened_over, opened_passed, closed_step, give_true, closed_passed, called_by, name_closed, name_opened, called_name, is_cast, cast_passed, begins_cast}
 use Rattle.cxx_phrases.specs.Phrases.{Inner}
 use Rattle.cxx_reading.specs.Reads.{Ahead, Got, More, Done, then_read, got, kind_ahead, behind}
-use Rattle.cxx_reading.specs.Tokens.{is_name, is_punct, is_plain_name, token_in}
+use Rattle.cxx_reading.specs.Tokens.{begins_name, behind_name, is_punct, is_whole_name, path_ahead}
+use Rattle.cxx_reading.specs.Trees.{CxxPath}
 use Rattle.cxx_language_laws.specs.Told.{EndsIn}
 use Rattle.cxx_language_laws.proofs.PhrasesTell.{InnerTell}
 use Rattle.cxx_language_laws.proofs.Tells.{IsTold, IsQuiet, Quietly, Always, unit_is_told, ToldIn, tells_read, tells_stop, Tells, quiet_in, if_in, past_in, then_in, same_in, next_in, repeat_tells, give_in, returned_in, whole_stands, ends_later}
@@ -40,46 +39,41 @@ closed_tell is count = repeat_tells is closed_step give_true (closed_step_tells 
 -- ---- the name that stands in brackets alone
 
 -- what was found: where it is a name, that stands ahead
-pub data NameIn (ahead : Ahead) : Answer (Got (Unit {0}) (Option Lexeme)) → Type 0 where
+pub data NameIn (ahead : Ahead) : Answer (Got (Unit {0}) (Option CxxPath)) → Type 0 where
   stops_quietly : (why : Stopped) → IsQuiet why → NameIn ahead (Err why)
   finds_none : (rest : Ahead) → NameIn ahead (got None tt rest)
-  finds_name : (name : Lexeme) (others : List Lexeme) (rest : Ahead) → EndsIn ahead.tokens (name ∷ others) → EndsIn others rest.tokens → is_name name.kind ≡ true → NameIn ahead (got (Some name) tt rest)
+  finds_name : (named rest : Ahead) → EndsIn ahead.tokens named.tokens → EndsIn (behind_name named).tokens rest.tokens → begins_name named ≡ true → is_whole_name named ≡ true → NameIn ahead (got (Some (path_ahead named)) tt rest)
 
 -- the same where more tokens are ahead
-sooner_in : (ahead middle : Ahead) {r : Answer (Got (Unit {0}) (Option Lexeme))} → EndsIn ahead.tokens middle.tokens → NameIn middle r → NameIn ahead r
+sooner_in : (ahead middle : Ahead) {r : Answer (Got (Unit {0}) (Option CxxPath))} → EndsIn ahead.tokens middle.tokens → NameIn middle r → NameIn ahead r
 sooner_in ahead middle stands (stops_quietly why quiet) = stops_quietly why quiet
 sooner_in ahead middle stands (finds_none rest) = finds_none rest
-sooner_in ahead middle stands (finds_name name others rest is follows named) = finds_name name others rest (ends_later ahead.tokens middle.tokens (name ∷ others) stands is) follows named
+sooner_in ahead middle stands (finds_name named rest is follows begins whole) = finds_name named rest (ends_later ahead.tokens middle.tokens named.tokens stands is) follows begins whole
 
-called_by_finds : (last : Place) (name : Lexeme) (others : List Lexeme) (closed : Bool) (rest : Ahead) → is_name name.kind ≡ true → EndsIn others rest.tokens → NameIn (record { last = last; tokens = name ∷ others }) (called_by {S = Unit {0}} name closed tt rest)
-called_by_finds last name others false rest named follows = finds_none rest
-called_by_finds last name others true rest named follows = by (is_punct punct.LEFT_PARENTHESIS (kind_ahead rest))
+called_by_finds : (named : Ahead) (closed : Bool) (rest : Ahead) → begins_name named ≡ true → is_whole_name named ≡ true → EndsIn (behind_name named).tokens rest.tokens → NameIn named (called_by {S = Unit {0}} (path_ahead named) closed tt rest)
+called_by_finds named false rest begins whole follows = finds_none rest
+called_by_finds named true rest begins whole follows = by (is_punct punct.LEFT_PARENTHESIS (kind_ahead rest))
   where
-    by : (b : Bool) → NameIn (record { last = last; tokens = name ∷ others }) (got (if b then Some name else None) tt rest)
-    by true = finds_name name others rest (whole_stands (name ∷ others)) follows named
+    by : (b : Bool) → NameIn named (got (if b then Some (path_ahead named) else None) tt rest)
+    by true = finds_name named rest (whole_stands named.tokens) follows begins whole
     by false = finds_none rest
 
-closed_finds : (last : Place) (name : Lexeme) (others : List Lexeme) {r : Answer (Got (Unit {0}) Bool)} → is_name name.kind ≡ true → ToldIn Always Quietly tt (record { last = name.place; tokens = others }) r → NameIn (record { last = last; tokens = name ∷ others }) (then_read r (called_by {S = Unit {0}} name))
-closed_finds last name others named (tells_read one keeps stands) = called_by_finds last name others one.value one.rest named stands
-closed_finds last name others named (tells_stop why quiet) = stops_quietly why quiet
+closed_finds : (named : Ahead) {r : Answer (Got (Unit {0}) Bool)} → begins_name named ≡ true → is_whole_name named ≡ true → ToldIn Always Quietly tt (behind_name named) r → NameIn named (then_read r (called_by {S = Unit {0}} (path_ahead named)))
+closed_finds named begins whole (tells_read one keeps stands) = called_by_finds named one.value one.rest begins whole stands
+closed_finds named begins whole (tells_stop why quiet) = stops_quietly why quiet
 
-name_closed_finds : (count : ℕ) (last : Place) (name : Lexeme) (others : List Lexeme) → is_name name.kind ≡ true → NameIn (record { last = last; tokens = name ∷ others }) (name_closed {S = Unit {0}} count name tt (record { last = name.place; tokens = others }))
+name_closed_finds : (count : ℕ) (named : Ahead) → begins_name named ≡ true → is_whole_name named ≡ true → NameIn named (name_closed {S = Unit {0}} count (path_ahead named) tt (behind_name named))
 unfolding name_closed
-name_closed_finds count last name others named = closed_finds last name others named (closed_tell unit_is_told count tt (record { last = name.place; tokens = others }))
+name_closed_finds count named begins whole = closed_finds named begins whole (closed_tell unit_is_told count tt (behind_name named))
 
-pub left_true : (a b : Bool) → (a && b) ≡ true → a ≡ true
-left_true true b e = refl
-left_true false b e = absurd cc
-
-name_opened_finds : (count : ℕ) (last : Place) (tokens : List Lexeme) (b : Bool) → is_plain_name (record { last = last; tokens = tokens }) ≡ b → NameIn (record { last = last; tokens = tokens }) (if b then name_closed {S = Unit {0}} count (token_in tokens) tt (behind (record { last = last; tokens = tokens })) else got None tt (record { last = last; tokens = tokens }))
-unfolding is_name
-name_opened_finds count last tokens false e = finds_none _
-name_opened_finds count last [] true e = absurd cc
-name_opened_finds count last (name ∷ others) true e = name_closed_finds count last name others (left_true _ _ e)
+name_opened_finds : (count : ℕ) (ahead : Ahead) (b c : Bool) → begins_name ahead ≡ b → is_whole_name ahead ≡ c → NameIn ahead (if b && c then name_closed {S = Unit {0}} count (path_ahead ahead) tt (behind_name ahead) else got None tt ahead)
+name_opened_finds count ahead false c begins whole = finds_none ahead
+name_opened_finds count ahead true false begins whole = finds_none ahead
+name_opened_finds count ahead true true begins whole = name_closed_finds count ahead begins whole
 
 opened_finds : (count : ℕ) (ahead : Ahead) → NameIn ahead (name_opened {S = Unit {0}} count tt ahead)
 unfolding name_opened
-opened_finds count ahead = name_opened_finds count ahead.last ahead.tokens (is_plain_name ahead) refl
+opened_finds count ahead = name_opened_finds count ahead (begins_name ahead) (is_whole_name ahead) refl refl
 
 then_finds : (ahead : Ahead) {r : Answer (Got (Unit {0}) ℕ)} → ToldIn Always Quietly tt ahead r → NameIn ahead (then_read r (name_opened {S = Unit {0}}))
 then_finds ahead (tells_read one keeps stands) = sooner_in ahead one.rest stands (opened_finds one.value one.rest)

@@ -4,14 +4,13 @@ use Rattle.std.specs.Prelude.{ℕ, zero, nat_eq, List, [], ◌∷◌, length, Op
 use Rattle.cxx_model.specs.declared.place.Place.{Place}
 use Rattle.cxx_model.specs.declared.punct.TheConstants as punct
 use Rattle.cxx_model.specs.Stops.{Stopped}
-use Rattle.cxx_model.specs.Text.Lexemes.{Lexeme}
 use Rattle.cxx_model.specs.Types.Trees.{CxxType, CxxBound, array_of, number_bound}
 use Rattle.cxx_meaning.specs.Conversions.Kinds.{kind_of}
 use Rattle.cxx_meaning.specs.Conversions.Standard.{is_class}
 use Rattle.cxx_reading.specs.Reads.{Ahead, Asks}
 use Rattle.cxx_reading.specs.Seen.{Numbered}
 use Rattle.cxx_reading.specs.State.{CxxState}
-use Rattle.cxx_reading.specs.Trees.{CxxTree, children_of}
+use Rattle.cxx_reading.specs.Trees.{CxxPath, CxxTree, children_of}
 use Rattle.cxx_phrases.specs.Forms.{name_tree, call_tree}
 use Rattle.cxx_expr.specs.declared.production.TheConstants as production
 use Rattle.cxx_expr.specs.Calls.{call, expression_call, split_first}
@@ -21,7 +20,7 @@ use Rattle.cxx_expr.specs.Names.{name, path_in}
 use Rattle.cxx_expr.specs.Operands.{any_open, is_none, only}
 use Rattle.cxx_expr.specs.Questions.{Questions}
 use Rattle.cxx_language_laws.proofs.PhrasesTell.{IsPlain}
-use Rattle.cxx_language_laws.proofs.QuestionsTell.{QuestionsTell, quiet_by, same_by, if_by, yes_by, no_by, then_by, give_by}
+use Rattle.cxx_language_laws.proofs.QuestionsTell.{DefaultsTell, QuestionsTell, quiet_by, same_by, if_by, yes_by, no_by, then_by, give_by}
 use Rattle.cxx_language_laws.proofs.Tells.{IsTold, ToldBy, Answers}
 use Rattle.cxx_language_laws.proofs.TellsConversions.{literal_tells, convert_tells, size_tells}
 use Rattle.cxx_language_laws.proofs.TellsNames.{AskedOf, CalledTells, NameTells, through_tells, name_call_tells, name_alone_tells}
@@ -73,17 +72,17 @@ plain_tells is asks tree plain state ahead = if_by (any_open (expressions_in tre
 
 -- ---- names
 
-pub name_tells : {kept : CxxState → CxxState → Type 0} {told : CxxState → Ahead → Stopped → Type 0} → IsTold kept told → {q : Questions} → QuestionsTell kept told q → (from to : Ahead) (state : CxxState) (ahead : Ahead) → NameTells kept told q (name_tree from to).label state ahead → ToldBy kept told state ahead (elaborate q (name_tree from to) state)
+pub name_tells : {kept : CxxState → CxxState → Type 0} {told : CxxState → Ahead → Stopped → Type 0} → IsTold kept told → {q : Questions} → QuestionsTell kept told q → (path : CxxPath) (from to : Ahead) (state : CxxState) (ahead : Ahead) → NameTells kept told q (name_tree path from to).label state ahead → ToldBy kept told state ahead (elaborate q (name_tree path from to) state)
 unfolding elaborate by_production name
-name_tells is asks from to state ahead tells = name_alone_tells is asks (name_tree from to).label state ahead tells
+name_tells is asks path from to state ahead tells = name_alone_tells is asks (name_tree path from to).label state ahead tells
 
-pub call_tells : {kept : CxxState → CxxState → Type 0} {told : CxxState → Ahead → Stopped → Type 0} → IsTold kept told → {q : Questions} → QuestionsTell kept told q → (spelling : List ℕ) (token : Lexeme) (arguments : List CxxTree) (from to : Ahead) (state : CxxState) (ahead : Ahead) → CalledTells kept told q (call_tree spelling token arguments from to).label state ahead
-    → ((one : List Numbered × CxxState) → q.name (path_in (call_tree spelling token arguments from to).label) state ≡ Ok one → AskedOf kept told q (call_tree spelling token arguments from to) (children_of (call_tree spelling token arguments from to)) one.0 one.1 ahead)
-    → ToldBy kept told state ahead (elaborate q (call_tree spelling token arguments from to) state)
+pub call_tells : {kept : CxxState → CxxState → Type 0} {told : CxxState → Ahead → Stopped → Type 0} → IsTold kept told → {q : Questions} → QuestionsTell kept told q → (spelling : List ℕ) (path : CxxPath) → DefaultsTell kept told q path → (arguments : List CxxTree) (from to : Ahead) (state : CxxState) (ahead : Ahead) → CalledTells kept told q (call_tree spelling path arguments from to).label state ahead
+    → ((one : List Numbered × CxxState) → q.name (path_in (call_tree spelling path arguments from to).label) state ≡ Ok one → AskedOf kept told q (call_tree spelling path arguments from to) (children_of (call_tree spelling path arguments from to)) one.0 one.1 ahead)
+    → ToldBy kept told state ahead (elaborate q (call_tree spelling path arguments from to) state)
 unfolding elaborate by_production call
-call_tells is asks spelling token arguments from to state ahead tells calls =
-    let tree = call_tree spelling token arguments from to in
-    if_by (any_open (expressions_in tree)) (same_by is (without_operand tree) state ahead) (name_call_tells is asks tree (children_of tree) state ahead tells calls)
+call_tells is asks spelling path defaults arguments from to state ahead tells calls =
+    let tree = call_tree spelling path arguments from to in
+    if_by (any_open (expressions_in tree)) (same_by is (without_operand tree) state ahead) (name_call_tells is asks tree defaults (children_of tree) state ahead tells calls)
 
 -- ---- initializers
 

@@ -1,6 +1,6 @@
 -- What the readers of types in expressions keep of the state, and what stops them.
 use Rattle.std.proofs.Common.{refl}
-use Rattle.std.specs.Prelude.{Bool, ◌++◌}
+use Rattle.std.specs.Prelude.{◌++◌}
 use Rattle.cxx_model.specs.declared.punct.TheConstants as punct
 use Rattle.cxx_model.specs.Stops.{Stopped}
 use Rattle.cxx_model.specs.Types.Trees.{CxxType}
@@ -12,7 +12,7 @@ use Rattle.cxx_reading.specs.declared.specifier.SpecifierPlace.TheVariants as wh
 use Rattle.cxx_reading.specs.Declarators.{Specifiers, Declarator, declared_type, refused_in, is_refused}
 use Rattle.cxx_reading.specs.Kinds.{Kinds, Readers}
 use Rattle.cxx_reading.specs.Reads.{Ahead, kind_ahead}
-use Rattle.cxx_reading.specs.Shapes.{Run, no_type, a_type, surely, Outline, Fits, fits, fits_not, fits_surely}
+use Rattle.cxx_reading.specs.Shapes.{Run, no_type, a_type, surely, Outline, Fits, fits, fits_not}
 use Rattle.cxx_reading.specs.Syntax.{specified_type}
 use Rattle.cxx_reading.specs.Tokens.{is_punct}
 use Rattle.cxx_language_laws.proofs.PhrasesTell.{PhrasesTell, InnerTell}
@@ -35,17 +35,16 @@ type_fits_tells is specifiers declarator state ahead = then_in is (type_declared
 
 pub type_id_tells : {S : Type 0} {kept : S → S → Type 0} {told : S → Ahead → Stopped → Type 0} → IsTold kept told → {asks : Kinds S} → KindsTell kept told asks → {inner : Readers S} → ReadersTell kept told inner → Tells kept told (type_id_at asks inner)
 unfolding type_id_at
-type_id_tells is asks inner state ahead = then_in is (specifiers_tell is asks inner where_.TypeId state ahead) (λ specifiers state ahead. then_in is (declarator_tells is asks inner naming.Never state ahead) (type_fits_tells is specifiers))
+type_id_tells is asks inner state ahead = then_in is (specifiers_tell is asks inner where_.TypeId state ahead) (λ specifiers state ahead. then_in is (declarator_tells is asks inner naming.Never refl state ahead) (type_fits_tells is specifiers))
 
 -- ---- whether a type stands ahead
 
 closed_by_tells : {S : Type 0} {kept : S → S → Type 0} {told : S → Ahead → Stopped → Type 0} → IsTold kept told → (one : Fits) → Tells kept told (closed_by {S = S} one)
 closed_by_tells is fits state ahead = if_in (is_punct punct.RIGHT_PARENTHESIS (kind_ahead ahead)) (next_in is type_shape.Closed state ahead) (same_in is type_shape.NoType state ahead)
 closed_by_tells is fits_not state ahead = same_in is type_shape.NoType state ahead
-closed_by_tells is fits_surely state ahead = same_in is type_shape.Surely state ahead
 
-abstract_by_tells : {S : Type 0} {kept : S → S → Type 0} {told : S → Ahead → Stopped → Type 0} → IsTold kept told → {inner : Readers S} → ReadersTell kept told inner → (outline : Outline × Bool) → Tells kept told (abstract_by inner outline)
-abstract_by_tells is inner outline = if_reads outline.0.is_named (give_in is type_shape.NoType) (λ state ahead. then_in is (suffixes_by_tells is (lists_tell inner) outline.0 outline.1 state ahead) (closed_by_tells is))
+abstract_by_tells : {S : Type 0} {kept : S → S → Type 0} {told : S → Ahead → Stopped → Type 0} → IsTold kept told → {inner : Readers S} → ReadersTell kept told inner → (outline : Outline) → Tells kept told (abstract_by inner outline)
+abstract_by_tells is inner outline = if_reads outline.is_named (give_in is type_shape.NoType) (λ state ahead. then_in is (suffixes_by_tells is (lists_tell inner) outline state ahead) (closed_by_tells is))
 
 shape_by_tells : {S : Type 0} {kept : S → S → Type 0} {told : S → Ahead → Stopped → Type 0} → IsTold kept told → {asks : Kinds S} → KindsTell kept told asks → {inner : Readers S} → ReadersTell kept told inner → (run : Run) → Tells kept told (shape_by asks inner run)
 shape_by_tells is asks inner no_type state ahead = give_in is type_shape.NoType state ahead

@@ -13,14 +13,14 @@ use Rattle.cxx_meaning.specs.Lookups.Wanted.{is_function}
 use Rattle.cxx_reading.specs.Reads.{Ahead}
 use Rattle.cxx_reading.specs.Seen.{Numbered}
 use Rattle.cxx_reading.specs.State.{CxxState}
-use Rattle.cxx_reading.specs.Trees.{CxxPathPart, CxxTree, Label}
-use Rattle.cxx_expr.specs.Calls.{fallback_more, fallbacks, chosen_tree, chosen_call, is_none_left, question, function_call, Signature, fits_count, through_tree, through_signature, through_counted, no_callee, through_by, signature_by, through, called_label, without_name, value_call, is_asked_for, called_first, called, name_call}
+use Rattle.cxx_reading.specs.Trees.{CxxPath, CxxPathPart, CxxTree, Label}
+use Rattle.cxx_expr.specs.Calls.{fallback_more, fallbacks, chosen_tree, chosen_call, is_bare, question, function_call, Signature, fits_count, through_tree, through_signature, through_counted, no_callee, through_by, signature_by, through, called_label, without_name, value_call, is_asked_for, called_first, called, name_call}
 use Rattle.cxx_expr.specs.Names.{are_one_function, means_enumerator, means_first, means_function, means_object, means_value, meant_by, named, named_tree, path_in, values_among, word_in}
 use Rattle.cxx_expr.specs.Operands.{is_of_class}
 use Rattle.cxx_expr.specs.Questions.{CxxChosen, Questions}
 use Rattle.cxx_reading.specs.Initializers.{operand_of}
 use Rattle.cxx_meaning.specs.Conversions.BuiltIn.{operand_kind}
-use Rattle.cxx_language_laws.proofs.QuestionsTell.{QuestionsTell, quiet_by, same_by, if_by, then_by, then_by_from, from_by, give_by}
+use Rattle.cxx_language_laws.proofs.QuestionsTell.{DefaultsTell, QuestionsTell, quiet_by, same_by, if_by, then_by, then_by_from, from_by, give_by}
 use Rattle.cxx_language_laws.proofs.Tells.{IsTold, IsQuiet, ToldBy, tells_refusal, Answers}
 use Rattle.cxx_language_laws.proofs.TellsConversions.{convert_each_tells}
 
@@ -71,20 +71,21 @@ through_tells is q tree callee arguments = through_by_tells is q tree callee arg
 
 -- ---- what is called by its name
 
-fallback_more_tells : {kept : CxxState → CxxState → Type 0} {told : CxxState → Ahead → Stopped → Type 0} → IsTold kept told → {q : Questions} → QuestionsTell kept told q → (target index : ℕ) (done : List CxxTree) → Answers kept told (fallback_more q target index done)
+fallback_more_tells : {kept : CxxState → CxxState → Type 0} {told : CxxState → Ahead → Stopped → Type 0} → IsTold kept told → {q : Questions} → {path : CxxPath} → DefaultsTell kept told q path → (target index : ℕ) (done : List CxxTree) → Answers kept told (fallback_more q path target index done)
 unfolding fallback_more
 fallback_more_tells is asks target index done state ahead = then_by is (asks.fallback target index state ahead) (λ next. give_by is (done ++ next ∷ []))
 
-fallbacks_tell : {kept : CxxState → CxxState → Type 0} {told : CxxState → Ahead → Stopped → Type 0} → IsTold kept told → {q : Questions} → QuestionsTell kept told q → (target index : ℕ) (done : List CxxTree) (count : ℕ) → Answers kept told (fallbacks q target index done count)
+fallbacks_tell : {kept : CxxState → CxxState → Type 0} {told : CxxState → Ahead → Stopped → Type 0} → IsTold kept told → {q : Questions} → {path : CxxPath} → DefaultsTell kept told q path → (target index : ℕ) (done : List CxxTree) (count : ℕ) → Answers kept told (fallbacks q path target index done count)
 unfolding fallbacks
 fallbacks_tell is asks target index done zero state ahead = give_by is done state ahead
 fallbacks_tell is asks target index done (suc count) state ahead = then_by is (fallback_more_tells is asks target index done state ahead) (λ more. fallbacks_tell is asks target (index + 1) more count)
 
-chosen_call_tells : {kept : CxxState → CxxState → Type 0} {told : CxxState → Ahead → Stopped → Type 0} → IsTold kept told → {q : Questions} → QuestionsTell kept told q → (tree : CxxTree) (arguments : List CxxTree) (chosen : CxxChosen) → Answers kept told (chosen_call q tree arguments chosen)
+chosen_call_tells : {kept : CxxState → CxxState → Type 0} {told : CxxState → Ahead → Stopped → Type 0} → IsTold kept told → {q : Questions} → QuestionsTell kept told q → (tree : CxxTree) → DefaultsTell kept told q (path_in tree.label) → (arguments : List CxxTree) (chosen : CxxChosen) → Answers kept told (chosen_call q tree arguments chosen)
 unfolding chosen_call
-chosen_call_tells is {q = q} asks tree arguments chosen state ahead = then_by is (asks.bound tree.label.place chosen.target state ahead) (λ noted state ahead. then_by is (convert_each_tells is q tree.label.place chosen.parameters [] arguments state ahead) (λ given state ahead. then_by is (fallbacks_tell is asks chosen.target (length arguments) given (length chosen.parameters - length arguments) state ahead) (λ all. give_by is (chosen_tree tree chosen all))))
+chosen_call_tells is {q = q} asks tree defaults arguments chosen state ahead = then_by is (asks.bound tree.label.place chosen.target state ahead) (λ noted state ahead. then_by is (convert_each_tells is q tree.label.place chosen.parameters [] arguments state ahead) (λ given state ahead. then_by is (fallbacks_tell is defaults chosen.target (length arguments) given (length chosen.parameters - length arguments) state ahead) (λ all. give_by is (chosen_tree tree chosen all))))
 
--- 3.4.2: a call asks for its functions where its name has a value, or means nothing and stands in no brackets
+-- 3.4.2: a call asks for its functions where its name has a value, or means nothing and stands in no brackets, without
+-- qualifiers
 abbrev pub IsAskedSo : Label → List Numbered → List Numbered → Type 0
 IsAskedSo label all [] = is_asked_for label all ≡ true
 IsAskedSo label all (one ∷ others) = Unit {0}
@@ -93,39 +94,39 @@ IsAskedSo label all (one ∷ others) = Unit {0}
 abbrev pub AskedOf : (CxxState → CxxState → Type 0) → (CxxState → Ahead → Stopped → Type 0) → Questions → CxxTree → List CxxTree → List Numbered → CxxState → Ahead → Type 0
 AskedOf kept told q tree arguments all state ahead = IsAskedSo tree.label all (values_among state.graph all) → ToldBy kept told state ahead (q.call (question q tree.label (values_among state.graph all) arguments state) state)
 
--- what is told of a called name in brackets that has no declarations
-abbrev pub UnknownInBrackets : (CxxState → Ahead → Stopped → Type 0) → Label → List Numbered → CxxState → Ahead → Type 0
-UnknownInBrackets told label all state ahead = all ≡ [] → is_none_left label.spelling ≡ false → told state ahead (undeclared_at (word_in label).place (word_in label).word)
+-- what is told of a called name in brackets or with qualifiers that has no declarations
+abbrev pub UnknownUnasked : (CxxState → Ahead → Stopped → Type 0) → Label → List Numbered → CxxState → Ahead → Type 0
+UnknownUnasked told label all state ahead = all ≡ [] → is_bare label ≡ false → told state ahead (undeclared_at (word_in label).place (word_in label).word)
 
 value_call_tells : {kept : CxxState → CxxState → Type 0} {told : CxxState → Ahead → Stopped → Type 0} → IsTold kept told → {q : Questions} → QuestionsTell kept told q → (tree : CxxTree) (all : List Numbered) (arguments : List CxxTree) (state : CxxState) (ahead : Ahead) → (all ≡ [] → told state ahead (undeclared_at (word_in tree.label).place (word_in tree.label).word)) → ToldBy kept told state ahead (value_call q tree all arguments state)
 unfolding value_call
 value_call_tells is {q = q} asks tree all arguments state ahead unknown = then_by is (named_tells is asks (called_label tree.label arguments) all state ahead unknown) (λ callee. through_tells is q (without_name tree) callee arguments)
 
-function_call_tells : {kept : CxxState → CxxState → Type 0} {told : CxxState → Ahead → Stopped → Type 0} → IsTold kept told → {q : Questions} → QuestionsTell kept told q → (tree : CxxTree) (functions : List Numbered) (arguments : List CxxTree) (state : CxxState) (ahead : Ahead) → ToldBy kept told state ahead (q.call (question q tree.label functions arguments state) state) → ToldBy kept told state ahead (function_call q tree functions arguments state)
+function_call_tells : {kept : CxxState → CxxState → Type 0} {told : CxxState → Ahead → Stopped → Type 0} → IsTold kept told → {q : Questions} → QuestionsTell kept told q → (tree : CxxTree) → DefaultsTell kept told q (path_in tree.label) → (functions : List Numbered) (arguments : List CxxTree) (state : CxxState) (ahead : Ahead) → ToldBy kept told state ahead (q.call (question q tree.label functions arguments state) state) → ToldBy kept told state ahead (function_call q tree functions arguments state)
 unfolding function_call
-function_call_tells is asks tree functions arguments state ahead answered = then_by is answered (chosen_call_tells is asks tree arguments)
+function_call_tells is asks tree defaults functions arguments state ahead answered = then_by is answered (chosen_call_tells is asks tree defaults arguments)
 
 -- by a test of which it is known what it says
 which_by : {kept : CxxState → CxxState → Type 0} {told : CxxState → Ahead → Stopped → Type 0} {state : CxxState} {ahead : Ahead} (b : Bool) {x y : Answer (CxxTree × CxxState)} → (b ≡ true → ToldBy kept told state ahead x) → (b ≡ false → ToldBy kept told state ahead y) → ToldBy kept told state ahead (if b then x else y)
 which_by true x y = x refl
 which_by false x y = y refl
 
-called_first_tells : {kept : CxxState → CxxState → Type 0} {told : CxxState → Ahead → Stopped → Type 0} → IsTold kept told → {q : Questions} → QuestionsTell kept told q → (tree : CxxTree) (all : List Numbered) (arguments : List CxxTree) (values : List Numbered) (state : CxxState) (ahead : Ahead) → values_among state.graph all ≡ values → UnknownInBrackets told tree.label all state ahead
+called_first_tells : {kept : CxxState → CxxState → Type 0} {told : CxxState → Ahead → Stopped → Type 0} → IsTold kept told → {q : Questions} → QuestionsTell kept told q → (tree : CxxTree) → DefaultsTell kept told q (path_in tree.label) → (all : List Numbered) (arguments : List CxxTree) (values : List Numbered) (state : CxxState) (ahead : Ahead) → values_among state.graph all ≡ values → UnknownUnasked told tree.label all state ahead
     → (IsAskedSo tree.label all values → ToldBy kept told state ahead (q.call (question q tree.label values arguments state) state)) → ToldBy kept told state ahead (called_first q tree all arguments values state)
-called_first_tells is asks tree all arguments [] state ahead are unknown answered =
-    which_by (is_asked_for tree.label all) (λ asked. function_call_tells is asks tree [] arguments state ahead (answered asked))
+called_first_tells is asks tree defaults all arguments [] state ahead are unknown answered =
+    which_by (is_asked_for tree.label all) (λ asked. function_call_tells is asks tree defaults [] arguments state ahead (answered asked))
     (λ not_asked. value_call_tells is asks tree all arguments state ahead (λ none. unknown none (subst (λ (some : List Numbered). is_asked_for tree.label some ≡ false) none not_asked)))
-called_first_tells is asks tree all arguments (one ∷ others) state ahead are unknown answered =
-    if_by (is_function state.graph one.fact.what) (function_call_tells is asks tree (one ∷ others) arguments state ahead (answered tt))
+called_first_tells is asks tree defaults all arguments (one ∷ others) state ahead are unknown answered =
+    if_by (is_function state.graph one.fact.what) (function_call_tells is asks tree defaults (one ∷ others) arguments state ahead (answered tt))
     (value_call_tells is asks tree all arguments state ahead (λ none. absurd (no_one (ap (values_among state.graph) (sym none) ∙ are))))
   where
     no_one : [] ≡ one ∷ others → ⊥
     no_one e = cc
 
-called_tells : {kept : CxxState → CxxState → Type 0} {told : CxxState → Ahead → Stopped → Type 0} → IsTold kept told → {q : Questions} → QuestionsTell kept told q → (tree : CxxTree) (arguments : List CxxTree) (all : List Numbered) (state : CxxState) (ahead : Ahead) → UnknownInBrackets told tree.label all state ahead
+called_tells : {kept : CxxState → CxxState → Type 0} {told : CxxState → Ahead → Stopped → Type 0} → IsTold kept told → {q : Questions} → QuestionsTell kept told q → (tree : CxxTree) → DefaultsTell kept told q (path_in tree.label) → (arguments : List CxxTree) (all : List Numbered) (state : CxxState) (ahead : Ahead) → UnknownUnasked told tree.label all state ahead
     → AskedOf kept told q tree arguments all state ahead → ToldBy kept told state ahead (called q tree arguments all state)
 unfolding called
-called_tells is asks tree arguments all state ahead unknown answered = called_first_tells is asks tree all arguments (values_among state.graph all) state ahead refl unknown answered
+called_tells is asks tree defaults arguments all state ahead unknown answered = called_first_tells is asks tree defaults all arguments (values_among state.graph all) state ahead refl unknown answered
 
 -- what is known of the answer to the question of a name
 pub record NameTells (kept : CxxState → CxxState → Type 0) (told : CxxState → Ahead → Stopped → Type 0) (q : Questions) (label : Label) (state : CxxState) (ahead : Ahead) : Type 0 where
@@ -135,12 +136,12 @@ pub record NameTells (kept : CxxState → CxxState → Type 0) (told : CxxState 
 -- the same of a called name
 pub record CalledTells (kept : CxxState → CxxState → Type 0) (told : CxxState → Ahead → Stopped → Type 0) (q : Questions) (label : Label) (state : CxxState) (ahead : Ahead) : Type 0 where
   pub answers : ToldBy kept told state ahead (q.name (path_in label) state)
-  pub unknown : (one : List Numbered × CxxState) → q.name (path_in label) state ≡ Ok one → UnknownInBrackets told label one.0 one.1 ahead
+  pub unknown : (one : List Numbered × CxxState) → q.name (path_in label) state ≡ Ok one → UnknownUnasked told label one.0 one.1 ahead
 
-pub name_call_tells : {kept : CxxState → CxxState → Type 0} {told : CxxState → Ahead → Stopped → Type 0} → IsTold kept told → {q : Questions} → QuestionsTell kept told q → (tree : CxxTree) (arguments : List CxxTree) (state : CxxState) (ahead : Ahead) → CalledTells kept told q tree.label state ahead
+pub name_call_tells : {kept : CxxState → CxxState → Type 0} {told : CxxState → Ahead → Stopped → Type 0} → IsTold kept told → {q : Questions} → QuestionsTell kept told q → (tree : CxxTree) → DefaultsTell kept told q (path_in tree.label) → (arguments : List CxxTree) (state : CxxState) (ahead : Ahead) → CalledTells kept told q tree.label state ahead
     → ((one : List Numbered × CxxState) → q.name (path_in tree.label) state ≡ Ok one → AskedOf kept told q tree arguments one.0 one.1 ahead) → ToldBy kept told state ahead (name_call q tree arguments state)
 unfolding name_call
-name_call_tells is {q = q} asks tree arguments state ahead name calls = then_by_from (called q tree arguments) name.answers (λ one is_so keeps. from_by is state one.1 ahead keeps (called_tells is asks tree arguments one.0 one.1 ahead (name.unknown one is_so) (calls one is_so)))
+name_call_tells is {q = q} asks tree defaults arguments state ahead name calls = then_by_from (called q tree arguments) name.answers (λ one is_so keeps. from_by is state one.1 ahead keeps (called_tells is asks tree defaults arguments one.0 one.1 ahead (name.unknown one is_so) (calls one is_so)))
 
 pub name_alone_tells : {kept : CxxState → CxxState → Type 0} {told : CxxState → Ahead → Stopped → Type 0} → IsTold kept told → {q : Questions} → QuestionsTell kept told q → (label : Label) (state : CxxState) (ahead : Ahead) → NameTells kept told q label state ahead → ToldBy kept told state ahead (then_asked (q.name (path_in label) state) (named q label))
 name_alone_tells is {q = q} asks label state ahead name = then_by_from (named q label) name.answers (λ one is_so keeps. from_by is state one.1 ahead keeps (named_tells is asks label one.0 one.1 ahead (name.unknown one is_so)))

@@ -1,12 +1,11 @@
 -- What the readers of postfix and unary expressions and of casts keep of the state, and what stops them.
 use Rattle.std.proofs.Common.{◌≡◌, refl}
-use Rattle.std.specs.Prelude.{Bool, true, false, List, [], ◌∷◌, Option, Some, None, codes}
+use Rattle.std.specs.Prelude.{Bool, true, false, [], ◌∷◌, Option, Some, None, codes}
 use Rattle.cxx_model.specs.declared.keyword.TheConstants as keyword
 use Rattle.cxx_model.specs.declared.punct.TheConstants as punct
 use Rattle.cxx_model.specs.declared.tree.Kind.{Kind}
 use Rattle.cxx_model.specs.declared.tree.Kind.TheVariants as kind
 use Rattle.cxx_model.specs.Stops.{Answer, Stopped}
-use Rattle.cxx_model.specs.Text.Lexemes.{Lexeme}
 use Rattle.cxx_phrases.specs.declared.level.Level.TheVariants as level
 use Rattle.cxx_phrases.specs.declared.shape.TypeShape.{TypeShape}
 use Rattle.cxx_phrases.specs.declared.shape.TypeShape.TheVariants as shape
@@ -15,9 +14,8 @@ use Rattle.cxx_phrases.specs.Operands.{call_step, subscript_step, step_step, pos
 use Rattle.cxx_phrases.specs.Operators.{is_prefix, is_step, is_member_access, operator_ahead}
 use Rattle.cxx_phrases.specs.Phrases.{Phrases, Inner}
 use Rattle.cxx_reading.specs.Reads.{Ahead, Got, More, Done, give, then_read, beside, count_ahead, kind_ahead, behind}
-use Rattle.cxx_reading.specs.Specifiers.{path_of}
-use Rattle.cxx_reading.specs.Tokens.{is_name, is_punct, is_keyword}
-use Rattle.cxx_reading.specs.Trees.{CxxTree}
+use Rattle.cxx_reading.specs.Tokens.{begins_name, behind_name, is_punct, is_keyword, is_whole_name, path_ahead}
+use Rattle.cxx_reading.specs.Trees.{CxxPath, CxxTree}
 use Rattle.cxx_language_laws.specs.Told.{EndsIn}
 use Rattle.cxx_language_laws.proofs.PhrasesTell.{PhrasesTell, InnerTell, asked_in}
 use Rattle.cxx_language_laws.proofs.Tells.{IsTold, ToldIn, Tells, quiet_in, if_in, when_in, past_in, then_in, ask_in, same_in, repeat_tells, taken_in, looked_in, punct_in, give_in, returned_in, tokens_in, unit_is_told}
@@ -69,28 +67,28 @@ unfolding cast_or_parenthesis
 cast_or_parenthesis_tells is asks inner state ahead = then_in is (begins_cast_tells is inner state ahead) (cast_by_tells is asks inner)
 
 -- a name that stands in brackets, with what is ahead of its arguments
-called_part_tells : {S : Type 0} {kept : S → S → Type 0} {told : S → Ahead → Stopped → Type 0} → IsTold kept told → {asks : Phrases S} {inner : Inner S} → PhrasesTell kept told asks inner → InnerTell kept told inner → (state : S) (ahead rest : Ahead) (name : Lexeme) (others : List Lexeme) → EndsIn ahead.tokens (name ∷ others) → EndsIn others rest.tokens → is_name name.kind ≡ true → is_punct punct.LEFT_PARENTHESIS (kind_ahead ahead) ≡ true
-    → ToldIn kept told state ahead (called_part asks inner ahead name state rest)
+called_part_tells : {S : Type 0} {kept : S → S → Type 0} {told : S → Ahead → Stopped → Type 0} → IsTold kept told → {asks : Phrases S} {inner : Inner S} → PhrasesTell kept told asks inner → InnerTell kept told inner → (state : S) (ahead rest : Ahead) (named : Ahead) → EndsIn ahead.tokens named.tokens → EndsIn (behind_name named).tokens rest.tokens → begins_name named ≡ true → is_whole_name named ≡ true → is_punct punct.LEFT_PARENTHESIS (kind_ahead ahead) ≡ true
+    → ToldIn kept told state ahead (called_part asks inner ahead (path_ahead named) state rest)
 unfolding called_part
-called_part_tells is asks inner state ahead rest name others stands follows named opens = then_in is (called_tells is asks inner state ahead rest false ahead name others stands follows named opens) (postfixes_tell is asks inner ahead)
+called_part_tells is asks inner state ahead rest named stands follows begins whole opens = then_in is (called_tells is asks inner state ahead rest false ahead named stands follows begins whole opens) (postfixes_tell is asks inner ahead)
 
-called_by_tells : {S : Type 0} {kept : S → S → Type 0} {told : S → Ahead → Stopped → Type 0} → IsTold kept told → {asks : Phrases S} {inner : Inner S} → PhrasesTell kept told asks inner → InnerTell kept told inner → (kind : Kind) (state : S) (ahead rest : Ahead) (name : Lexeme) (others : List Lexeme) → EndsIn ahead.tokens (name ∷ others) → EndsIn others rest.tokens → is_name name.kind ≡ true → is_punct punct.LEFT_PARENTHESIS (kind_ahead ahead) ≡ true
-    → ToldIn kept told state ahead (called_by asks inner ahead name kind state rest)
-called_by_tells is asks inner kind.OfType state ahead rest name others stands follows named opens = cast_or_parenthesis_tells is asks inner state ahead
-called_by_tells is asks inner kind.OfTemplate state ahead rest name others stands follows named opens = called_part_tells is asks inner state ahead rest name others stands follows named opens
-called_by_tells is asks inner kind.OfBoth state ahead rest name others stands follows named opens = called_part_tells is asks inner state ahead rest name others stands follows named opens
-called_by_tells is asks inner kind.Space state ahead rest name others stands follows named opens = cast_or_parenthesis_tells is asks inner state ahead
-called_by_tells is asks inner kind.Value state ahead rest name others stands follows named opens = called_part_tells is asks inner state ahead rest name others stands follows named opens
+called_by_tells : {S : Type 0} {kept : S → S → Type 0} {told : S → Ahead → Stopped → Type 0} → IsTold kept told → {asks : Phrases S} {inner : Inner S} → PhrasesTell kept told asks inner → InnerTell kept told inner → (kind : Kind) (state : S) (ahead rest : Ahead) (named : Ahead) → EndsIn ahead.tokens named.tokens → EndsIn (behind_name named).tokens rest.tokens → begins_name named ≡ true → is_whole_name named ≡ true → is_punct punct.LEFT_PARENTHESIS (kind_ahead ahead) ≡ true
+    → ToldIn kept told state ahead (called_by asks inner ahead (path_ahead named) kind state rest)
+called_by_tells is asks inner kind.OfType state ahead rest named stands follows begins whole opens = cast_or_parenthesis_tells is asks inner state ahead
+called_by_tells is asks inner kind.OfTemplate state ahead rest named stands follows begins whole opens = called_part_tells is asks inner state ahead rest named stands follows begins whole opens
+called_by_tells is asks inner kind.OfBoth state ahead rest named stands follows begins whole opens = called_part_tells is asks inner state ahead rest named stands follows begins whole opens
+called_by_tells is asks inner kind.Space state ahead rest named stands follows begins whole opens = cast_or_parenthesis_tells is asks inner state ahead
+called_by_tells is asks inner kind.Value state ahead rest named stands follows begins whole opens = called_part_tells is asks inner state ahead rest named stands follows begins whole opens
 
-called_or_not_tells : {S : Type 0} {kept : S → S → Type 0} {told : S → Ahead → Stopped → Type 0} → IsTold kept told → {asks : Phrases S} {inner : Inner S} → PhrasesTell kept told asks inner → InnerTell kept told inner → (state : S) (ahead rest : Ahead) (name : Lexeme) (others : List Lexeme) → EndsIn ahead.tokens (name ∷ others) → EndsIn others rest.tokens → is_name name.kind ≡ true → is_punct punct.LEFT_PARENTHESIS (kind_ahead ahead) ≡ true
-    → ToldIn kept told state ahead (called_or_not asks inner ahead name state rest)
+called_or_not_tells : {S : Type 0} {kept : S → S → Type 0} {told : S → Ahead → Stopped → Type 0} → IsTold kept told → {asks : Phrases S} {inner : Inner S} → PhrasesTell kept told asks inner → InnerTell kept told inner → (state : S) (ahead rest : Ahead) (named : Ahead) → EndsIn ahead.tokens named.tokens → EndsIn (behind_name named).tokens rest.tokens → begins_name named ≡ true → is_whole_name named ≡ true → is_punct punct.LEFT_PARENTHESIS (kind_ahead ahead) ≡ true
+    → ToldIn kept told state ahead (called_or_not asks inner ahead (path_ahead named) state rest)
 unfolding called_or_not
-called_or_not_tells is asks inner state ahead rest name others stands follows named opens = asked_in is _ rest (asks.kind (path_of name) state ahead) (λ kind state. called_by_tells is asks inner kind state ahead rest name others stands follows named opens)
+called_or_not_tells is asks inner state ahead rest named stands follows begins whole opens = asked_in is _ rest (asks.kind (path_ahead named) state ahead) (λ kind state. called_by_tells is asks inner kind state ahead rest named stands follows begins whole opens)
 
-bracket_by_tells : {S : Type 0} {kept : S → S → Type 0} {told : S → Ahead → Stopped → Type 0} → IsTold kept told → {asks : Phrases S} {inner : Inner S} → PhrasesTell kept told asks inner → InnerTell kept told inner → (state : S) (ahead : Ahead) {r : Answer (Got (Unit {0}) (Option Lexeme))} → NameIn ahead r → is_punct punct.LEFT_PARENTHESIS (kind_ahead ahead) ≡ true → ToldIn kept told state ahead (then_read (beside state r) (bracket_by asks inner ahead))
+bracket_by_tells : {S : Type 0} {kept : S → S → Type 0} {told : S → Ahead → Stopped → Type 0} → IsTold kept told → {asks : Phrases S} {inner : Inner S} → PhrasesTell kept told asks inner → InnerTell kept told inner → (state : S) (ahead : Ahead) {r : Answer (Got (Unit {0}) (Option CxxPath))} → NameIn ahead r → is_punct punct.LEFT_PARENTHESIS (kind_ahead ahead) ≡ true → ToldIn kept told state ahead (then_read (beside state r) (bracket_by asks inner ahead))
 bracket_by_tells is asks inner state ahead (stops_quietly why quiet) opens = quiet_in is quiet
 bracket_by_tells is asks inner state ahead (finds_none rest) opens = cast_or_parenthesis_tells is asks inner state ahead
-bracket_by_tells is asks inner state ahead (finds_name name others rest stands follows named) opens = called_or_not_tells is asks inner state ahead rest name others stands follows named opens
+bracket_by_tells is asks inner state ahead (finds_name named rest stands follows begins whole) opens = called_or_not_tells is asks inner state ahead rest named stands follows begins whole opens
 
 bracket_tells : {S : Type 0} {kept : S → S → Type 0} {told : S → Ahead → Stopped → Type 0} → IsTold kept told → {asks : Phrases S} {inner : Inner S} → PhrasesTell kept told asks inner → InnerTell kept told inner → (state : S) (ahead : Ahead) → is_punct punct.LEFT_PARENTHESIS (kind_ahead ahead) ≡ true → ToldIn kept told state ahead (bracket_at asks inner state ahead)
 unfolding bracket_at

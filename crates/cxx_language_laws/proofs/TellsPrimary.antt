@@ -1,15 +1,13 @@
 -- What the readers of primary expressions keep of the state, and what stops them.
-use Rattle.std.proofs.Common.{◌≡◌, refl, ap}
-use Rattle.std.specs.Prelude.{Bool, true, ◌||◌, ◌==◌, List, [], ◌∷◌, ◌++◌, Option, Some, None}
+use Rattle.std.proofs.Common.{◌≡◌, refl}
+use Rattle.std.specs.Prelude.{Bool, true, false, if◌then◌else◌, ◌||◌, ◌==◌, List, [], ◌∷◌, ◌++◌, Option, Some, None}
 use Rattle.cxx_model.specs.declared.base.Base.{Base}
 use Rattle.cxx_model.specs.declared.keyword.TheConstants as keyword
 use Rattle.cxx_model.specs.declared.limits.TheConstants as limits
-use Rattle.cxx_model.specs.declared.place.Place.{Place}
 use Rattle.cxx_model.specs.declared.punct.TheConstants as punct
 use Rattle.cxx_model.specs.declared.tree.Kind.{Kind}
 use Rattle.cxx_model.specs.declared.tree.Kind.TheVariants as kind
 use Rattle.cxx_model.specs.Stops.{Stopped}
-use Rattle.cxx_model.specs.Text.Lexemes.{Lexeme, kind_of}
 use Rattle.cxx_model.specs.Types.Trees.{CxxType, fundamental}
 use Rattle.cxx_phrases.specs.declared.level.Level.TheVariants as level
 use Rattle.cxx_phrases.specs.Arguments.{argument_ended, argument_step, arguments_over, some_arguments, arguments_behind, arguments_at}
@@ -17,13 +15,12 @@ use Rattle.cxx_phrases.specs.Forms.{literal_tree, parenthesis_tree, functional_t
 use Rattle.cxx_phrases.specs.Operators.{is_literal, is_cast_word, base_of_kind, begins_expression}
 use Rattle.cxx_phrases.specs.Phrases.{Phrases, Inner}
 use Rattle.cxx_phrases.specs.Primary.{literal_part, name_at, called_at, named_call, value_name_at, functional_cast, functional_at, type_name_at, named_by, named_at, word_at, cast_opened, cast_closed, cast_word_at, parenthesis_at, word_by, primary_at}
-use Rattle.cxx_reading.specs.Reads.{Ahead, More, Done, kind_ahead, word_ahead, behind}
-use Rattle.cxx_reading.specs.Tokens.{is_name, is_punct, is_keyword, is_plain_name, path_ahead, token_in}
+use Rattle.cxx_reading.specs.Reads.{Ahead, More, Done, ask, got, then_read, kind_ahead, word_ahead, behind}
+use Rattle.cxx_reading.specs.Tokens.{begins_name, behind_name, is_punct, is_keyword, is_whole_name, kind_of_name, path_ahead}
 use Rattle.cxx_reading.specs.Trees.{CxxTree}
 use Rattle.cxx_language_laws.specs.Told.{EndsIn, IsCalledSo}
 use Rattle.cxx_language_laws.proofs.PhrasesTell.{PhrasesTell, brackets_of, InnerTell, asked_in}
-use Rattle.cxx_language_laws.proofs.Tells.{IsTold, ToldIn, Tells, quiet_in, if_in, when_in, past_in, then_in, then_from, from_in, ask_from, ask_in, next_in, repeat_tells, taken_in, looked_in, punct_in, give_in, tokens_in, unit_is_told, whole_stands, ends_later, behind_stands}
-use Rattle.cxx_language_laws.proofs.TellsBrackets.{left_true}
+use Rattle.cxx_language_laws.proofs.Tells.{IsTold, ToldIn, Tells, quiet_in, if_in, when_in, past_in, then_in, then_from, from_in, ask_from, ask_in, next_in, repeat_tells, taken_in, looked_in, punct_in, give_in, tokens_in, unit_is_told, whole_stands, ends_later, name_stands, name_told, path_then}
 use Rattle.cxx_language_laws.proofs.TellsSyntax.{no_expression_tells}
 
 -- ---- arguments
@@ -60,33 +57,26 @@ literal_part_tells is asks inner state ahead = then_in is (looked_in is state ah
 
 -- ---- names
 
-cons_parts : (name : Lexeme) (others last : List Lexeme) (follows : EndsIn others last) → name ∷ others ≡ (name ∷ follows.first) ++ last
-cons_parts name others last follows = ap (λ ls. name ∷ ls) follows.parts
-
 -- a name is ahead
-name_tells : {S : Type 0} {kept : S → S → Type 0} {told : S → Ahead → Stopped → Type 0} → IsTold kept told → {asks : Phrases S} {inner : Inner S} → PhrasesTell kept told asks inner → InnerTell kept told inner → (state : S) (ahead : Ahead) → is_name (kind_ahead ahead) ≡ true → ToldIn kept told state ahead (name_at asks state ahead)
+name_tells : {S : Type 0} {kept : S → S → Type 0} {told : S → Ahead → Stopped → Type 0} → IsTold kept told → {asks : Phrases S} {inner : Inner S} → PhrasesTell kept told asks inner → InnerTell kept told inner → (state : S) (ahead : Ahead) → begins_name ahead ≡ true → ToldIn kept told state ahead (name_at asks state ahead)
 unfolding name_at
-name_tells is asks inner state ahead named = ask_from (behind ahead) (behind_stands ahead) (asks.name state ahead named)
+name_tells is asks inner state ahead begins = path_then is _ state ahead (λ whole. ask_from (behind_name ahead) (name_stands ahead) (asks.name state ahead begins whole))
 
 -- behind a name that is ahead the arguments begin
-pub called_tells : {S : Type 0} {kept : S → S → Type 0} {told : S → Ahead → Stopped → Type 0} → IsTold kept told → {asks : Phrases S} {inner : Inner S} → PhrasesTell kept told asks inner → InnerTell kept told inner → (state : S) (ahead opened : Ahead) (is_bare : Bool) (from : Ahead) (name : Lexeme) (others : List Lexeme) → EndsIn ahead.tokens (name ∷ others) → EndsIn others opened.tokens → is_name name.kind ≡ true → IsCalledSo ahead name opened is_bare
-    → ToldIn kept told state ahead (called_at asks inner (brackets_of is_bare) from name state opened)
+pub called_tells : {S : Type 0} {kept : S → S → Type 0} {told : S → Ahead → Stopped → Type 0} → IsTold kept told → {asks : Phrases S} {inner : Inner S} → PhrasesTell kept told asks inner → InnerTell kept told inner → (state : S) (ahead opened : Ahead) (is_open : Bool) (from named : Ahead) → EndsIn ahead.tokens named.tokens → EndsIn (behind_name named).tokens opened.tokens → begins_name named ≡ true → is_whole_name named ≡ true → IsCalledSo ahead named opened is_open
+    → ToldIn kept told state ahead (called_at asks inner (brackets_of is_open) from (path_ahead named) state opened)
 unfolding called_at
-called_tells is asks inner state ahead opened is_bare from name others stands follows named so =
-    then_from _ (from_in is state state ahead opened (is.keeps.same state) (ends_later ahead.tokens (name ∷ others) opened.tokens stands (record { first = name ∷ follows.first; parts = cons_parts name others opened.tokens follows })) (arguments_tell is asks inner state opened))
-    (λ one lists keeps ends. ask_from one.rest ends (asks.call state ahead (record { name = name; behind = others; stands = stands; named = named; opened = opened; follows = follows; is_bare = is_bare; so = so; arguments = one.value; at = one.state; rest = one.rest; lists = lists }) keeps from))
+called_tells is asks inner state ahead opened is_open from named stands follows begins whole so =
+    then_from _ (from_in is state state ahead opened (is.keeps.same state) (ends_later ahead.tokens named.tokens opened.tokens stands (ends_later named.tokens (behind_name named).tokens opened.tokens (name_stands named) follows)) (arguments_tell is asks inner state opened))
+    (λ one lists keeps ends. ask_from one.rest ends (asks.call state ahead (record { named = named; stands = stands; begins = begins; whole = whole; opened = opened; follows = follows; is_open = is_open; so = so; arguments = one.value; at = one.state; rest = one.rest; lists = lists }) keeps from))
 
-named_call_tells : {S : Type 0} {kept : S → S → Type 0} {told : S → Ahead → Stopped → Type 0} → IsTold kept told → {asks : Phrases S} {inner : Inner S} → PhrasesTell kept told asks inner → InnerTell kept told inner → (state : S) (ahead : Ahead) → is_name (kind_ahead ahead) ≡ true → ToldIn kept told state ahead (named_call asks inner state ahead)
-unfolding named_call is_name
-named_call_tells {kept = kept} {told = told} is {asks = a} {inner = i} asks inner state ahead named = by ahead.last ahead.tokens named
-  where
-    by : (last : Place) (tokens : List Lexeme) → is_name (kind_of tokens) ≡ true → ToldIn kept told state (record { last = last; tokens = tokens }) (called_at a i [] (record { last = last; tokens = tokens }) (token_in tokens) state (behind (record { last = last; tokens = tokens })))
-    by last [] named = absurd cc
-    by last (name ∷ others) named = called_tells is asks inner state (record { last = last; tokens = name ∷ others }) (record { last = name.place; tokens = others }) true (record { last = last; tokens = name ∷ others }) name others (whole_stands (name ∷ others)) (whole_stands others) named refl
+named_call_tells : {S : Type 0} {kept : S → S → Type 0} {told : S → Ahead → Stopped → Type 0} → IsTold kept told → {asks : Phrases S} {inner : Inner S} → PhrasesTell kept told asks inner → InnerTell kept told inner → (state : S) (ahead : Ahead) → begins_name ahead ≡ true → ToldIn kept told state ahead (named_call asks inner state ahead)
+unfolding named_call
+named_call_tells is asks inner state ahead begins = path_then is _ state ahead (λ whole. called_tells is asks inner state ahead (behind_name ahead) true ahead ahead (whole_stands ahead.tokens) (whole_stands (behind_name ahead).tokens) begins whole (refl, refl))
 
-value_name_tells : {S : Type 0} {kept : S → S → Type 0} {told : S → Ahead → Stopped → Type 0} → IsTold kept told → {asks : Phrases S} {inner : Inner S} → PhrasesTell kept told asks inner → InnerTell kept told inner → (state : S) (ahead : Ahead) → is_name (kind_ahead ahead) ≡ true → ToldIn kept told state ahead (value_name_at asks inner state ahead)
+value_name_tells : {S : Type 0} {kept : S → S → Type 0} {told : S → Ahead → Stopped → Type 0} → IsTold kept told → {asks : Phrases S} {inner : Inner S} → PhrasesTell kept told asks inner → InnerTell kept told inner → (state : S) (ahead : Ahead) → begins_name ahead ≡ true → ToldIn kept told state ahead (value_name_at asks inner state ahead)
 unfolding value_name_at
-value_name_tells is asks inner state ahead named = if_in (is_punct punct.LEFT_PARENTHESIS (kind_ahead (behind ahead))) (named_call_tells is asks inner state ahead named) (name_tells is asks inner state ahead named)
+value_name_tells is asks inner state ahead begins = if_in (is_punct punct.LEFT_PARENTHESIS (kind_ahead (behind_name ahead))) (named_call_tells is asks inner state ahead begins) (name_tells is asks inner state ahead begins)
 
 functional_cast_tells : {S : Type 0} {kept : S → S → Type 0} {told : S → Ahead → Stopped → Type 0} → IsTold kept told → {asks : Phrases S} {inner : Inner S} → PhrasesTell kept told asks inner → InnerTell kept told inner → (from : Ahead) (of : CxxType) → Tells kept told (functional_cast asks inner from of)
 unfolding functional_cast
@@ -98,18 +88,22 @@ functional_tells is asks inner from of state ahead = if_in (is_punct punct.LEFT_
 
 type_name_tells : {S : Type 0} {kept : S → S → Type 0} {told : S → Ahead → Stopped → Type 0} → IsTold kept told → {asks : Phrases S} {inner : Inner S} → PhrasesTell kept told asks inner → InnerTell kept told inner → Tells kept told (type_name_at asks inner)
 unfolding type_name_at
-type_name_tells is asks inner state ahead = then_in is (looked_in is state ahead) (λ from state ahead. then_in is (ask_in ahead (asks.type_named (path_ahead from) state ahead)) (λ of state ahead. then_in is (taken_in is state ahead) (λ name. functional_tells is asks inner from of)))
+type_name_tells is asks inner state ahead = then_in is (looked_in is state ahead) (λ from state ahead. then_in is (ask_in ahead (asks.type_named (path_ahead from) state ahead)) (λ of state ahead. then_in is (name_told is state ahead) (λ name. functional_tells is asks inner from of)))
 
-named_by_tells : {S : Type 0} {kept : S → S → Type 0} {told : S → Ahead → Stopped → Type 0} → IsTold kept told → {asks : Phrases S} {inner : Inner S} → PhrasesTell kept told asks inner → InnerTell kept told inner → (kind : Kind) (state : S) (ahead : Ahead) → is_name (kind_ahead ahead) ≡ true → ToldIn kept told state ahead (named_by asks inner kind state ahead)
-named_by_tells is asks inner kind.OfType state ahead named = type_name_tells is asks inner state ahead
-named_by_tells is asks inner kind.OfTemplate state ahead named = value_name_tells is asks inner state ahead named
-named_by_tells is asks inner kind.OfBoth state ahead named = value_name_tells is asks inner state ahead named
-named_by_tells is asks inner kind.Space state ahead named = quiet_in is refl
-named_by_tells is asks inner kind.Value state ahead named = value_name_tells is asks inner state ahead named
+named_by_tells : {S : Type 0} {kept : S → S → Type 0} {told : S → Ahead → Stopped → Type 0} → IsTold kept told → {asks : Phrases S} {inner : Inner S} → PhrasesTell kept told asks inner → InnerTell kept told inner → (kind : Kind) (state : S) (ahead : Ahead) → begins_name ahead ≡ true → ToldIn kept told state ahead (named_by asks inner kind state ahead)
+named_by_tells is asks inner kind.OfType state ahead begins = type_name_tells is asks inner state ahead
+named_by_tells is asks inner kind.OfTemplate state ahead begins = value_name_tells is asks inner state ahead begins
+named_by_tells is asks inner kind.OfBoth state ahead begins = value_name_tells is asks inner state ahead begins
+named_by_tells is asks inner kind.Space state ahead begins = quiet_in is refl
+named_by_tells is asks inner kind.Value state ahead begins = value_name_tells is asks inner state ahead begins
 
-named_tells : {S : Type 0} {kept : S → S → Type 0} {told : S → Ahead → Stopped → Type 0} → IsTold kept told → {asks : Phrases S} {inner : Inner S} → PhrasesTell kept told asks inner → InnerTell kept told inner → (state : S) (ahead : Ahead) → is_name (kind_ahead ahead) ≡ true → ToldIn kept told state ahead (named_at asks inner state ahead)
-unfolding named_at
-named_tells is asks inner state ahead named = asked_in is _ ahead (asks.kind (path_ahead ahead) state ahead) (λ kind state. named_by_tells is asks inner kind state ahead named)
+named_tells : {S : Type 0} {kept : S → S → Type 0} {told : S → Ahead → Stopped → Type 0} → IsTold kept told → {asks : Phrases S} {inner : Inner S} → PhrasesTell kept told asks inner → InnerTell kept told inner → (state : S) (ahead : Ahead) → begins_name ahead ≡ true → ToldIn kept told state ahead (named_at asks inner state ahead)
+unfolding named_at kind_of_name
+named_tells {kept = kept} {told = told} is {asks = a} {inner = i} asks inner state ahead begins = by (is_whole_name ahead)
+  where
+    by : (b : Bool) → ToldIn kept told state ahead (then_read (if b then ask (a.kind (path_ahead ahead)) state ahead else got kind.Value state ahead) (named_by a i))
+    by true = asked_in is _ ahead (asks.kind (path_ahead ahead) state ahead) (λ kind state. named_by_tells is asks inner kind state ahead begins)
+    by false = named_by_tells is asks inner kind.Value state ahead begins
 
 word_tells : {S : Type 0} {kept : S → S → Type 0} {told : S → Ahead → Stopped → Type 0} → IsTold kept told → {asks : Phrases S} {inner : Inner S} → PhrasesTell kept told asks inner → InnerTell kept told inner → (base : Base) → Tells kept told (word_at asks inner base)
 unfolding word_at
@@ -145,6 +139,6 @@ pub primary_tells : {S : Type 0} {kept : S → S → Type 0} {told : S → Ahead
 unfolding primary_at
 primary_tells is asks inner state ahead =
     if_in (is_literal (kind_ahead ahead)) (literal_part_tells is asks inner state ahead) (
-    when_in (is_plain_name ahead) (λ named. named_tells is asks inner state ahead (left_true _ _ named)) (
+    when_in (begins_name ahead) (λ begins. named_tells is asks inner state ahead begins) (
     if_in (is_cast_word (kind_ahead ahead)) (cast_word_tells is asks inner state ahead)
     (word_by_tells is asks inner (base_of_kind (kind_ahead ahead)) state ahead)))

@@ -3,16 +3,16 @@ use Rattle.std.specs.Prelude.{ℕ, Bool, true, false, not, ◌&&◌, ◌||◌, �
 use Rattle.cxx_model.specs.declared.keyword.TheConstants as keyword
 use Rattle.cxx_model.specs.declared.punct.TheConstants as punct
 use Rattle.cxx_reading.specs.Declarators.{type_word}
-use Rattle.cxx_reading.specs.Tokens.{is_punct, is_keyword, is_name, is_end, is_qualified}
+use Rattle.cxx_reading.specs.Tokens.{is_punct, is_keyword, is_end, is_plain_name, behind_name}
 use Rattle.cxx_model.specs.declared.token.TokenKind.{TokenKind}
 use Rattle.cxx_model.specs.declared.token.TokenKind.TheVariants.{Name, Keyword, Punct, Integer, Character, Text, End}
 use Rattle.cxx_model.specs.declared.tree.Kind.{Kind}
 use Rattle.cxx_model.specs.declared.tree.Kind.TheVariants as kind
 use Rattle.cxx_model.specs.Stops.{Stopped}
 use Rattle.cxx_reading.specs.Kinds.{Kinds, Readers}
-use Rattle.cxx_reading.specs.Reads.{Ahead, More, give, kind_ahead}
-use Rattle.cxx_reading.specs.Shapes.{opens, closes, is_specifier, is_some_word, is_key, ends_default, bracket_step, give_nothing, brackets_passed, Run, no_type, a_type, surely, key_shape, kind_shape, name_shape, keyword_shape, run_by, run_step, give_ended, run_passed, is_type_kind, begins_by, begins_type, is_abstract_list, Outline, Fits, fits, fits_not, fits_surely, opened_by, prefix_step, give_unqualified, prefix_passed, passed_by, list_shape, suffix_step, give_closed, suffixes_by, declarator_passed, default_step, default_passed, separated, parameter_by, piece_by, piece_step, give_false, parameters_shape}
-use Rattle.cxx_language_laws.proofs.Tells.{IsTold, Tells, NamesTell, ListsTell, if_in, if_reads, then_in, ask_in, same_in, next_in, past_in, repeat_tells, give_in, tokens_in, unit_is_told, returned_in}
+use Rattle.cxx_reading.specs.Reads.{Ahead, More, give, got, kind_ahead}
+use Rattle.cxx_reading.specs.Shapes.{opens, closes, is_specifier, is_some_word, is_key, ends_default, bracket_step, give_nothing, brackets_passed, Run, no_type, a_type, surely, key_shape, kind_shape, name_shape, keyword_shape, run_by, run_step, give_ended, run_passed, is_type_kind, begins_by, begins_type, is_abstract_list, Outline, Fits, fits, fits_not, opened_by, prefix_step, prefix_passed, passed_by, list_shape, suffix_step, give_closed, suffixes_by, declarator_passed, default_step, default_passed, separated, parameter_by, piece_by, piece_step, give_false, parameters_shape}
+use Rattle.cxx_language_laws.proofs.Tells.{IsTold, Tells, ToldIn, NamesTell, ListsTell, tells_read, if_in, if_reads, kind_tells, name_stands, then_in, same_in, next_in, past_in, repeat_tells, give_in, tokens_in, unit_is_told, returned_in}
 
 pub bracket_tells : {S : Type 0} {kept : S → S → Type 0} {told : S → Ahead → Stopped → Type 0} → IsTold kept told → (count : ℕ) → Tells kept told (bracket_step {S = S} count)
 unfolding bracket_step
@@ -22,12 +22,16 @@ pub brackets_tell : {S : Type 0} {kept : S → S → Type 0} {told : S → Ahead
 unfolding brackets_passed
 brackets_tell is state ahead = past_in is (repeat_tells is bracket_step give_nothing (bracket_tells is) (λ so_far state ahead. same_in is _ state _) _ _ state _)
 
+-- behind the name ahead
+named_in : {S A : Type 0} {kept : S → S → Type 0} {told : S → Ahead → Stopped → Type 0} → IsTold kept told → (value : A) (state : S) (ahead : Ahead) → ToldIn kept told state ahead (got value state (behind_name ahead))
+named_in is value state ahead = tells_read (record { value = value; state = state; rest = behind_name ahead }) (is.keeps.same state) (name_stands ahead)
+
 pub key_shape_tells : {S : Type 0} {kept : S → S → Type 0} {told : S → Ahead → Stopped → Type 0} → IsTold kept told → Tells kept told (key_shape {S = S})
 unfolding key_shape
-key_shape_tells is state ahead = if_in _ (if_in _ (same_in is _ state _) (next_in is _ state ahead)) (same_in is _ state _)
+key_shape_tells is state ahead = if_in _ (named_in is _ state ahead) (same_in is _ state _)
 
 kind_shape_tells : {S : Type 0} {kept : S → S → Type 0} {told : S → Ahead → Stopped → Type 0} → IsTold kept told → (kind : Kind) → Tells kept told (kind_shape {S = S} kind)
-kind_shape_tells is kind.OfType state ahead = next_in is _ state ahead
+kind_shape_tells is kind.OfType state ahead = named_in is _ state ahead
 kind_shape_tells is kind.OfTemplate state ahead = same_in is _ state _
 kind_shape_tells is kind.OfBoth state ahead = same_in is _ state _
 kind_shape_tells is kind.Space state ahead = same_in is _ state _
@@ -35,8 +39,8 @@ kind_shape_tells is kind.Value state ahead = same_in is _ state _
 
 pub name_shape_tells : {S : Type 0} {kept : S → S → Type 0} {told : S → Ahead → Stopped → Type 0} → IsTold kept told → {asks : Kinds S} → NamesTell kept told asks → (typed : Bool) → Tells kept told (name_shape asks typed)
 unfolding name_shape
-name_shape_tells is asks true state ahead = same_in is _ state _
-name_shape_tells is asks false state ahead = if_in (is_qualified ahead) (same_in is _ state _) (then_in is (ask_in ahead (asks.kind _ state ahead)) (kind_shape_tells is))
+name_shape_tells is {asks = a} asks true state ahead = same_in is _ state _
+name_shape_tells is {asks = a} asks false state ahead = then_in is (kind_tells is a.kind asks.kind state ahead) (kind_shape_tells is)
 
 pub keyword_shape_tells : {S : Type 0} {kept : S → S → Type 0} {told : S → Ahead → Stopped → Type 0} → IsTold kept told → (n : ℕ) (typed : Bool) → Tells kept told (keyword_shape {S = S} n typed)
 unfolding keyword_shape
@@ -63,13 +67,13 @@ is_type_tells is kind.Space state ahead = same_in is _ state _
 is_type_tells is kind.Value state ahead = same_in is _ state _
 
 begins_by_tells : {S : Type 0} {kept : S → S → Type 0} {told : S → Ahead → Stopped → Type 0} → IsTold kept told → {asks : Kinds S} → NamesTell kept told asks → (kind : TokenKind) → Tells kept told (begins_by asks kind)
-begins_by_tells is asks (Keyword n) state ahead = same_in is _ state _
-begins_by_tells is asks (Punct n) state ahead = same_in is _ state _
-begins_by_tells is asks Name state ahead = if_in _ (same_in is _ state _) (then_in is (ask_in ahead (asks.kind _ state ahead)) (is_type_tells is))
-begins_by_tells is asks Integer state ahead = same_in is _ state _
-begins_by_tells is asks Character state ahead = same_in is _ state _
-begins_by_tells is asks Text state ahead = same_in is _ state _
-begins_by_tells is asks End state ahead = same_in is _ state _
+begins_by_tells is {asks = a} asks (Keyword n) state ahead = same_in is _ state _
+begins_by_tells is {asks = a} asks (Punct n) state ahead = if_in (n == punct.SCOPE) (then_in is (kind_tells is a.kind asks.kind state ahead) (is_type_tells is)) (same_in is _ state _)
+begins_by_tells is {asks = a} asks Name state ahead = then_in is (kind_tells is a.kind asks.kind state ahead) (is_type_tells is)
+begins_by_tells is {asks = a} asks Integer state ahead = same_in is _ state _
+begins_by_tells is {asks = a} asks Character state ahead = same_in is _ state _
+begins_by_tells is {asks = a} asks Text state ahead = same_in is _ state _
+begins_by_tells is {asks = a} asks End state ahead = same_in is _ state _
 
 pub begins_tells : {S : Type 0} {kept : S → S → Type 0} {told : S → Ahead → Stopped → Type 0} → IsTold kept told → {asks : Kinds S} → NamesTell kept told asks → Tells kept told (begins_type asks)
 unfolding begins_type
@@ -85,11 +89,11 @@ opened_by_tells is false outline state ahead = next_in is _ state ahead
 
 pub prefix_tells : {S : Type 0} {kept : S → S → Type 0} {told : S → Ahead → Stopped → Type 0} → IsTold kept told → {asks : Kinds S} → NamesTell kept told asks → (outline : Outline) → Tells kept told (prefix_step asks outline)
 unfolding prefix_step
-prefix_tells is asks outline state ahead = if_in (is_punct punct.STAR (kind_ahead ahead) || (is_punct punct.AMPERSAND (kind_ahead ahead) || (is_keyword keyword.CONST (kind_ahead ahead) || is_keyword keyword.VOLATILE (kind_ahead ahead)))) (next_in is _ state ahead) (if_in (is_punct punct.LEFT_PARENTHESIS (kind_ahead ahead)) (then_in is (abstract_tells is asks state ahead) (λ is_list. opened_by_tells is is_list outline)) (if_in (is_qualified ahead) (same_in is _ state _) (if_in (is_name (kind_ahead ahead)) (next_in is _ state ahead) (same_in is _ state _))))
+prefix_tells is asks outline state ahead = if_in (is_punct punct.STAR (kind_ahead ahead) || (is_punct punct.AMPERSAND (kind_ahead ahead) || (is_keyword keyword.CONST (kind_ahead ahead) || is_keyword keyword.VOLATILE (kind_ahead ahead)))) (next_in is _ state ahead) (if_in (is_punct punct.LEFT_PARENTHESIS (kind_ahead ahead)) (then_in is (abstract_tells is asks state ahead) (λ is_list. opened_by_tells is is_list outline)) (if_in (is_plain_name ahead) (next_in is _ state ahead) (same_in is _ state _)))
 
 pub prefixes_tell : {S : Type 0} {kept : S → S → Type 0} {told : S → Ahead → Stopped → Type 0} → IsTold kept told → {asks : Kinds S} → NamesTell kept told asks → Tells kept told (prefix_passed asks)
 unfolding prefix_passed
-prefixes_tell is {asks = a} asks state ahead = repeat_tells is (prefix_step a) give_unqualified (prefix_tells is asks) (λ so_far state ahead. same_in is _ state _) _ _ state ahead
+prefixes_tell is {asks = a} asks state ahead = repeat_tells is (prefix_step a) give (prefix_tells is asks) (λ so_far state ahead. same_in is _ state _) _ _ state ahead
 
 passed_by_tells : {S : Type 0} {kept : S → S → Type 0} {told : S → Ahead → Stopped → Type 0} → IsTold kept told → (is_list : Bool) (outline : Outline) → Tells kept told (passed_by {S = S} is_list outline)
 passed_by_tells is true outline state ahead = then_in is (tokens_in is (brackets_tell unit_is_told) state ahead) (λ end. give_in is (More outline))
@@ -103,13 +107,13 @@ pub suffix_shape_tells : {S : Type 0} {kept : S → S → Type 0} {told : S → 
 unfolding suffix_step
 suffix_shape_tells is inner outline state ahead = if_in (is_punct punct.LEFT_PARENTHESIS (kind_ahead ahead)) (list_shape_tells is inner outline state ahead) (if_in (is_punct punct.LEFT_BRACKET (kind_ahead ahead)) (passed_by_tells is true outline state ahead) (if_in (is_keyword keyword.CONST (kind_ahead ahead) || (is_keyword keyword.VOLATILE (kind_ahead ahead) || is_keyword keyword.THROW (kind_ahead ahead))) (next_in is _ state ahead) (if_in (is_punct punct.RIGHT_PARENTHESIS (kind_ahead ahead) && not (outline.brackets == 0)) (next_in is _ state ahead) (same_in is _ state _))))
 
-pub suffixes_by_tells : {S : Type 0} {kept : S → S → Type 0} {told : S → Ahead → Stopped → Type 0} → IsTold kept told → {inner : Readers S} → ListsTell kept told inner → (outline : Outline) (is_sure : Bool) → Tells kept told (suffixes_by inner outline is_sure)
-suffixes_by_tells is inner outline true state ahead = same_in is _ state _
-suffixes_by_tells is {inner = i} inner outline false state ahead = repeat_tells is (suffix_step i) give_closed (suffix_shape_tells is inner) (λ so_far state ahead. same_in is _ state _) _ _ state ahead
+pub suffixes_by_tells : {S : Type 0} {kept : S → S → Type 0} {told : S → Ahead → Stopped → Type 0} → IsTold kept told → {inner : Readers S} → ListsTell kept told inner → (outline : Outline) → Tells kept told (suffixes_by inner outline)
+unfolding suffixes_by
+suffixes_by_tells is {inner = i} inner outline state ahead = repeat_tells is (suffix_step i) give_closed (suffix_shape_tells is inner) (λ so_far state ahead. same_in is _ state _) _ _ state ahead
 
 pub declarator_shape_tells : {S : Type 0} {kept : S → S → Type 0} {told : S → Ahead → Stopped → Type 0} → IsTold kept told → {asks : Kinds S} → NamesTell kept told asks → {inner : Readers S} → ListsTell kept told inner → Tells kept told (declarator_passed asks inner)
 unfolding declarator_passed
-declarator_shape_tells is asks inner state ahead = then_in is (prefixes_tell is asks state ahead) (λ outline. suffixes_by_tells is inner outline.0 outline.1)
+declarator_shape_tells is asks inner state ahead = then_in is (prefixes_tell is asks state ahead) (suffixes_by_tells is inner)
 
 default_step_tells : {S : Type 0} {kept : S → S → Type 0} {told : S → Ahead → Stopped → Type 0} → IsTold kept told → (so_far : Unit {0}) → Tells kept told (default_step {S = S} so_far)
 unfolding default_step
@@ -125,7 +129,6 @@ separated_tells is state ahead = if_in _ (next_in is _ state ahead) (same_in is 
 parameter_by_tells : {S : Type 0} {kept : S → S → Type 0} {told : S → Ahead → Stopped → Type 0} → IsTold kept told → (one : Fits) → Tells kept told (parameter_by {S = S} one)
 parameter_by_tells is fits state ahead = then_in is (tokens_in is (default_tells unit_is_told) state ahead) (λ passed. separated_tells is)
 parameter_by_tells is fits_not state ahead = same_in is _ state _
-parameter_by_tells is fits_surely state ahead = same_in is _ state _
 
 piece_by_tells : {S : Type 0} {kept : S → S → Type 0} {told : S → Ahead → Stopped → Type 0} → IsTold kept told → {asks : Kinds S} → NamesTell kept told asks → {inner : Readers S} → ListsTell kept told inner → (run : Run) → Tells kept told (piece_by asks inner run)
 piece_by_tells is asks inner no_type state ahead = same_in is _ state _

@@ -2,7 +2,7 @@
 use Rattle.std.proofs.Common.{◌≡◌, refl}
 use Rattle.std.specs.Prelude.{ℕ, true, [], ◌∷◌, ◌++◌, Option, Some, None}
 use Rattle.cxx_model.specs.Stops.{Stopped}
-use Rattle.cxx_reading.specs.Tokens.{is_name, token_in}
+use Rattle.cxx_reading.specs.Tokens.{begins_name, behind_name, path_ahead}
 use Rattle.cxx_model.specs.declared.token.TokenKind.{TokenKind}
 use Rattle.cxx_model.specs.declared.token.TokenKind.TheVariants.{Name, Keyword, Punct, Integer, Character, Text, End}
 use Rattle.cxx_model.specs.declared.tree.Kind.{Kind}
@@ -14,10 +14,9 @@ use Rattle.cxx_reading.specs.declared.specifier.StorageWord.{StorageWord}
 use Rattle.cxx_reading.specs.declared.specifier.TypeWords.{TypeWords}
 use Rattle.cxx_reading.specs.Declarators.{Specifiers, TypeWord, type_word, with_word}
 use Rattle.cxx_reading.specs.Kinds.{Kinds, Readers}
-use Rattle.cxx_reading.specs.Reads.{Ahead, Reads, More, kind_ahead, behind}
-use Rattle.cxx_reading.specs.Specifiers.{elaborated_tree, enumeration_tree, storage_word, storage_step, inline_step, const_step, volatile_step, word_step, worded, named_step, named_by, elaborated_step, defined_step, enumeration_body, list_step, key_named_step, key_step, enumeration_step, class_step, other_step, stored_by, worded_by, keyword_step, step_by, specifier_step, typed, specifiers_at}
-use Rattle.cxx_reading.specs.Trees.{CxxPath}
-use Rattle.cxx_language_laws.proofs.Tells.{IsTold, Tells, ToldIn, quiet_in, KindsTell, ReadersTell, if_in, when_in, if_reads, past_in, then_in, ask_from, ask_in, same_in, next_in, repeat_tells, taken_in, looked_in, behind_stands, give_in}
+use Rattle.cxx_reading.specs.Reads.{Ahead, Reads, More, kind_ahead}
+use Rattle.cxx_reading.specs.Specifiers.{elaborated_tree, enumeration_tree, storage_word, storage_step, inline_step, const_step, volatile_step, word_step, worded, named_step, named_by, type_name_step, elaborated_step, defined_step, enumeration_body, list_step, named_list_step, key_step, enumeration_step, class_step, other_step, stored_by, worded_by, keyword_step, step_by, specifier_step, typed, specifiers_at}
+use Rattle.cxx_language_laws.proofs.Tells.{IsTold, Tells, ToldIn, quiet_in, KindsTell, ReadersTell, if_in, when_in, if_reads, past_in, then_in, ask_from, ask_in, same_in, next_in, repeat_tells, taken_in, looked_in, give_in, kind_tells, name_stands, name_told, path_then, token_told}
 
 pub storage_tells : {S : Type 0} {kept : S → S → Type 0} {told : S → Ahead → Stopped → Type 0} → IsTold kept told → (place : SpecifierPlace) (word : StorageWord) (so_far : Specifiers) → Tells kept told (storage_step {S = S} place word so_far)
 unfolding storage_step
@@ -43,21 +42,25 @@ pub word_tells : {S : Type 0} {kept : S → S → Type 0} {told : S → Ahead �
 unfolding word_step
 word_tells is word so_far state ahead = if_in _ (quiet_in is refl) (worded_tells is (with_word word so_far.words) so_far state ahead)
 
-named_by_tells : {S : Type 0} {kept : S → S → Type 0} {told : S → Ahead → Stopped → Type 0} → IsTold kept told → {asks : Kinds S} → KindsTell kept told asks → (path : CxxPath) (so_far : Specifiers) (kind : Kind) → Tells kept told (named_by asks path so_far kind)
-named_by_tells is asks path so_far kind.OfType state ahead = then_in is (ask_in ahead (asks.type_named path state ahead)) (λ of state ahead. then_in is (taken_in is state ahead) (λ place. give_in is (More (record so_far { named = Some of }))))
-named_by_tells is asks path so_far kind.OfTemplate state ahead = same_in is _ state _
-named_by_tells is asks path so_far kind.OfBoth state ahead = same_in is _ state _
-named_by_tells is asks path so_far kind.Space state ahead = same_in is _ state _
-named_by_tells is asks path so_far kind.Value state ahead = same_in is _ state _
+type_name_tells : {S : Type 0} {kept : S → S → Type 0} {told : S → Ahead → Stopped → Type 0} → IsTold kept told → {asks : Kinds S} → KindsTell kept told asks → (so_far : Specifiers) → Tells kept told (type_name_step asks so_far)
+unfolding type_name_step
+type_name_tells is asks so_far state ahead = then_in is (looked_in is state ahead) (λ from state ahead. then_in is (ask_in ahead (asks.type_named (path_ahead from) state ahead)) (λ of state ahead. then_in is (name_told is state ahead) (λ name. give_in is (More (record so_far { named = Some of })))))
+
+named_by_tells : {S : Type 0} {kept : S → S → Type 0} {told : S → Ahead → Stopped → Type 0} → IsTold kept told → {asks : Kinds S} → KindsTell kept told asks → (so_far : Specifiers) (kind : Kind) → Tells kept told (named_by asks so_far kind)
+named_by_tells is asks so_far kind.OfType state ahead = type_name_tells is asks so_far state ahead
+named_by_tells is asks so_far kind.OfTemplate state ahead = same_in is _ state _
+named_by_tells is asks so_far kind.OfBoth state ahead = same_in is _ state _
+named_by_tells is asks so_far kind.Space state ahead = same_in is _ state _
+named_by_tells is asks so_far kind.Value state ahead = same_in is _ state _
 
 pub named_tells : {S : Type 0} {kept : S → S → Type 0} {told : S → Ahead → Stopped → Type 0} → IsTold kept told → {asks : Kinds S} → KindsTell kept told asks → (so_far : Specifiers) → Tells kept told (named_step asks so_far)
 unfolding named_step
-named_tells is asks so_far state ahead = if_in _ (same_in is _ state _) (if_in _ (quiet_in is refl) (then_in is (ask_in ahead (asks.kind _ state ahead)) (named_by_tells is asks _ so_far)))
+named_tells is {asks = a} asks so_far state ahead = if_in _ (same_in is _ state _) (then_in is (kind_tells is a.kind asks.kind state ahead) (named_by_tells is asks so_far))
 
-pub elaborated_tells : {S : Type 0} {kept : S → S → Type 0} {told : S → Ahead → Stopped → Type 0} → IsTold kept told → {asks : Kinds S} → KindsTell kept told asks → (from : Ahead) (so_far : Specifiers) (state : S) (ahead : Ahead) → is_name (kind_ahead ahead) ≡ true
-    → ToldIn kept told state ahead (elaborated_step asks from (token_in ahead.tokens) so_far state (behind ahead))
+pub elaborated_tells : {S : Type 0} {kept : S → S → Type 0} {told : S → Ahead → Stopped → Type 0} → IsTold kept told → {asks : Kinds S} → KindsTell kept told asks → (from : Ahead) (so_far : Specifiers) (state : S) (ahead : Ahead) → begins_name ahead ≡ true
+    → ToldIn kept told state ahead (elaborated_step asks from so_far state ahead)
 unfolding elaborated_step
-elaborated_tells is asks from so_far state ahead named = then_in is (ask_from (behind ahead) (behind_stands ahead) (asks.elaborated state ahead named)) (λ of state rest. then_in is (looked_in is state rest) (λ to. give_in is (More (record so_far { named = Some of; parts = so_far.parts ++ elaborated_tree (token_in ahead.tokens) of from to ∷ [] }))))
+elaborated_tells is asks from so_far state ahead begins = path_then is _ state ahead (λ whole. then_in is (ask_from (behind_name ahead) (name_stands ahead) (asks.elaborated state ahead begins whole)) (λ of state rest. then_in is (looked_in is state rest) (λ to. give_in is (More (record so_far { named = Some of; parts = so_far.parts ++ elaborated_tree (path_ahead ahead) of from to ∷ [] })))))
 
 pub body_tells : {S : Type 0} {kept : S → S → Type 0} {told : S → Ahead → Stopped → Type 0} → IsTold kept told → {asks : Kinds S} → KindsTell kept told asks → {inner : Readers S} → ReadersTell kept told inner → (number : ℕ) → Tells kept told (enumeration_body asks inner number)
 unfolding enumeration_body
@@ -71,15 +74,13 @@ pub list_tells : {S : Type 0} {kept : S → S → Type 0} {told : S → Ahead �
 unfolding list_step
 list_tells is asks inner place from name so_far state ahead = if_in _ (defined_tells is asks inner from name so_far state ahead) (quiet_in is refl)
 
--- behind the name, which was ahead
-pub key_named_tells : {S : Type 0} {kept : S → S → Type 0} {told : S → Ahead → Stopped → Type 0} → IsTold kept told → {asks : Kinds S} → KindsTell kept told asks → {inner : Readers S} → ReadersTell kept told inner → (place : SpecifierPlace) (from : Ahead) (so_far : Specifiers) (state : S) (ahead : Ahead) → is_name (kind_ahead ahead) ≡ true
-    → ToldIn kept told state ahead (key_named_step asks inner place from so_far (token_in ahead.tokens) state (behind ahead))
-unfolding key_named_step
-key_named_tells is asks inner place from so_far state ahead named = if_in _ (past_in is (list_tells is asks inner place from (Some (token_in ahead.tokens)) so_far state _)) (elaborated_tells is asks from so_far state ahead named)
+named_list_tells : {S : Type 0} {kept : S → S → Type 0} {told : S → Ahead → Stopped → Type 0} → IsTold kept told → {asks : Kinds S} → KindsTell kept told asks → {inner : Readers S} → ReadersTell kept told inner → (place : SpecifierPlace) (from : Ahead) (so_far : Specifiers) → Tells kept told (named_list_step asks inner place from so_far)
+unfolding named_list_step
+named_list_tells is asks inner place from so_far state ahead = then_in is (token_told is state ahead) (λ name. list_tells is asks inner place from (Some name) so_far)
 
 pub key_tells : {S : Type 0} {kept : S → S → Type 0} {told : S → Ahead → Stopped → Type 0} → IsTold kept told → {asks : Kinds S} → KindsTell kept told asks → {inner : Readers S} → ReadersTell kept told inner → (place : SpecifierPlace) (from : Ahead) (so_far : Specifiers) → Tells kept told (key_step asks inner place from so_far)
 unfolding key_step
-key_tells is asks inner place from so_far state ahead = if_in _ (list_tells is asks inner place from None so_far state ahead) (if_in _ (quiet_in is refl) (when_in (is_name (kind_ahead ahead)) (λ named. key_named_tells is asks inner place from so_far state ahead named) (quiet_in is refl)))
+key_tells is asks inner place from so_far state ahead = if_in _ (list_tells is asks inner place from None so_far state ahead) (if_in _ (named_list_tells is asks inner place from so_far state ahead) (when_in (begins_name ahead) (λ begins. elaborated_tells is asks from so_far state ahead begins) (quiet_in is refl)))
 
 pub enumeration_tells : {S : Type 0} {kept : S → S → Type 0} {told : S → Ahead → Stopped → Type 0} → IsTold kept told → {asks : Kinds S} → KindsTell kept told asks → {inner : Readers S} → ReadersTell kept told inner → (place : SpecifierPlace) (so_far : Specifiers) → Tells kept told (enumeration_step asks inner place so_far)
 unfolding enumeration_step

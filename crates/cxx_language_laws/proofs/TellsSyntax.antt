@@ -1,7 +1,7 @@
 -- What the readers of declarators, parameters and enumerators keep of the state, and what stops them.
 use Rattle.std.proofs.Common.{◌≡◌, refl}
 use Rattle.cxx_model.specs.Stops.{Stopped}
-use Rattle.std.specs.Prelude.{ℕ, zero, suc, Bool, true, false, not, if◌then◌else◌, ◌||◌, ◌==◌, List, [], ◌∷◌, ◌++◌, length, Option, Some, None}
+use Rattle.std.specs.Prelude.{ℕ, zero, suc, Bool, true, false, not, if◌then◌else◌, ◌&&◌, ◌||◌, ◌==◌, List, [], ◌∷◌, ◌++◌, length, Option, Some, None}
 use Rattle.cxx_model.specs.declared.fault.FaultText.{FaultText}
 use Rattle.cxx_model.specs.declared.keyword.TheConstants as keyword
 use Rattle.cxx_model.specs.declared.limits.TheConstants as limits
@@ -14,21 +14,21 @@ use Rattle.cxx_reading.specs.declared.specifier.SpecifierPlace.TheVariants as wh
 use Rattle.cxx_reading.specs.Constants.{constant_at, literal_tree, literal_by, literal_at, keyword_text, begins_operand, begins_unary, expression_text, no_expression, is_member_pointer, continues, ends_by, literal_ended}
 use Rattle.cxx_reading.specs.Declarators.{Specifiers, pointer_layer, reference_layer, Declarator, no_declarator_yet, outward, is_named, ParameterTypes, parameter_type}
 use Rattle.cxx_reading.specs.Specifiers.{with_const, with_volatile}
-use Rattle.cxx_reading.specs.Tokens.{is_punct, is_keyword, is_name, is_qualified, no_declarator, is_number}
+use Rattle.cxx_reading.specs.Tokens.{is_punct, is_keyword, is_name, is_number, is_plain_name, begins_name, no_declarator}
 use Rattle.cxx_reading.specs.Trees.{CxxTree}
 use Rattle.cxx_model.specs.declared.base.Base.{Base}
 use Rattle.cxx_model.specs.declared.token.TokenKind.{TokenKind}
 use Rattle.cxx_model.specs.declared.token.TokenKind.TheVariants.{Name, Keyword, Punct, Text, Integer, Character, End}
 use Rattle.cxx_model.specs.Text.Spelling.{literal_type}
-use Rattle.cxx_reading.specs.Syntax.{default_at, no_fallback, is_required, is_never, cv_step, cv_at, suffixed, array_part, function_part, array_suffix, exceptions_at, function_suffix, function_by, bracket_suffix, suffix_at, give_declarator, suffixes_at, name_read, name_part, grouped_part, grouped_by, bracket_part, star_part, ampersand_part, declarator_at, pointed_at, referred_at, grouped_at, valued, bound_value, bound_at, specified_type, place_of_declarator, is_refused_parameter, parameter_fits, parameter_tree, with_parameter, with_ellipsis, parameter_at, list_ended, comma_passed, parameter_ended, parameter_step, past_most, parameters_over, no_parameters, some_parameters, turn_result, is_void_list, list_at, parameters_at, no_value, value_at, enumerator_at, enumerator_ended, enumerator_step, enumerators_at, readers, Suffixed}
+use Rattle.cxx_reading.specs.Syntax.{default_at, no_fallback, is_required, is_never, may_qualify, qualified_part, cv_step, cv_at, suffixed, array_part, function_part, array_suffix, exceptions_at, function_suffix, function_by, bracket_suffix, suffix_at, give_declarator, suffixes_at, name_read, name_part, grouped_part, grouped_by, bracket_part, star_part, ampersand_part, declarator_at, pointed_at, referred_at, grouped_at, valued, bound_value, bound_at, specified_type, place_of_declarator, is_refused_parameter, parameter_fits, parameter_tree, with_parameter, with_ellipsis, parameter_at, list_ended, comma_passed, parameter_ended, parameter_step, past_most, parameters_over, no_parameters, some_parameters, turn_result, is_void_list, list_at, parameters_at, no_value, value_at, enumerator_at, enumerator_ended, enumerator_step, enumerators_at, readers, Suffixed}
 use Rattle.cxx_model.specs.Types.Trees.{CxxType}
 use Rattle.cxx_reading.specs.Kinds.{Fallback, Kinds, Readers}
 use Rattle.cxx_reading.specs.Reads.{Ahead, Turn, More, Done, give, kind_ahead, word_ahead, behind}
-use Rattle.cxx_language_laws.proofs.Tells.{IsTold, Tells, saying, nothing, quiet_in, KindsTell, ReadersTell, if_in, past_in, then_in, ask_in, same_in, next_in, repeat_tells, taken_in, looked_in, token_told, punct_in, give_in, tokens_in, unit_is_told, returned_in, names_tell, lists_tell}
+use Rattle.cxx_language_laws.proofs.Tells.{IsTold, Tells, ToldIn, saying, nothing, quiet_in, KindsTell, ReadersTell, if_in, past_in, then_in, ask_in, same_in, next_in, repeat_tells, taken_in, looked_in, token_told, punct_in, give_in, tokens_in, unit_is_told, returned_in, names_tell, lists_tell}
 use Rattle.cxx_language_laws.proofs.TellsShapes.{begins_tells, abstract_tells, parameters_shape_tells}
 use Rattle.cxx_language_laws.proofs.TellsSpecifiers.{specifiers_tell}
 
-no_declarator_tells : {S A : Type 0} {kept : S → S → Type 0} {told : S → Ahead → Stopped → Type 0} → IsTold kept told → Tells kept told (no_declarator {S = S} {A = A})
+pub no_declarator_tells : {S A : Type 0} {kept : S → S → Type 0} {told : S → Ahead → Stopped → Type 0} → IsTold kept told → Tells kept told (no_declarator {S = S} {A = A})
 unfolding no_declarator
 no_declarator_tells is state ahead = if_in _ (quiet_in is refl) (quiet_in is refl)
 
@@ -113,45 +113,55 @@ pub suffixes_tell : {S : Type 0} {kept : S → S → Type 0} {told : S → Ahead
 unfolding suffixes_at
 suffixes_tell is {inner = i} inner declarator state ahead = repeat_tells is (suffix_at i) give_declarator (suffix_tells is inner) (λ so_far. give_in is so_far.declarator) _ _ state ahead
 
-pub name_tells : {S : Type 0} {kept : S → S → Type 0} {told : S → Ahead → Stopped → Type 0} → IsTold kept told → {inner : Readers S} → ReadersTell kept told inner → (naming : Naming) → Tells kept told (name_part inner naming)
+-- 8.3: a name has no qualifiers where none may have them
+pub name_tells : {S : Type 0} {kept : S → S → Type 0} {told : S → Ahead → Stopped → Type 0} → IsTold kept told → (asks : Kinds S) {inner : Readers S} → ReadersTell kept told inner → (naming : Naming) → may_qualify naming ≡ false → Tells kept told (name_part asks inner naming)
 unfolding name_part
-name_tells is inner naming state ahead = if_in (is_never naming) (suffixes_tell is inner no_declarator_yet state ahead) (if_in (is_qualified ahead) (quiet_in is refl) (if_in (is_name (kind_ahead ahead)) (then_in is (token_told is state ahead) (λ token. suffixes_tell is inner (name_read token))) (if_in (is_required naming) (no_declarator_tells is state ahead) (suffixes_tell is inner no_declarator_yet state ahead))))
+name_tells {kept = kept} {told = told} is asks {inner = i} inner naming plain state ahead =
+    if_in (is_never naming) (suffixes_tell is inner no_declarator_yet state ahead) (
+    if_in (is_plain_name ahead) (then_in is (token_told is state ahead) (λ token. suffixes_tell is inner (name_read token))) (by (may_qualify naming) plain))
+  where
+    others : ToldIn kept told state ahead (if is_required naming then no_declarator state ahead else suffixes_at i no_declarator_yet state ahead)
+    others = if_in (is_required naming) (no_declarator_tells is state ahead) (suffixes_tell is inner no_declarator_yet state ahead)
 
-pub grouped_part_tells : {S : Type 0} {kept : S → S → Type 0} {told : S → Ahead → Stopped → Type 0} → IsTold kept told → {inner : Readers S} → ReadersTell kept told inner → (naming : Naming) → Tells kept told (grouped_part inner naming)
+    by : (b : Bool) → b ≡ false → ToldIn kept told state ahead (if b && begins_name ahead then qualified_part asks i state ahead else (if is_required naming then no_declarator state ahead else suffixes_at i no_declarator_yet state ahead))
+    by true plain = absurd cc
+    by false plain = others
+
+pub grouped_part_tells : {S : Type 0} {kept : S → S → Type 0} {told : S → Ahead → Stopped → Type 0} → IsTold kept told → {inner : Readers S} → ReadersTell kept told inner → (naming : Naming) → may_qualify naming ≡ false → Tells kept told (grouped_part inner naming)
 unfolding grouped_part
-grouped_part_tells is inner naming state ahead = then_in is (taken_in is state ahead) (λ opened state ahead. then_in is (inner.grouped naming state ahead) (suffixes_tell is inner))
+grouped_part_tells is inner naming plain state ahead = then_in is (taken_in is state ahead) (λ opened state ahead. then_in is (inner.grouped naming plain state ahead) (suffixes_tell is inner))
 
-grouped_by_tells : {S : Type 0} {kept : S → S → Type 0} {told : S → Ahead → Stopped → Type 0} → IsTold kept told → {inner : Readers S} → ReadersTell kept told inner → (naming : Naming) (is_list : Bool) → Tells kept told (grouped_by inner naming is_list)
-grouped_by_tells is inner naming true state ahead = suffixes_tell is inner no_declarator_yet state ahead
-grouped_by_tells is inner naming false state ahead = grouped_part_tells is inner naming state ahead
+grouped_by_tells : {S : Type 0} {kept : S → S → Type 0} {told : S → Ahead → Stopped → Type 0} → IsTold kept told → {inner : Readers S} → ReadersTell kept told inner → (naming : Naming) → may_qualify naming ≡ false → (is_list : Bool) → Tells kept told (grouped_by inner naming is_list)
+grouped_by_tells is inner naming plain true state ahead = suffixes_tell is inner no_declarator_yet state ahead
+grouped_by_tells is inner naming plain false state ahead = grouped_part_tells is inner naming plain state ahead
 
-pub bracket_part_tells : {S : Type 0} {kept : S → S → Type 0} {told : S → Ahead → Stopped → Type 0} → IsTold kept told → {asks : Kinds S} → KindsTell kept told asks → {inner : Readers S} → ReadersTell kept told inner → (naming : Naming) → Tells kept told (bracket_part asks inner naming)
+pub bracket_part_tells : {S : Type 0} {kept : S → S → Type 0} {told : S → Ahead → Stopped → Type 0} → IsTold kept told → {asks : Kinds S} → KindsTell kept told asks → {inner : Readers S} → ReadersTell kept told inner → (naming : Naming) → may_qualify naming ≡ false → Tells kept told (bracket_part asks inner naming)
 unfolding bracket_part
-bracket_part_tells is asks inner naming state ahead = if_in (is_required naming) (grouped_part_tells is inner naming state ahead) (then_in is (abstract_tells is (names_tell asks) state ahead) (grouped_by_tells is inner naming))
+bracket_part_tells is asks inner naming plain state ahead = if_in (is_required naming) (grouped_part_tells is inner naming plain state ahead) (then_in is (abstract_tells is (names_tell asks) state ahead) (grouped_by_tells is inner naming plain))
 
-pub star_tells : {S : Type 0} {kept : S → S → Type 0} {told : S → Ahead → Stopped → Type 0} → IsTold kept told → {inner : Readers S} → ReadersTell kept told inner → (naming : Naming) → Tells kept told (star_part inner naming)
+pub star_tells : {S : Type 0} {kept : S → S → Type 0} {told : S → Ahead → Stopped → Type 0} → IsTold kept told → {inner : Readers S} → ReadersTell kept told inner → (naming : Naming) → may_qualify naming ≡ false → Tells kept told (star_part inner naming)
 unfolding star_part
-star_tells is inner naming state ahead = then_in is (taken_in is state ahead) (λ star. inner.pointed naming)
+star_tells is inner naming plain state ahead = then_in is (taken_in is state ahead) (λ star. inner.pointed naming plain)
 
-pub ampersand_tells : {S : Type 0} {kept : S → S → Type 0} {told : S → Ahead → Stopped → Type 0} → IsTold kept told → {inner : Readers S} → ReadersTell kept told inner → (naming : Naming) → Tells kept told (ampersand_part inner naming)
+pub ampersand_tells : {S : Type 0} {kept : S → S → Type 0} {told : S → Ahead → Stopped → Type 0} → IsTold kept told → {inner : Readers S} → ReadersTell kept told inner → (naming : Naming) → may_qualify naming ≡ false → Tells kept told (ampersand_part inner naming)
 unfolding ampersand_part
-ampersand_tells is inner naming state ahead = then_in is (taken_in is state ahead) (λ ampersand. inner.referred naming)
+ampersand_tells is inner naming plain state ahead = then_in is (taken_in is state ahead) (λ ampersand. inner.referred naming plain)
 
-pub declarator_tells : {S : Type 0} {kept : S → S → Type 0} {told : S → Ahead → Stopped → Type 0} → IsTold kept told → {asks : Kinds S} → KindsTell kept told asks → {inner : Readers S} → ReadersTell kept told inner → (naming : Naming) → Tells kept told (declarator_at asks inner naming)
+pub declarator_tells : {S : Type 0} {kept : S → S → Type 0} {told : S → Ahead → Stopped → Type 0} → IsTold kept told → {asks : Kinds S} → KindsTell kept told asks → {inner : Readers S} → ReadersTell kept told inner → (naming : Naming) → may_qualify naming ≡ false → Tells kept told (declarator_at asks inner naming)
 unfolding declarator_at
-declarator_tells is asks inner naming state ahead = if_in (is_punct punct.STAR (kind_ahead ahead)) (star_tells is inner naming state ahead) (if_in (is_punct punct.AMPERSAND (kind_ahead ahead)) (ampersand_tells is inner naming state ahead) (if_in (is_punct punct.LEFT_PARENTHESIS (kind_ahead ahead)) (bracket_part_tells is asks inner naming state ahead) (name_tells is inner naming state ahead)))
+declarator_tells is {asks = a} asks inner naming plain state ahead = if_in (is_punct punct.STAR (kind_ahead ahead)) (star_tells is inner naming plain state ahead) (if_in (is_punct punct.AMPERSAND (kind_ahead ahead)) (ampersand_tells is inner naming plain state ahead) (if_in (is_punct punct.LEFT_PARENTHESIS (kind_ahead ahead)) (bracket_part_tells is asks inner naming plain state ahead) (name_tells is a inner naming plain state ahead)))
 
-pub pointed_tells : {S : Type 0} {kept : S → S → Type 0} {told : S → Ahead → Stopped → Type 0} → IsTold kept told → {asks : Kinds S} → KindsTell kept told asks → {inner : Readers S} → ReadersTell kept told inner → (naming : Naming) → Tells kept told (pointed_at asks inner naming)
+pub pointed_tells : {S : Type 0} {kept : S → S → Type 0} {told : S → Ahead → Stopped → Type 0} → IsTold kept told → {asks : Kinds S} → KindsTell kept told asks → {inner : Readers S} → ReadersTell kept told inner → (naming : Naming) → may_qualify naming ≡ false → Tells kept told (pointed_at asks inner naming)
 unfolding pointed_at
-pointed_tells is asks inner naming state ahead = then_in is (tokens_in is (cv_tells unit_is_told) state ahead) (λ cv state ahead. then_in is (declarator_tells is asks inner naming state ahead) (λ inside. give_in is (outward (pointer_layer cv) [] inside)))
+pointed_tells is asks inner naming plain state ahead = then_in is (tokens_in is (cv_tells unit_is_told) state ahead) (λ cv state ahead. then_in is (declarator_tells is asks inner naming plain state ahead) (λ inside. give_in is (outward (pointer_layer cv) [] inside)))
 
-pub referred_tells : {S : Type 0} {kept : S → S → Type 0} {told : S → Ahead → Stopped → Type 0} → IsTold kept told → {asks : Kinds S} → KindsTell kept told asks → {inner : Readers S} → ReadersTell kept told inner → (naming : Naming) → Tells kept told (referred_at asks inner naming)
+pub referred_tells : {S : Type 0} {kept : S → S → Type 0} {told : S → Ahead → Stopped → Type 0} → IsTold kept told → {asks : Kinds S} → KindsTell kept told asks → {inner : Readers S} → ReadersTell kept told inner → (naming : Naming) → may_qualify naming ≡ false → Tells kept told (referred_at asks inner naming)
 unfolding referred_at
-referred_tells is asks inner naming state ahead = then_in is (declarator_tells is asks inner naming state ahead) (λ inside. give_in is (outward reference_layer [] inside))
+referred_tells is asks inner naming plain state ahead = then_in is (declarator_tells is asks inner naming plain state ahead) (λ inside. give_in is (outward reference_layer [] inside))
 
-pub grouped_tells : {S : Type 0} {kept : S → S → Type 0} {told : S → Ahead → Stopped → Type 0} → IsTold kept told → {asks : Kinds S} → KindsTell kept told asks → {inner : Readers S} → ReadersTell kept told inner → (naming : Naming) → Tells kept told (grouped_at asks inner naming)
+pub grouped_tells : {S : Type 0} {kept : S → S → Type 0} {told : S → Ahead → Stopped → Type 0} → IsTold kept told → {asks : Kinds S} → KindsTell kept told asks → {inner : Readers S} → ReadersTell kept told inner → (naming : Naming) → may_qualify naming ≡ false → Tells kept told (grouped_at asks inner naming)
 unfolding grouped_at
-grouped_tells is asks inner naming state ahead = then_in is (declarator_tells is asks inner naming state ahead) (λ inside state ahead. then_in is (tokens_in is (punct_in unit_is_told punct.RIGHT_PARENTHESIS) state ahead) (λ closed. give_in is inside))
+grouped_tells is asks inner naming plain state ahead = then_in is (declarator_tells is asks inner naming plain state ahead) (λ inside state ahead. then_in is (tokens_in is (punct_in unit_is_told punct.RIGHT_PARENTHESIS) state ahead) (λ closed. give_in is inside))
 
 pub valued_tells : {S : Type 0} {kept : S → S → Type 0} {told : S → Ahead → Stopped → Type 0} → IsTold kept told → {asks : Kinds S} → KindsTell kept told asks → Tells kept told (valued asks)
 unfolding valued
@@ -182,7 +192,7 @@ default_tells is fallback index of state ahead = if_in (is_punct punct.EQUALS (k
 
 pub parameter_tells : {S : Type 0} {kept : S → S → Type 0} {told : S → Ahead → Stopped → Type 0} → IsTold kept told → {asks : Kinds S} → KindsTell kept told asks → {fallback : Fallback S} → FallbackTells kept told fallback → {inner : Readers S} → ReadersTell kept told inner → (so_far : ParameterTypes) → Tells kept told (parameter_at asks fallback inner so_far)
 unfolding parameter_at
-parameter_tells is asks fallback inner so_far state ahead = then_in is (looked_in is state ahead) (λ from state ahead. then_in is (specifiers_tell is asks inner where_.Parameter state ahead) (λ specifiers state ahead. then_in is (declarator_tells is asks inner naming.Either state ahead) (λ declarator state ahead. then_in is (parameter_fits_tells is specifiers declarator state ahead) (λ fits state ahead. then_in is (looked_in is state ahead) (λ to state ahead. then_in is (ask_in ahead (asks.parameter declarator.name (place_of_declarator declarator to) (parameter_type declarator.layers (specified_type specifiers)) state ahead)) (λ declared state ahead. then_in is (default_tells is fallback (length so_far.types) (parameter_type declarator.layers (specified_type specifiers)) state ahead) (λ default state ahead. then_in is (looked_in is state ahead) (λ end. give_in is (with_parameter (parameter_type declarator.layers (specified_type specifiers)) (parameter_tree specifiers declarator (parameter_type declarator.layers (specified_type specifiers)) default from to end) so_far)))))))))
+parameter_tells is asks fallback inner so_far state ahead = then_in is (looked_in is state ahead) (λ from state ahead. then_in is (specifiers_tell is asks inner where_.Parameter state ahead) (λ specifiers state ahead. then_in is (declarator_tells is asks inner naming.Either refl state ahead) (λ declarator state ahead. then_in is (parameter_fits_tells is specifiers declarator state ahead) (λ fits state ahead. then_in is (looked_in is state ahead) (λ to state ahead. then_in is (ask_in ahead (asks.parameter declarator.name (place_of_declarator declarator to) (parameter_type declarator.layers (specified_type specifiers)) state ahead)) (λ declared state ahead. then_in is (default_tells is fallback (length so_far.types) (parameter_type declarator.layers (specified_type specifiers)) state ahead) (λ default state ahead. then_in is (looked_in is state ahead) (λ end. give_in is (with_parameter (parameter_type declarator.layers (specified_type specifiers)) (parameter_tree specifiers declarator (parameter_type declarator.layers (specified_type specifiers)) default from to end) so_far)))))))))
 
 pub list_ended_tells : {S : Type 0} {kept : S → S → Type 0} {told : S → Ahead → Stopped → Type 0} → IsTold kept told → (so_far : ParameterTypes) → Tells kept told (list_ended {S = S} so_far)
 unfolding list_ended
@@ -248,9 +258,9 @@ enumerators_tell is {asks = a} asks number state ahead = if_in (is_punct punct.R
 pub readers_tell : {S : Type 0} {kept : S → S → Type 0} {told : S → Ahead → Stopped → Type 0} → IsTold kept told → (asks : ℕ → Kinds S) → ((room : ℕ) → KindsTell kept told (asks room)) → (room : ℕ) → ReadersTell kept told (readers asks room)
 unfolding readers
 readers_tell is asks keep zero = record {
-  pointed = λ naming state ahead. quiet_in is refl;
-  referred = λ naming state ahead. quiet_in is refl;
-  grouped = λ naming state ahead. quiet_in is refl;
+  pointed = λ naming plain state ahead. quiet_in is refl;
+  referred = λ naming plain state ahead. quiet_in is refl;
+  grouped = λ naming plain state ahead. quiet_in is refl;
   bound = λ is_first state ahead. quiet_in is refl;
   parameters = λ state ahead. quiet_in is refl;
   enumerators = λ number state ahead. quiet_in is refl;

@@ -20,7 +20,7 @@ use Rattle.cxx_language_laws.specs.Told.{EndsIn, IsChoiceText, ReadsTo, none_mor
 use Rattle.cxx_language_laws.proofs.Scopes.{InScopes, scopes_same, scopes_first}
 use Rattle.cxx_language_laws.proofs.Declarations.{declaration_stops}
 use Rattle.cxx_language_laws.proofs.Later.{IsLater, later_is_kept, later_same}
-use Rattle.cxx_language_laws.proofs.Reached.{IsChosen, IsManifold, IsUndeclared, Reached}
+use Rattle.cxx_language_laws.proofs.Reached.{Arrived, IsChosen, IsManifold, IsUndeclared}
 use Rattle.cxx_language_laws.proofs.Stopping.{Chained, ChainedOf, ChainedSo, Stops, whole_part}
 use Rattle.cxx_language_laws.proofs.Tells.{Saying, choosing, undeclared, ambiguous, saying, IsTold, whole_stands, ends_later, ToldIn, tells_read, tells_stop, Tells, Answers, tells_answer, if_in, then_in, ask_in, same_in, repeat_tells, give_in}
 
@@ -187,7 +187,7 @@ told_as tokens fault declaration what is =
 scopes_before : (tokens : List Lexeme) (fault : Fault) (declaration : StopsIn tokens fault) → InScopes declaration.before
 scopes_before tokens fault declaration = read_scopes first_state (whole tokens) declaration.before declaration.ahead declaration.reads scopes_first
 
-stop_at : (tokens : List Lexeme) (fault : Fault) (declaration : StopsIn tokens fault) (P : CxxState → Ahead → Type 0) → Chained (a_declaration limits.MOST_NESTING) declaration.before declaration.ahead fault (λ before from. Reached before from P) → StopsAt tokens fault
+stop_at : (tokens : List Lexeme) (fault : Fault) (declaration : StopsIn tokens fault) (P : CxxState → Ahead → Type 0) → Chained (a_declaration limits.MOST_NESTING) declaration.before declaration.ahead fault (λ before from. Arrived before from P) → StopsAt tokens fault
 stop_at tokens fault declaration P told = record {
   declaration = declaration;
   part = told.last;
@@ -197,8 +197,8 @@ stop_at tokens fault declaration P told = record {
   innermost = told.innermost;
   at = told.is.at;
   ahead = told.is.rest;
-  grown = told.is.later.grown;
-  scope = told.is.later.scope (told.later.scopes (scopes_before tokens fault declaration));
+  grown = told.is.grown;
+  scope = told.is.scope (told.later.scopes (scopes_before tokens fault declaration));
   part_stands = told.stands;
   stands = told.is.stands;
 }
@@ -219,7 +219,7 @@ unfolding stop_at
 undeclared_is_told options tokens fault word e text =
     let declaration = unit_stops options tokens fault e in
     let told = told_as tokens fault declaration (undeclared word) (ap saying text) in
-    let unknown = told.is.is.is (told.is.later.scopes (told.later.scopes (scopes_before tokens fault declaration))) in
+    let unknown = told.is.is.is (told.is.scopes (told.later.scopes (scopes_before tokens fault declaration))) in
     record { stop = stop_at tokens fault declaration (IsUndeclared fault word) told; is = unknown.0; nowhere = unknown.1; is_text = text; bare = told.is.is.bare }
 
 pub ambiguous_is_told : (options : Options) (tokens : List Lexeme) (fault : Fault) (word : List ℕ) → unit_reading options tokens ≡ Err (Faulty fault) → fault.text ≡ says.AmbiguousName word → IsAmbiguousFault tokens fault word
@@ -227,4 +227,4 @@ unfolding stop_at
 ambiguous_is_told options tokens fault word e text =
     let declaration = unit_stops options tokens fault e in
     let told = told_as tokens fault declaration (ambiguous word) (ap saying text) in
-    record { stop = stop_at tokens fault declaration (IsManifold fault word) told; is = told.is.is (told.is.later.scopes (told.later.scopes (scopes_before tokens fault declaration))); is_text = text }
+    record { stop = stop_at tokens fault declaration (IsManifold fault word) told; is = told.is.is (told.is.scopes (told.later.scopes (scopes_before tokens fault declaration))); is_text = text }

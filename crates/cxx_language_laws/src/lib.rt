@@ -13,38 +13,43 @@ ghost use Rattle.cxx_language_laws.specs.Best.{EachCallIsBest};
 ghost use Rattle.cxx_language_laws.specs.Told.{IsAmbiguousFault, IsChoiceText, IsToldFault, IsUndeclaredFault};
 
 /// Each call of a whole reading means the viable function of its name, declared before it, that is better than every other
-/// viable one (13.3.3). Its candidates are all functions that its name means where it stands (3.4.1, 7.3.4) and, where no
-/// brackets stand round the name, those that the types of its arguments find besides (3.4.2). Each is viable or not for the
-/// first reason that holds (13.3.2), and what the call keeps of them is so.
+/// viable one (13.3.3). Its candidates are all functions that its name means where it stands (3.4.1, 7.3.4), or in the
+/// namespace that its qualifiers mean (3.4.3.2), and, where it has no qualifiers and no brackets stand round it, those that
+/// the types of its arguments find besides (3.4.2). Each is viable or not for the first reason that holds (13.3.2), and what
+/// the call keeps of them is so.
 pub fn each_call_is_best()
     ensures { (options : Options) (tokens : List Lexeme) (reading : CxxReading) → unit_reading options tokens ≡ Ok reading → EachCallIsBest reading }
 {}
 
 /// Where the choice of a function stops a reading (13.3), whole declarations were read before, and the reading of the
 /// next stops, part in part: in a namespace or a linkage, in specifiers, a declarator, an initializer or an expression of a
-/// statement. From there on a state is reached that keeps what was declared, in the same scope or in one of parameters that
-/// begins later, and a call stands there with its name where the fault is. Once its arguments are read, none of the
-/// functions that it may mean is viable for them, or none is the best. The evidence has exactly a line for each candidate
-/// with its reason, or for each viable function with the first other one that it is not better than.
+/// statement. From there on a state is reached that keeps what was declared, in the same scope, in one of parameters that
+/// begins later, or in the namespace of a member that is declared outside of it (8.3), and a call stands there with the
+/// last part of its name where the fault is. Once its arguments are read, none of the functions that it may mean is viable
+/// for them, or none is the best. The evidence has exactly a line for each candidate with its reason, or for each viable
+/// function with the first other one that it is not better than.
 pub fn choice_faults_are_told()
     ensures { (options : Options) (tokens : List Lexeme) (fault : Fault) → unit_reading options tokens ≡ Err (Faulty fault) → IsChoiceText fault.text → IsToldFault tokens fault }
 {}
 
 /// Where a name stops a reading as undeclared (3.4), whole declarations were read before, and the reading of the next
-/// stops, part in part: in a namespace or a linkage, in another name of a namespace or a directive, in specifiers, a
-/// declarator, an initializer or an expression of a statement. From there on a state is reached that keeps what was
-/// declared, in the same scope or in one of parameters that begins later, and that name stands there where the fault is.
-/// Its lookup finds nothing: of a called name once its arguments are read, whose types find nothing either (3.4.2); behind
-/// `enum`, of types alone (3.4.4), and in an alias or a directive, of namespaces (3.4.6). So no scope from there outward to
-/// that of the unit (3.3.5) declares the name, nor does a namespace that a directive of one of them reaches (7.3.4).
+/// stops, part in part: in a namespace or a linkage, in another name of a namespace, a using-declaration or a directive, in
+/// specifiers, a declarator, an initializer or an expression of a statement. From there on a state is reached that keeps
+/// what was declared, in the same scope, in one of parameters that begins later, or in the namespace of a member that is
+/// declared outside of it (8.3), and a name stands there of which a part stands where the fault is: the last one, or one
+/// before `::` (3.4.3). Its lookup finds nothing: of a called name once its arguments are read, whose types find nothing
+/// either (3.4.2); behind `enum`, of types alone (3.4.4), and in an alias or a directive, of namespaces (3.4.6). So no scope
+/// from there outward to that of the unit (3.3.5) declares the name, nor does a namespace that a directive of one of them
+/// reaches (7.3.4); behind qualifiers, neither their namespace nor one that is searched by its directives (3.4.3.2).
 pub fn undeclared_names_are_told()
     ensures { (options : Options) (tokens : List Lexeme) (fault : Fault) (word : List ℕ) → unit_reading options tokens ≡ Err (Faulty fault) → fault.text ≡ says.UndeclaredName word → IsUndeclaredFault tokens fault word }
 {}
 
 /// Where a name stops a reading as ambiguous (3.4, 7.3.4), whole declarations were read before, and the reading of the next
-/// stops, part in part, as above. From there on a state is reached in which that name stands where the fault is, and its
-/// lookup finds two entities that are no overloads: in an expression, behind `enum`, in an alias or a directive, or of a
-/// called name once its arguments are read. The evidence has the places of the two, and nothing else.
+/// stops, part in part, as above. From there on a state is reached in which a part of a name stands where the fault is, and
+/// its lookup finds two entities that are no overloads: in an expression, behind `enum`, in an alias, a using-declaration or
+/// a directive, before `::`, or of a called name once its arguments are read. The evidence has the places of the two, and
+/// nothing else.
 pub fn ambiguous_names_are_told()
     ensures { (options : Options) (tokens : List Lexeme) (fault : Fault) (word : List ℕ) → unit_reading options tokens ≡ Err (Faulty fault) → fault.text ≡ says.AmbiguousName word → IsAmbiguousFault tokens fault word }
 {}

@@ -105,7 +105,7 @@ of_filter test (first ∷ others) one m = kept_of (test first) first (filter tes
 
 well_kept : (state : CxxState) (call : CxxCall) → IsBestCall state call → IsWellKept call
 well_kept state call is =
-    let ordered : AreInOrder 1 is.all = all_in_order is.before call.operands (values_of_call is.before is.scope is.word is.is_bare call.operands) is.all is.rated_so in
+    let ordered : AreInOrder 1 is.all = all_in_order is.before call.operands (values_of_call is.before is.scope is.where_ is.path is.is_open call.operands) is.all is.rated_so in
     let at = within 1 is.all ordered is.meant (of_filter (λ one. is_viable one.outcome) is.all is.meant is.best.member) in
     let count : length call.candidates ≡ length is.all = ap (λ (c : CxxCall). length c.candidates) is.keeps ∙ length-map is.all number_of in
     let told : length call.outcomes ≡ length is.all = ap (λ (c : CxxCall). length c.outcomes) is.keeps ∙ length-map is.all outcome_of in

@@ -2,22 +2,78 @@
 
 ghost use Rattle.std.specs.Prelude.{◌≡◌, ◌<◌, length};
 ghost use Rattle.cxx_language.specs.Units as units;
+ghost use Rattle.cxx_space.specs.Parts.{fitting_by};
 ghost use Rattle.cxx_space.specs.Views.{IsDeclaredKnown, declares_of};
+ghost use Rattle.cxx_syntax.specs.Asking.{AnyKnown, itself};
 ghost use Rattle.cxx_syntax.specs.Reading.{IsRead};
 ghost use Rattle.cxx_syntax.specs.Views.{AreSpecifiers, AreTreesHeld, IsDeclarator, declarator_of, specifiers_of, trees_held};
 ghost use Rattle.cxx_tree.specs.Held.{meaning};
-ghost use Rattle.cxx_units.specs.Said.{IsListed, IsListedTurn, IsSaid, listed_of, listed_turn, said_of};
+ghost use Rattle.cxx_units.specs.Said.{IsDeclared, IsListed, IsListedTurn, IsSaid, listed_of, listed_turn, said_of};
 
 use crate::bodies::{Declared, ended_by};
 use crate::space::{Defines, Space};
-use cxx_model::{Stop, TreeIdList, punct};
+use cxx_model::{ScopeId, Stop, TreeIdList, TypeId, punct};
+use cxx_reading::Naming;
 use cxx_syntax::{Cursor, Declarator, Specifiers, Turn, declared, is_punct};
 use cxx_tree::State;
 use cxx_units::ends::nothing_declared;
 use cxx_units::said::{Listed as ListedTrees, Said, said_by};
+use cxx_units::trees::token_or;
 use cxx_units::{declared_fits, no_declarators};
 
+// The scope where the reader stands.
+#[tactic(auto, unfolding(cxx_tree::specs::Held::meaning))]
+fn standing(state: &State) -> ScopeId
+    ensures { result.0 ≡ (meaning state.now).here.scope }
+{
+    state.scope()
+}
+
 impl<D: Defines> Space<'_, D> {
+    // What has qualifiers was declared before with the same type (8.3).
+    #[tactic(auto, using(cxx_syntax::proofs::Kept::later_refl))]
+    fn member_agrees(
+        &self,
+        state: &State,
+        cursor: &Cursor<'_>,
+        said: Said,
+        declarator: &Declarator,
+        of: TypeId,
+    ) -> Result<(), Stop>
+        requires { IsDeclared state.now said declarator.now of }
+        ensures { IsRead itself AnyKnown state.now state.now cursor.now result (units.member_agrees (said_of state.now said) (declarator_of state.now declarator.now) (meaning state.now) cursor.now) }
+    {
+        if !declarator.is_qualified {
+            return Ok(());
+        }
+        match &declarator.name {
+            Some(name) => self.declares.agree_here(state, said.is_typedef, name, of),
+            None => {
+                let name = token_or(cursor.alloc(), None);
+                self.declares.agree_here(state, said.is_typedef, &name, of)
+            }
+        }
+    }
+
+    // A declarator that fits, given the type that it declares.
+    #[tactic(auto, using(cxx_syntax::proofs::Kept::later_refl, cxx_syntax::proofs::Kept::later_trans))]
+    fn declared_of(
+        &self,
+        state: &mut State,
+        cursor: &mut Cursor<'_>,
+        said: Said,
+        is_first: bool,
+        from: &Cursor<'_>,
+        declarator: Declarator,
+        of: TypeId,
+    ) -> Result<Declared, Stop>
+        requires { IsDeclared state.old said declarator of }
+        ensures { IsRead declares_of IsDeclaredKnown state.old state.new cursor.new result (fitting_by self.now.room (said_of state.old said) is_first from.now (declarator_of state.old declarator) (meaning state.old) cursor.old) }
+    {
+        self.member_agrees(state, cursor, said, &declarator, of)?;
+        self.declared_by(state, cursor, said, is_first, from, declarator, of)
+    }
+
     // A declarator that fits, with the type that it declares.
     #[tactic(auto, using(cxx_syntax::proofs::Kept::layers_kept, cxx_syntax::proofs::Kept::layers_later, cxx_syntax::proofs::Kept::trees_kept, cxx_syntax::proofs::Kept::trees_later, cxx_syntax::proofs::Kept::type_kept, cxx_syntax::proofs::Kept::type_later, cxx_syntax::proofs::Kept::later_refl, cxx_syntax::proofs::Kept::later_trans))]
     fn declared_as(
@@ -31,15 +87,16 @@ impl<D: Defines> Space<'_, D> {
     ) -> Result<Declared, Stop>
         requires said { IsSaid state.old said }
         requires declarator { IsDeclarator state.old declarator }
-        ensures { IsRead declares_of IsDeclaredKnown state.old state.new cursor.new result (units.declared_by self.now.room (said_of state.old said) is_first from.now (declarator_of state.old declarator) (meaning state.old) cursor.old) }
+        ensures { IsRead declares_of IsDeclaredKnown state.old state.new cursor.new result (fitting_by self.now.room (said_of state.old said) is_first from.now (declarator_of state.old declarator) (meaning state.old) cursor.old) }
     {
         match declared(state, declarator.layers.as_slice(), said.of) {
-            Ok(of) => self.declared_by(state, cursor, said, is_first, from, declarator, of),
+            Ok(of) => self.declared_of(state, cursor, said, is_first, from, declarator, of),
             Err(_) => Err(Stop::OutOfMemory),
         }
     }
 
-    #[tactic(auto, using(cxx_syntax::proofs::Kept::type_kept, cxx_syntax::proofs::Kept::type_later, cxx_syntax::proofs::Kept::later_refl, cxx_syntax::proofs::Kept::later_trans), unfolding(cxx_language::specs::Units::init_declarator_at))]
+    // Behind a declarator the reader stands where it stood before.
+    #[tactic(auto, using(crate::proofs::Kept::declares_kept, crate::proofs::Kept::declared_later, cxx_syntax::proofs::Kept::type_kept, cxx_syntax::proofs::Kept::type_later, cxx_syntax::proofs::Kept::later_refl, cxx_syntax::proofs::Kept::later_trans), unfolding(cxx_language::specs::Units::init_declarator_at))]
     fn init_declarator_at(
         &self,
         state: &mut State,
@@ -50,10 +107,15 @@ impl<D: Defines> Space<'_, D> {
         requires { IsSaid state.old said }
         ensures { IsRead declares_of IsDeclaredKnown state.old state.new cursor.new result (units.init_declarator_at self.now.room (said_of state.old said) is_first (meaning state.old) cursor.old) }
     {
+        let outside = standing(state);
         let from = cursor.mark();
-        let declarator = self.declares.declarator(state, cursor, self.room)?;
+        let declarator = self
+            .declares
+            .declarator(state, cursor, Naming::Qualified, self.room)?;
         declared_fits(state, cursor, said, &declarator)?;
-        self.declared_as(state, cursor, said, is_first, &from, declarator)
+        let one = self.declared_as(state, cursor, said, is_first, &from, declarator)?;
+        self.declares.stand_in(state, outside)?;
+        Ok(one)
     }
 
     // A declarator, and what separates it from the next.

@@ -1,8 +1,7 @@
 //! What may stand behind a declarator, and where a declaration would begin (clauses 7, 8).
 
-ghost use Rattle.std.specs.Prelude.{◌≡◌, ◌<◌, length, if◌then◌else◌, IfOk};
+ghost use Rattle.std.specs.Prelude.{◌≡◌, ◌<◌, length, IfOk};
 ghost use Rattle.cxx_model.specs.Stops.{Faulty, fault};
-ghost use Rattle.cxx_model.specs.declared.fault.FaultText.TheVariants as says;
 ghost use Rattle.cxx_reading.specs.Declarators.{own_parameters as own_parameters_of};
 ghost use Rattle.cxx_reading.specs.Reads.{kind_ahead, place_ahead};
 ghost use Rattle.cxx_reading.specs.Tokens as token;
@@ -156,10 +155,7 @@ fn form_of_kind(kind: TokenKind) -> FaultText
 
 /// What stands where a declaration would begin (clause 7).
 pub fn no_declaration(cursor: &Cursor<'_>) -> Result<Box<Fault>, AllocError>
-    ensures { IfOk result (λ at. Faulty at.value ≡ fault (place_ahead cursor.now) (if token.is_qualified cursor.now then says.NotBuilt else token.form_of_kind (kind_ahead cursor.now))) }
+    ensures { IfOk result (λ at. Faulty at.value ≡ fault (place_ahead cursor.now) (token.form_of_kind (kind_ahead cursor.now))) }
 {
-    if cursor.is_qualified() {
-        return cursor.not_built();
-    }
     cursor.faulty(form_of_kind(cursor.kind()))
 }

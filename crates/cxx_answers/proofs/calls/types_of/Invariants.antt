@@ -1,5 +1,5 @@
 use Rattle.std.proofs.Common.{◌≡◌, ◌++◌, drop, length}
-use Rattle.cxx_adl.specs.Views.{given}
+use Rattle.cxx_found.specs.Associated.{given}
 use Rattle.cxx_answers.specs.Answers.{types_of_operands}
 use Rattle.cxx_expr.specs.Views.{operands_in}
 use Rattle.cxx_model.specs.Types.Numbers.{AreTypesBelow}

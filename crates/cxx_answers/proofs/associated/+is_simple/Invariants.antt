@@ -1,4 +1,0 @@
-use Rattle.cxx_answers.proofs.associated.+is_simple.Given as goal
-
-abbrev pub decreases-is_simple : goal.decreases-is_simple
-decreases-is_simple l = l.of.0

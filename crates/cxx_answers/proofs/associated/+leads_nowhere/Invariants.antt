@@ -1,4 +1,0 @@
-use Rattle.cxx_answers.proofs.associated.+leads_nowhere.Given as goal
-
-abbrev pub decreases-leads_nowhere : goal.decreases-leads_nowhere
-decreases-leads_nowhere l = l.of.0
