@@ -1,7 +1,7 @@
 -- The first facts of functions and function templates.
 use Rattle.std.proofs.Common.{◌≡◌, Bool, true, false, cond, List, [], ◌∷◌, map, refl, ap, ◌∙◌}
 use Rattle.cxx_model.specs.Facts.Declarations as facts
-use Rattle.cxx_model.specs.Facts.Declarations.{CxxGraph, Declares, declares_at}
+use Rattle.cxx_model.specs.Facts.Declarations.{CxxGraph, Declares}
 use Rattle.cxx_meaning.specs.Lookups.Associated.{functions_among}
 use Rattle.cxx_meaning.specs.Lookups.Sightings.{Sighting, entities, named_by}
 use Rattle.cxx_meaning.specs.Lookups.Wanted.{is_function}

@@ -7,7 +7,7 @@ ghost use Rattle.cxx_model.specs.declared.types.ScopeId.{ScopeId as ScopeNumber}
 ghost use Rattle.cxx_model.specs.Types.Trees.{CxxType};
 ghost use Rattle.cxx_model.specs.Facts.Declarations.{declares_at, fact_at, graph_at, name_at};
 ghost use Rattle.cxx_model.specs.Facts.Entities.{is_seen as is_seen_at};
-ghost use Rattle.cxx_model.specs.Facts.Fitted.{IsEntityBelow, IsFactBelow, IsGraphBelow, IsNameBelow};
+ghost use Rattle.cxx_model.specs.Facts.Fitted.{IsFactBelow, IsGraphBelow, IsNameBelow};
 ghost use Rattle.cxx_meaning.specs.Lookups.Associated.{adl as adl_of, befriended, standing_in_each, target_by, target_of as target_among};
 ghost use Rattle.cxx_meaning.specs.Lookups.Gathered.{gathered, with_facts};
 ghost use Rattle.cxx_meaning.specs.Lookups.Sightings.{befriends as befriends_by, is_by_friend as is_made_by_friend, sighting_in, sighting_of, standing};

@@ -5,7 +5,7 @@ ghost use Rattle.cxx_model.specs.Types.Numbers.{AreTypesBelow, type_over};
 ghost use Rattle.cxx_model.specs.Facts.Declarations.{graph_at};
 ghost use Rattle.cxx_model.specs.Facts.Fitted.{IsGraphBelow};
 ghost use Rattle.cxx_model.specs.Facts.Pending.{is_pending as is_pending_class};
-ghost use Rattle.cxx_meaning.specs.Lookups.Associated.{associated as associated_with, class_at_scope, class_of as class_of_part, of_type, own_classes as own_classes_of, parts as parts_of, sets_of, number_of_class, space_at_scope, spaces_of, with_member_classes, with_spaces, with_template_spaces};
+ghost use Rattle.cxx_meaning.specs.Lookups.Associated.{associated as associated_with, class_at_scope, class_of as class_of_part, of_type, own_classes as own_classes_of, sets_of, number_of_class, space_at_scope, spaces_of, with_member_classes, with_spaces, with_template_spaces};
 ghost use Rattle.cxx_adl.specs.Answers.{Answers};
 ghost use Rattle.cxx_adl.specs.Views.{ArePartsBelow, IsPartBelow, given, graph_of, holders_of, part_at};
 

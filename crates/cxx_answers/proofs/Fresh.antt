@@ -1,6 +1,6 @@
 -- The functions that are found besides others, by their numbers (3.4.2).
 use Rattle.std.specs.Prelude.{ℕ, zero, suc, ◌≡◌, ◌<◌, ◌≤◌, Bool, true, false, ◌||◌, nat_eq, if◌then◌else◌, List, [], ◌∷◌, ◌++◌, length, Option, Some, None, refl}
-use Rattle.std.proofs.Common.{◌+◌, ap, sym, subst, ◌∙◌, arith, append_assoc, get_or, drop}
+use Rattle.std.proofs.Common.{◌+◌, ap, sym, subst, ◌∙◌, arith, get_or, drop}
 use Rattle.std.proofs.lemmas.List.{append-nil, at_drop_more, at_drop_all}
 use Rattle.std.proofs.lemmas.Bool.Decides.{nat_tests}
 use Rattle.std.specs.List.{slice_get}
@@ -60,23 +60,6 @@ pub fresh_none : (functions : List Numbered) (found : List FactId) (number : Fac
 fresh_none functions found number there =
     sym (append-nil (fact_numbers found))
     ∙ sym (ap (λ (b : Bool). fact_numbers found ++ (if b then [] else number.0 ∷ [])) there)
-
-fresh_first : (functions : List Numbered) (number : FactId) (numbers : List FactId) → fresh_among functions (number ∷ numbers) ≡ fresh_among functions (number ∷ []) ++ fresh_among functions numbers
-fresh_first functions number numbers = by (has_number number.0 functions)
-  where
-    by : (b : Bool) → (if b then fresh_among functions numbers else number.0 ∷ fresh_among functions numbers) ≡ (if b then [] else number.0 ∷ []) ++ fresh_among functions numbers
-    by true = refl
-    by false = refl
-
-pub fresh_step : (functions : List Numbered) (found after numbers : List FactId) (i : ℕ) (number d : FactId) (whole : List ℕ) → i < length numbers → number ≡ get_or numbers i d → fact_numbers after ≡ fact_numbers found ++ fresh_among functions (number ∷ []) → fact_numbers found ++ fresh_among functions (drop i numbers) ≡ whole → fact_numbers after ++ fresh_among functions (drop (i + 1) numbers) ≡ whole
-fresh_step functions found after numbers i number d whole less is added same =
-    let rest : List ℕ = fresh_among functions (drop (i + 1) numbers) in
-    ap (λ all. all ++ rest) added
-    ∙ append_assoc (fact_numbers found) (fresh_among functions (number ∷ [])) rest
-    ∙ ap (λ all. fact_numbers found ++ all) (sym (fresh_first functions number (drop (i + 1) numbers)))
-    ∙ ap (λ (n : FactId). fact_numbers found ++ fresh_among functions (n ∷ drop (i + 1) numbers)) is
-    ∙ sym (at_drop_more (λ ns. fact_numbers found ++ fresh_among functions ns) numbers i d less)
-    ∙ same
 
 pub fresh_end : (functions : List Numbered) (found numbers : List FactId) (i : ℕ) (whole : List ℕ) → length numbers ≤ i → fact_numbers found ++ fresh_among functions (drop i numbers) ≡ whole → fact_numbers found ≡ whole
 fresh_end functions found numbers i whole past same =

@@ -5,5 +5,6 @@ pub mod Found
 pub mod Fresh
 pub mod Opened
 pub mod Records
+pub mod Taken
 pub mod Told
 pub mod Typing

@@ -4,23 +4,18 @@ use Rattle.std.proofs.Common.{◌+◌, ◌⊎◌, inl, inr, ap, sym, subst, ◌�
 use Rattle.std.proofs.lemmas.List.{append-nil, at_drop_more, at_drop_all}
 use Rattle.std.specs.List.{slice_get}
 use Rattle.std.specs.Option.{option_map}
-use Rattle.cxx_model.specs.declared.facts.Entity.{Entity}
-use Rattle.cxx_model.specs.declared.facts.Entity.TheVariants as entity
 use Rattle.cxx_model.specs.declared.facts.Fact.{Fact}
-use Rattle.cxx_model.specs.declared.facts.Name.{Name}
-use Rattle.cxx_model.specs.declared.facts.Name.TheVariants as name
 use Rattle.cxx_model.specs.declared.types.FactId.{FactId}
-use Rattle.cxx_model.specs.Facts.Conflicts.{declares_name, has_name, same_name}
-use Rattle.cxx_model.specs.Facts.Declarations.{CxxGraph, CxxName, declares_at, fact_at, facts_at, graph_at, name_at, unnamed, spelled, operator_function, conversion_to, destructor}
+use Rattle.cxx_model.specs.Facts.Declarations.{CxxGraph, CxxName, declares_at, fact_at, facts_at, graph_at, name_at, unnamed}
 use Rattle.cxx_model.specs.Facts.Graph.{Graph}
 use Rattle.cxx_model.specs.Types.Trees.{CxxType}
-use Rattle.cxx_names.specs.Clashes.{IsPlain, IsPlainName}
+use Rattle.cxx_names.proofs.Wordless.{no_unnamed}
 use Rattle.cxx_names.specs.Looked.{looked_up, seen_by}
-use Rattle.cxx_names.specs.Plain.{ArePlain, IsPlainScope}
-use Rattle.cxx_reading.specs.Givers.{declares_function, giver, giver_beside, givers, is_function_fact, last_of, name_by, or_before, other_giver, outward_from, scope_in}
+use Rattle.cxx_names.specs.Plain.{ArePlain}
+use Rattle.cxx_reading.specs.Givers.{declares_function, giver, giver_beside, givers, is_function_fact, last_of, name_by, or_before, other_giver, outward_from, scope_in, told_by as told_by_row}
 use Rattle.cxx_reading.specs.Linked.{home_of, is_space_at}
-use Rattle.cxx_reading.specs.Seen.{Numbered, declared_from, declared_in, declares_in, parent_of}
-use Rattle.cxx_answers.specs.Told.{AreNumbersBelow, IsScopeOf, told, told_by}
+use Rattle.cxx_reading.specs.Seen.{Numbered, declared_in, parent_of}
+use Rattle.cxx_answers.specs.Told.{AreNumbersBelow, IsScopeOf, are_some, told, told_by}
 
 -- ---- one declaration
 
@@ -107,125 +102,66 @@ passed_next types facts function before number is = ap (λ o. or_before o (told 
 pub last_end : (types : List CxxType) (facts : List Fact) (function : ℕ) (found : Option FactId) (numbers : List FactId) (i : ℕ) (whole : Option Numbered) → length numbers ≤ i → or_before (last_of function (looked_up types facts (drop i numbers))) (told types facts found) ≡ whole → told types facts found ≡ whole
 last_end types facts function found numbers i whole past same = sym (at_drop_all (λ ns. or_before (last_of function (looked_up types facts ns)) (told types facts found)) numbers i past) ∙ same
 
--- ---- names that are no words
+-- ---- whether any of some declarations is there
 
-abbrev IsNoWord : CxxName → Type 0
-IsNoWord (spelled word) = ⊥
-IsNoWord _ = Unit {0}
+pub any_this : (types : List CxxType) (facts : List Fact) (numbers : List FactId) (i : ℕ) (number d : FactId) (fact : Fact) → i < length numbers → number ≡ get_or numbers i d → slice_get facts number.0 ≡ Some fact → are_some (looked_up types facts (drop i numbers)) ≡ are_some (looked_up types facts numbers) → true ≡ are_some (looked_up types facts numbers)
+any_this types facts numbers i number d fact less is at same =
+    sym (ap (λ o. are_some (seen_by types number (looked_up types facts (drop (i + 1) numbers)) o)) at)
+    ∙ ap (λ (n : FactId). are_some (looked_up types facts (n ∷ drop (i + 1) numbers))) is
+    ∙ sym (at_drop_more (λ ns. are_some (looked_up types facts ns)) numbers i d less)
+    ∙ same
 
-none_and : (a b : Bool) → (a && (b && false)) ≡ false
-none_and true true = refl
-none_and true false = refl
-none_and false b = refl
+pub any_step : (types : List CxxType) (facts : List Fact) (numbers : List FactId) (i : ℕ) (number d : FactId) → i < length numbers → number ≡ get_or numbers i d → slice_get facts number.0 ≡ None → are_some (looked_up types facts (drop i numbers)) ≡ are_some (looked_up types facts numbers) → are_some (looked_up types facts (drop (i + 1) numbers)) ≡ are_some (looked_up types facts numbers)
+any_step types facts numbers i number d less is at same =
+    sym (ap (λ o. are_some (seen_by types number (looked_up types facts (drop (i + 1) numbers)) o)) at)
+    ∙ ap (λ (n : FactId). are_some (looked_up types facts (n ∷ drop (i + 1) numbers))) is
+    ∙ sym (at_drop_more (λ ns. are_some (looked_up types facts ns)) numbers i d less)
+    ∙ same
 
-not_and : (a b : Bool) → (a && (false && b)) ≡ false
-not_and true b = refl
-not_and false b = refl
-
-scope_declares : (types : List CxxType) (what : Entity) → IsPlainScope what → declares_name (declares_at types what) ≡ false
-scope_declares types (entity.Scope parent kind) is = refl
-scope_declares types (entity.Object _ _ _ _ _) is = elim is [ ]
-scope_declares types (entity.Function _ _ _ _ _) is = elim is [ ]
-scope_declares types (entity.Template _ _ _ _ _) is = elim is [ ]
-scope_declares types (entity.Parameter _ _ _) is = elim is [ ]
-scope_declares types (entity.Injected _) is = elim is [ ]
-scope_declares types (entity.Class _ _) is = elim is [ ]
-scope_declares types (entity.Complete _) is = elim is [ ]
-scope_declares types (entity.Passed _) is = elim is [ ]
-scope_declares types (entity.Ancestor _ _ _ _) is = elim is [ ]
-scope_declares types (entity.Enumeration _) is = elim is [ ]
-scope_declares types (entity.Enumerator _ _) is = elim is [ ]
-scope_declares types (entity.Synonym _) is = elim is [ ]
-scope_declares types (entity.Namespace _) is = elim is [ ]
-scope_declares types (entity.Directive _) is = elim is [ ]
-scope_declares types (entity.Using _) is = elim is [ ]
-scope_declares types (entity.Friend _ _) is = elim is [ ]
-
-no_same : (types : List CxxType) (own : Name) (other : CxxName) → IsPlainName own → IsNoWord other → (has_name other && same_name (name_at types own) other) ≡ false
-no_same types name.Unnamed unnamed plain _ = refl
-no_same types name.Unnamed (operator_function n) plain _ = refl
-no_same types name.Unnamed (conversion_to t) plain _ = refl
-no_same types name.Unnamed destructor plain _ = refl
-no_same types (name.Spelled word) unnamed plain _ = refl
-no_same types (name.Spelled word) (operator_function n) plain _ = refl
-no_same types (name.Spelled word) (conversion_to t) plain _ = refl
-no_same types (name.Spelled word) destructor plain _ = refl
-no_same types name.Unnamed (spelled word) plain wordless = elim wordless [ ]
-no_same types (name.Spelled own) (spelled word) plain wordless = elim wordless [ ]
-no_same types (name.Operator n) other plain _ = elim plain [ ]
-no_same types (name.Conversion of) other plain _ = elim plain [ ]
-no_same types name.Destructor other plain _ = elim plain [ ]
-
-declares_no : (types : List CxxType) (scope : ℕ) (other : CxxName) (fact : Fact) → IsNoWord other → IsPlainScope fact.what ⊎ IsPlain fact → declares_in scope other (fact_at types fact) ≡ false
-declares_no types scope other fact wordless (inl is) =
-    ap (λ b. nat_eq fact.scope.0 scope && (b && (has_name other && same_name (name_at types fact.name) other))) (scope_declares types fact.what is)
-    ∙ not_and (nat_eq fact.scope.0 scope) (has_name other && same_name (name_at types fact.name) other)
-declares_no types scope other fact wordless (inr plain) =
-    ap (λ b. nat_eq fact.scope.0 scope && (declares_name (declares_at types fact.what) && b)) (no_same types fact.name other plain.name wordless)
-    ∙ none_and (nat_eq fact.scope.0 scope) (declares_name (declares_at types fact.what))
-
-none_from : (types : List CxxType) (scope : ℕ) (other : CxxName) (number : ℕ) (facts : List Fact) → IsNoWord other → ArePlain facts → declared_from scope other number (facts_at types facts) ≡ []
-none_from types scope other number [] wordless plain = refl
-none_from types scope other number (fact ∷ facts) wordless plain =
-    let later : List Numbered = declared_from scope other (suc number) (facts_at types facts) in
-    ap (λ b. if b then record { number = number; fact = fact_at types fact } ∷ later else later) (declares_no types scope other fact wordless plain.0)
-    ∙ none_from types scope other (suc number) facts wordless plain.1
-
-none_in : (types : List CxxType) (graph : Graph) (scope : ℕ) (other : CxxName) → IsNoWord other → ArePlain graph.facts → declared_in (graph_at types graph) scope other ≡ []
-unfolding declared_in
-none_in types graph scope other wordless plain = none_from types scope other zero graph.facts wordless plain
-
-pub no_unnamed : (types : List CxxType) (graph : Graph) (scope : ℕ) → ArePlain graph.facts → [] ≡ declared_in (graph_at types graph) scope unnamed
-no_unnamed types graph scope plain = sym (none_in types graph scope unnamed tt plain)
-
-pub no_operator : (types : List CxxType) (graph : Graph) (scope n : ℕ) → ArePlain graph.facts → [] ≡ declared_in (graph_at types graph) scope (operator_function n)
-no_operator types graph scope n plain = sym (none_in types graph scope (operator_function n) tt plain)
-
-pub no_conversion : (types : List CxxType) (graph : Graph) (scope : ℕ) (of : CxxType) → ArePlain graph.facts → [] ≡ declared_in (graph_at types graph) scope (conversion_to of)
-no_conversion types graph scope of plain = sym (none_in types graph scope (conversion_to of) tt plain)
-
-pub no_destructor : (types : List CxxType) (graph : Graph) (scope : ℕ) → ArePlain graph.facts → [] ≡ declared_in (graph_at types graph) scope destructor
-no_destructor types graph scope plain = sym (none_in types graph scope destructor tt plain)
+pub any_end : (types : List CxxType) (facts : List Fact) (numbers : List FactId) (i : ℕ) → length numbers ≤ i → are_some (looked_up types facts (drop i numbers)) ≡ are_some (looked_up types facts numbers) → false ≡ are_some (looked_up types facts numbers)
+any_end types facts numbers i past same = sym (at_drop_all (λ ns. are_some (looked_up types facts ns)) numbers i past) ∙ same
 
 -- ---- outward
 
-abbrev out_by : Bool → Option Numbered → Option Numbered → Option Numbered
-out_by is_space here further = if is_space then None else or_before here further
+some_told : (function : ℕ) (row : List Numbered) (outer : Option Numbered) → are_some row ≡ true → told_by_row function row outer ≡ last_of function row
+some_told function [] outer some = absurd cc
+some_told function (one ∷ others) outer some = refl
+
+none_told : (function : ℕ) (row : List Numbered) (outer : Option Numbered) → are_some row ≡ false → told_by_row function row outer ≡ outer
+none_told function [] outer none = refl
+none_told function (one ∷ others) outer none = absurd cc
+
+abbrev out_by : Bool → Option Numbered → Option Numbered
+out_by is_space told = if is_space then None else told
 
 pub out_space : (graph : CxxGraph) (function : ℕ) (word : CxxName) (room less scope : ℕ) (whole : Option Numbered) → room ≡ suc less → is_space_at graph scope ≡ true → outward_from graph function word room scope ≡ whole → None ≡ whole
 out_space graph function word zero less scope whole is space same = absurd (omega (arith, is))
 out_space graph function word (suc room) less scope whole is space same =
-    sym (ap (λ b. out_by b (last_of function (declared_in graph scope word)) (outward_from graph function word room (parent_of graph scope))) space) ∙ same
+    sym (ap (λ b. out_by b (told_by_row function (declared_in graph scope word) (outward_from graph function word room (parent_of graph scope)))) space) ∙ same
 
-pub out_here : (graph : CxxGraph) (function : ℕ) (word : CxxName) (room less scope : ℕ) (one : Option Numbered) (found : Numbered) (whole : Option Numbered) → room ≡ suc less → is_space_at graph scope ≡ false → one ≡ last_of function (declared_in graph scope word) → one ≡ Some found → outward_from graph function word room scope ≡ whole → one ≡ whole
-out_here graph function word zero less scope one found whole is space here some same = absurd (omega (arith, is))
-out_here graph function word (suc room) less scope one found whole is space here some same =
+pub out_here : (graph : CxxGraph) (function : ℕ) (word : CxxName) (room less scope : ℕ) (one whole : Option Numbered) → room ≡ suc less → is_space_at graph scope ≡ false → are_some (declared_in graph scope word) ≡ true → one ≡ last_of function (declared_in graph scope word) → outward_from graph function word room scope ≡ whole → one ≡ whole
+out_here graph function word zero less scope one whole is space some here same = absurd (omega (arith, is))
+out_here graph function word (suc room) less scope one whole is space some here same =
     let further : Option Numbered = outward_from graph function word room (parent_of graph scope) in
-    some
-    ∙ ap (λ o. or_before o further) (sym some ∙ here)
-    ∙ sym (ap (λ b. out_by b (last_of function (declared_in graph scope word)) further) space)
+    here
+    ∙ sym (some_told function (declared_in graph scope word) further some)
+    ∙ sym (ap (λ b. out_by b (told_by_row function (declared_in graph scope word) further)) space)
     ∙ same
 
-pub out_on : (graph : CxxGraph) (function : ℕ) (word : CxxName) (room less scope next : ℕ) (whole : Option Numbered) → room ≡ suc less → is_space_at graph scope ≡ false → None ≡ last_of function (declared_in graph scope word) → next ≡ parent_of graph scope → outward_from graph function word room scope ≡ whole → outward_from graph function word less next ≡ whole
+pub out_on : (graph : CxxGraph) (function : ℕ) (word : CxxName) (room less scope next : ℕ) (whole : Option Numbered) → room ≡ suc less → is_space_at graph scope ≡ false → are_some (declared_in graph scope word) ≡ false → next ≡ parent_of graph scope → outward_from graph function word room scope ≡ whole → outward_from graph function word less next ≡ whole
 out_on graph function word zero less scope next whole is space none up same = absurd (omega (arith, is))
 out_on graph function word (suc room) less scope next whole is space none up same =
     let fewer : less ≡ room = omega (arith, is) in
     let further : Option Numbered = outward_from graph function word room (parent_of graph scope) in
     ap (λ n. outward_from graph function word less n) up
     ∙ ap (λ n. outward_from graph function word n (parent_of graph scope)) fewer
-    ∙ ap (λ o. or_before o further) none
-    ∙ sym (ap (λ b. out_by b (last_of function (declared_in graph scope word)) further) space)
+    ∙ sym (none_told function (declared_in graph scope word) further none)
+    ∙ sym (ap (λ b. out_by b (told_by_row function (declared_in graph scope word) further)) space)
     ∙ same
 
 pub out_end : (graph : CxxGraph) (function : ℕ) (word : CxxName) (room scope : ℕ) (whole : Option Numbered) → room ≡ zero → outward_from graph function word room scope ≡ whole → None ≡ whole
 out_end graph function word zero scope whole is same = same
 out_end graph function word (suc room) scope whole is same = absurd (omega (arith, is))
-
--- a declaration that is there was found in a block
-pub told_here : (types : List CxxType) (graph : Graph) (function : ℕ) (word : CxxName) (room less scope : ℕ) (one : FactId) (whole : Option Numbered) → room ≡ suc less → is_space_at (graph_at types graph) scope ≡ false → told types graph.facts (Some one) ≡ last_of function (declared_in (graph_at types graph) scope word) → one.0 < length graph.facts → outward_from (graph_at types graph) function word room scope ≡ whole → told types graph.facts (Some one) ≡ whole
-told_here types graph function word room less scope one whole is space here there same =
-    let some : (found : Numbered) × (told types graph.facts (Some one) ≡ Some found) = told_there types graph.facts one there in
-    out_here (graph_at types graph) function word room less scope (told types graph.facts (Some one)) some.0 whole is space here some.1 same
 
 -- ---- the giver
 
@@ -250,9 +186,9 @@ giver_home types graph scope function found fact at out home =
     ∙ ap (λ o. or_before o (last_of function.0 (declared_in all (home_of all fact.scope.0) (name_at types fact.name)))) out
     ∙ sym (giver_is types graph scope function.0 fact at)
 
-unnamed_by : (types : List CxxType) (graph : Graph) (function scope : ℕ) (further : Option Numbered) (b : Bool) → ArePlain graph.facts → further ≡ None → out_by b (last_of function (declared_in (graph_at types graph) scope unnamed)) further ≡ None
+unnamed_by : (types : List CxxType) (graph : Graph) (function scope : ℕ) (further : Option Numbered) (b : Bool) → ArePlain graph.facts → further ≡ None → out_by b (told_by_row function (declared_in (graph_at types graph) scope unnamed) further) ≡ None
 unnamed_by types graph function scope further true plain none = refl
-unnamed_by types graph function scope further false plain none = ap (λ all. or_before (last_of function all) further) (sym (no_unnamed types graph scope plain)) ∙ none
+unnamed_by types graph function scope further false plain none = ap (λ all. told_by_row function all further) (sym (no_unnamed types graph scope plain)) ∙ none
 
 out_unnamed : (types : List CxxType) (graph : Graph) (function : ℕ) (room scope : ℕ) → ArePlain graph.facts → outward_from (graph_at types graph) function unnamed room scope ≡ None
 out_unnamed types graph function zero scope plain = refl
@@ -314,44 +250,10 @@ looked_more types facts (number ∷ one) two =
     ap (λ all. seen_by types number all (slice_get facts number.0)) (looked_more types facts one two)
     ∙ seen_more types number (looked_up types facts one) (looked_up types facts two) (slice_get facts number.0)
 
-looked_first : (types : List CxxType) (facts : List Fact) (number : FactId) (numbers : List FactId) → looked_up types facts (number ∷ numbers) ≡ looked_up types facts (number ∷ []) ++ looked_up types facts numbers
-looked_first types facts number numbers = looked_more types facts (number ∷ []) numbers
-
-givers_more : (graph : CxxGraph) (scope : ℕ) (one two : List Numbered) → givers graph scope (one ++ two) ≡ givers graph scope one ++ givers graph scope two
-givers_more graph scope [] two = refl
-givers_more graph scope (x ∷ one) two =
-    ap (λ all. giver_beside graph scope x ++ all) (givers_more graph scope one two)
-    ∙ sym (append_assoc (giver_beside graph scope x) (givers graph scope one) (givers graph scope two))
-
--- one more declaration that is there
-pub known_step : (types : List CxxType) (facts : List Fact) (found after numbers : List FactId) (i : ℕ) (number d : FactId) (whole : List Numbered) → i < length numbers → number ≡ get_or numbers i d → looked_up types facts after ≡ looked_up types facts found ++ looked_up types facts (number ∷ []) → looked_up types facts found ++ looked_up types facts (drop i numbers) ≡ whole → looked_up types facts after ++ looked_up types facts (drop (i + 1) numbers) ≡ whole
-known_step types facts found after numbers i number d whole less is added same =
-    let rest : List Numbered = looked_up types facts (drop (i + 1) numbers) in
-    ap (λ all. all ++ rest) added
-    ∙ append_assoc (looked_up types facts found) (looked_up types facts (number ∷ [])) rest
-    ∙ ap (λ all. looked_up types facts found ++ all) (sym (looked_first types facts number (drop (i + 1) numbers)))
-    ∙ ap (λ (n : FactId). looked_up types facts found ++ looked_up types facts (n ∷ drop (i + 1) numbers)) is
-    ∙ sym (at_drop_more (λ ns. looked_up types facts found ++ looked_up types facts ns) numbers i d less)
-    ∙ same
-
 pub known_end : (types : List CxxType) (facts : List Fact) (found numbers : List FactId) (i : ℕ) (whole : List Numbered) → length numbers ≤ i → looked_up types facts found ++ looked_up types facts (drop i numbers) ≡ whole → looked_up types facts found ≡ whole
 known_end types facts found numbers i whole past same =
     sym (append-nil (looked_up types facts found))
     ∙ sym (at_drop_all (λ ns. looked_up types facts found ++ looked_up types facts ns) numbers i past)
-    ∙ same
-
--- one more giver
-pub givers_step : (types : List CxxType) (graph : Graph) (scope : ℕ) (found after numbers : List FactId) (i : ℕ) (number d : FactId) (whole : List Numbered) → i < length numbers → number ≡ get_or numbers i d → looked_up types graph.facts after ≡ looked_up types graph.facts found ++ givers (graph_at types graph) scope (looked_up types graph.facts (number ∷ [])) → looked_up types graph.facts found ++ givers (graph_at types graph) scope (looked_up types graph.facts (drop i numbers)) ≡ whole → looked_up types graph.facts after ++ givers (graph_at types graph) scope (looked_up types graph.facts (drop (i + 1) numbers)) ≡ whole
-givers_step types graph scope found after numbers i number d whole less is added same =
-    let facts : List Fact = graph.facts in
-    let told_by_all : List FactId → List Numbered = λ ns. givers (graph_at types graph) scope (looked_up types facts ns) in
-    let rest : List Numbered = told_by_all (drop (i + 1) numbers) in
-    ap (λ all. all ++ rest) added
-    ∙ append_assoc (looked_up types facts found) (told_by_all (number ∷ [])) rest
-    ∙ ap (λ all. looked_up types facts found ++ all) (sym (givers_more (graph_at types graph) scope (looked_up types facts (number ∷ [])) (looked_up types facts (drop (i + 1) numbers))))
-    ∙ ap (λ all. looked_up types facts found ++ givers (graph_at types graph) scope all) (sym (looked_first types facts number (drop (i + 1) numbers)))
-    ∙ ap (λ (n : FactId). looked_up types facts found ++ told_by_all (n ∷ drop (i + 1) numbers)) is
-    ∙ sym (at_drop_more (λ ns. looked_up types facts found ++ told_by_all ns) numbers i d less)
     ∙ same
 
 pub givers_end : (types : List CxxType) (graph : Graph) (scope : ℕ) (found numbers : List FactId) (i : ℕ) (whole : List Numbered) → length numbers ≤ i → looked_up types graph.facts found ++ givers (graph_at types graph) scope (looked_up types graph.facts (drop i numbers)) ≡ whole → looked_up types graph.facts found ≡ whole

@@ -1,5 +1,5 @@
 -- Declarations that were found, by their numbers, and those that tell default arguments (8.3.6).
-use Rattle.std.specs.Prelude.{ℕ, ◌≡◌, ◌<◌, List, [], ◌∷◌, length, Option, Some, None}
+use Rattle.std.specs.Prelude.{ℕ, ◌≡◌, ◌<◌, Bool, true, false, List, [], ◌∷◌, length, Option, Some, None}
 use Rattle.std.specs.List.{slice_get}
 use Rattle.cxx_model.specs.declared.facts.Fact.{Fact}
 use Rattle.cxx_model.specs.declared.types.FactId.{FactId}
@@ -31,6 +31,10 @@ IsScopeOf (Some one) scope = scope.0 ≡ one.fact.scope
 abbrev pub AreNumbersBelow : ℕ → List FactId → Type 0
 AreNumbersBelow count [] = Unit {0}
 AreNumbersBelow count (n ∷ numbers) = (n.0 < count) × AreNumbersBelow count numbers
+
+abbrev pub are_some : List Numbered → Bool
+are_some [] = false
+are_some (one ∷ others) = true
 
 abbrev pub one_number : Option FactId → List FactId
 one_number None = []

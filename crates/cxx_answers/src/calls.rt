@@ -1,6 +1,6 @@
 //! Which function a call means (13.3).
 
-ghost use Rattle.std.specs.Prelude.{◌≡◌, ◌≤◌, ◌++◌, nat_lt, length, List, Some, IfOk};
+ghost use Rattle.std.specs.Prelude.{◌≡◌, ◌≤◌, ◌++◌, nat_lt, length, List, Some, IfErr, IfOk, OnOk};
 ghost use Rattle.cxx_found.specs.Associated.{given};
 ghost use Rattle.cxx_answers.specs.Answers as definition;
 ghost use Rattle.cxx_answers.specs.Answers.{called_as};
@@ -19,6 +19,9 @@ ghost use Rattle.cxx_overload.specs.Decisions.{IsDecisionBelow, decision_at};
 ghost use Rattle.cxx_overload.specs.Views.{AreOperandsBelow as AreBelow, numbered_in, operands_at};
 ghost use Rattle.cxx_tree.specs.Answered.{IsAnswered};
 ghost use Rattle.cxx_tree.specs.Held.{call_at, meaning};
+ghost use Rattle.cxx_tree.specs.Told.{told};
+ghost use Rattle.cxx_overload.specs.Choosers.{told_by};
+ghost use Rattle.cxx_overload.specs.Told.{HasStayed, told_more};
 
 use crate::record::decided;
 use crate::seen::telling_of;
@@ -30,7 +33,7 @@ use cxx_model::{
     FactId, FactList, Fault, FaultText, LimitKind, Listed, Operand, OperandList, OutOfMemory,
     Place, Stop, TypeId, TypeIdList, Word,
 };
-use cxx_overload::{Decision, decide};
+use cxx_overload::{Chooser, Choosing, Decision};
 use cxx_tree::{Decided, State};
 use cxx_types::TypeTable;
 use std::alloc::{AllocError, Global};
@@ -60,6 +63,7 @@ fn ruled(
     requires decision { IsDecisionBelow (length types.now) (length operands) decision.now }
     ensures is { IfOk result (λ one. ruling_at types.now one ≡ ruled_of (decision_at types.now place operands decision.now)) }
     ensures below { IfOk result (IsRulingBelow (length types.now)) }
+    ensures place { IfOk result (λ one. one.call.place ≡ place) }
 {
     let meant = &decision.meant;
     Ok(Ruling {
@@ -71,37 +75,46 @@ fn ruled(
     })
 }
 
-fn rule(
+// Asks which function a call means. Who is asked is not seen here, and so not whether it tells where that was.
+fn rule<H: Chooser>(
     alloc: Global,
     graph: &Graph,
     types: &TypeTable,
     place: Place,
     functions: &[FactId],
     operands: OperandList,
+    chooser: &mut H,
 ) -> Result<Ruling, Stop>
     requires few { length operands ≤ limits.MOST_ARGUMENTS }
     requires operands { AreBelow (length types.now) operands }
     requires fitted { Fitted graph.now types.now }
     ensures is { Gives (ruling_at types.now) result (ruled_by (decided_of place (operands_at types.now operands) (graph_at types.now graph.now) (numbered_in (graph_at types.now graph.now) functions.now))) }
     ensures below { IfOk result (IsRulingBelow (length types.now)) }
+    ensures place { IfOk result (λ one. one.call.place ≡ place) }
+    ensures asked { OnOk result (H.told chooser.new ≡ told_more place (H.told chooser.old)) }
+    ensures stays { IfErr result (HasStayed (H.told chooser.old) (H.told chooser.new)) }
 {
-    let decision = decide(alloc, graph, types, place, operands.as_slice(), functions)?;
+    let decision = chooser.choose(alloc, graph, types, place, operands.as_slice(), functions)?;
     Ok(ruled(alloc, types, place, operands, &decision)?)
 }
 
 // The same of the state.
 #[tactic(auto, using(crate::proofs::Asked::ruling_same, crate::proofs::Asked::operands_below))]
-fn rule_here(
+fn rule_here<H: Chooser>(
     alloc: Global,
     state: &State,
     place: Place,
     functions: &[FactId],
     operands: OperandList,
+    chooser: &mut H,
 ) -> Result<Ruling, Stop>
     requires few { length operands ≤ limits.MOST_ARGUMENTS }
     requires operands { AreOperandsBelow (length (state.now).types) operands }
     ensures is { Gives (ruling_at (state.now).types) result (ruled_by (decided_of place (operands_in (state.now).types operands) (meaning state.now).graph (numbered state.now functions.now))) }
     ensures below { IfOk result (IsRulingBelow (length (state.now).types)) }
+    ensures place { IfOk result (λ one. one.call.place ≡ place) }
+    ensures asked { OnOk result (H.told chooser.new ≡ told_more place (H.told chooser.old)) }
+    ensures stays { IfErr result (HasStayed (H.told chooser.old) (H.told chooser.new)) }
 {
     rule(
         alloc,
@@ -110,6 +123,7 @@ fn rule_here(
         place,
         functions,
         operands,
+        chooser,
     )
 }
 
@@ -135,7 +149,7 @@ fn undeclared(
 
 // The same of a call that may mean no function.
 #[tactic(auto, using(crate::proofs::Asked::ruled_none, crate::proofs::Asked::ruled_some))]
-fn rule_among(
+fn rule_among<H: Chooser>(
     alloc: Global,
     state: &State,
     place: Place,
@@ -143,33 +157,39 @@ fn rule_among(
     word: &[u8],
     all: &[FactId],
     operands: OperandList,
+    chooser: &mut H,
 ) -> Result<Ruling, Stop>
     requires few { length operands ≤ limits.MOST_ARGUMENTS }
     requires all { AreFactsKnown state.now all.now }
     requires operands { AreOperandsBelow (length (state.now).types) operands }
     ensures is { (functions : List FactNumber) → Gives (ruling_at (state.now).types) result (ruled_by (definition.decided_among (question_of state.now place is_bare word.now functions operands) (meaning state.now) (numbered state.now all.now))) }
     ensures below { IfOk result (IsRulingBelow (length (state.now).types)) }
+    ensures place { IfOk result (λ one. one.call.place ≡ place) }
+    ensures asked { OnOk result (H.told chooser.new ≡ told_more place (H.told chooser.old)) }
+    ensures stays { IfErr result (HasStayed (H.told chooser.old) (H.told chooser.new)) }
 {
     match all {
         [] => Err(Stop::Fault(undeclared(alloc, place, is_bare, word)?)),
-        _ => rule_here(alloc, state, place, all, operands),
+        _ => rule_here(alloc, state, place, all, operands, chooser),
     }
 }
 
-// Keeps a call, and answers its number.
-fn keep(state: &mut State, call: Decided) -> Result<u32, Stop>
-    requires { IsCallBelow (length (state.old).types) call }
+// Keeps a call and who was asked, and answers its number.
+fn keep(state: &mut State, call: Decided, chooser: Choosing) -> Result<u32, Stop>
+    requires below { IsCallBelow (length (state.old).types) call }
+    requires told { told_by chooser ≡ told_more call.place (told state.old) }
     ensures { KeepsCall state.old state.new result (call_at (state.old).types call) }
 {
-    match state.add_call(call) {
+    match state.add_call(call, chooser) {
         Ok(number) => Ok(number),
         Err(_) => Err(Stop::OutOfMemory),
     }
 }
 
 #[tactic(auto, using(cxx_expr::proofs::Kept::types_kept, cxx_expr::proofs::Kept::types_later, cxx_expr::proofs::Kept::type_kept, cxx_expr::proofs::Kept::type_later))]
-fn made(state: &mut State, ruling: Ruling) -> Result<Chosen, Stop>
-    requires { IsRulingBelow (length (state.old).types) ruling }
+fn made(state: &mut State, ruling: Ruling, chooser: Choosing) -> Result<Chosen, Stop>
+    requires below { IsRulingBelow (length (state.old).types) ruling }
+    requires told { told_by chooser ≡ told_more ruling.call.place (told state.old) }
     ensures { IsAnswered chosen_of IsChosen state.old state.new result (made_by (ruling_at (state.old).types ruling) (meaning state.old)) }
 {
     let Ruling {
@@ -179,7 +199,7 @@ fn made(state: &mut State, ruling: Ruling) -> Result<Chosen, Stop>
         ellipsis,
         call,
     } = ruling;
-    let number = keep(state, call)?;
+    let number = keep(state, call, chooser)?;
     Ok(Chosen {
         target,
         parameters,
@@ -189,8 +209,38 @@ fn made(state: &mut State, ruling: Ruling) -> Result<Chosen, Stop>
     })
 }
 
-// The same of arguments that are not too many.
+// The same of arguments that are not too many, asked of who was taken out of the state.
 #[tactic(auto, using(crate::proofs::Asked::call_stops, crate::proofs::Asked::call_made, cxx_expr::proofs::Kept::later_refl))]
+fn called_by(
+    alloc: Global,
+    state: &mut State,
+    place: Place,
+    is_bare: bool,
+    word: &[u8],
+    all: &[FactId],
+    operands: OperandList,
+    chooser: Choosing,
+) -> Result<Chosen, Stop>
+    requires few { length operands ≤ limits.MOST_ARGUMENTS }
+    requires all { AreFactsKnown state.old all.now }
+    requires operands { AreOperandsBelow (length (state.old).types) operands }
+    requires told { told_by chooser ≡ told state.old }
+    ensures { (functions : List FactNumber) → IsAnswered chosen_of IsChosen state.old state.new result (called_as (meaning state.old) (definition.decided_among (question_of state.old place is_bare word.now functions operands) (meaning state.old) (numbered state.old all.now))) }
+{
+    let mut asked = chooser;
+    match rule_among(
+        alloc, state, place, is_bare, word, all, operands, &mut asked,
+    ) {
+        Ok(ruling) => made(state, ruling, asked),
+        Err(Stop::OutOfMemory) => Err(Stop::OutOfMemory),
+        Err(why) => {
+            state.put_chooser(asked);
+            Err(why)
+        }
+    }
+}
+
+// The same of the state.
 fn called(
     alloc: Global,
     state: &mut State,
@@ -205,8 +255,10 @@ fn called(
     requires operands { AreOperandsBelow (length (state.old).types) operands }
     ensures { (functions : List FactNumber) → IsAnswered chosen_of IsChosen state.old state.new result (called_as (meaning state.old) (definition.decided_among (question_of state.old place is_bare word.now functions operands) (meaning state.old) (numbered state.old all.now))) }
 {
-    let ruling = rule_among(alloc, state, place, is_bare, word, all, operands)?;
-    made(state, ruling)
+    match state.take_chooser() {
+        Some(chooser) => called_by(alloc, state, place, is_bare, word, all, operands, chooser),
+        None => Err(Stop::OutOfMemory),
+    }
 }
 
 // Whether there are more arguments than a call may have.

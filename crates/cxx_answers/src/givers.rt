@@ -3,7 +3,7 @@
 ghost use Rattle.std.specs.Prelude.{◌≡◌, ◌<◌, ◌++◌, [], ◌∷◌, nat_eq, if◌then◌else◌, List, Some, None, IfOk, IfSome, OnOk};
 ghost use Rattle.std.specs.List.{slice_get};
 ghost use Rattle.std.specs.Option.{option_copied};
-ghost use Rattle.cxx_answers.specs.Told.{AreNumbersBelow, IsScopeOf, IsTelling, count_in, graph_of, one_number, those_in, told_in};
+ghost use Rattle.cxx_answers.specs.Told.{AreNumbersBelow, IsScopeOf, IsTelling, are_some, count_in, graph_of, one_number, those_in, told_in};
 ghost use Rattle.cxx_model.specs.Facts.Declarations.{declares_at, name_at};
 ghost use Rattle.cxx_model.specs.Types.Trees.{CxxType};
 ghost use Rattle.cxx_reading.specs.Givers as definition;
@@ -108,7 +108,7 @@ impl Telling<'_> {
     }
 
     // The declarations of a name in a scope.
-    #[tactic(auto, using(crate::proofs::Told::no_unnamed, crate::proofs::Told::no_operator, crate::proofs::Told::no_conversion, crate::proofs::Told::no_destructor))]
+    #[tactic(auto, using(cxx_names::proofs::Wordless::no_unnamed, cxx_names::proofs::Wordless::no_operator, cxx_names::proofs::Wordless::no_conversion, cxx_names::proofs::Wordless::no_destructor))]
     fn row(&self, scope: ScopeId, name: &Name) -> &[FactId]
         requires { IsTelling self.now }
         ensures { those_in self.now result.now ≡ declared_in (graph_of self.now) scope.0 (name_at self.now.types.now name.now) }
@@ -131,8 +131,30 @@ impl Telling<'_> {
         self.last_of(function, self.row(scope, name))
     }
 
-    // Outward from a scope, up to the innermost namespace: the last declaration in the first block that has one.
-    #[tactic(auto, using(crate::proofs::Told::out_end))]
+    // Whether some declarations are there.
+    #[tactic(auto, using(crate::proofs::Told::any_this, crate::proofs::Told::any_step, crate::proofs::Told::any_end))]
+    fn are_any(&self, numbers: &[FactId]) -> bool
+        ensures { result ≡ are_some (those_in self.now numbers.now) }
+    {
+        for number in numbers {
+            if self.fact(*number).is_some() {
+                return true;
+            }
+        }
+        false
+    }
+
+    // Whether a name is declared in a scope.
+    fn declares(&self, scope: ScopeId, name: &Name) -> bool
+        requires { IsTelling self.now }
+        ensures { result ≡ are_some (declared_in (graph_of self.now) scope.0 (name_at self.now.types.now name.now)) }
+    {
+        self.are_any(self.row(scope, name))
+    }
+
+    // Outward from a scope, up to the innermost namespace: the last declaration of a function in the first block that declares
+    // a name (3.3.7).
+    #[tactic(auto, using(crate::proofs::Told::out_here, crate::proofs::Told::out_end))]
     fn outward(&self, scope: ScopeId, name: &Name, function: FactId) -> Option<FactId>
         requires { IsTelling self.now }
         ensures is { told_in self.now result ≡ definition.outward_from (graph_of self.now) function.0 (name_at self.now.types.now name.now) scope.0 scope.0 }
@@ -143,8 +165,8 @@ impl Telling<'_> {
             if self.names.is_space(self.graph, now) {
                 return None;
             }
-            if let Some(one) = self.last_in(now, name, function) {
-                return Some(one);
+            if self.declares(now, name) {
+                return self.last_in(now, name, function);
             }
             now = self.names.parent(self.graph, now);
         }

@@ -6,7 +6,7 @@ ghost use Rattle.cxx_answers.specs.Ruled.{IsCallBelow};
 ghost use Rattle.cxx_overload.specs.Calls.{number_of, outcome_of, row_of, standards};
 ghost use Rattle.cxx_overload.specs.Contests.{contender_at, contenders_at, IsContenderBelow};
 ghost use Rattle.cxx_overload.specs.Decisions.{decision_at, IsDecisionBelow};
-ghost use Rattle.cxx_overload.specs.Views.{operands_at, rated_at, ratings_at, AreOperandsBelow};
+ghost use Rattle.cxx_overload.specs.Views.{rated_at, AreOperandsBelow};
 ghost use Rattle.cxx_tree.specs.Held.{call_at, numbers_at, row_at, rows_at, sequences_at, AreRowsBelow, AreSequencesBelow};
 
 use cxx_model::{
@@ -131,6 +131,7 @@ pub(crate) fn decided(
     requires decision { IsDecisionBelow (length types.now) (length operands) decision.now }
     ensures is { IfOk result (λ call. call_at types.now call ≡ (decision_at types.now place operands decision.now).call) }
     ensures below { IfOk result (IsCallBelow (length types.now)) }
+    ensures place { IfOk result (λ call. call.place ≡ place) }
 {
     let ratings = &decision.ratings;
     let conversions = ratings.conversions.as_slice();

@@ -40,14 +40,6 @@ words_made old mid new of result cv t one two =
 pub words_stopped : (old new : List CxxType) (first result : Result TypeId OutOfMemory) (cv : Cv) (t : CxxType) → IsErr result → Makes old new first t → Makes old new result (with_cv cv t)
 words_stopped old new first result cv t stopped one = makes_stopped old new first result t (with_cv cv t) stopped one (λ graph all whole. with-cv-range graph cv t whole)
 
--- the same where a pointer to it gets the words
-pub pointer_words_made : (old mid new : List CxxType) (of : TypeId) (result : Result TypeId OutOfMemory) (cv : Cv) (t : CxxType) → Makes old mid (Ok of) t → Makes mid new result (with_cv cv (pointer_to (type_at mid of.0))) → Makes old new result (with_cv cv (pointer_to t))
-pointer_words_made old mid new of result cv t one two =
-    makes_then old mid new (Ok of) result t (with_cv cv (pointer_to t)) one (makes_same mid new result (with_cv cv (pointer_to (type_at mid of.0))) (with_cv cv (pointer_to t)) (ap (λ u. with_cv cv (pointer_to u)) one.made.1) two) (λ graph all whole. with-cv-range graph cv (pointer_to t) whole)
-
-pub pointer_words_stopped : (old new : List CxxType) (first result : Result TypeId OutOfMemory) (cv : Cv) (t : CxxType) → IsErr result → Makes old new first t → Makes old new result (with_cv cv (pointer_to t))
-pointer_words_stopped old new first result cv t stopped one = makes_stopped old new first result t (with_cv cv (pointer_to t)) stopped one (λ graph all whole. with-cv-range graph cv (pointer_to t) whole)
-
 -- ---- ranges
 
 layered_in_range : (graph : Graph) (cv : Cv) (t : CxxType) → IsTypeInRange graph t → IsTypeInRange graph (layered cv t)
@@ -215,10 +207,6 @@ built_stopped graph old mid new plan done first (Err fault) some list known make
   built = tt;
   fitted = fitted_later graph mid new first (sketch_at mid plan.result) list.fitted (sketch_in_range graph mid plan.result list.fitted (sketch_below_later old mid plan.result known list.keeps)) makes;
 }
-
-pub built_listed_stopped : (graph : Graph) (old new : List CxxType) (plan : Plan) (first : Result (List TypeId) OutOfMemory) (result : Result BuiltIn OutOfMemory) (some : List CxxType) → MakesList graph old new first some → IsErr result → Builds graph old new result (plan_at old plan)
-built_listed_stopped graph old new plan first (Ok numbers) some list stopped = absurd (cc)
-built_listed_stopped graph old new plan first (Err fault) some list stopped = record { keeps = list.keeps; built = tt; fitted = list.fitted }
 
 pub built_whole : (graph : Graph) (old mid new : List CxxType) (plan : Plan) (done : List TypeId) (number : TypeId) → MakesList graph old mid (Ok done) (sketch_at old plan.first ∷ second_at old plan.second) → IsSketchBelow (length old) plan.result → Makes mid new (Ok number) (sketch_at mid plan.result) → Builds graph old new (Ok (record { operands = done; result = number; lvalue = plan.lvalue })) (plan_at old plan)
 built_whole graph old mid new plan done number list known makes =

@@ -5,7 +5,7 @@ ghost use Rattle.cxx_model.specs.Facts.Fitted.{Fitted};
 ghost use Rattle.cxx_model.specs.Types.Numbers.{type_at};
 ghost use Rattle.cxx_meaning.specs.Conversions.Asking.{Gives};
 ghost use Rattle.cxx_meaning.specs.Conversions.Conditional as definition;
-ghost use Rattle.cxx_meaning.specs.Conversions.Kinds.{arithmetic, enumerated};
+ghost use Rattle.cxx_meaning.specs.Conversions.Kinds.{enumerated};
 ghost use Rattle.cxx_builtin.specs.Plans.{plans_at, sketch_at, sketches_at, ArePlansBelow, IsAnswerBelow, IsSecondBelow, IsSketchBelow};
 ghost use Rattle.cxx_standard.specs.Views.{kind_at, operand_at, IsKindBelow, IsKindInRange};
 

@@ -2,7 +2,6 @@
 ghost use Rattle.std.specs.Prelude.{◌≡◌, ◌<◌, [], length};
 ghost use Rattle.cxx_model.specs.Facts.Fitted.{Fitted};
 ghost use Rattle.cxx_model.specs.Types.Numbers.{type_at};
-ghost use Rattle.cxx_model.specs.Types.Trees.{CxxType};
 ghost use Rattle.cxx_meaning.specs.Conversions.BuiltIn as definition;
 ghost use Rattle.cxx_meaning.specs.Conversions.Kinds.{is_array as is_array_type};
 ghost use Rattle.cxx_meaning.specs.Conversions.Pointers as pointers;

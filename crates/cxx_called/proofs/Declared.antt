@@ -14,13 +14,13 @@ use Rattle.cxx_model.specs.Facts.Graph.{EachMayFollow, Graph, InRange, IsEntityI
 use Rattle.cxx_model.specs.Types.Trees.{CxxType}
 use Rattle.cxx_meaning.specs.Lookups.Wanted.{hides_types, is_function}
 use Rattle.cxx_reading.specs.Paths.{wrong_kind_at}
-use Rattle.cxx_reading.specs.Seen.{Numbered, kept}
+use Rattle.cxx_reading.specs.Seen.{Numbered, fact_numbers, kept, numbered_at, numbered_by}
 use Rattle.cxx_reading.specs.Trees.{CxxPathPart, CxxTree, Label}
 use Rattle.cxx_names.proofs.Clashing.{fact_below}
 use Rattle.cxx_tree.proofs.Graphs.{enumerations_append}
 use Rattle.cxx_tree.specs.Held.{Held, meaning}
 use Rattle.cxx_expr.specs.Calls.{called_first, function_call, is_asked_for, is_bare, value_call}
-use Rattle.cxx_expr.specs.Names.{are_one_function, is_function_with, means_first, means_value, no_value_at, type_by_fact, type_declared, values_among}
+use Rattle.cxx_expr.specs.Names.{are_one_function, first_type, in_full, in_full_by, is_function_with, known_among, known_at as known_by_fact, means_first, means_value, no_value_at, type_by_fact, type_declared, values_among}
 use Rattle.cxx_expr.specs.Questions.{Questions}
 use Rattle.cxx_expr.specs.Views.{AreFactsBelow, AreFactsKnown, numbered, numbered_in, with_fact}
 use Rattle.cxx_called.specs.Views.{IsOfThere}
@@ -55,6 +55,69 @@ declared_none held n at = ap type_by_fact (fact_is_none held n at)
 -- the type in a declaration is there
 pub what_below : (held : Held) (graph : Graph) (n : ℕ) (fact : Fact) → graph ≡ held.graph → Fitted held.graph held.types → Some fact ≡ slice_get graph.facts n → IsEntityBelow (length held.types) fact.what
 what_below held graph n fact same fitted at = (fact_below (length held.types) held.graph.facts n fact fitted.numbers.facts (sym (at ∙ ap (λ (g : Graph). slice_get g.facts n) same))).what
+
+-- ---- the bound that an own initializer gives
+
+first_alone : (o : Option CxxType) → first_type o None ≡ o
+first_alone None = refl
+first_alone (Some of) = refl
+
+first_again : (one two three : Option CxxType) → first_type (first_type one two) three ≡ first_type one (first_type two three)
+first_again None two three = refl
+first_again (Some of) two three = refl
+
+-- by one number
+pub again_some : (held : Held) (target : ℕ) (place : Place) (number : FactId) (fact : Fact) → slice_get held.graph.facts number.0 ≡ Some fact → known_among target place (numbered held (number ∷ [])) ≡ known_by_fact target place (fact_at held.types fact)
+again_some held target place number fact at =
+    ap (λ o. known_among target place (with_fact number.0 o [])) (fact_is held number.0 fact at)
+    ∙ first_alone (known_by_fact target place (fact_at held.types fact))
+
+pub again_none : (held : Held) (target : ℕ) (place : Place) (number : FactId) → slice_get held.graph.facts number.0 ≡ None → known_among target place (numbered held (number ∷ [])) ≡ None
+again_none held target place number at = ap (λ o. known_among target place (with_fact number.0 o [])) (fact_is_none held number.0 at)
+
+-- by one after another
+again_more : (held : Held) (target : ℕ) (place : Place) (number : FactId) (numbers : List FactId) → known_among target place (numbered held (number ∷ numbers)) ≡ first_type (known_among target place (numbered held (number ∷ []))) (known_among target place (numbered held numbers))
+again_more held target place number numbers = by (slice_get (meaning held).graph.facts number.0)
+  where
+    by : (o : Option CxxFact) → known_among target place (with_fact number.0 o (numbered held numbers)) ≡ first_type (known_among target place (with_fact number.0 o [])) (known_among target place (numbered held numbers))
+    by None = refl
+    by (Some fact) = sym (first_again (known_by_fact target place fact) None (known_among target place (numbered held numbers)))
+
+again_at : (held : Held) (target : ℕ) (place : Place) (numbers : List FactId) (i : ℕ) (number d : FactId) (one whole : Option CxxType) → i < length numbers → number ≡ get_or numbers i d → one ≡ known_among target place (numbered held (number ∷ [])) → known_among target place (numbered held (drop i numbers)) ≡ whole → first_type one (known_among target place (numbered held (drop (i + 1) numbers))) ≡ whole
+again_at held target place numbers i number d one whole within is here same =
+    let rest : Option CxxType = known_among target place (numbered held (drop (i + 1) numbers)) in
+    ap (λ o. first_type o rest) here
+    ∙ sym (again_more held target place number (drop (i + 1) numbers))
+    ∙ ap (λ (n : FactId). known_among target place (numbered held (n ∷ drop (i + 1) numbers))) is
+    ∙ sym (at_drop_more (λ ns. known_among target place (numbered held ns)) numbers i d within)
+    ∙ same
+
+pub again_step : (held : Held) (target : ℕ) (place : Place) (numbers : List FactId) (i : ℕ) (number d : FactId) (whole : Option CxxType) → i < length numbers → number ≡ get_or numbers i d → None ≡ known_among target place (numbered held (number ∷ [])) → known_among target place (numbered held (drop i numbers)) ≡ whole → known_among target place (numbered held (drop (i + 1) numbers)) ≡ whole
+again_step held target place numbers i number d whole within is here same = again_at held target place numbers i number d None whole within is here same
+
+pub again_found : (held : Held) (target : ℕ) (place : Place) (numbers : List FactId) (i : ℕ) (number d : FactId) (of : CxxType) (whole : Option CxxType) → i < length numbers → number ≡ get_or numbers i d → Some of ≡ known_among target place (numbered held (number ∷ [])) → known_among target place (numbered held (drop i numbers)) ≡ whole → Some of ≡ whole
+again_found held target place numbers i number d of whole within is here same = again_at held target place numbers i number d (Some of) whole within is here same
+
+pub again_end : (held : Held) (target : ℕ) (place : Place) (numbers : List FactId) (i : ℕ) (whole : Option CxxType) → length numbers ≤ i → known_among target place (numbered held (drop i numbers)) ≡ whole → None ≡ whole
+again_end held target place numbers i whole past same = sym (at_drop_all (λ ns. known_among target place (numbered held ns)) numbers i past) ∙ same
+
+-- those that a row has
+with_same : (number : ℕ) (o : Option CxxFact) (others : List Numbered) → with_fact number o others ≡ numbered_by number o others
+with_same number None others = refl
+with_same number (Some fact) others = refl
+
+pub numbered_same : (graph : CxxGraph) (numbers : List FactId) → numbered_in graph numbers ≡ numbered_at graph (fact_numbers numbers)
+numbered_same graph [] = refl
+numbered_same graph (n ∷ numbers) =
+    ap (with_fact n.0 (slice_get graph.facts n.0)) (numbered_same graph numbers)
+    ∙ with_same n.0 (slice_get graph.facts n.0) (numbered_at graph (fact_numbers numbers))
+
+-- by the first declaration
+pub full_some : (held : Held) (target : ℕ) (fact : Fact) (of : CxxType) → slice_get held.graph.facts target ≡ Some fact → in_full_by (meaning held).graph target (slice_get (meaning held).graph.facts target) of ≡ in_full (meaning held).graph target (fact_at held.types fact) of
+full_some held target fact of at = ap (λ o. in_full_by (meaning held).graph target o of) (fact_is held target fact at)
+
+pub full_none : (held : Held) (target : ℕ) (of : CxxType) → slice_get held.graph.facts target ≡ None → in_full_by (meaning held).graph target (slice_get (meaning held).graph.facts target) of ≡ of
+full_none held target of at = ap (λ o. in_full_by (meaning held).graph target o of) (fact_is_none held target at)
 
 -- ---- enumerations of enumerators
 

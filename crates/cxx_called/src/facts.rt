@@ -4,10 +4,12 @@ ghost use Rattle.std.specs.Prelude.{ℕ, List, ◌≡◌, ◌<◌, ◌++◌, ◌
 ghost use Rattle.std.specs.List.{slice_get};
 ghost use Rattle.std.specs.Option.{option_copied};
 ghost use Rattle.cxx_meaning.specs.Lookups.Wanted as wanted;
-ghost use Rattle.cxx_model.specs.Facts.Declarations.{declares_at, fact_at as fact_of_types, graph_at, type_of_option};
+ghost use Rattle.cxx_model.specs.Facts.Declarations.{declares_at, fact_at as fact_of_types, graph_at, name_at, type_of_option};
 ghost use Rattle.cxx_model.specs.Facts.Entities as entities;
 ghost use Rattle.cxx_model.specs.Facts.Fitted.{IsEntityBelow, IsFactBelow, IsTypeNumberBelow};
+ghost use Rattle.cxx_model.specs.Types.Numbers.{type_at};
 ghost use Rattle.cxx_model.specs.Types.Trees.{CxxType};
+ghost use Rattle.cxx_reading.specs.Seen.{declared_in as declared_by};
 ghost use Rattle.cxx_tree.specs.Held.{meaning, type_of};
 ghost use Rattle.cxx_expr.specs.Names as definition;
 ghost use Rattle.cxx_expr.specs.Views.{AreFactsKnown, numbered};
@@ -15,8 +17,12 @@ ghost use Rattle.cxx_called.specs.Views.{IsOfThere};
 
 use cxx_expr::operands::referred;
 use cxx_graph::Graph;
-use cxx_model::{Entity, Fact, FactId, FactList, Listed, Pattern, TemplateId, TypeId};
+use cxx_model::{
+    Bound, Entity, Fact, FactId, FactList, Listed, Name, Pattern, Place, ScopeId, TemplateId,
+    TypeId, TypeNode,
+};
 use cxx_tree::State;
+use cxx_types::TypeTable;
 use std::alloc::{AllocError, Global};
 
 // ---- one declaration
@@ -171,13 +177,137 @@ fn type_or_own(state: &State, target: FactId, own: TypeId) -> TypeId
     }
 }
 
-/// The type of an object or a function by its first declaration; a reference is what it refers to (3.5).
+// ---- the bound that the own initializer of an array gives (8.3.4, 8.5.1)
+
+fn is_same_place(one: Place, two: Place) -> bool
+    ensures { result ≡ definition.same_place one two }
+{
+    one.line == two.line && one.column == two.column
+}
+
+// The type by a further declaration of an object.
+fn type_again(target: FactId, what: Entity) -> Option<TypeId>
+    ensures is { (types : List CxxType) → type_of_option types result ≡ definition.type_again target.0 (declares_at types what) }
+    ensures below { (count : ℕ) → IsEntityBelow count what → IsTypeNumberBelow count result }
+{
+    match what {
+        Entity::Object {
+            of,
+            first: Some(first),
+            ..
+        } => { if first.0 == target.0 { Some(of) } else { None } }
+        _ => None,
+    }
+}
+
+// The type by a further declaration of an object, where it stands at a place.
+fn known_at(target: FactId, place: Place, fact: &Fact) -> Option<TypeId>
+    ensures is { (types : List CxxType) → type_of_option types result ≡ definition.known_at target.0 place (fact_of_types types fact.now) }
+    ensures below { (count : ℕ) → IsEntityBelow count (fact.now).what → IsTypeNumberBelow count result }
+{
+    if is_same_place(fact.place, place) {
+        type_again(target, fact.what)
+    } else {
+        None
+    }
+}
+
+// The same by a number.
+#[tactic(auto, using(crate::proofs::Declared::again_some, crate::proofs::Declared::again_none))]
+fn known_of(state: &State, target: FactId, place: Place, number: FactId) -> Option<TypeId>
+    ensures is { type_of_option (state.now).types result ≡ definition.known_among target.0 place (numbered state.now (number ∷ [])) }
+    ensures below { IsTypeNumberBelow (length (state.now).types) result }
+{
+    match fact_found(state.graph(), number) {
+        Some(fact) => known_at(target, place, fact),
+        None => None,
+    }
+}
+
+// The type by the first of some declarations that declares an object again at a place.
+#[tactic(auto, using(crate::proofs::Declared::again_end, crate::proofs::Declared::again_found))]
+fn known_among(state: &State, target: FactId, place: Place, numbers: &[FactId]) -> Option<TypeId>
+    ensures is { type_of_option (state.now).types result ≡ definition.known_among target.0 place (numbered state.now numbers.now) }
+    ensures below { IsTypeNumberBelow (length (state.now).types) result }
+{
+    for number in numbers {
+        if let Some(of) = known_of(state, target, place, *number) {
+            return Some(of);
+        }
+    }
+    None
+}
+
+// The declarations of a name in a scope.
+#[tactic(auto, using(crate::proofs::Declared::numbered_same, cxx_names::proofs::Wordless::no_unnamed, cxx_names::proofs::Wordless::no_operator, cxx_names::proofs::Wordless::no_conversion, cxx_names::proofs::Wordless::no_destructor), unfolding(cxx_tree::specs::Held::meaning))]
+fn declared_in<'a>(state: &'a State, scope: ScopeId, name: &Name) -> &'a [FactId]
+    ensures { numbered state.now result.now ≡ declared_by (meaning state.now).graph scope.0 (name_at (state.now).types name.now) }
+{
+    let names = state.names();
+    match name {
+        Name::Spelled(word) => names.declared_in(state.graph(), scope, word.as_slice()),
+        Name::Unnamed => &[],
+        Name::Operator(_) => &[],
+        Name::Conversion(_) => &[],
+        Name::Destructor => &[],
+    }
+}
+
+// An array whose bound is not written.
+fn has_no_bound(types: &TypeTable, number: TypeId) -> bool
+    requires { number.0 < length types.now }
+    ensures { result ≡ entities.has_no_bound (type_at types.now number.0) }
+{
+    match types.node(number) {
+        TypeNode::Array(_, Bound::Unknown) => true,
+        _ => false,
+    }
+}
+
+fn type_known(own: TypeId, known: Option<TypeId>) -> TypeId
+    ensures is { (types : List CxxType) → type_at types result.0 ≡ definition.or_own (type_at types own.0) (type_of_option types known) }
+    ensures below { (count : ℕ) → own.0 < count → IsTypeNumberBelow count known → result.0 < count }
+{
+    match known {
+        Some(of) => of,
+        None => own,
+    }
+}
+
+// A type of an object, with the bound that the initializer of its first declaration gives.
+fn in_full(state: &State, target: FactId, fact: &Fact, of: TypeId) -> TypeId
+    requires { of.0 < length (state.now).types }
+    ensures is { type_of state.now result ≡ definition.in_full (meaning state.now).graph target.0 (fact_of_types (state.now).types fact.now) (type_of state.now of) }
+    ensures below { result.0 < length (state.now).types }
+{
+    if has_no_bound(state.types(), of) {
+        let numbers = declared_in(state, fact.scope, &fact.name);
+        type_known(of, known_among(state, target, fact.place, numbers))
+    } else {
+        of
+    }
+}
+
+#[tactic(auto, using(crate::proofs::Declared::full_some, crate::proofs::Declared::full_none))]
+fn in_full_by(state: &State, target: FactId, of: TypeId) -> TypeId
+    requires { of.0 < length (state.now).types }
+    ensures is { type_of state.now result ≡ definition.in_full_by (meaning state.now).graph target.0 (slice_get (meaning state.now).graph.facts target.0) (type_of state.now of) }
+    ensures below { result.0 < length (state.now).types }
+{
+    match fact_found(state.graph(), target) {
+        Some(fact) => in_full(state, target, fact, of),
+        None => of,
+    }
+}
+
+/// The type of an object or a function by its first declaration, with the bound that its own initializer gives; a reference
+/// is what it refers to (3.5).
 pub(crate) fn type_of_first(state: &State, target: FactId, own: TypeId) -> TypeId
     requires { own.0 < length (state.now).types }
     ensures is { type_of state.now result ≡ definition.type_of_first (meaning state.now).graph target.0 (type_of state.now own) }
     ensures below { result.0 < length (state.now).types }
 {
-    let of = type_or_own(state, target, own);
+    let of = in_full_by(state, target, type_or_own(state, target, own));
     referred(state.types(), of)
 }
 

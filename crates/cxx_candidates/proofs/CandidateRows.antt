@@ -1,5 +1,5 @@
 -- How many candidates there are for each operator (13.6), and those for operands of classes.
-use Rattle.std.specs.Prelude.{ℕ, ◌≡◌, List, [], ◌∷◌, length, Option, Some, None, Result, Ok, Err, refl}
+use Rattle.std.specs.Prelude.{ℕ, ◌≡◌, List, [], ◌∷◌, length, Some, None, Ok, Err, refl}
 use Rattle.std.proofs.Common.{drop, false, true}
 use Rattle.cxx_model.specs.declared.base.Base.TheVariants as base
 use Rattle.cxx_model.specs.declared.facts.Access.TheVariants.{Public}

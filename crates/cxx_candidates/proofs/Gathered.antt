@@ -9,7 +9,7 @@ use Rattle.cxx_model.specs.declared.facts.Fact.{Fact}
 use Rattle.cxx_model.specs.declared.facts.ScopeKind.{ScopeKind}
 use Rattle.cxx_model.specs.declared.facts.Specialisation.{Specialisation}
 use Rattle.cxx_model.specs.Facts.Declarations as facts
-use Rattle.cxx_model.specs.Facts.Declarations.{CxxFact, CxxGraph, Declares, classes_at, fact_at, facts_at, graph_at}
+use Rattle.cxx_model.specs.Facts.Declarations.{CxxFact, Declares, classes_at, fact_at, facts_at, graph_at}
 use Rattle.cxx_model.specs.Facts.Entities.{scope_kinds}
 use Rattle.cxx_model.specs.Facts.Fitted.{AreFactsBelow, IsFactBelow}
 use Rattle.cxx_model.specs.Facts.Graph.{Graph}

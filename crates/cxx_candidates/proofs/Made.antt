@@ -1,16 +1,16 @@
 -- Types of parameters that are made in turn.
-use Rattle.std.specs.Prelude.{ℕ, ◌≡◌, ◌<◌, ◌≤◌, ◌+◌, List, [], ◌∷◌, ◌++◌, length, map, take, Option, Some, None, Result, Ok, Err, IsErr, refl}
-use Rattle.std.proofs.Common.{ap, sym, subst, ◌∙◌, arith, get_or}
+use Rattle.std.specs.Prelude.{ℕ, ◌≡◌, ◌<◌, ◌+◌, List, [], ◌∷◌, ◌++◌, length, map, take, Option, Some, None, Result, Ok, Err, IsErr, refl}
+use Rattle.std.proofs.Common.{ap, sym, subst, ◌∙◌, get_or}
 use Rattle.std.specs.List.{All}
 use Rattle.std.proofs.lemmas.List.{map-append, take_more}
-use Rattle.std.proofs.lemmas.List.Elements.{All-get_or, All-head, All-nil, All-push, All-tail, All-weaker}
+use Rattle.std.proofs.lemmas.List.Elements.{All-get_or, All-head, All-push, All-tail, All-weaker}
 use Rattle.cxx_model.specs.declared.memory.OutOfMemory.{OutOfMemory}
 use Rattle.cxx_model.specs.declared.types.TypeId.{TypeId}
 use Rattle.cxx_model.specs.Facts.Fitted.{Fitted}
 use Rattle.cxx_model.specs.Facts.Graph.{Graph, IsTypeInRange}
 use Rattle.cxx_model.specs.Types.Numbers.{type_at, AreTypesBelow, Keeps}
 use Rattle.cxx_model.specs.Types.Trees.{CxxType, pointer_to, reference_to}
-use Rattle.cxx_model.proofs.TypeTrees.{Keeps-refl, Keeps-trans}
+use Rattle.cxx_model.proofs.TypeTrees.{Keeps-trans}
 use Rattle.cxx_types.specs.Makes.{Makes}
 use Rattle.cxx_types.proofs.Making.{makes_then, makes_same, makes_stopped}
 use Rattle.cxx_builtin.specs.Built.{MakesList, list_at}
@@ -96,13 +96,6 @@ list_of_two graph old mid new one done numbers number some list known makes is =
 
 -- ---- all lists
 
-second_known_later : (graph : Graph) (old new : List CxxType) (other : Option Slot) → IsSecondKnown graph (length old) other → Keeps old new → IsSecondKnown graph (length new) other
-second_known_later graph old new None known keeps = tt
-second_known_later graph old new (Some one) known keeps = slot_known_later graph old new one known keeps
-
-pub shape_known_later : (graph : Graph) (old new : List CxxType) (one : Shape) → IsShapeKnown graph (length old) one → Keeps old new → IsShapeKnown graph (length new) one
-shape_known_later graph old new one known keeps = record { first = slot_known_later graph old new one.first known.first keeps; second = second_known_later graph old new one.second known.second keeps }
-
 second_later : (graph : Graph) (old new : List CxxType) (other : Option Slot) → IsSecondKnown graph (length old) other → Keeps old new → second_at new other ≡ second_at old other
 second_later graph old new None known keeps = refl
 second_later graph old new (Some one) known keeps = ap (λ t. t ∷ []) (slot_later graph old new one known keeps)
@@ -119,11 +112,6 @@ lists_later old new (ns ∷ rest) known keeps =
 lists_below_later : (old new : List CxxType) (lists : List (List TypeId)) → AreListsBelow (length old) lists → Keeps old new → AreListsBelow (length new) lists
 lists_below_later old new lists known keeps = All-weaker (AreTypesBelow (length old)) (AreTypesBelow (length new)) (λ ns below. numbers_later old new ns below keeps) lists known
 
-pub none_made : (graph : Graph) (types : List CxxType) (lists : List (List TypeId)) → lists ≡ [] → Fitted graph types → MakesLists graph types types (Ok lists) []
-none_made graph types lists none fitted =
-    let P : List (List TypeId) → Type 0 = λ ls. MakesLists graph types types (Ok ls) [] in
-    subst P (sym none) (record { keeps = Keeps-refl types; made = (All-nil (AreTypesBelow (length types)), refl); fitted = fitted })
-
 pub one_more_made : (graph : Graph) (old now new : List CxxType) (lists more : List (List TypeId)) (numbers : List TypeId) (shapes : List Shape) (one : Shape) → MakesLists graph old now (Ok lists) (shapes_at old shapes) → IsShapeKnown graph (length old) one → MakesList graph now new (Ok numbers) (shape_at now one) → more ≡ lists ++ numbers ∷ [] → MakesLists graph old new (Ok more) (shapes_at old (shapes ++ one ∷ []))
 one_more_made graph old now new lists more numbers shapes one so known made is =
     let P : List (List TypeId) → Type 0 = λ ls. MakesLists graph old new (Ok ls) (shapes_at old (shapes ++ one ∷ [])) in
@@ -138,10 +126,6 @@ one_more_made graph old now new lists more numbers shapes one so known made is =
       made = (All-push (AreTypesBelow (length new)) lists numbers (lists_below_later now new lists so.made.0 made.keeps) made.made.0, here);
       fitted = made.fitted;
     })
-
-pub lists_stopped : (graph : Graph) (old now new : List CxxType) (lists : List (List TypeId)) (first : Result (List TypeId) OutOfMemory) (result : Result (List (List TypeId)) OutOfMemory) (some : List (List CxxType)) (ts : List CxxType) (meaning : List (List CxxType)) → MakesLists graph old now (Ok lists) some → MakesList graph now new first ts → IsErr result → MakesLists graph old new result meaning
-lists_stopped graph old now new lists first (Ok found) some ts meaning so made stopped = absurd (cc)
-lists_stopped graph old now new lists first (Err fault) some ts meaning so made stopped = record { keeps = Keeps-trans old now new so.keeps made.keeps; made = tt; fitted = made.fitted }
 
 pub all_more : (graph : Graph) (old now new : List CxxType) (lists more : List (List TypeId)) (numbers : List TypeId) (shapes : List Shape) (i : ℕ) (d : Shape) → i < length shapes → AreShapesKnown graph (length old) shapes → MakesLists graph old now (Ok lists) (shapes_at old (take i shapes)) → MakesList graph now new (Ok numbers) (shape_at now (get_or shapes i d)) → more ≡ lists ++ numbers ∷ [] → MakesLists graph old new (Ok more) (shapes_at old (take (i + 1) shapes))
 all_more graph old now new lists more numbers shapes i d h known so made e =

@@ -1,6 +1,6 @@
 -- Candidates, given what the operands may become.
 use Rattle.std.specs.Prelude.{ℕ, ◌≡◌, List, [], ◌++◌, filter, map, length}
-use Rattle.std.proofs.Common.{ap, sym, subst, ◌∙◌}
+use Rattle.std.proofs.Common.{ap, ◌∙◌}
 use Rattle.std.proofs.lemmas.List.Elements.{All-nil, All-same}
 use Rattle.cxx_model.specs.Facts.Graph.{Graph}
 use Rattle.cxx_model.specs.Types.Trees.{CxxType, enumeration, pointer_to}

@@ -1,7 +1,6 @@
 -- Candidates that are decided and whose types are not made yet, seen as the definitions have them.
 use Rattle.std.specs.Prelude.{ℕ, ◌≡◌, ◌<◌, List, [], ◌∷◌, ◌++◌, length, map, Option, Some, None, Result, Ok, Err}
 use Rattle.std.specs.List.{All, fold}
-use Rattle.cxx_model.specs.declared.base.Base.{Base}
 use Rattle.cxx_model.specs.declared.memory.OutOfMemory.{OutOfMemory}
 use Rattle.cxx_model.specs.declared.stop.Wait.{Wait}
 use Rattle.cxx_model.specs.declared.stop.Wait.TheVariants as wait

@@ -10,7 +10,7 @@ ghost use Rattle.cxx_candidates.specs.Shapes.{number_of, numbers_at, AreAdded, A
 ghost use Rattle.cxx_meaning.specs.Conversions.Kinds.{is_function as is_function_type};
 ghost use Rattle.cxx_meaning.specs.Conversions.Pointers.{is_void as is_void_kind};
 ghost use Rattle.cxx_candidates.specs.Sources as definition;
-ghost use Rattle.cxx_standard.specs.Views.{kind_at, IsKindInRange};
+ghost use Rattle.cxx_standard.specs.Views.{kind_at};
 
 use crate::letters::{Found, Letters, add_kinds_from};
 use crate::making::make_all;

@@ -1,10 +1,9 @@
 //! Conversion functions (12.3.2).
 ghost use Rattle.std.specs.Prelude.{◌≡◌, ◌<◌, ◌++◌, ◌∷◌, [], length, filter, option_map, option_to_list, if◌then◌else◌, IfOk, IfSome, OnOk};
 ghost use Rattle.std.specs.List.{filter_map, slice_get};
-ghost use Rattle.cxx_model.specs.Facts.Declarations.{declares_at, fact_at, facts_at, graph_at, name_at, type_of_option};
+ghost use Rattle.cxx_model.specs.Facts.Declarations.{declares_at, fact_at, graph_at, name_at, type_of_option};
 ghost use Rattle.cxx_model.specs.Facts.Entities.{scope_kinds};
 ghost use Rattle.cxx_model.specs.Facts.Fitted.{Fitted, IsFactBelow, IsNameBelow};
-ghost use Rattle.cxx_model.specs.Types.Numbers.{type_at};
 ghost use Rattle.cxx_candidates.specs.Shapes.{conversion_at, conversions_at, kinds_in, number_of, AreConversionsKnown, IsConversionKnown};
 ghost use Rattle.cxx_candidates.specs.Sources as definition;
 ghost use Rattle.cxx_standard.specs.Views.{Computes};

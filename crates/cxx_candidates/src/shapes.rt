@@ -1,9 +1,6 @@
 //! Parameters of candidates, whose types are not made yet.
 ghost use Rattle.std.specs.Prelude.{◌≡◌, ◌++◌, ◌∷◌, [], map, OnOk, List};
 ghost use Rattle.std.specs.List.{flat_map};
-ghost use Rattle.cxx_model.specs.Types.Trees.{CxxType};
-ghost use Rattle.cxx_candidates.specs.Candidates as definition;
-ghost use Rattle.cxx_candidates.specs.Shapes.{shapes_at, slot_at, slots_at, second_at};
 ghost use Rattle.cxx_candidates.specs.Rows as rows;
 
 use cxx_model::{Base, EnumId, OutOfMemory, TypeId};

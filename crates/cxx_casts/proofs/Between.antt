@@ -79,9 +79,6 @@ cast_later graph old new is_single from to middle t result fitted from_known to_
     ) in
     record { keeps = makes.keeps; cast = subst (λ (asked : Asked (Option CxxCast)). IsCast new result asked) same cast; fitted = makes.fitted }
 
-pub cast_stopped : (graph : Graph) (old new : List CxxType) (fault : OutOfMemory) (t : Option CxxType) (asked : Asked (Option CxxCast)) → MayMake graph old new (Err fault) t → Casts graph old new (Err wait.OutOfMemory) asked
-cast_stopped graph old new fault t asked makes = record { keeps = makes.keeps; cast = tt; fitted = makes.fitted }
-
 -- ---- one cast
 
 cast_here : (graph : Graph) (types : List CxxType) (result : Result (Option CastSteps) Wait) (asked : Asked (Option CxxCast)) → Fitted graph types → IsCast types result asked → Casts graph types types result asked

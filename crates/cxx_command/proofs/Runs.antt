@@ -32,7 +32,7 @@ use Rattle.cxx_words.specs.Words.{IsUnderstood, options_of, understood}
 use Rattle.cxx_command.specs.declared.answers.Answer.{Answer}
 use Rattle.cxx_command.specs.declared.answers.Answer.TheVariants as answer
 use Rattle.cxx_command.specs.Again.{Difference, difference_text, read_again}
-use Rattle.cxx_command.specs.Answers.{IsInputAnswer, IsJobAnswer, IsRunAnswer, IsUnitAnswer, DeliversAnswer}
+use Rattle.cxx_command.specs.Answers.{IsInputAnswer, IsJobAnswer, IsRunAnswer, DeliversAnswer}
 use Rattle.cxx_command.specs.Outcome.{UnitOutcome, Whole, Broken, PastLimit, outcome_of, read_outcome, tokens_outcome}
 use Rattle.cxx_command.specs.Run.{due, due_again, due_of, due_whole, text_of, AgreesWith, ForUnit, NotUnderstood, CannotRead, NoMemory, status_of_unit, IsToldTo, IsTold, Delivers, IsUnitDue, IsDueUnit, IsDue, IsSound, IsWritten, IsNotReadBack, IsMetLimit, met_reading, met_printing, IsTrueFault, IsAnswer, UnitDue, Writes, Reports, Names, Differs}
 use Rattle.cxx_command.specs.Streams.{Change, HasFailed, IsUntouched, TookAll, TookPart}
@@ -506,16 +506,6 @@ answered laws words source out err status answer.NoMemory is told = case_no_memo
 
 -- ---- from the parts of a run
 
--- the answer for a unit is that of the job
-pub unit_answered : {S : Type 0} (job : Job) (source : Change S) (input : List ℕ) (given : Answer) → AgreesWith source.told_old input → IsUnitAnswer (due job input) given → IsJobAnswer job source given
-unit_answered job source input (answer.Writes text) agrees is = record { input = input; agrees = agrees; is = is }
-unit_answered job source input (answer.Reports text) agrees is = record { input = input; agrees = agrees; is = is }
-unit_answered job source input (answer.PassesLimit limit) agrees is = record { input = input; agrees = agrees; is = is }
-unit_answered job source input (answer.DoesNotReadBack text) agrees is = record { input = input; agrees = agrees; is = is }
-unit_answered job source input answer.NotUnderstood agrees is = is
-unit_answered job source input answer.CannotRead agrees is = absurd is
-unit_answered job source input answer.NoMemory agrees is = tt
-
 -- the answer for the job that the words say is that of the run
 pub job_answered : {S : Type 0} (words : List (List ℕ)) (source : Change S) (job : Job) (given : Answer) → understood words ≡ Some job → IsJobAnswer job source given → IsRunAnswer words source given
 job_answered words source job (answer.Writes text) clear is = record { understood = record { job = job; is = clear }; job_answer = is }
@@ -525,9 +515,3 @@ job_answered words source job (answer.DoesNotReadBack text) clear is = record { 
 job_answered words source job answer.NotUnderstood clear is = absurd is
 job_answered words source job answer.CannotRead clear is = record { understood = record { job = job; is = clear }; job_answer = is }
 job_answered words source job answer.NoMemory clear is = record { understood = record { job = job; is = clear }; job_answer = is }
-
-pub not_clear : (words : List (List ℕ)) → understood words ≡ None → ¬ (IsUnderstood words)
-not_clear words unclear clear = none_some clear.job (sym unclear ∙ clear.is)
-  where
-    none_some : (job : Job) → None ≡ Some job → ⊥
-    none_some job e = cc

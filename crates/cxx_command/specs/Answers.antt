@@ -1,9 +1,6 @@
 -- What the parts of a run answer before anything is written.
-use Rattle.std.specs.Prelude.{◌≡◌, ℕ, List, [], codes}
-use Rattle.cxx_model.specs.declared.fault.FaultText.TheVariants as says
-use Rattle.cxx_model.specs.declared.place.Place.{Place}
+use Rattle.std.specs.Prelude.{◌≡◌, ℕ, List, codes}
 use Rattle.cxx_model.specs.declared.stop.Fault.{Fault}
-use Rattle.cxx_model.specs.declared.token.TokenReason.{TokenReason}
 use Rattle.cxx_model.specs.Printing.Reports.{report, limit_report}
 use Rattle.cxx_command.specs.declared.answers.Answer.{Answer}
 use Rattle.cxx_command.specs.declared.answers.Answer.TheVariants as answer
@@ -25,10 +22,6 @@ DeliversAnswer answer.CannotRead out err status = IsTold err out (codes "cannot 
 DeliversAnswer answer.NoMemory out err status = IsTold err out (codes "out of memory\n") 6 status
 
 -- ---- why
-
--- the fault of a bad token
-abbrev pub token_fault : Place → TokenReason → Fault
-token_fault place reason = record { place = place; text = says.BadToken reason; evidence = [] }
 
 -- the answer is this unit's due, unless there is no memory
 abbrev pub IsUnitAnswer : UnitDue → Answer → Type 0

@@ -75,12 +75,6 @@ status_of_unit (Reports fault) = 1
 status_of_unit (Names limit) = 5
 status_of_unit (Differs difference) = 7
 
-abbrev pub status_of : Due → ℕ
-status_of (ForUnit unit) = status_of_unit unit
-status_of NotUnderstood = 2
-status_of CannotRead = 3
-status_of NoMemory = 6
-
 -- All of the text was appended, or that sink failed: then a part was, and the status is 4.
 abbrev pub IsToldTo : {K : Type 0} → Change K → List ℕ → ℕ → ℕ → Type 0
 IsToldTo sink text said status = ((status ≡ said) × TookAll sink text) ⊎ ((status ≡ 4) × HasFailed sink × TookPart sink text)

@@ -3,7 +3,6 @@ ghost use Rattle.std.specs.Prelude.{◌≡◌, ◌≤◌, ◌<◌, ◌^◌, [], 
 ghost use Rattle.cxx_model.specs.declared.token.Token.{Token as TokenOfText};
 ghost use Rattle.cxx_model.specs.Text.Tokens.{Unread};
 ghost use Rattle.cxx_tokens.specs.Answers.{IsFault};
-ghost use Rattle.cxx_model.specs.declared.limits.TheConstants as limits;
 ghost use Rattle.cxx_model.specs.declared.options.Options.{Options as OptionsOfRun};
 ghost use Rattle.cxx_model.specs.Stops.{Faulty, Stopped, fault};
 ghost use Rattle.cxx_model.specs.Text.Lexemes.{lexemes};
@@ -17,6 +16,7 @@ use cxx_model::limits::MOST_BYTES;
 use cxx_model::{
     EvidenceList, Fault, FaultText, LimitKind, Options, Place, Stop, Token, TokenReason,
 };
+use cxx_overload::{Champion, Choosing};
 use cxx_space::read_unit;
 use cxx_tokens::{TokenFault, tokens};
 use cxx_tree::State;
@@ -55,7 +55,8 @@ fn read(alloc: Global, bytes: &[u8], tokens: &[Token], options: Options) -> Outc
     requires { length tokens.now < 2 ^ 32 }
     ensures { IsOutcome options (read_outcome (unit_reading options (lexemes bytes.now tokens.now))) result }
 {
-    match read_unit(alloc, &Declaring, bytes, tokens, options) {
+    let chooser = Choosing::Champion(Champion);
+    match read_unit(alloc, &Declaring, bytes, tokens, options, chooser) {
         Ok(state) => Outcome::Whole(state),
         Err(Stop::Fault(fault)) => Outcome::Broken(fault),
         Err(Stop::Limit(limit)) => Outcome::PassesLimit(limit),

@@ -1,10 +1,10 @@
 -- Constant expressions, as clause 5 has them; clang++ and g++ give the same values.
-use Rattle.std.specs.Prelude.{ℕ, ◌≡◌, [], Option, Some, None, Result, Ok, Err, ℤ, pos, negsuc, refl}
+use Rattle.std.specs.Prelude.{◌≡◌, [], Option, Some, None, Ok, ℤ, pos, negsuc, refl}
 use Rattle.cxx_model.specs.declared.base.Base.TheVariants as base
 use Rattle.cxx_model.specs.declared.punct.TheConstants as punct
 use Rattle.cxx_model.specs.Facts.Declarations.{CxxGraph}
 use Rattle.cxx_model.specs.Facts.Pending.{is_pending}
-use Rattle.cxx_model.specs.Types.Trees.{CxxFormula, CxxType, fundamental, value_of, value_parameter, size_of, cast_to, unary, binary, conditional}
+use Rattle.cxx_model.specs.Types.Trees.{CxxFormula, fundamental, value_of, value_parameter, size_of, cast_to, unary, binary, conditional}
 use Rattle.cxx_meaning.specs.Conversions.Arithmetic.{usual}
 use Rattle.cxx_meaning.specs.Conversions.Asking.{Asked}
 use Rattle.cxx_meaning.specs.Conversions.Sizes as sizes

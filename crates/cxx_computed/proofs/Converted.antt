@@ -1,5 +1,5 @@
 -- Values converted to integral types.
-use Rattle.std.proofs.Common.{◌≡◌, ℕ, zero, suc, ◌+◌, ◌-◌, ◌*◌, ◌%◌, ◌^◌, ◌<◌, ◌≤◌, ◌&&◌, not, Bool, true, false, ℤ, pos, negsuc, ◌-ℤ◌, refl, sym, subst, ◌∙◌, ap, arith, unsigned_abs, nat_lt, nat_le, if◌then◌else◌, ◌⊎◌, inl, inr, Result, Ok, Err}
+use Rattle.std.proofs.Common.{◌≡◌, ℕ, zero, suc, ◌+◌, ◌-◌, ◌%◌, ◌^◌, ◌<◌, ◌≤◌, not, Bool, true, false, ℤ, pos, negsuc, ◌-ℤ◌, refl, ◌∙◌, ap, arith, nat_lt, nat_le, if◌then◌else◌, ◌⊎◌, inl, inr, Ok, Err}
 use Rattle.std.proofs.lemmas.Int.{ints}
 use Rattle.std.proofs.lemmas.Nat.{pow_pos}
 use Rattle.std.proofs.Math.Nat.{mod-eq_of_lt}
@@ -9,7 +9,6 @@ use Rattle.cxx_model.specs.declared.base.Base.TheVariants as base
 use Rattle.cxx_model.specs.Choice.Standard.{same_base}
 use Rattle.cxx_model.specs.Types.Integral.{holds, signed, width}
 use Rattle.cxx_computed.specs.Values.{converted_value, digits_of, is_zero, truth, value_in, value_of_digits, wrapped}
-use Rattle.cxx_computed.specs.declared.operators.ValueFault.{ValueFault}
 use Rattle.cxx_computed.specs.declared.operators.ValueFault.TheVariants as fault
 
 yes : (n m : ℕ) → n < m → nat_lt n m ≡ true

@@ -1,11 +1,11 @@
 -- Values that a type has.
-use Rattle.std.proofs.Common.{◌≡◌, ℕ, zero, suc, ◌+◌, ◌-◌, ◌*◌, ◌%◌, ◌^◌, ◌<◌, ◌≤◌, Bool, true, false, ℤ, pos, negsuc, ◌*ℤ◌, FitsSigned, to_z, of_z, refl, sym, subst, ◌∙◌, ap, arith, unsigned_abs, nat_lt}
+use Rattle.std.proofs.Common.{◌≡◌, ℕ, ◌-◌, ◌*◌, ◌^◌, ◌<◌, ◌≤◌, Bool, true, ℤ, pos, negsuc, ◌*ℤ◌, FitsSigned, to_z, of_z, arith, unsigned_abs, nat_lt}
 use Rattle.std.proofs.Math.Pow.{pow_mono}
 use Rattle.std.proofs.lemmas.Int.{fits_signed_from_abs, fits_signed_mul, to_z-of_z}
 use Rattle.std.proofs.lemmas.Bool.Decides.{nat_tests}
 use Rattle.cxx_model.specs.declared.base.Base.{Base}
 use Rattle.cxx_model.specs.declared.base.Base.TheVariants as base
-use Rattle.cxx_model.specs.Types.Integral.{holds, signed, width}
+use Rattle.cxx_model.specs.Types.Integral.{holds, signed}
 use mir.Syntax.{w128}
 
 below : (n m : ℕ) → nat_lt n m ≡ true → n < m

@@ -1,5 +1,5 @@
 -- The types of constants are there.
-use Rattle.std.proofs.Common.{ℕ, ◌≡◌, nat_eq, Bool, true, false, List, length, ◌<◌, Option, Some, None, Result, Ok, Err, sym, subst, if◌then◌else◌}
+use Rattle.std.proofs.Common.{ℕ, ◌≡◌, nat_eq, Bool, true, false, List, Option, Some, None, sym, subst, if◌then◌else◌}
 use Rattle.cxx_model.specs.declared.base.Base.{Base}
 use Rattle.cxx_model.specs.declared.base.Base.TheVariants as base
 use Rattle.cxx_model.specs.declared.punct.TheConstants as punct
@@ -7,11 +7,11 @@ use Rattle.cxx_model.specs.Facts.Declarations.{CxxGraph}
 use Rattle.cxx_model.specs.Facts.Graph.{Graph}
 use Rattle.cxx_model.specs.Types.Trees.{CxxType}
 use Rattle.cxx_meaning.specs.Conversions.Arithmetic.{integral_promoted, usual}
-use Rattle.cxx_meaning.specs.Conversions.Kinds.{CxxKind, arithmetic}
+use Rattle.cxx_meaning.specs.Conversions.Kinds.{CxxKind}
 use Rattle.cxx_computed.specs.declared.constants.Constant.{Constant}
 use Rattle.cxx_computed.specs.declared.operators.BinaryOperator.{BinaryOperator}
 use Rattle.cxx_computed.specs.Computes.{constants_at, AreConstantsInRange}
-use Rattle.cxx_computed.specs.Formulas.{CxxConstant, Valued, binary_by, binary_constant, binary_on, binary_operator, binary_valued, both_constant, chosen, conditional_by, conditional_constant, conditional_kind, conjunction, disjunction, integral_of, is_same_kind, of_base, result_type, three_constants, two_constants, usual_kind}
+use Rattle.cxx_computed.specs.Formulas.{CxxConstant, Valued, binary_by, binary_constant, binary_operator, binary_valued, both_constant, chosen, conditional_by, conjunction, disjunction, integral_of, is_same_kind, of_base, result_type, three_constants, two_constants, usual_kind}
 use Rattle.cxx_computed.specs.Values.{is_shift}
 use Rattle.cxx_standard.specs.Views.{IsKindInRange}
 

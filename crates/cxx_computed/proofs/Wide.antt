@@ -1,5 +1,5 @@
 -- Types whose values are integers stay such where operands are converted.
-use Rattle.std.proofs.Common.{◌≡◌, ℕ, ◌<◌, ◌^◌, ◌||◌, to_z, of_z, unsigned_abs, Bool, true, false, ℤ, refl, sym, subst, ◌∙◌, ap, arith, if◌then◌else◌}
+use Rattle.std.proofs.Common.{◌≡◌, ◌<◌, ◌^◌, ◌||◌, to_z, of_z, unsigned_abs, Bool, true, false, ℤ, refl, sym, subst, ◌∙◌, ap, arith, if◌then◌else◌}
 use Rattle.std.proofs.lemmas.Int.{fits_signed_from_abs, to_z-of_z}
 use Rattle.cxx_model.specs.declared.base.Base.{Base}
 use Rattle.cxx_model.specs.declared.base.Base.TheVariants as base

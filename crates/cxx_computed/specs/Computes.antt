@@ -35,7 +35,3 @@ Computes (Err (stop.Needs class)) asked = asked ≡ Err class
 abbrev pub AreConstantsInRange : Graph → List CxxType → Option Constant → Type 0
 AreConstantsInRange graph types None = Unit {0}
 AreConstantsInRange graph types (Some part) = IsKindInRange graph (kind_at types part.of)
-
-abbrev pub AreKindsInRange : Graph → List CxxType → Option TypeKind → Type 0
-AreKindsInRange graph types None = Unit {0}
-AreKindsInRange graph types (Some kind) = IsKindInRange graph (kind_at types kind)

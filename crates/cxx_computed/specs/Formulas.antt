@@ -6,7 +6,7 @@ use Rattle.cxx_model.specs.declared.punct.TheConstants as punct
 use Rattle.cxx_model.specs.Choice.Standard.{same_base}
 use Rattle.cxx_model.specs.Facts.Declarations.{CxxGraph}
 use Rattle.cxx_model.specs.Types.Integral.{width}
-use Rattle.cxx_model.specs.Types.Trees.{CxxType, CxxFormula, value_of, value_parameter, member_of, size_of, cast_to, unary, binary, conditional}
+use Rattle.cxx_model.specs.Types.Trees.{CxxFormula, value_of, value_parameter, member_of, size_of, cast_to, unary, binary, conditional}
 use Rattle.cxx_meaning.specs.declared.size.SizeReason.{SizeReason}
 use Rattle.cxx_meaning.specs.Conversions.Arithmetic.{integer_of, integral_promoted, usual}
 use Rattle.cxx_meaning.specs.Conversions.Asking.{Asked}

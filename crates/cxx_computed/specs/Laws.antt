@@ -1,5 +1,5 @@
 -- What the integers give, by the operators of clause 5.
-use Rattle.std.specs.Prelude.{Bool, not, if◌then◌else◌, Option, Some, None, ℤ, ◌+ℤ◌, ◌-ℤ◌, ◌*ℤ◌, int_div, int_rem}
+use Rattle.std.specs.Prelude.{not, if◌then◌else◌, Option, Some, None, ℤ, ◌+ℤ◌, ◌-ℤ◌, ◌*ℤ◌, int_div, int_rem}
 use Rattle.std.specs.Ordering.{int_eq}
 use Rattle.cxx_computed.specs.declared.operators.BinaryOperator.{BinaryOperator}
 use Rattle.cxx_computed.specs.declared.operators.BinaryOperator.TheVariants as binary

@@ -1,5 +1,5 @@
 -- The values of constants: what clause 4 converts them to, and what the operators of clause 5 make of them.
-use Rattle.std.specs.Prelude.{ℕ, ◌-◌, ◌^◌, Bool, true, false, ◌&&◌, not, nat_eq, nat_le, if◌then◌else◌, Option, Some, None, Result, Ok, Err, ℤ, pos, negsuc, ◌+ℤ◌, ◌-ℤ◌, ◌*ℤ◌, neg_ℤ, int_div, int_rem, unsigned_abs, bit_and, bit_or, bit_xor}
+use Rattle.std.specs.Prelude.{ℕ, ◌-◌, ◌^◌, Bool, true, false, ◌&&◌, not, nat_le, if◌then◌else◌, Result, Ok, Err, ℤ, pos, negsuc, ◌+ℤ◌, ◌-ℤ◌, ◌*ℤ◌, neg_ℤ, int_div, int_rem, unsigned_abs, bit_and, bit_or, bit_xor}
 use Rattle.std.specs.Bool.{nat_lt}
 use Rattle.std.specs.Int.{int_rem_euclid, int_shr}
 use Rattle.std.specs.Ordering.{int_eq}

@@ -2,7 +2,7 @@
 ghost use Rattle.std.specs.Prelude.{◌≡◌, ◌<◌, length, None, Some, true, false, IfSome, Ok};
 ghost use Rattle.cxx_model.specs.Facts.Declarations.{graph_at};
 ghost use Rattle.cxx_model.specs.Types.Integral.{holds, width};
-ghost use Rattle.cxx_computed.specs.Computes.{constant_at, constants_at, kinds_at, AreKindsInRange, AreConstantsInRange};
+ghost use Rattle.cxx_computed.specs.Computes.{constant_at, constants_at, kinds_at, AreConstantsInRange};
 ghost use Rattle.cxx_computed.specs.Formulas as definition;
 ghost use Rattle.cxx_computed.specs.Values as values;
 ghost use Rattle.cxx_standard.specs.Views.{kind_at, IsKindInRange};

@@ -1,6 +1,6 @@
 //! What the operators make of values (5.3.1, 5.6 to 5.13).
 ghost use Rattle.std.specs.Prelude.{◌≡◌, ◌<◌, ◌^◌, pos, ◌*ℤ◌, true, false, int_div, int_rem, bit_and, bit_or, bit_xor};
-ghost use Rattle.cxx_model.specs.Types.Integral.{holds as holds_value, signed, width};
+ghost use Rattle.cxx_model.specs.Types.Integral.{holds as holds_value};
 ghost use Rattle.cxx_computed.specs.Values as definition;
 
 use crate::integers::{

@@ -61,10 +61,6 @@ fact_is types [] n = refl
 fact_is types (fact ∷ all) zero = refl
 fact_is types (fact ∷ all) (suc n) = fact_is types all n
 
-pub length_facts : (types : List CxxType) (all : List Fact) → length (facts_at types all) ≡ length all
-length_facts types [] = refl
-length_facts types (fact ∷ all) = ap (λ n. suc n) (length_facts types all)
-
 -- ---- before the first declaration of an object
 
 within : {A : Type 0} (xs : List A) (i : ℕ) (x : A) → slice_get xs i ≡ Some x → i < length xs

@@ -44,9 +44,6 @@ either : (b : Bool) (one two : CxxValue) (v : ℤ) (P : Type 0) → (one ≡ Ok 
 either true one two v P p q e = p e
 either false one two v P p q e = q e
 
-checked_none : (x : CxxValue) (missing : Option CxxTree) (v : ℤ) → (x then λ w. unless_missing missing (Ok w)) ≡ Ok v → missing ≡ None
-checked_none x missing v e = (let s = split x (λ w. unless_missing missing (Ok w)) v e in none_missing missing (Ok s.0) v s.2)
-
 sound_by : (tree : CxxTree) (is : Form) (ps : List Part) → AreSound ps → (v : ℤ) → value_by tree is ps ≡ Ok v → missing_by tree is ps ≡ None
 sound_by tree (form.Value own) ps all v e = refl
 sound_by tree form.Other ps all v e = absurd (err_ok _ v e)

@@ -5,7 +5,7 @@ ghost use Rattle.cxx_model.specs.Facts.Fitted.{IsTypeNumberBelow};
 ghost use Rattle.cxx_model.specs.Types.Numbers.{type_at};
 ghost use Rattle.cxx_meaning.specs.Conversions.Sizes.{size_of as size_of_type};
 ghost use Rattle.cxx_standard.specs.Views.{kind_at};
-ghost use Rattle.cxx_tree.specs.Arena.{label_at, operand_of_option, AreTreesBelow, IsNodeBelow, IsOperandBelow};
+ghost use Rattle.cxx_tree.specs.Arena.{label_at, AreTreesBelow, IsNodeBelow};
 ghost use Rattle.cxx_constant.specs.Forms as definition;
 ghost use Rattle.cxx_constant.specs.Known.{graph_in, labels_in, part_at, IsKnown};
 

@@ -1,12 +1,10 @@
 -- Tables of types that grow.
-use Rattle.std.specs.Prelude.{ℕ, ◌≡◌, ◌<◌, ◌≤◌, ◌+◌, List, [], length, Result, Ok, Err}
-use Rattle.std.proofs.Common.{ap, sym, subst, ◌∙◌, arith}
-use Rattle.cxx_model.specs.declared.memory.OutOfMemory.{OutOfMemory}
+use Rattle.std.specs.Prelude.{ℕ, ◌<◌, ◌≤◌, List, length, Ok}
+use Rattle.std.proofs.Common.{sym, subst, arith}
 use Rattle.cxx_model.specs.declared.types.Formula.{Formula, Value, Parameter, Member, SizeOf, Cast', Unary', Binary', Conditional'}
 use Rattle.cxx_model.specs.declared.types.TypeId.{TypeId}
-use Rattle.cxx_model.specs.Facts.Declarations.{CxxFact, facts_at, graph_at}
-use Rattle.cxx_model.specs.Facts.Fitted.{Fitted}
-use Rattle.cxx_model.specs.Facts.Graph.{Graph, IsTypeInRange}
+use Rattle.cxx_model.specs.Facts.Declarations.{facts_at, graph_at}
+use Rattle.cxx_model.specs.Facts.Graph.{IsTypeInRange}
 use Rattle.cxx_model.specs.Types.Numbers.{IsFormulaBelow}
 use Rattle.cxx_model.specs.Types.Trees.{CxxType}
 use Rattle.cxx_types.specs.Makes.{Makes}

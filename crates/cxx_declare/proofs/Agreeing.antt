@@ -1,5 +1,5 @@
 -- Members that are declared outside of their namespace (8.3).
-use Rattle.std.specs.Prelude.{ℕ, ◌≡◌, ◌<◌, ◌+◌, Bool, true, false, ◌&&◌, ◌||◌, nat_eq, List, [], ◌∷◌, length, Option, Some, None, option_map, Result, Ok, Err, refl}
+use Rattle.std.specs.Prelude.{ℕ, ◌≡◌, ◌<◌, ◌+◌, Bool, true, false, ◌&&◌, ◌||◌, nat_eq, List, [], ◌∷◌, length, Option, Some, None, option_map, Result, refl}
 use Rattle.std.specs.List.{slice_get}
 use Rattle.std.proofs.Common.{ap, sym, subst, ◌∙◌, drop, get_or}
 use Rattle.std.proofs.lemmas.List.{at_drop_more}
@@ -17,16 +17,11 @@ use Rattle.cxx_reading.specs.Linked.{home_of}
 use Rattle.cxx_reading.specs.Members.{agree_here, agreed_by, agrees, any_agrees}
 use Rattle.cxx_reading.specs.Paths.{found_in}
 use Rattle.cxx_reading.specs.Seen.{Numbered, fact_numbers, numbered_at, numbered_by}
-use Rattle.cxx_reading.specs.State.{CxxState}
-use Rattle.cxx_declare.specs.Agreed.{disagreeing}
 use Rattle.cxx_declare.specs.Made.{token}
-use Rattle.cxx_paths.specs.Asked.{IsStop, first_place}
 use Rattle.cxx_paths.proofs.Places.{fact_seen}
-use Rattle.cxx_paths.proofs.Stopping.{stopped_at}
 use Rattle.cxx_tree.specs.Answered.{AnyKnown, IsAnswered, itself}
 use Rattle.cxx_names.proofs.Clashing.{fact_below}
 use Rattle.cxx_tree.specs.Held.{Held, meaning}
-use Rattle.cxx_tree.proofs.Steps.{Later_refl}
 
 -- ---- one declaration
 
@@ -77,18 +72,6 @@ agrees_stops graph space is_typedef of numbers i d whole within one same =
     ∙ same
 
 -- ---- what is answered
-
-agreed_none : (state : CxxState) (kind : TokenKind) (place : Place) (word : List ℕ) (all : List Numbered) → agreed_by (token kind place word) all false state ≡ Err (disagreeing place word (first_place all))
-agreed_none state kind place word [] = refl
-agreed_none state kind place word (one ∷ others) = refl
-
-pub agreed : (held : Held) (kind : TokenKind) (place : Place) (word : List ℕ) (all : List Numbered) (b : Bool) → true ≡ b → IsAnswered itself AnyKnown held held (Ok tt) (agreed_by (token kind place word) all b (meaning held))
-agreed held kind place word all b is = subst (λ x. IsAnswered itself AnyKnown held held (Ok tt) (agreed_by (token kind place word) all x (meaning held))) is (record { is = (refl, tt); later = Later_refl held })
-
-pub disagreed : (held : Held) (kind : TokenKind) (place : Place) (word : List ℕ) (all : List Numbered) (b : Bool) (why : Stop) → false ≡ b → IsStop (disagreeing place word (first_place all)) why → IsAnswered itself AnyKnown held held (Err why) (agreed_by (token kind place word) all b (meaning held))
-disagreed held kind place word all b why is stops =
-    subst (λ x. IsAnswered itself AnyKnown held held (Err why) (agreed_by (token kind place word) all x (meaning held))) is
-    (subst (λ reply. IsAnswered itself AnyKnown held held (Err why) reply) (sym (agreed_none (meaning held) kind place word all)) (stopped_at itself AnyKnown held (disagreeing place word (first_place all)) why stops))
 
 pub agreed_here : (held : Held) (is_typedef : Bool) (kind : TokenKind) (place : Place) (word : List ℕ) (of : CxxType) (all : List Numbered) (r : Result (Unit {0}) Stop) → all ≡ found_in (meaning held).graph (Inside held.scope) (spelled word) → IsAnswered itself AnyKnown held held r (agreed_by (token kind place word) all (any_agrees (meaning held).graph (meaning held).here.scope is_typedef of all) (meaning held)) → IsAnswered itself AnyKnown held held r (agree_here is_typedef (token kind place word) of (meaning held))
 unfolding agree_here meaning

@@ -1,5 +1,5 @@
 -- What names mean to a reader.
-use Rattle.std.specs.Prelude.{ℕ, ◌≡◌, ◌<◌, List, [], ◌∷◌, Option, Some, None, option_map, Result, Ok, Err, IfSome, refl}
+use Rattle.std.specs.Prelude.{ℕ, ◌≡◌, ◌<◌, List, Option, Some, None, option_map, Result, Ok, IfSome, refl}
 use Rattle.std.proofs.Common.{ap, sym, subst, ◌∙◌}
 use Rattle.cxx_model.specs.declared.place.Place.{Place}
 use Rattle.cxx_model.specs.declared.stop.Stop.{Stop}
@@ -10,20 +10,15 @@ use Rattle.cxx_model.specs.declared.types.TypeId.{TypeId}
 use Rattle.cxx_model.specs.Facts.Declarations.{CxxGraph, graph_at, spelled}
 use Rattle.cxx_model.specs.Facts.Fitted.{Fitted}
 use Rattle.cxx_model.specs.Facts.Graph.{Graph, InRange, enumerations}
-use Rattle.cxx_model.specs.Types.Trees.{CxxType, enumeration}
 use Rattle.cxx_names.specs.Looked.{enumeration_number}
-use Rattle.cxx_reading.specs.Declaring.{elaborated_by, enumeration_in, kind_here, type_here}
+use Rattle.cxx_reading.specs.Declaring.{enumeration_in, kind_here, type_here}
 use Rattle.cxx_reading.specs.Paths.{found_of, region_by, region_of, sought_in}
 use Rattle.cxx_reading.specs.Seen.{Numbered, found as found_from, kind_of_found, numbered_at, sought_from, type_in}
 use Rattle.cxx_reading.specs.Specifiers.{path_of}
-use Rattle.cxx_reading.specs.State.{CxxState}
-use Rattle.cxx_reading.specs.Trees.{CxxPath, CxxPathPart}
+use Rattle.cxx_reading.specs.Trees.{CxxPath}
 use Rattle.cxx_declare.specs.Made.{IsTypeThere, token}
-use Rattle.cxx_paths.specs.Asked.{IsStop, first_place, not_wanted_at}
-use Rattle.cxx_paths.proofs.Stopping.{stopped_at}
 use Rattle.cxx_tree.specs.Answered.{AnyKnown, IsAnswered, itself}
 use Rattle.cxx_tree.specs.Held.{Held, meaning, type_of}
-use Rattle.cxx_tree.specs.Later.{MakesType}
 use Rattle.cxx_tree.proofs.Graphs.{enumeration_found}
 use Rattle.cxx_tree.proofs.Steps.{Later_refl}
 
@@ -41,12 +36,6 @@ kind_answered held kind place word k is = record {
   later = Later_refl held;
 }
 
-pub type_answered : (old new : Held) (number : TypeId) (of : CxxType) → MakesType old new (Ok number) of → IsAnswered type_of IsTypeThere old new (Ok number) (Ok (of, meaning old))
-type_answered old new number of makes = record {
-  is = (ap (λ (t : CxxType). Ok (t, meaning old)) (sym makes.made.1) ∙ ap (λ (s : CxxState). Ok (type_of new number, s)) (sym makes.same), makes.made.0);
-  later = makes.later;
-}
-
 pub type_there : (old new : Held) (path : CxxPath) (all : List Numbered) (r : Result TypeId Stop) → all ≡ found_of (meaning old).graph (meaning old).here.scope path → IsAnswered type_of IsTypeThere old new r (Ok (type_in all, meaning old)) → IsAnswered type_of IsTypeThere old new r (type_here path (meaning old))
 unfolding type_here
 type_there old new path all r is answered = subst (λ (some : List Numbered). IsAnswered type_of IsTypeThere old new r (Ok (type_in some, meaning old))) is answered
@@ -59,15 +48,3 @@ type_found old new kind place word all r is answered = type_there old new (path_
 pub enumeration_there : (held : Held) (graph : Graph) (numbers : List ℕ) (r : Option EnumId) → graph ≡ held.graph → Fitted held.graph held.types → InRange graph → option_map enumeration_number r ≡ enumeration_in (numbered_at (graph_at held.types graph) numbers) → IfSome r (λ number. number.0 < enumerations held.graph.facts)
 enumeration_there held graph numbers None same fitted ok is = tt
 enumeration_there held graph numbers (Some number) same fitted ok is = enumeration_found held.graph held.types numbers number.0 fitted (subst (λ (g : Graph). InRange g) same ok) (ap (λ (g : Graph). enumeration_in (numbered_at (graph_at held.types g) numbers)) (sym same) ∙ sym is)
-
-pub elaborated_some : (old new : Held) (part : CxxPathPart) (all : List Numbered) (number : EnumId) (r : Result TypeId Stop) → Some number.0 ≡ enumeration_in all → IsAnswered type_of IsTypeThere old new r (Ok (enumeration number.0, meaning old)) → IsAnswered type_of IsTypeThere old new r (elaborated_by part all (enumeration_in all) (meaning old))
-elaborated_some old new part all number r is answered = subst (λ o. IsAnswered type_of IsTypeThere old new r (elaborated_by part all o (meaning old))) is answered
-
-not_wanted_is : (state : CxxState) (part : CxxPathPart) (all : List Numbered) → elaborated_by part all None state ≡ Err (not_wanted_at part (first_place all))
-not_wanted_is state part [] = refl
-not_wanted_is state part (one ∷ others) = refl
-
-pub elaborated_none : (held : Held) (part : CxxPathPart) (all : List Numbered) (why : Stop) → None ≡ enumeration_in all → IsStop (not_wanted_at part (first_place all)) why → IsAnswered type_of IsTypeThere held held (Err why) (elaborated_by part all (enumeration_in all) (meaning held))
-elaborated_none held part all why none is =
-    subst (λ o. IsAnswered type_of IsTypeThere held held (Err why) (elaborated_by part all o (meaning held))) none
-    (subst (λ reply. IsAnswered type_of IsTypeThere held held (Err why) reply) (sym (not_wanted_is (meaning held) part all)) (stopped_at type_of IsTypeThere held (not_wanted_at part (first_place all)) why is))

@@ -1,7 +1,7 @@
 -- Using-declarations (7.3.3).
-use Rattle.std.specs.Prelude.{ℕ, zero, suc, ◌≡◌, ◌<◌, ◌≤◌, ◌+◌, ◌++◌, Bool, true, false, if◌then◌else◌, List, [], ◌∷◌, length, Option, Some, None, option_map, Result, Ok, Err, IfOk, refl}
+use Rattle.std.specs.Prelude.{ℕ, zero, suc, ◌≡◌, ◌<◌, ◌≤◌, ◌+◌, Bool, true, false, if◌then◌else◌, List, [], ◌∷◌, length, Option, Some, None, option_map, Result, Ok, Err, IfOk, refl}
 use Rattle.std.specs.List.{slice_get}
-use Rattle.std.proofs.Common.{ap, sym, subst, ◌∙◌, arith, drop, get_or, length-append}
+use Rattle.std.proofs.Common.{ap, sym, subst, ◌∙◌, arith, drop, get_or}
 use Rattle.std.proofs.lemmas.List.{at_drop_all, at_drop_more}
 use Rattle.cxx_model.specs.declared.facts.Entity.TheVariants as entity
 use Rattle.cxx_model.specs.declared.facts.Fact.{Fact}
@@ -13,35 +13,29 @@ use Rattle.cxx_model.specs.declared.stop.Stop.{Stop}
 use Rattle.cxx_model.specs.declared.types.FactId.{FactId}
 use Rattle.cxx_model.specs.declared.types.ScopeId.{ScopeId}
 use Rattle.cxx_model.specs.Facts.Declarations.{CxxFact, CxxGraph, declares_at, fact_at, facts_at, graph_at, spelled}
-use Rattle.cxx_model.specs.Facts.Graph.{Graph, InRange, appended, scopes}
+use Rattle.cxx_model.specs.Facts.Graph.{Graph, InRange}
 use Rattle.cxx_model.specs.Stops.{Answer, Stops, ◌>>=◌}
 use Rattle.cxx_model.specs.Types.Trees.{CxxType}
 use Rattle.cxx_meaning.specs.Lookups.Qualified.{brought}
 use Rattle.cxx_meaning.specs.Lookups.Wanted.{names_space}
 use Rattle.cxx_reading.specs.declared.region.Region.TheVariants.{Inside}
 use Rattle.cxx_reading.specs.Declaring.{declare}
-use Rattle.cxx_reading.specs.Paths.{wrong_kind_at}
-use Rattle.cxx_reading.specs.Seen.{Numbered, fact_numbers, found_or_none, numbered_at, numbered_by}
+use Rattle.cxx_reading.specs.Seen.{fact_numbers, found_or_none, numbered_at, numbered_by}
 use Rattle.cxx_reading.specs.State.{CxxState}
 use Rattle.cxx_reading.specs.Trees.{CxxPathPart}
-use Rattle.cxx_reading.specs.Usings.{bring_all, bring_each, brought_in, space_among, using_fact}
+use Rattle.cxx_reading.specs.Usings.{bring_each, brought_in, space_among, using_fact}
 use Rattle.cxx_declare.specs.Brought.{AreFoundThere, AreThere, place_of_space}
-use Rattle.cxx_declare.specs.Made.{IsReady, made, word_in}
+use Rattle.cxx_declare.specs.Made.{made, word_in}
 use Rattle.cxx_declare.specs.Opened.{told_declared}
 use Rattle.cxx_declare.proofs.Brought.{found_there}
-use Rattle.cxx_paths.specs.Asked.{IsStop}
 use Rattle.cxx_paths.proofs.Places.{fact_seen}
-use Rattle.cxx_paths.proofs.Stopping.{stopped_at, stopped_on}
+use Rattle.cxx_paths.proofs.Stopping.{stopped_on}
 use Rattle.cxx_tree.specs.Answered.{AnyKnown, IsAnswered, itself}
 use Rattle.cxx_tree.specs.Held.{Held, meaning}
 use Rattle.cxx_tree.specs.Later.{Later}
-use Rattle.cxx_tree.proofs.Steps.{Later_refl, Later_trans}
-use Rattle.cxx_tree.proofs.Wholes.{may_follow}
+use Rattle.cxx_tree.proofs.Steps.{Later_trans}
 
 -- ---- one entity
-
-pub using_ready : (held : Held) (place : Place) (word : List ℕ) (target : FactId) (fact : Fact) → held.scope.0 < scopes held.graph.facts → target.0 < length held.graph.facts → fact ≡ made held.scope place (name.Spelled word) (entity.Using target) → IsReady held fact
-using_ready held place word target fact there within is = subst (λ (f : Fact). IsReady held f) (sym is) (record { follows = may_follow held.graph (made held.scope place (name.Spelled word) (entity.Using target)) there within; below = record { name = tt; what = tt }; plain = record { name = tt; what = tt } })
 
 pub one_brought : (old new : Held) (part : CxxPathPart) (place : Place) (word : List ℕ) (target : FactId) (fact : Fact) (r : Result (Unit {0}) Stop) → place ≡ part.place → word ≡ part.word → fact ≡ made old.scope place (name.Spelled word) (entity.Using target) → IsAnswered itself AnyKnown old new r (told_declared (fact_at old.types fact) (word_in fact.name) (meaning old)) → IsAnswered itself AnyKnown old new r (bring_each part (target ∷ []) (meaning old))
 unfolding bring_each meaning
@@ -49,9 +43,6 @@ one_brought old new part place word target fact r stands named is answered =
     subst (λ (w : List ℕ). IsAnswered itself AnyKnown old new r (told_declared (fact_at old.types (made old.scope part.place (name.Spelled w) (entity.Using target))) w (meaning old))) named
     (subst (λ (p : Place). IsAnswered itself AnyKnown old new r (told_declared (fact_at old.types (made old.scope p (name.Spelled word) (entity.Using target))) word (meaning old))) stands
     (subst (λ (f : Fact). IsAnswered itself AnyKnown old new r (told_declared (fact_at old.types f) (word_in f.name) (meaning old))) is answered))
-
-pub one_longer : (old new : Held) (fact : Fact) → new ≡ record old { graph = appended old.graph fact } → length old.graph.facts ≤ length new.graph.facts
-one_longer old new fact is = subst (λ (h : Held). length old.graph.facts ≤ length h.graph.facts) (sym is) (let grown : length (old.graph.facts ++ fact ∷ []) ≡ length old.graph.facts + 1 = length-append old.graph.facts (fact ∷ []) in omega arith)
 
 pub longer_still : (one two three : ℕ) → one ≤ two → two ≤ three → one ≤ three
 longer_still one two three p q = omega (arith, p, q)
@@ -95,14 +86,6 @@ unfolding bring_each
 brought_all first now part targets i past later same = record { is = (sym same ∙ at_drop_all (λ ns. bring_each part ns (meaning now)) targets i past, tt); later = later }
 
 -- ---- namespaces among them
-
-pub all_some : (held : Held) (part : CxxPathPart) (targets : List FactId) (one : Option Numbered) (other : Place) (why : Stop) → Some other ≡ place_of_space one → IsStop (wrong_kind_at part other) why → IsAnswered itself AnyKnown held held (Err why) (bring_all part targets one (meaning held))
-all_some held part targets None other why is stops = absurd (cc)
-all_some held part targets (Some one) other why is stops = stopped_at itself AnyKnown held (wrong_kind_at part one.fact.place) why (let same : other ≡ one.fact.place = cc in subst (λ (p : Place). IsStop (wrong_kind_at part p) why) same stops)
-
-pub all_none : (old new : Held) (part : CxxPathPart) (targets : List FactId) (one : Option Numbered) (r : Result (Unit {0}) Stop) → None ≡ place_of_space one → IsAnswered itself AnyKnown old new r (bring_each part targets (meaning old)) → IsAnswered itself AnyKnown old new r (bring_all part targets one (meaning old))
-all_none old new part targets None r is answered = answered
-all_none old new part targets (Some one) r is answered = absurd (cc)
 
 -- where one declaration stands
 pub space_none : (types : List CxxType) (graph : Graph) (n : ℕ) → slice_get graph.facts n ≡ None → None ≡ place_of_space (space_among (numbered_at (graph_at types graph) (n ∷ [])))

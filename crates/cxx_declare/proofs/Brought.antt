@@ -1,7 +1,7 @@
 -- What a using-declaration brings are declarations that are there (7.3.3).
-use Rattle.std.specs.Prelude.{ℕ, zero, suc, ◌≡◌, ◌<◌, ◌≤◌, ◌+◌, ◌++◌, Bool, true, false, not, ◌&&◌, nat_eq, nat_lt, if◌then◌else◌, List, [], ◌∷◌, length, map, Option, Some, None, Result, Ok, Err, IfOk, refl}
+use Rattle.std.specs.Prelude.{ℕ, zero, suc, ◌≡◌, ◌<◌, ◌≤◌, ◌+◌, ◌++◌, Bool, true, false, not, ◌&&◌, nat_eq, nat_lt, if◌then◌else◌, List, [], ◌∷◌, length, map, Option, Some, None, Ok, refl}
 use Rattle.std.specs.List.{slice_get}
-use Rattle.std.proofs.Common.{ap, sym, subst, ◌∙◌, arith, append_assoc, length-append}
+use Rattle.std.proofs.Common.{sym, subst, arith, length-append}
 use Rattle.cxx_model.specs.declared.facts.Entity.{Entity}
 use Rattle.cxx_model.specs.declared.facts.Entity.TheVariants as entity
 use Rattle.cxx_model.specs.declared.facts.Fact.{Fact}
@@ -11,12 +11,12 @@ use Rattle.cxx_model.specs.declared.types.FactId.{FactId}
 use Rattle.cxx_model.specs.declared.types.ScopeId.{ScopeId}
 use Rattle.cxx_model.specs.Facts.Declarations as facts
 use Rattle.cxx_model.specs.Facts.Declarations.{CxxFact, CxxGraph, CxxName, Declares, declares_at, facts_at, graph_at}
-use Rattle.cxx_model.specs.Facts.Entities.{CxxEntity, entity_by, first_or, is_seen, meant_by, of_fact, of_space, of_type, same_entity}
+use Rattle.cxx_model.specs.Facts.Entities.{CxxEntity, entity_by, first_or, is_seen, meant_by, of_space, of_type, same_entity}
 use Rattle.cxx_model.specs.Facts.Graph.{EachMayFollow, Graph, InRange, IsEntityInRange, MayFollow}
 use Rattle.cxx_model.specs.Types.Trees.{CxxType}
 use Rattle.cxx_meaning.specs.Lookups.Gathered.{before, gathered, with_fact, with_facts}
 use Rattle.cxx_meaning.specs.Lookups.Qualified.{brought, brought_by, brought_in, searched, sightings_of, standing_in}
-use Rattle.cxx_meaning.specs.Lookups.Sightings.{Sighting, entities, entity_meant, is_by_friend, is_named, least_of, looked_up, named_by, number_id, sighting_in, sighting_of, standing, wanted_one, when}
+use Rattle.cxx_meaning.specs.Lookups.Sightings.{Sighting, entities, entity_meant, is_by_friend, is_named, least_of, looked_up, named_by, sighting_in, sighting_of, standing, when}
 use Rattle.cxx_meaning.specs.Lookups.Wanted.{Wanted, any_name, is_wanted}
 use Rattle.cxx_declare.specs.Brought.{AreFoundThere, AreThere, IsFoundThere}
 use Rattle.cxx_tree.specs.Held.{Held}

@@ -1,19 +1,18 @@
 -- What stands in the way of a declaration, in its scope and in its namespace.
-use Rattle.std.specs.Prelude.{ℕ, zero, suc, ◌≡◌, Bool, true, false, not, ◌&&◌, if◌then◌else◌, nat_eq, List, [], ◌∷◌, Option, Some, None, option_map, Result, Ok, Err, IfOk, refl}
+use Rattle.std.specs.Prelude.{ℕ, zero, suc, ◌≡◌, Bool, true, false, not, ◌&&◌, if◌then◌else◌, nat_eq, List, [], ◌∷◌, Option, Some, None, option_map, refl}
 use Rattle.std.specs.List.{slice_get}
-use Rattle.std.proofs.Common.{ap, sym, subst, ◌∙◌}
+use Rattle.std.proofs.Common.{ap, sym, ◌∙◌}
 use Rattle.cxx_model.specs.declared.facts.Fact.{Fact}
 use Rattle.cxx_model.specs.declared.facts.Name.{Name}
 use Rattle.cxx_model.specs.declared.facts.Name.TheVariants as name
 use Rattle.cxx_model.specs.declared.types.FactId.{FactId}
-use Rattle.cxx_model.specs.Facts.Conflicts.{declares_name, has_name, same_name}
-use Rattle.cxx_model.specs.Facts.Declarations.{CxxFact, CxxGraph, declares_at, fact_at, facts_at, graph_at, name_at, unnamed}
-use Rattle.cxx_model.specs.Facts.Graph.{Graph}
+use Rattle.cxx_model.specs.Facts.Conflicts.{declares_name}
+use Rattle.cxx_model.specs.Facts.Declarations.{CxxFact, CxxGraph, fact_at, facts_at, graph_at, name_at, unnamed}
 use Rattle.cxx_model.specs.Types.Same.{same_bool}
 use Rattle.cxx_model.specs.Types.Trees.{CxxType}
 use Rattle.cxx_names.specs.Clashes.{IsPlainName}
-use Rattle.cxx_reading.specs.Linked.{first_apart, home_of, is_among, is_an_object, is_apart, linked_among, linked_in}
-use Rattle.cxx_reading.specs.Seen.{Numbered, declared_from, declared_in, declares_in, fact_numbers, numbered_at, numbered_by}
+use Rattle.cxx_reading.specs.Linked.{first_apart, home_of, is_among, is_apart, linked_among, linked_in}
+use Rattle.cxx_reading.specs.Seen.{Numbered, declared_from, declared_in, fact_numbers, numbered_at, numbered_by}
 use Rattle.cxx_reading.specs.State.{CxxState}
 use Rattle.cxx_declare.specs.Made.{is_object_there}
 use Rattle.cxx_declare.proofs.Firsts.{fact_seen}

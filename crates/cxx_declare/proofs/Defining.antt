@@ -1,5 +1,5 @@
 -- Definitions of objects.
-use Rattle.std.specs.Prelude.{ℕ, zero, suc, ◌≡◌, ◌<◌, List, [], ◌∷◌, length, Some, Result, Ok, Err, IfErr, OnOk, refl}
+use Rattle.std.specs.Prelude.{ℕ, zero, suc, ◌≡◌, List, [], ◌∷◌, length, Some, Result, Ok, Err, IfErr, OnOk, refl}
 use Rattle.std.specs.List.{slice_get}
 use Rattle.std.proofs.Common.{ap, sym, subst, ◌∙◌}
 use Rattle.cxx_model.specs.declared.stop.Stop.{Stop}
@@ -15,7 +15,7 @@ use Rattle.cxx_model.specs.Types.Trees.{CxxType}
 use Rattle.cxx_model.specs.Facts.Declarations.{CxxFact, Declares, declares_at, fact_at, facts_at, spelled}
 use Rattle.cxx_model.specs.Facts.Entities.{CxxEntity, of_fact}
 use Rattle.cxx_model.specs.Stops.{Answer, Gives, Stops, ◌>>=◌}
-use Rattle.cxx_reading.specs.Declaring.{added, declares_by, define_declared, define_object, defined_as, fact_here, free, object_here, undefined, undefined_by, with_definition}
+use Rattle.cxx_reading.specs.Declaring.{declares_by, define_declared, define_object, fact_here, free, object_here, undefined, undefined_by, with_definition}
 use Rattle.cxx_reading.specs.State.{CxxState}
 use Rattle.cxx_declare.specs.Made.{added_defined, definable_by, defined_by, token, word_in}
 use Rattle.cxx_paths.proofs.Stopping.{stopped_on}
@@ -23,7 +23,7 @@ use Rattle.cxx_tree.specs.Answered.{AnyKnown, IsAnswered, IsFactKnown, fact_numb
 use Rattle.cxx_tree.specs.Held.{Held, meaning}
 use Rattle.cxx_tree.specs.Later.{Later}
 use Rattle.cxx_tree.proofs.Graphs.{length_facts}
-use Rattle.cxx_tree.proofs.Steps.{Later_refl, Later_trans}
+use Rattle.cxx_tree.proofs.Steps.{Later_refl}
 
 pub undefined_is : (state : CxxState) (place : Place) (word : List ℕ) (entity : CxxEntity) (first : ℕ) → entity ≡ of_fact first → undefined_by state place word (defined_before state.graph.facts state.defined (of_fact first)) ≡ undefined_by state place word (defined_before state.graph.facts state.defined entity)
 undefined_is state place word entity first is = ap (λ e. undefined_by state place word (defined_before state.graph.facts state.defined e)) (sym is)
@@ -50,24 +50,6 @@ definable_is held fact word n r u named count is_free gives =
 pub assoc : {A B C : Type 0} (a : Answer A) (f : A → Answer B) (g : B → Answer C) → ((a >>= f) >>= g) ≡ (a >>= λ x. f x >>= g)
 assoc (Ok x) f g = refl
 assoc (Err why) f g = refl
-
-pub define_stopped : (held : Held) (place : Place) (word : List ℕ) (fact : CxxFact) (why : Stop) → Stops why (definable_by (meaning held) place word fact) → IsAnswered fact_number IsFactKnown held held (Err why) (defined_by place word fact (meaning held))
-define_stopped held place word fact why e = record { is = stopped_on why (definable_by (meaning held) place word fact) (λ unit. added_defined fact (meaning held)) e; later = Later_refl held }
-
-pub define_added : (old new : Held) (place : Place) (word : List ℕ) (fact : CxxFact) (r : Result FactId Stop) (u : Unit {0}) → definable_by (meaning old) place word fact ≡ Ok u → IsAnswered fact_number IsFactKnown old new r (added_defined fact (meaning old)) → IsAnswered fact_number IsFactKnown old new r (defined_by place word fact (meaning old))
-define_added old new place word fact r u e answered = subst (λ reply. IsAnswered fact_number IsFactKnown old new r reply) (sym (ap (λ (a : Answer (Unit {0})). a >>= λ unit. added_defined fact (meaning old)) e)) answered
-
-pub added_stopped : (old new : Held) (fact : CxxFact) (why : Stop) → IsAnswered fact_number IsFactKnown old new (Err why) (added fact (meaning old)) → IsAnswered fact_number IsFactKnown old new (Err why) (added_defined fact (meaning old))
-added_stopped old new fact why answered = record { is = stopped_on why (added fact (meaning old)) (λ answer. Ok (defined_as answer)) answered.is; later = answered.later }
-
-pub added_noted : (old middle new : Held) (fact : CxxFact) (number : FactId) → IsAnswered fact_number IsFactKnown old middle (Ok number) (added fact (meaning old)) → Later middle new → meaning new ≡ with_definition number.0 (meaning middle) → new.graph ≡ middle.graph → IsAnswered fact_number IsFactKnown old new (Ok number) (added_defined fact (meaning old))
-added_noted old middle new fact number answered later is held = record {
-  is = (ap (λ (a : Answer (ℕ × CxxState)). a >>= λ answer. Ok (defined_as answer)) answered.is.0 ∙ ap (λ (s : CxxState). Ok (number.0, s)) (sym is), subst (λ (g : Graph). number.0 < length g.facts) (sym held) answered.is.1);
-  later = Later_trans old middle new answered.later later;
-}
-
-pub memory_later : (old middle new : Held) (reply other : Answer (ℕ × CxxState)) (number : FactId) (why : Stop) → IsAnswered fact_number IsFactKnown old middle (Ok number) other → Later middle new → why ≡ stop.OutOfMemory → IsAnswered fact_number IsFactKnown old new (Err why) reply
-memory_later old middle new reply other number why answered later e = record { is = subst (λ w. Stops w reply) (sym e) tt; later = Later_trans old middle new answered.later later }
 
 pub object_defined : (old new : Held) (kind : TokenKind) (place : Place) (word : List ℕ) (of : CxxType) (fact : Fact) (r : Result FactId Stop) → fact_at old.types fact ≡ fact_here (meaning old) (spelled word) place (object_here (meaning old) (spelled word) of) → fact.name ≡ name.Spelled word
     → IsAnswered fact_number IsFactKnown old new r (defined_by fact.place (word_in fact.name) (fact_at old.types fact) (meaning old)) → IsAnswered fact_number IsFactKnown old new r (define_object (token kind place word) of (meaning old))

@@ -1,5 +1,5 @@
 -- First declarations of objects and functions, those that blocks declare as members of namespaces among them.
-use Rattle.std.specs.Prelude.{ℕ, zero, suc, ◌≡◌, ◌+◌, Bool, true, false, if◌then◌else◌, ◌&&◌, nat_eq, nat_lt, IsTrue, List, [], ◌∷◌, Option, Some, None, option_map, refl}
+use Rattle.std.specs.Prelude.{ℕ, zero, suc, ◌≡◌, ◌+◌, Bool, true, false, if◌then◌else◌, ◌&&◌, nat_eq, List, [], ◌∷◌, Option, Some, None, option_map, refl}
 use Rattle.std.specs.List.{slice_get}
 use Rattle.std.proofs.Common.{ap, sym, subst, ◌∙◌, arith}
 use Rattle.std.proofs.lemmas.Slice.Eq.{bytes_eq-Decides}
@@ -17,7 +17,7 @@ use Rattle.cxx_model.specs.Facts.Graph.{Graph, IsEntityInRange}
 use Rattle.cxx_model.specs.Types.Numbers.{type_at}
 use Rattle.cxx_model.specs.Types.Trees.{CxxType}
 use Rattle.cxx_reading.specs.Declaring.{first_function, first_object, is_object, is_same_function, number_id}
-use Rattle.cxx_reading.specs.Linked.{home_of, is_linked_as, linked_among, linked_in, sooner_fact}
+use Rattle.cxx_reading.specs.Linked.{home_of, is_linked_as, linked_among, linked_in}
 use Rattle.cxx_reading.specs.Seen.{Numbered, declared_from, declared_in, declares_in, fact_numbers, numbered_at, numbered_by}
 use Rattle.cxx_declare.specs.Made.{IsEarlierFunction, IsEarlierObject, a_type, function_first, named, object_first}
 use Rattle.cxx_tree.specs.Held.{Held, meaning, numbers_at}
@@ -229,23 +229,6 @@ linked_function_by held of graph types slice numbers space word first same are e
     (is
     ∙ ap (λ ts. first_function (type_at ts of.0) (numbered_at (graph_at ts graph) (fact_numbers slice))) are
     ∙ found_in (first_function (type_at held.types of.0)) held graph slice numbers (linked_in (meaning held) space (spelled word)) same equal found)
-
--- ---- the sooner
-
-sooner_is : (P : Option FactId → Type 0) (one two : Option FactId) → P one → P two → P (sooner_fact one two)
-sooner_is P None two p q = q
-sooner_is P (Some m) None p q = p
-sooner_is P (Some m) (Some n) p q = by (nat_lt n.0 m.0)
-  where
-    by : (b : Bool) → P (if b then Some n else Some m)
-    by true = q
-    by false = p
-
-pub sooner_object : (held : Held) (word : List ℕ) (one two r : Option FactId) → r ≡ sooner_fact one two → IsEarlierObject held word one → IsEarlierObject held word two → IsEarlierObject held word r
-sooner_object held word one two r is p q = subst (λ first. IsEarlierObject held word first) (sym is) (sooner_is (λ first. IsEarlierObject held word first) one two p q)
-
-pub sooner_function : (held : Held) (word : List ℕ) (one two r : Option FactId) → r ≡ sooner_fact one two → IsEarlierFunction held word one → IsEarlierFunction held word two → IsEarlierFunction held word r
-sooner_function held word one two r is p q = subst (λ first. IsEarlierFunction held word first) (sym is) (sooner_is (λ first. IsEarlierFunction held word first) one two p q)
 
 -- ---- a new declaration after it
 

@@ -21,7 +21,7 @@ use Rattle.cxx_model.specs.Types.Integral.{one_holds}
 use Rattle.cxx_model.specs.Types.Trees.{CxxType}
 use Rattle.cxx_meaning.specs.Conversions.Enumerations.{values_in}
 use Rattle.cxx_reading.specs.Declaring as declaring
-use Rattle.cxx_reading.specs.Declaring.{added, begun_as, declare, declare_enumeration, declare_enumerator, declare_value, end_enumeration, enumeration_count, enumerator_value, fact_here, free, in_enumeration, name_of, word_of}
+use Rattle.cxx_reading.specs.Declaring.{begun_as, declare, declare_enumeration, declare_enumerator, declare_value, end_enumeration, enumeration_count, enumerator_value, fact_here, free, in_enumeration, name_of, word_of}
 use Rattle.cxx_reading.specs.State.{CxxState}
 use Rattle.cxx_declare.specs.Made.{IsEnumerationThere, IsNameOf, IsReady, enumeration_number, made, token, told_added, value_checked, word_in}
 use Rattle.cxx_declare.proofs.Making.{word_is}
@@ -133,6 +133,11 @@ is_true b e = subst (λ c. IsTrue c) (sym e) (refl)
 holds_all : (held : Held) (number : ℕ) (value : ℤ) → one_holds (values_in number (meaning held).graph.facts ++ value ∷ []) ≡ true → one_holds (values_of held.graph.facts number ++ value ∷ []) ≡ true
 unfolding meaning
 holds_all held number value e = ap (λ vs. one_holds (vs ++ value ∷ [])) (sym (values_alike held.types number held.graph.facts)) ∙ e
+
+-- one type holds the values of an enumeration and one more, which are read from a reference
+pub holds_here : (held : Held) (number : ℕ) (value : ℤ) → one_holds (values_of held.graph.facts number ++ value ∷ []) ≡ one_holds (values_in number (meaning held).graph.facts ++ value ∷ [])
+unfolding meaning
+holds_here held number value = ap (λ vs. one_holds (vs ++ value ∷ [])) (sym (values_alike held.types number held.graph.facts))
 
 pub enumerator_ready : (held : Held) (place : Place) (word : List ℕ) (number : EnumId) (value : ℤ) (fact : Fact) (cxx : CxxFact) (w : List ℕ) (u : Unit {0}) → held.scope.0 < scopes held.graph.facts → number.0 < enumerations held.graph.facts → fact ≡ made held.scope place (name.Spelled word) (entity.Enumerator number value) → value_checked (meaning held) cxx w number.0 value ≡ Ok u → IsReady held fact
 enumerator_ready held place word number value fact cxx w u there known is e = subst (λ (f : Fact). IsReady held f) (sym is) (record {

@@ -1,8 +1,7 @@
 -- What declarations are made of.
-use Rattle.std.specs.Prelude.{ℕ, zero, suc, ◌≡◌, ◌<◌, ◌+◌, ◌++◌, IfOk, OnOk, Bool, true, false, if◌then◌else◌, nat_eq, List, [], ◌∷◌, length, Option, Some, None, Result, Ok, Err, refl}
+use Rattle.std.specs.Prelude.{ℕ, ◌≡◌, ◌<◌, ◌+◌, ◌++◌, IfOk, OnOk, Bool, true, false, if◌then◌else◌, nat_eq, List, [], ◌∷◌, length, Option, Some, None, Result, Ok, Err, refl}
 use Rattle.std.specs.List.{slice_get}
 use Rattle.std.proofs.Common.{ap, sym, subst, ◌∙◌}
-use Rattle.cxx_model.specs.declared.facts.Entity.{Entity}
 use Rattle.cxx_model.specs.declared.facts.Entity.TheVariants as entity
 use Rattle.cxx_model.specs.declared.facts.Fact.{Fact}
 use Rattle.cxx_model.specs.declared.facts.MemberKind.TheVariants.{Free}
@@ -10,22 +9,19 @@ use Rattle.cxx_model.specs.declared.facts.Name.{Name}
 use Rattle.cxx_model.specs.declared.facts.Name.TheVariants as name
 use Rattle.cxx_model.specs.declared.place.Place.{Place}
 use Rattle.cxx_model.specs.declared.stop.Stop.{Stop}
-use Rattle.cxx_model.specs.declared.stop.Stop.TheVariants as stop
 use Rattle.cxx_model.specs.declared.types.FactId.{FactId}
 use Rattle.cxx_model.specs.declared.types.ScopeId.{ScopeId}
 use Rattle.cxx_model.specs.declared.types.TypeId.{TypeId}
 use Rattle.cxx_model.specs.Facts.Declarations as facts
-use Rattle.cxx_model.specs.Facts.Declarations.{CxxFact, classes_at, fact_at, facts_at, graph_at, spelled}
+use Rattle.cxx_model.specs.Facts.Declarations.{CxxFact, classes_at, fact_at, facts_at, spelled}
 use Rattle.cxx_defined.specs.Defined.{IsOwn, IsOwnEntity}
 use Rattle.cxx_model.specs.declared.stop.LimitKind.TheVariants.{Facts}
 use Rattle.cxx_model.specs.declared.token.TokenKind.{TokenKind}
 use Rattle.cxx_model.specs.Text.Lexemes.{Lexeme}
-use Rattle.cxx_model.specs.Facts.Fitted.{IsNameBelow}
-use Rattle.cxx_model.specs.Facts.Graph.{Graph, appended, scopes}
+use Rattle.cxx_model.specs.Facts.Graph.{appended, scopes}
 use Rattle.cxx_model.specs.Stops.{Answer, Limited, Stops, ◌>>=◌}
 use Rattle.cxx_model.specs.Types.Trees.{CxxType}
 use Rattle.cxx_model.specs.Types.Numbers.{type_at}
-use Rattle.cxx_names.specs.Clashes.{IsPlainName}
 use Rattle.cxx_reading.specs.State.{CxxState}
 use Rattle.cxx_reading.specs.Declaring.{added, declare, declare_object, declare_parameter, declare_synonym, fact_here, free, name_of, object_here, parameter_object, with_fact, word_of}
 use Rattle.cxx_declare.specs.Functions.{function_with}
@@ -71,9 +67,6 @@ function_is held place word one count scope first n fact here named made_is =
     ∙ ap (λ (s : ScopeId). fact_at held.types (made s place (name.Spelled word) (function_first one count first))) here
 
 -- ---- what calls answer
-
-pub memory_out : {X A : Type 0} (view : Held → X → A) (known : Held → X → Type 0) (held : Held) (reply : Answer (A × CxxState)) → IsAnswered view known held held (Err stop.OutOfMemory) reply
-memory_out view known held reply = record { is = tt; later = Later_refl held }
 
 pub declare_stopped : (held : Held) (fact : CxxFact) (word : List ℕ) (why : Stop) → Stops why (free (meaning held) fact word) → IsAnswered fact_number IsFactKnown held held (Err why) (declare fact word (meaning held))
 unfolding declare
@@ -164,16 +157,6 @@ word_is (name.Conversion o) None named = absurd named
 word_is (name.Conversion o) (Some one) named = absurd named
 word_is name.Destructor None named = absurd named
 word_is name.Destructor (Some one) named = absurd named
-
-pub parameter_ready : (held : Held) (scope : ScopeId) (n : Name) (place : Place) (of : TypeId) (fact : Fact) → scope.0 < scopes held.graph.facts → IsPlainName n → of.0 < length held.types → fact ≡ made scope place n (entity.Object of Free false None None) → IsReady held fact
-parameter_ready held scope n place of fact there plain below is = subst (λ (f : Fact). IsReady held f) (sym is) (record { follows = may_follow held.graph (made scope place n (entity.Object of Free false None None)) there tt; below = record { name = by n plain; what = below }; plain = record { name = plain; what = refl } })
-  where
-    by : (m : Name) → IsPlainName m → IsNameBelow (length held.types) m
-    by name.Unnamed ok = tt
-    by (name.Spelled word) ok = tt
-    by (name.Operator o) ok = tt
-    by (name.Conversion o) ok = absurd ok
-    by name.Destructor ok = tt
 
 pub parameter_declared : (old new : Held) (scope : ScopeId) (n : Name) (place : Place) (of : TypeId) (one : Option Lexeme) (fact : Fact) (r : Result FactId Stop) (s : Result (Unit {0}) Stop) → scope ≡ old.scope → fact ≡ made scope place n (entity.Object of Free false None None) → IsNameOf one n → unit_of r ≡ s
     → IsAnswered fact_number IsFactKnown old new r (declare (fact_at old.types fact) (word_in fact.name) (meaning old)) → IsAnswered itself AnyKnown old new s (declare_parameter one place (type_at old.types of.0) (meaning old))

@@ -1,14 +1,11 @@
 -- Namespaces.
-use Rattle.std.specs.Prelude.{ℕ, zero, suc, ◌≡◌, ◌<◌, ◌++◌, Bool, true, false, if◌then◌else◌, not, ◌&&◌, nat_eq, List, [], ◌∷◌, length, Option, Some, None, option_map, Result, Ok, Err, IfSome, refl}
-use Rattle.std.specs.List.{slice_get}
-use Rattle.std.proofs.Common.{ap, sym, subst, ◌∙◌, append_assoc}
-use Rattle.cxx_model.specs.declared.facts.Entity.{Entity}
+use Rattle.std.specs.Prelude.{ℕ, zero, ◌≡◌, ◌<◌, ◌++◌, Bool, true, false, if◌then◌else◌, not, ◌&&◌, nat_eq, List, [], ◌∷◌, length, Option, Some, None, option_map, Result, Ok, Err, IfSome, refl}
+use Rattle.std.proofs.Common.{ap, sym, subst, ◌∙◌}
 use Rattle.cxx_model.specs.declared.facts.Entity.TheVariants as entity
 use Rattle.cxx_model.specs.declared.facts.Fact.{Fact}
 use Rattle.cxx_model.specs.declared.facts.Name.{Name}
 use Rattle.cxx_model.specs.declared.facts.Name.TheVariants as name
 use Rattle.cxx_model.specs.declared.facts.ScopeKind.TheVariants.{Space}
-use Rattle.cxx_model.specs.declared.lookup.Found.{Found}
 use Rattle.cxx_model.specs.declared.place.Place.{Place}
 use Rattle.cxx_model.specs.declared.stop.Stop.{Stop}
 use Rattle.cxx_model.specs.declared.token.TokenKind.{TokenKind}
@@ -16,18 +13,17 @@ use Rattle.cxx_model.specs.declared.types.FactId.{FactId}
 use Rattle.cxx_model.specs.declared.types.ScopeId.{ScopeId}
 use Rattle.cxx_model.specs.Facts.Conflicts.{has_name}
 use Rattle.cxx_model.specs.Facts.Declarations as facts
-use Rattle.cxx_model.specs.Facts.Declarations.{CxxFact, CxxGraph, CxxName, Declares, declares_at, fact_at, facts_at, graph_at, spelled, unnamed}
+use Rattle.cxx_model.specs.Facts.Declarations.{CxxFact, CxxGraph, CxxName, fact_at, facts_at, graph_at, spelled, unnamed}
 use Rattle.cxx_model.specs.Facts.Fitted.{IsEntityBelow, IsFactBelow, IsNameBelow}
-use Rattle.cxx_model.specs.Facts.Graph.{EachMayFollow, Graph, InRange, IsEntityInRange, IsUnitScope, MayFollow, appended, scopes}
+use Rattle.cxx_model.specs.Facts.Graph.{Graph, InRange, IsEntityInRange, appended, scopes}
 use Rattle.cxx_model.specs.declared.stop.Stop.TheVariants as stop
-use Rattle.cxx_model.specs.Types.Trees.{CxxType}
-use Rattle.cxx_model.specs.Stops.{Answer, Stops, undeclared_at, ◌>>=◌}
+use Rattle.cxx_model.specs.Stops.{Answer, Stops, ◌>>=◌}
 use Rattle.cxx_names.specs.Clashes.{IsPlain, IsPlainEntity, IsPlainName}
 use Rattle.cxx_names.specs.Looked.{scope_number as number_of_scope}
-use Rattle.cxx_reading.specs.Declaring.{added, at_scope, declare, free, scope_count}
-use Rattle.cxx_reading.specs.Seen.{Numbered, declared_from, declared_in, declares_in, numbered_at, numbered_by, sought_from}
+use Rattle.cxx_reading.specs.Declaring.{added, scope_count}
+use Rattle.cxx_reading.specs.Seen.{Numbered, declared_from, declared_in}
 use Rattle.cxx_reading.specs.Paths.{or_later, space_in}
-use Rattle.cxx_reading.specs.Spaces.{close_space, declare_alias, declare_directive, declare_unnamed, directive_fact, first_opening, is_original_by, new_space, new_unnamed, open_again, open_by, open_new, open_space, open_unnamed, opened_among, opened_before, original_by, space_fact, told, unnamed_among, unnamed_before, unnamed_by, unnamed_opened, within}
+use Rattle.cxx_reading.specs.Spaces.{declare_alias, declare_directive, declare_unnamed, directive_fact, first_opening, is_original_by, new_space, new_unnamed, open_again, open_by, open_new, open_space, open_unnamed, opened_among, opened_before, original_by, space_fact, told, unnamed_among, unnamed_before, unnamed_opened, within}
 use Rattle.cxx_reading.specs.State.{CxxState}
 use Rattle.cxx_declare.specs.Made.{IsReady, made, token, word_in}
 use Rattle.cxx_declare.specs.Opened.{IsFirst, added_within, declared_within, opened_first, space_added, told_declared}
@@ -38,7 +34,7 @@ use Rattle.cxx_tree.specs.Held.{Held, meaning}
 use Rattle.cxx_tree.specs.Later.{Later}
 use Rattle.cxx_tree.specs.Whole.{added_space, scope_fact}
 use Rattle.cxx_tree.proofs.Graphs.{scope_next, scopes_later}
-use Rattle.cxx_tree.proofs.Steps.{Later_refl, Later_trans}
+use Rattle.cxx_tree.proofs.Steps.{Later_trans}
 use Rattle.cxx_tree.proofs.Wholes.{may_follow}
 
 -- ---- what is found is there
@@ -82,9 +78,6 @@ name_below count (name.Operator o) ok = tt
 name_below count (name.Conversion of) ok = absurd ok
 name_below count name.Destructor ok = tt
 
-pub space_ready : (held : Held) (place : Place) (n : Name) (inner : ScopeId) (scope : ScopeId) (fact : Fact) → scope.0 < scopes held.graph.facts → inner.0 < scopes held.graph.facts → IsPlainName n → fact ≡ made scope place n (entity.Namespace inner) → IsReady held fact
-space_ready held place n inner scope fact there within plain is = subst (λ (f : Fact). IsReady held f) (sym is) (record { follows = may_follow held.graph (made scope place n (entity.Namespace inner)) there within; below = record { name = name_below (length held.types) n plain; what = tt }; plain = record { name = plain; what = tt } })
-
 pub directive_ready : (held : Held) (place : Place) (inner : ScopeId) (scope : ScopeId) (fact : Fact) → scope.0 < scopes held.graph.facts → inner.0 < scopes held.graph.facts → fact ≡ made scope place name.Unnamed (entity.Directive inner) → IsReady held fact
 directive_ready held place inner scope fact there within is = subst (λ (f : Fact). IsReady held f) (sym is) (record { follows = may_follow held.graph (made scope place name.Unnamed (entity.Directive inner)) there within; below = record { name = tt; what = tt }; plain = record { name = tt; what = tt } })
 
@@ -97,9 +90,6 @@ first_plain held inner fact first = record { name = first.plain; what = subst (�
 
 pub first_below_types : (held : Held) (inner : ScopeId) (fact : Fact) → IsFirst held inner fact → IsFactBelow (length held.types) fact
 first_below_types held inner fact first = record { name = name_below (length held.types) fact.name first.plain; what = subst (λ w. IsEntityBelow (length held.types) w) (sym first.what) tt }
-
-pub first_is : (held : Held) (place : Place) (word : List ℕ) (inner : ScopeId) (fact : Fact) → held.scope.0 < scopes held.graph.facts → inner.0 ≡ scopes held.graph.facts → fact ≡ made held.scope place (name.Spelled word) (entity.Namespace inner) → IsFirst held inner fact
-first_is held place word inner fact there next is = subst (λ (f : Fact). IsFirst held inner f) (sym is) (record { scope = refl; what = refl; plain = tt; there = there; next = next })
 
 next_there : (old new : Held) (place : Place) (n : ℕ) → new ≡ record old { graph = appended old.graph (scope_fact Space place old.scope) } → n ≡ scopes old.graph.facts → n < scopes new.graph.facts
 next_there old new place n is next = subst (λ (h : Held). n < scopes h.graph.facts) (sym is) (subst (λ m. m < scopes (old.graph.facts ++ scope_fact Space place old.scope ∷ [])) (sym next) (scope_next old.graph.facts (scope_fact Space place old.scope) (Some old.scope) Space refl))
@@ -117,19 +107,6 @@ first_ready old new place inner fact first is = record {
 }
 
 -- ---- the answers
-
-pub within_answered : (old middle new : Held) (inner : ScopeId) (number : FactId) (reply : Answer (ℕ × CxxState)) → IsAnswered fact_number IsFactKnown old middle (Ok number) reply → Later middle new → meaning new ≡ at_scope inner.0 (meaning middle) → IsAnswered itself AnyKnown old new (Ok tt) (reply >>= λ answer. Ok (within inner.0 answer))
-within_answered old middle new inner number reply answered later is = record {
-  is = (ap (λ (a : Answer (ℕ × CxxState)). a >>= λ answer. Ok (within inner.0 answer)) answered.is.0 ∙ ap (λ (s : CxxState). Ok (tt, s)) (sym is), tt);
-  later = Later_trans old middle new answered.later later;
-}
-
--- what follows an answer that is not asked
-pub free_then : (held : Held) (fact : CxxFact) (word : List ℕ) (go : Answer (Unit {0} × CxxState)) (new : Held) (r : Result (Unit {0}) Stop) (u : Unit {0}) → free (meaning held) fact word ≡ Ok u → IsAnswered itself AnyKnown held new r go → IsAnswered itself AnyKnown held new r (free (meaning held) fact word >>= λ is_free. go)
-free_then held fact word go new r u e answered = subst (λ reply. IsAnswered itself AnyKnown held new r reply) (sym (ap (λ (a : Answer (Unit {0})). a >>= λ is_free. go) e)) answered
-
-pub free_stopped : (held : Held) (fact : CxxFact) (word : List ℕ) (go : Answer (Unit {0} × CxxState)) (why : Stop) → Stops why (free (meaning held) fact word) → IsAnswered itself AnyKnown held held (Err why) (free (meaning held) fact word >>= λ is_free. go)
-free_stopped held fact word go why e = record { is = stopped_on why (free (meaning held) fact word) (λ is_free. go) e; later = Later_refl held }
 
 pub opened_again : (old new : Held) (kind : TokenKind) (place : Place) (word : List ℕ) (inner : ScopeId) (fact : Fact) (r : Result (Unit {0}) Stop) → fact ≡ made old.scope place (name.Spelled word) (entity.Namespace inner) → IsAnswered itself AnyKnown old new r (declared_within inner.0 (fact_at old.types fact) (word_in fact.name) (meaning old)) → IsAnswered itself AnyKnown old new r (open_again (token kind place word) inner.0 (meaning old))
 unfolding open_again meaning
@@ -182,10 +159,6 @@ first_added old middle new place inner scope fact r is one two =
 
 pub first_not_added : (old new : Held) (place : Place) (inner : ScopeId) (fact : CxxFact) (why : Stop) → IsAnswered scope_number IsScopeKnown old new (Err why) (added_space place (meaning old)) → IsAnswered itself AnyKnown old new (Err why) (space_added place inner.0 fact (meaning old))
 first_not_added old new place inner fact why one = space_stopped old new place why (λ opened. added_within inner.0 fact opened.1) one
-
-here_counted : (held : Held) → scope_count (graph_at held.types held.graph) ≡ scope_count (meaning held).graph
-unfolding meaning
-here_counted held = refl
 
 pub opened_newly : (old new : Held) (kind : TokenKind) (place : Place) (word : List ℕ) (inner : ScopeId) (fact : Fact) (r : Result (Unit {0}) Stop) → inner.0 ≡ scope_count (graph_at old.types old.graph) → fact ≡ made old.scope place (name.Spelled word) (entity.Namespace inner)
     → IsAnswered itself AnyKnown old new r (opened_first place inner.0 (fact_at old.types fact) (word_in fact.name) (meaning old)) → IsAnswered itself AnyKnown old new r (open_new (token kind place word) (meaning old))
@@ -242,9 +215,6 @@ unnamed_not_newly old new place why one = space_stopped old new place why (λ op
 pub unnamed_answered : (old new : Held) (place : Place) (inner : Option ℕ) (r : Result (Unit {0}) Stop) → inner ≡ unnamed_before (meaning old).graph (meaning old).here.scope → IsAnswered itself AnyKnown old new r (unnamed_opened place inner (meaning old)) → IsAnswered itself AnyKnown old new r (open_unnamed place (meaning old))
 unfolding open_unnamed
 unnamed_answered old new place inner r is answered = subst (λ o. IsAnswered itself AnyKnown old new r (unnamed_opened place o (meaning old))) is answered
-
-pub closed : (old new : Held) → Later old new → close_space (meaning old) ≡ Ok (tt, meaning new) → IsAnswered itself AnyKnown old new (Ok tt) (close_space (meaning old))
-closed old new later is = record { is = (is, tt); later = later }
 
 -- ---- other names and directives
 

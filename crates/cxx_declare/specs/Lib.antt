@@ -4,4 +4,3 @@ pub mod Functions
 pub mod Given
 pub mod Made
 pub mod Opened
-pub mod Values

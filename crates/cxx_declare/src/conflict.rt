@@ -3,7 +3,7 @@
 ghost use Rattle.std.specs.Prelude.{◌≡◌, ◌&&◌, not, [], ◌∷◌, false, true, List, length, None, Some, if◌then◌else◌, IfOk, option_map};
 ghost use Rattle.std.specs.List.{slice_get};
 ghost use Rattle.cxx_model.specs.Facts.Conflicts.{first_conflict as first_conflict_of};
-ghost use Rattle.cxx_model.specs.Facts.Declarations.{declares_at, fact_at, graph_at, name_at};
+ghost use Rattle.cxx_model.specs.Facts.Declarations.{declares_at, fact_at, name_at};
 ghost use Rattle.cxx_model.specs.Facts.Fitted.{IsFactBelow};
 ghost use Rattle.cxx_model.specs.Stops.{Gives};
 ghost use Rattle.cxx_model.specs.Types.Same.{same_bool as same_bool_of};

@@ -12,7 +12,7 @@ ghost use Rattle.cxx_model.specs.Types.Integral.{one_holds as one_holds_by};
 ghost use Rattle.cxx_meaning.specs.Conversions.Enumerations.{values_in};
 ghost use Rattle.cxx_names.specs.Clashes.{IsPlain, IsPlainName};
 ghost use Rattle.cxx_reading.specs.Declaring as declaring;
-ghost use Rattle.cxx_reading.specs.Declaring.{added, enumerator_value};
+ghost use Rattle.cxx_reading.specs.Declaring.{enumerator_value};
 ghost use Rattle.cxx_declare.specs.Made.{IsEnumerationThere, IsNameOf, IsReady, enumeration_number, token, told_added, value_checked, word_in};
 ghost use Rattle.cxx_tree.specs.Answered.{AnyKnown, IsAnswered, itself};
 ghost use Rattle.cxx_tree.specs.Held.{meaning};
@@ -20,7 +20,7 @@ ghost use Rattle.cxx_tree.specs.Held.{meaning};
 use crate::conflict::free;
 use crate::facts::{declare, fact_in, word_fact};
 use crate::parts::overflow;
-use crate::values::{next_value, one_holds};
+use crate::values::next_value;
 use cxx_model::{Entity, EnumId, Fact, Name, Place, Stop};
 use cxx_tree::State;
 
@@ -49,13 +49,18 @@ pub fn end_enumeration(state: &mut State, number: EnumId) -> Result<(), Stop>
     Ok(())
 }
 
+// Whether one type holds the values of an enumeration and one more.
+fn one_holds(state: &State, number: EnumId, value: &i128) -> bool
+    ensures { result ≡ one_holds_by (values_in number.0 (meaning state.now).graph.facts ++ value.now ∷ []) }
+{
+    state.graph().one_holds(number, *value)
+}
+
 // One type holds the values of an enumeration and one more (7.2).
-#[tactic(auto, unfolding(cxx_tree::specs::Held::meaning))]
 fn held(state: &State, place: Place, number: EnumId, value: &i128) -> Result<(), Stop>
     ensures { Gives (λ unit. unit) result (declaring.held place (one_holds_by (values_in number.0 (meaning state.now).graph.facts ++ value.now ∷ []))) }
 {
-    let values = state.names().values(state.graph(), number);
-    if one_holds(values, value) {
+    if one_holds(state, number, value) {
         Ok(())
     } else {
         Err(Stop::Fault(overflow(state.alloc(), place)?))

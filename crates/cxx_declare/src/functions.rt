@@ -8,13 +8,13 @@ ghost use Rattle.cxx_model.specs.Stops.{Answer, Gives};
 ghost use Rattle.cxx_model.specs.Types.Numbers.{type_at};
 ghost use Rattle.cxx_reading.specs.Declaring as declaring;
 ghost use Rattle.cxx_reading.specs.Declaring.{added, fact_here};
-ghost use Rattle.cxx_reading.specs.State.{CxxOffered, CxxState};
+ghost use Rattle.cxx_reading.specs.State.{CxxState};
 ghost use Rattle.cxx_reading.specs.Trees.{CxxTree};
 ghost use Rattle.cxx_declare.specs.Functions as functions;
 ghost use Rattle.cxx_declare.specs.Given.{added_giving, added_linking, declared_giving, giving_checked, linking_if, read_by, read_in};
 ghost use Rattle.cxx_declare.specs.Made.{IsEarlierFunction, IsReady, token, word_in};
 ghost use Rattle.cxx_tree.specs.Answered.{IsAnswered, IsFactKnown, fact_number, scope_of_option};
-ghost use Rattle.cxx_tree.specs.Held.{AreOffersBelow, Held, fallback_at, meaning, offer_at, offers_at, trees, type_of};
+ghost use Rattle.cxx_tree.specs.Held.{AreOffersBelow, Held, fallback_at, meaning, offers_at, trees, type_of};
 ghost use Rattle.cxx_tree.specs.Later.{Later};
 
 use crate::conflict::free_if;

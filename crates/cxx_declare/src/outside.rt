@@ -2,12 +2,10 @@
 
 ghost use Rattle.std.specs.Prelude.{◌≡◌, ◌<◌, ◌&&◌, ◌∷◌, [], List, Some, length, nat_eq};
 ghost use Rattle.cxx_model.specs.declared.token.TokenKind.{TokenKind};
-ghost use Rattle.cxx_model.specs.Facts.Conflicts.{agree as agree_of, array_parts, is_unknown as is_one_unknown, same_but_bound};
 ghost use Rattle.cxx_model.specs.Facts.Declarations.{declares_at};
 ghost use Rattle.cxx_model.specs.Facts.Fitted.{IsEntityBelow};
 ghost use Rattle.cxx_model.specs.Facts.Graph.{scopes};
-ghost use Rattle.cxx_model.specs.Types.Numbers.{bound_at, type_at};
-ghost use Rattle.cxx_model.specs.Types.Trees.{CxxType};
+ghost use Rattle.cxx_model.specs.Types.Numbers.{type_at};
 ghost use Rattle.cxx_meaning.specs.Lookups.Wanted.{any_name};
 ghost use Rattle.cxx_declare.specs.Agreed.{disagreeing};
 ghost use Rattle.cxx_declare.specs.Made.{token};
@@ -24,7 +22,8 @@ ghost use Rattle.cxx_tree.specs.Held.{meaning, type_of};
 use crate::members::home_of;
 use crate::parts::{conflicting, fact_of};
 use cxx_found::{Found, Wanted};
-use cxx_model::{Bound, Entity, Fact, FactId, Path, Place, ScopeId, Stop, TypeId, TypeNode};
+use cxx_model::{Entity, Fact, FactId, Path, Place, ScopeId, Stop, TypeId};
+use cxx_names::agree;
 use cxx_paths::{
     ambiguous_name, found_in, name_sought, place_among, region_here, scope_of, undeclared_name,
 };
@@ -74,43 +73,6 @@ pub fn enter_member(state: &mut State, path: &Path) -> Result<(), Stop>
         Ok(region) => enter_in(state, path, region),
         Err(stop) => Err(stop),
     }
-}
-
-// ---- types
-
-fn is_unknown(bound: &Bound) -> bool
-    ensures { (types : List CxxType) → result ≡ is_one_unknown (bound_at types bound.now) }
-{
-    match bound {
-        Bound::Unknown => true,
-        _ => false,
-    }
-}
-
-#[tactic(auto, using(cxx_names::proofs::Types::are_arrays, cxx_names::proofs::Types::one_no_array, cxx_names::proofs::Types::two_no_array))]
-fn same_arrays(types: &TypeTable, one: TypeId, two: TypeId) -> bool
-    requires one { one.0 < length types.now }
-    requires two { two.0 < length types.now }
-    ensures { result ≡ same_but_bound (array_parts (type_at types.now one.0)) (array_parts (type_at types.now two.0)) }
-{
-    match types.node(one) {
-        TypeNode::Array(one, bound) => match types.node(two) {
-            TypeNode::Array(two, end) => {
-                types.same(*one, *two) && (is_unknown(bound) || is_unknown(end))
-            }
-            _ => false,
-        },
-        _ => false,
-    }
-}
-
-// Whether two types are one for declarations of one object: an array with a bound and one without are (3.5).
-fn agree(types: &TypeTable, one: TypeId, two: TypeId) -> bool
-    requires one { one.0 < length types.now }
-    requires two { two.0 < length types.now }
-    ensures { result ≡ agree_of (type_at types.now one.0) (type_at types.now two.0) }
-{
-    types.same(one, two) || same_arrays(types, one, two)
 }
 
 // ---- what is declared

@@ -10,7 +10,7 @@ use Rattle.cxx_model.specs.Facts.Declarations.{CxxFact, declares_at, fact_at, fa
 use Rattle.cxx_model.specs.Facts.Entities.{CxxEntity, Meant, entity_by, entity_of, meant_by, of_fact, same_entity}
 use Rattle.cxx_model.specs.Types.Trees.{CxxType}
 use Rattle.cxx_defined.specs.declared.defined.Definitions.{Definitions}
-use Rattle.cxx_defined.specs.Defined.{AreOwn, AreSameDefinitions, Defines, HasDefinition, IsOwn, IsOwnEntity, defined_by, first_declared, number_in, or_later, same_fact}
+use Rattle.cxx_defined.specs.Defined.{AreOwn, Defines, HasDefinition, IsOwn, IsOwnEntity, defined_by, first_declared, number_in, or_later, same_fact}
 
 fact_stored : (types : List CxxType) (facts : List Fact) (n : ℕ) → slice_get (facts_at types facts) n ≡ option_map (fact_at types) (slice_get facts n)
 fact_stored types [] n = refl
@@ -66,12 +66,6 @@ defines_more old new facts defined first number own entity has kept = record {
       ∙ (ap (λ o. or_later o (cond (same_fact first other) (Some number.0) None)) (kept.first other types)
       ∙ (ap (λ e. or_later (defined_before (facts_at types facts) defined (of_fact other.0)) (cond (same_entity e (of_fact other.0)) (Some number.0) None)) (sym (entity types))
       ∙ sym (before_more (facts_at types facts) defined number.0 (of_fact other.0)))));
-}
-
-pub defines_same : (old new : Definitions) (facts : List Fact) (defined : List ℕ) → AreSameDefinitions old new → Defines old facts defined → Defines new facts defined
-defines_same old new facts defined same kept = record {
-  own = kept.own;
-  first = λ other types. ap (option_map number_in) (same other) ∙ kept.first other types;
 }
 
 -- ---- facts behind the others

@@ -1,5 +1,5 @@
 -- Initializers with their conversions (8.5), written and shown as other trees are.
-use Rattle.std.specs.Prelude.{◌≡◌, List, [], ◌∷◌, Option, Some, None, Ok, Err, codes, refl}
+use Rattle.std.specs.Prelude.{◌≡◌, [], ◌∷◌, None, Ok, Err, codes, refl}
 use Rattle.cxx_model.specs.declared.base.Base.TheVariants as base
 use Rattle.cxx_model.specs.declared.fault.FaultText.TheVariants as says
 use Rattle.cxx_model.specs.declared.fault.LeftOut.TheVariants as form

@@ -7,7 +7,6 @@ use Rattle.cxx_model.specs.declared.types.TypeId.{TypeId}
 use Rattle.cxx_model.specs.Types.Trees.{CxxType}
 use Rattle.cxx_model.specs.Types.Numbers.{type_at, AreTypesBelow}
 use Rattle.cxx_meaning.specs.Conversions.Standard.{CxxOperand}
-use Rattle.cxx_reading.specs.Trees.{CxxTree}
 use Rattle.cxx_standard.specs.Views.{operand_at}
 use Rattle.cxx_tree.specs.Arena.{AreTreesBelow, tree_in}
 use Rattle.cxx_tree.specs.Held.{Held, trees}

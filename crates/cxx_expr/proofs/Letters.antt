@@ -1,8 +1,8 @@
 -- The characters of strings, one after another.
 use Rattle.std.specs.Prelude.{ℕ, zero, suc, ◌≡◌, ◌<◌, ◌+◌, Bool, true, false, not, ◌==◌, if◌then◌else◌, List, [], ◌∷◌, length, drop, refl}
-use Rattle.std.proofs.Common.{ap, sym, ◌∙◌, arith}
+use Rattle.std.proofs.Common.{ap, ◌∙◌, arith}
 use Rattle.cxx_literals.specs.Escapes.{letter_at}
-use Rattle.cxx_model.specs.Text.Spelling.{Letter, Value, Escape, escape}
+use Rattle.cxx_model.specs.Text.Spelling.{Value, Escape, escape}
 use Rattle.cxx_expr.specs.Counting.{counts, opens, past}
 use Rattle.cxx_expr.specs.Literals.{letters_in}
 

@@ -1,6 +1,6 @@
 -- The node that is elaborated stays what it is while the state grows.
-use Rattle.std.specs.Prelude.{ℕ, ◌≡◌, ◌<◌, ◌≤◌, List, [], ◌∷◌, length, Option, Some, None, refl}
-use Rattle.std.proofs.Common.{ap, sym, ◌∙◌, arith}
+use Rattle.std.specs.Prelude.{◌≡◌, ◌<◌, ◌≤◌, List, [], ◌∷◌, length, Option, Some, None, refl}
+use Rattle.std.proofs.Common.{ap, ◌∙◌, arith}
 use Rattle.cxx_model.specs.declared.sequence.Operand.{Operand}
 use Rattle.cxx_model.specs.declared.tree.Node.{Node}
 use Rattle.cxx_model.specs.declared.types.TreeId.{TreeId}
@@ -10,13 +10,13 @@ use Rattle.cxx_model.specs.Facts.Fitted.{IsTypeNumberBelow}
 use Rattle.cxx_model.specs.Types.Trees.{CxxType}
 use Rattle.cxx_model.specs.Types.Numbers.{type_at, Keeps}
 use Rattle.cxx_meaning.specs.Conversions.Standard.{CxxOperand}
-use Rattle.cxx_reading.specs.Trees.{CxxTree, CxxTrees, Label, children_of, each_tree, in_turn, tree_of}
-use Rattle.cxx_tree.specs.Arena.{IsNodeBelow, IsOperandBelow, label_at, operand_at, operand_of_option, path_of_option, number_of_option, tree_over, trees_in}
-use Rattle.cxx_tree.specs.Held.{Held, trees}
+use Rattle.cxx_reading.specs.Trees.{CxxTree, Label, children_of, each_tree, in_turn, tree_of}
+use Rattle.cxx_tree.specs.Arena.{IsNodeBelow, IsOperandBelow, label_at, operand_of_option, path_of_option, number_of_option}
+use Rattle.cxx_tree.specs.Held.{Held}
 use Rattle.cxx_tree.specs.Later.{Later}
 use Rattle.cxx_builtin.specs.Built.{list_at}
 use Rattle.cxx_expr.specs.Views.{types_in}
-use Rattle.cxx_expr.specs.Making.{AreTreesHeld, trees_held}
+use Rattle.cxx_expr.specs.Making.{trees_held}
 use Rattle.cxx_expr.specs.Nodes.{IsNodeHeld, node_tree}
 use Rattle.cxx_expr.specs.Operands.{all_three, both, only}
 use Rattle.cxx_expr.proofs.Kept.{trees_kept, trees_later}

@@ -1,26 +1,22 @@
 -- Some declarations, and trees over them as they are read and as they are shown. A row writes a tree in front of its
 -- parts: an operator, a cast by its keyword with its type, a conversion that nothing spells by its type alone; then the
 -- type of the whole, with `&` for an object.
-use Rattle.std.specs.Prelude.{ℕ, zero, suc, ◌≡◌, Bool, true, false, if◌then◌else◌, nat_eq, List, [], ◌∷◌, ◌++◌, length, Option, Some, None, Result, Ok, Err, codes, decimal, pos, negsuc, refl}
+use Rattle.std.specs.Prelude.{ℕ, zero, Bool, true, false, if◌then◌else◌, nat_eq, List, [], ◌∷◌, ◌++◌, Option, Some, None, Result, Ok, Err, codes, decimal, pos}
 use Rattle.std.specs.Fmt.{digits}
 use Rattle.cxx_model.specs.declared.base.Base.{Base}
 use Rattle.cxx_model.specs.declared.base.Base.TheVariants as base
 use Rattle.cxx_model.specs.declared.facts.Access.TheVariants.{Public}
-use Rattle.cxx_model.specs.declared.facts.FunctionFlags.{FunctionFlags}
 use Rattle.cxx_model.specs.declared.facts.MemberKind.TheVariants as member
 use Rattle.cxx_model.specs.declared.facts.ScopeKind.TheVariants as kind
-use Rattle.cxx_model.specs.declared.fault.FaultText.TheVariants as says
-use Rattle.cxx_model.specs.declared.fault.LeftOut.TheVariants as form
-use Rattle.cxx_model.specs.declared.place.Place.{Place}
 use Rattle.cxx_model.specs.declared.sequence.ConstantKind.{ConstantKind}
 use Rattle.cxx_model.specs.declared.sequence.ConstantKind.TheVariants as constant_kind
 use Rattle.cxx_model.specs.declared.types.Cv.{Cv}
 use Rattle.cxx_model.specs.Facts.Declarations as facts
 use Rattle.cxx_model.specs.Facts.Declarations.{CxxFact, CxxGraph, Declares, spelled}
-use Rattle.cxx_model.specs.Stops.{Answer, Stopped, fault, not_built_at, undeclared_at}
+use Rattle.cxx_model.specs.Stops.{Answer, not_built_at, undeclared_at}
 use Rattle.cxx_model.specs.Text.Lexemes.{nowhere}
 use Rattle.cxx_model.specs.Text.Spelling.{keywords, alternatives, operators, digraphs, word_kind, number_kind, operator, literal, hash, slash, percent, spelling_of, literal_type, literal_value}
-use Rattle.cxx_model.specs.Types.Trees.{CxxType, CxxTypes, CxxBound, array_of, class_type, enumeration, function_of, fundamental, no_types, number_bound, pointer_to, qualified, reference_to, type_then, unknown_bound}
+use Rattle.cxx_model.specs.Types.Trees.{CxxType, CxxTypes, CxxBound, array_of, enumeration, function_of, fundamental, no_types, number_bound, pointer_to, qualified, reference_to, type_then}
 use Rattle.cxx_meaning.specs.Conversions.Arithmetic.{usual}
 use Rattle.cxx_meaning.specs.Conversions.BuiltIn as built
 use Rattle.cxx_meaning.specs.Conversions.BuiltIn.{follow, is_stepped, steps_to, before, after, unary_by, unary_family_result, unary_result, beside_integer, subscripted, added_to, distance, subtracted, compared_pointers, compared_by, assigned, binary_by, compound_on, compound, compound_result, family_result, binary_result}
@@ -36,8 +32,8 @@ use Rattle.cxx_meaning.specs.Conversions.Standard.{CxxOperand, is_text, pointer_
 use Rattle.cxx_reading.specs.Paths.{name_in}
 use Rattle.cxx_reading.specs.Reads.{Asks}
 use Rattle.cxx_reading.specs.Seen.{Numbered, declared_in}
-use Rattle.cxx_reading.specs.State.{CxxState, first_state, at_unit}
-use Rattle.cxx_reading.specs.Trees.{CxxPath, CxxTree, CxxTrees, Label, each_tree, in_turn, no_trees, tree_of, tree_then}
+use Rattle.cxx_reading.specs.State.{CxxState, first_state}
+use Rattle.cxx_reading.specs.Trees.{CxxPath, CxxTree, CxxTrees, Label, in_turn, no_trees, tree_of, tree_then}
 use Rattle.cxx_expr.specs.Asking.{then_asked}
 use Rattle.cxx_expr.specs.Calls as calls
 use Rattle.cxx_expr.specs.Casts as cast

@@ -2,8 +2,7 @@
 use Rattle.std.specs.Prelude.{Ok, Err}
 use Rattle.cxx_model.specs.declared.fault.FaultText.{FaultText}
 use Rattle.cxx_model.specs.declared.place.Place.{Place}
-use Rattle.cxx_model.specs.Stops.{Answer, Stopped, fault, not_built_at}
-use Rattle.cxx_meaning.specs.Conversions.Asking.{Asked}
+use Rattle.cxx_model.specs.Stops.{Answer, Stopped, fault}
 use Rattle.cxx_reading.specs.Reads.{Asks}
 
 abbrev pub then_asked : {S A B : Type 0} → Answer (A × S) → (A → Asks S B) → Answer (B × S)
@@ -23,8 +22,3 @@ stop why state = Err why
 
 abbrev pub fault_at : {S A : Type 0} → Place → FaultText → Asks S A
 fault_at place text state = Err (fault place text)
-
--- What needs a class that is not complete is not read yet.
-abbrev pub ready : {S A : Type 0} → Place → Asked A → Asks S A
-ready place (Ok x) state = Ok (x, state)
-ready place (Err class) state = Err (not_built_at place)

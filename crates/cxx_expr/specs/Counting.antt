@@ -1,5 +1,5 @@
 -- How the characters of strings are counted, one step after another.
-use Rattle.std.specs.Prelude.{ℕ, zero, suc, Bool, true, false, not, ◌==◌, if◌then◌else◌, List, [], ◌∷◌, drop}
+use Rattle.std.specs.Prelude.{ℕ, zero, Bool, true, false, not, ◌==◌, if◌then◌else◌, List, [], ◌∷◌, drop}
 use Rattle.cxx_literals.specs.Escapes.{letter_at}
 
 -- a quote opens a string, or ends it

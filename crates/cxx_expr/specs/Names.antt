@@ -8,7 +8,7 @@ use Rattle.cxx_model.specs.declared.place.Place.{Place}
 use Rattle.cxx_model.specs.declared.sequence.ConstantKind.TheVariants as constant
 use Rattle.cxx_model.specs.Facts.Declarations as facts
 use Rattle.cxx_model.specs.Facts.Declarations.{CxxFact, CxxGraph, Declares}
-use Rattle.cxx_model.specs.Facts.Entities.{first_or}
+use Rattle.cxx_model.specs.Facts.Entities.{first_or, has_no_bound}
 use Rattle.cxx_model.specs.Stops.{Stopped, fault, undeclared_at}
 use Rattle.cxx_model.specs.Types.Integral.{promoted_of_values}
 use Rattle.cxx_model.specs.Types.Trees.{CxxType, enumeration, fundamental}
@@ -17,7 +17,7 @@ use Rattle.cxx_meaning.specs.Conversions.Standard.{CxxOperand}
 use Rattle.cxx_meaning.specs.Lookups.Wanted.{hides_types}
 use Rattle.cxx_reading.specs.Paths.{wrong_kind_at}
 use Rattle.cxx_reading.specs.Reads.{Asks}
-use Rattle.cxx_reading.specs.Seen.{Numbered, kept}
+use Rattle.cxx_reading.specs.Seen.{Numbered, declared_in, kept}
 use Rattle.cxx_reading.specs.State.{CxxState}
 use Rattle.cxx_reading.specs.Trees.{CxxPath, CxxPathPart, CxxTree, Label, no_part, tree_of}
 use Rattle.cxx_expr.specs.Asking.{◌>>=◌, give, stop}
@@ -45,9 +45,38 @@ abbrev pub or_own : CxxType → Option CxxType → CxxType
 or_own own None = own
 or_own own (Some of) = of
 
--- 3.5: An object or a function has the type of its first declaration. A reference is what it refers to.
+abbrev pub same_place : Place → Place → Bool
+same_place one two = nat_eq one.line two.line && nat_eq one.column two.column
+
+-- the type by a further declaration of an object
+abbrev pub type_again : ℕ → Declares → Option CxxType
+type_again target (facts.object of kind is_mutable value (Some first)) = if nat_eq first.0 target then Some of else None
+type_again target _ = None
+
+-- the same, where it stands at a place
+abbrev pub known_at : ℕ → Place → CxxFact → Option CxxType
+known_at target place fact = if same_place fact.place place then type_again target fact.what else None
+
+abbrev pub first_type : Option CxxType → Option CxxType → Option CxxType
+first_type None later = later
+first_type (Some of) later = Some of
+
+abbrev pub known_among : ℕ → Place → List Numbered → Option CxxType
+known_among target place [] = None
+known_among target place (one ∷ others) = first_type (known_at target place one.fact) (known_among target place others)
+
+-- 8.3.4, 8.5.1: The bound that the initializer of an array gives stands in a further declaration at the same place.
+abbrev pub in_full : CxxGraph → ℕ → CxxFact → CxxType → CxxType
+in_full graph target fact of = if has_no_bound of then or_own of (known_among target fact.place (declared_in graph fact.scope fact.name)) else of
+
+abbrev pub in_full_by : CxxGraph → ℕ → Option CxxFact → CxxType → CxxType
+in_full_by graph target None of = of
+in_full_by graph target (Some fact) of = in_full graph target fact of
+
+-- 3.5: An object or a function has the type of its first declaration, with the bound that its own initializer gives. A
+-- reference is what it refers to.
 abbrev pub type_of_first : CxxGraph → ℕ → CxxType → CxxType
-type_of_first graph target own = referred (or_own own (type_by_fact (slice_get graph.facts target)))
+type_of_first graph target own = referred (in_full_by graph target (slice_get graph.facts target) (or_own own (type_by_fact (slice_get graph.facts target))))
 
 abbrev pub means_object : CxxGraph → ℕ → CxxType → Means
 means_object graph target own = record { target = target; operand = object_operand (type_of_first graph target own) }

@@ -83,10 +83,6 @@ is_question_kind _ = false
 abbrev pub asks_operator : CxxTree → Bool
 asks_operator tree = is_question_kind (kind_of (operand_of tree).of)
 
-abbrev pub any_asks : List CxxTree → Bool
-any_asks [] = false
-any_asks (tree ∷ trees) = asks_operator tree || any_asks trees
-
 abbrev pub is_of_class : CxxTree → Bool
 is_of_class tree = is_class (kind_of (operand_of tree).of)
 

@@ -24,10 +24,6 @@ use Rattle.cxx_expr.specs.Questions.{Questions}
 abbrev pub misshapen : CxxTree → Asks CxxState CxxTree
 misshapen tree = fault_at tree.label.start says.SyntaxError
 
--- no meaning of clause 5
-abbrev pub no_fit : {A : Type 0} → CxxTree → Asks CxxState A
-no_fit tree = fault_at tree.label.place says.OperandsDoNotFit
-
 -- ---- by what the operator does
 
 -- the number of an operator by its primary spelling; zero is that of none

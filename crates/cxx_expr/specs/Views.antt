@@ -1,5 +1,5 @@
 -- What the values of the code stand for, given the types and the facts of a state.
-use Rattle.std.specs.Prelude.{ℕ, ◌<◌, Bool, true, false, List, [], ◌∷◌, length, Option, Some, None, Result}
+use Rattle.std.specs.Prelude.{ℕ, ◌<◌, Bool, List, [], ◌∷◌, length, Option, Some, None}
 use Rattle.std.specs.List.{slice_get}
 use Rattle.cxx_model.specs.declared.place.Place.{Place}
 use Rattle.cxx_model.specs.declared.sequence.Operand.{Operand}
@@ -8,7 +8,6 @@ use Rattle.cxx_model.specs.declared.types.TypeId.{TypeId}
 use Rattle.cxx_model.specs.Facts.Declarations.{CxxFact, CxxGraph}
 use Rattle.cxx_model.specs.Types.Numbers.{AreTypesBelow, type_at}
 use Rattle.cxx_model.specs.Types.Trees.{CxxType}
-use Rattle.cxx_meaning.specs.declared.size.SizeReason.{SizeReason}
 use Rattle.cxx_meaning.specs.Conversions.Standard.{CxxOperand}
 use Rattle.cxx_reading.specs.Seen.{Numbered}
 use Rattle.cxx_standard.specs.Views.{operand_at}
@@ -65,10 +64,3 @@ chosen_of held chosen = record { target = chosen.target.0; parameters = types_in
 pub record IsChosen (held : Held) (chosen : Chosen) : Type 0 where
   pub parameters : AreTypesBelow (length held.types) chosen.parameters
   pub result : chosen.result.0 < length held.types
-
--- the first declaration of an entity
-abbrev pub fact_number : Held → FactId → ℕ
-fact_number held number = number.0
-
-abbrev pub sized_in : Held → Result ℕ SizeReason → Result ℕ SizeReason
-sized_in held found = found

@@ -2,7 +2,6 @@
 
 ghost use Rattle.std.specs.Prelude.{◌≡◌, [], IfOk};
 ghost use Rattle.cxx_model.specs.Stops.{Faulty, fault as fault_of, not_built_at as not_built};
-ghost use Rattle.cxx_model.specs.declared.fault.FaultText.TheVariants as says;
 
 use cxx_model::{Fault, FaultText, Listed, Place};
 use std::alloc::{AllocError, Global};

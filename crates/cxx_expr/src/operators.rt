@@ -10,7 +10,7 @@ ghost use Rattle.cxx_model.specs.Types.Trees.{CxxType, fundamental};
 ghost use Rattle.cxx_model.specs.declared.base.Base.TheVariants as base;
 ghost use Rattle.cxx_reading.specs.Initializers.{value_operand};
 ghost use Rattle.cxx_model.specs.declared.fault.FaultText.TheVariants as says;
-ghost use Rattle.cxx_standard.specs.Views.{kind_at, operand_at};
+ghost use Rattle.cxx_standard.specs.Views.{kind_at};
 ghost use Rattle.cxx_tree.specs.Answered.{IsAnswered};
 ghost use Rattle.cxx_tree.specs.Held.{meaning, tree, trees};
 ghost use Rattle.cxx_expr.specs.Built.{GrowsMeaning};

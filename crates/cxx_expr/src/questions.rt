@@ -1,7 +1,6 @@
 ghost use Rattle.std.specs.Prelude.{ℕ, ◌≡◌, ◌<◌, length, false, IfOk};
 ghost use Rattle.cxx_meaning.specs.Conversions.BuiltIn.{built_in_result};
 ghost use Rattle.cxx_meaning.specs.Conversions.Conditional.{conditional as conditional_of};
-ghost use Rattle.cxx_reading.specs.State.{CxxState};
 ghost use Rattle.cxx_standard.specs.Views.{operand_at};
 ghost use Rattle.cxx_tree.specs.Answered.{AnyKnown, IsAnswered, itself};
 ghost use Rattle.cxx_expr.specs.Making.{AreTreesHeld, GrowsType, IsTreeKnown, trees_held};

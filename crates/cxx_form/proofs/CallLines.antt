@@ -1,8 +1,7 @@
 -- The lines that declare the functions that calls name.
-use Rattle.std.proofs.Common.{◌≡◌, ℕ, ◌<◌, ◌≤◌, ◌+◌, true, false, List, [], ◌∷◌, ◌++◌, length, drop, get_or, map, Some, None, Err, refl, ap, sym, subst, ◌∙◌, append-nil, append_assoc}
+use Rattle.std.proofs.Common.{◌≡◌, ℕ, ◌<◌, ◌≤◌, true, false, List, [], ◌∷◌, length, map, Some, None, Err, refl, ap, sym, subst, ◌∙◌, append-nil}
 use Rattle.std.specs.Prelude.{◌||◌, Bool}
 use Rattle.std.proofs.lemmas.Bool.{le-ltb, lt-ltb}
-use Rattle.std.proofs.lemmas.List.{at_drop_more, at_drop_all}
 use Rattle.cxx_model.specs.declared.limits.TheConstants as limits
 use Rattle.cxx_page.specs.declared.fault.PlainFault.{PlainFault}
 use Rattle.cxx_page.specs.declared.fault.PlainFault.TheVariants as fault
@@ -10,7 +9,6 @@ use Rattle.cxx_page.specs.Sheets.{and_then, blank, put_line, put_lines, Sheet, W
 use Rattle.cxx_phrase_text.specs.declared.calls.ListedCall.{ListedCall}
 use Rattle.cxx_reading.specs.Plain.{function_words}
 use Rattle.cxx_form.specs.Order.{names_of_text}
-use Rattle.cxx_reading.specs.State.{CxxState}
 use Rattle.cxx_reading.specs.Units.{CxxReading}
 use Rattle.cxx_reading.specs.Words.{line_text, Word}
 use Rattle.cxx_tree.specs.Held.{meaning, Held}
@@ -57,29 +55,6 @@ line_over book number fault.OutOfMemory page new is written limit = absurd (othe
   where
     other : fault.OutOfMemory ≡ fault.Limit → ⊥
     other same = cc
-
--- ---- one behind another
-
-pub text_more : (state : CxxState) (calls : List ListedCall) (i : ℕ) (d : ListedCall) (old new whole : List ℕ) → i < length calls → new ≡ old ++ function_text state (get_or calls i d).target.0 → old ++ functions_from state (map target_of (drop i calls)) ≡ whole → new ++ functions_from state (map target_of (drop (i + 1) calls)) ≡ whole
-text_more state calls i d old new whole within more so =
-    let left : List ℕ = functions_from state (map target_of (drop (i + 1) calls)) in
-    ap (λ xs. xs ++ left) more ∙ append_assoc old (function_text state (get_or calls i d).target.0) left
-    ∙ ap (λ xs. old ++ xs) (sym (at_drop_more (λ (cs : List ListedCall). functions_from state (map target_of cs)) calls i d within)) ∙ so
-
-pub text_all : (state : CxxState) (calls : List ListedCall) (i : ℕ) (now whole : List ℕ) → length calls ≤ i → now ++ functions_from state (map target_of (drop i calls)) ≡ whole → now ≡ whole
-text_all state calls i now whole past so = sym (append-nil now) ∙ ap (λ xs. now ++ xs) (sym (at_drop_all (λ (cs : List ListedCall). functions_from state (map target_of cs)) calls i past)) ∙ so
-
-next_long : (state : CxxState) (calls : List ListedCall) (i : ℕ) (d : ListedCall) → i < length calls → any_long state (map target_of (drop i calls)) ≡ (is_long (function_text state (get_or calls i d).target.0) || any_long state (map target_of (drop (i + 1) calls)))
-next_long state calls i d within = at_drop_more (λ (cs : List ListedCall). any_long state (map target_of cs)) calls i d within
-
-pub long_more : (state : CxxState) (calls : List ListedCall) (i : ℕ) (d : ListedCall) (whole : Bool) → i < length calls → is_long (function_text state (get_or calls i d).target.0) ≡ false → any_long state (map target_of (drop i calls)) ≡ whole → any_long state (map target_of (drop (i + 1) calls)) ≡ whole
-long_more state calls i d whole within short so = sym (next_long state calls i d within ∙ ap (λ b. b || any_long state (map target_of (drop (i + 1) calls))) short) ∙ so
-
-pub long_here : (state : CxxState) (calls : List ListedCall) (i : ℕ) (d : ListedCall) (whole : Bool) → i < length calls → is_long (function_text state (get_or calls i d).target.0) ≡ true → any_long state (map target_of (drop i calls)) ≡ whole → whole ≡ true
-long_here state calls i d whole within long so = sym so ∙ next_long state calls i d within ∙ ap (λ b. b || any_long state (map target_of (drop (i + 1) calls))) long
-
-pub long_none : (state : CxxState) (calls : List ListedCall) (i : ℕ) (whole : Bool) → length calls ≤ i → any_long state (map target_of (drop i calls)) ≡ whole → whole ≡ false
-long_none state calls i whole past so = sym so ∙ at_drop_all (λ (cs : List ListedCall). any_long state (map target_of cs)) calls i past
 
 -- ---- the whole
 

@@ -9,17 +9,15 @@ use Rattle.cxx_model.specs.declared.types.FactId.{FactId}
 use Rattle.cxx_model.specs.declared.types.TreeId.{TreeId}
 use Rattle.cxx_model.specs.Facts.Conflicts.{has_name}
 use Rattle.cxx_model.specs.Facts.Declarations.{CxxFact, declares_at, fact_at, name_at}
-use Rattle.cxx_reading.specs.Plain.{is_empty}
 use Rattle.cxx_reading.specs.Productions as production
 use Rattle.cxx_reading.specs.Trees.{CxxTree, CxxTrees, no_trees, tree_then}
-use Rattle.cxx_statement_text.specs.Objects.{first_by, first_found, first_in, first_of_fact, if_printed, is_found, printed_in}
+use Rattle.cxx_statement_text.specs.Objects.{first_by, first_of_fact, if_printed, printed_in}
 use Rattle.cxx_tree.specs.Arena.{number_of_option, tree_over, trees_in}
 use Rattle.cxx_tree.specs.Held.{Held, tree, trees}
-use Rattle.cxx_form.specs.Lines.{number_in, numbers_in}
-use Rattle.cxx_form.specs.Order.{body_of, declared_by, declared_on, definition_lines, first_number, found_in, if_named, is_named, list_by, list_of_body, locals_in, named_among, parameters_in, scope_of_fact}
+use Rattle.cxx_form.specs.Lines.{numbers_in}
+use Rattle.cxx_form.specs.Order.{declared_by, found_in, if_named, is_named, list_by, list_of_body, locals_in, named_among, parameters_in, scope_of_fact}
 use Rattle.cxx_form.specs.Views.{facts_in}
 use Rattle.cxx_form.proofs.Gathering.{fact_is}
-use Rattle.cxx_form.proofs.Ordered.{one_declared}
 
 pub found_is : (held : Held) (number : ℕ) (one : Option Fact) → one ≡ slice_get held.graph.facts number → slice_get (facts_in held) number ≡ option_map (fact_at held.types) one
 found_is held number one is = fact_is held.types held.graph.facts number ∙ ap (option_map (fact_at held.types)) (sym is)
@@ -29,14 +27,8 @@ target_is held node number is = ap (λ (t : CxxTree). t.label.target) is
 
 -- ---- the scope of the list
 
-pub no_body : (held : Held) (body : Option TreeId) → body ≡ None → 0 ≡ list_of_body (facts_in held) (option_map (tree held) body)
-no_body held body none = sym (ap (λ (o : Option TreeId). list_of_body (facts_in held) (option_map (tree held) o)) none)
-
 list_is : (held : Held) (body : Option TreeId) (number : TreeId) (node : Node) → body ≡ Some number → tree held number ≡ tree_over held.types (trees held) node → list_of_body (facts_in held) (option_map (tree held) body) ≡ list_by (facts_in held) (number_of_option node.target)
 list_is held body number node some is = ap (λ (o : Option TreeId). list_of_body (facts_in held) (option_map (tree held) o)) some ∙ ap (list_by (facts_in held)) (target_is held node number is)
-
-pub no_target : (held : Held) (body : Option TreeId) (number : TreeId) (node : Node) → body ≡ Some number → tree held number ≡ tree_over held.types (trees held) node → node.target ≡ None → 0 ≡ list_of_body (facts_in held) (option_map (tree held) body)
-no_target held body number node some is none = sym (list_is held body number node some is ∙ ap (λ (o : Option FactId). list_by (facts_in held) (number_of_option o)) none)
 
 pub no_fact : (held : Held) (body : Option TreeId) (number : TreeId) (node : Node) (target : FactId) → body ≡ Some number → tree held number ≡ tree_over held.types (trees held) node → node.target ≡ Some target → None ≡ slice_get held.graph.facts target.0 → 0 ≡ list_of_body (facts_in held) (option_map (tree held) body)
 no_fact held body number node target some is same none = sym (list_is held body number node some is ∙ ap (λ (o : Option FactId). list_by (facts_in held) (number_of_option o)) same ∙ ap scope_of_fact (found_is held target.0 None none))
@@ -51,12 +43,6 @@ named_is held number fact is = sym (ap is_named (found_is held number (Some fact
 
 pub none_named : (held : Held) (number : ℕ) → None ≡ slice_get held.graph.facts number → false ≡ is_named (slice_get (facts_in held) number)
 none_named held number is = sym (ap is_named (found_is held number None is))
-
-pub no_name : (all : List CxxFact) (number : ℕ) (old : List ℕ) → is_named (slice_get all number) ≡ false → old ≡ old ++ if_named all number
-no_name all number old none = sym (ap (λ t. old ++ (if t then number ∷ [] else [])) none ∙ append-nil old)
-
-pub a_name : (all : List CxxFact) (old new : List FactId) (number : FactId) → is_named (slice_get all number.0) ≡ true → new ≡ old ++ number ∷ [] → numbers_in new ≡ numbers_in old ++ if_named all number.0
-a_name all old new number named more = one_declared old new number more ∙ ap (λ t. numbers_in old ++ (if t then number.0 ∷ [] else [])) (sym named)
 
 -- ---- one after another
 
@@ -97,38 +83,6 @@ no_first held number is = sym (ap (first_of_fact number) (found_is held number N
 pub a_first : (held : Held) (number : ℕ) (fact : Fact) → Some fact ≡ slice_get held.graph.facts number → first_by number (declares_at held.types fact.what) ≡ first_of_fact number (slice_get (facts_in held) number)
 a_first held number fact is = sym (ap (first_of_fact number) (found_is held number (Some fact) is))
 
-pub first_none : (held : Held) (node : Node) (number : TreeId) → tree held number ≡ tree_over held.types (trees held) node → node.target ≡ None → None ≡ first_in (facts_in held) (tree held number)
-first_none held node number is none = sym (ap (first_found (facts_in held)) (target_is held node number is ∙ ap number_of_option none))
-
-pub first_some : (held : Held) (node : Node) (number : TreeId) (target : FactId) (one : Option ℕ) → tree held number ≡ tree_over held.types (trees held) node → node.target ≡ Some target → one ≡ first_of_fact target.0 (slice_get (facts_in held) target.0) → one ≡ first_in (facts_in held) (tree held number)
-first_some held node number target one is some found = found ∙ sym (ap (first_found (facts_in held)) (target_is held node number is ∙ ap number_of_option some))
-
-spelled_none : (all : List CxxFact) (one : CxxTree) → is_empty one.label.spelling ≡ false → flat_map (declared_by all) (if_printed all one) ≡ []
-spelled_none all one e = rw e refl
-
-printed_first : (all : List CxxFact) (one : CxxTree) → is_empty one.label.spelling ≡ true → flat_map (declared_by all) (if_printed all one) ≡ first_number (first_in all one)
-printed_first all one e = rw e (by (first_in all one) refl)
-  where
-    by : (o : Option ℕ) → first_in all one ≡ o → flat_map (declared_by all) (if is_found (first_in all one) then one ∷ [] else []) ≡ first_number (first_in all one)
-    by None same = rw same refl
-    by (Some number) same = rw same (ap (λ (o : Option ℕ). first_number o ++ []) same)
-
-spelling_is : (held : Held) (node : Node) (number : TreeId) → tree held number ≡ tree_over held.types (trees held) node → is_empty node.spelling ≡ is_empty (tree held number).label.spelling
-spelling_is held node number is = sym (ap (λ (t : CxxTree). is_empty t.label.spelling) is)
-
-pub none_printed : (held : Held) (node : Node) (number : TreeId) (old : List ℕ) → tree held number ≡ tree_over held.types (trees held) node → is_empty node.spelling ≡ false → old ≡ old ++ printed_at held number
-none_printed held node number old is spelled = sym (ap (λ (ns : List ℕ). old ++ ns) (spelled_none (facts_in held) (tree held number) (sym (spelling_is held node number is) ∙ spelled)) ∙ append-nil old)
-
-pub one_printed : (held : Held) (node : Node) (number : TreeId) (first : Option ℕ) (old new : List ℕ) → tree held number ≡ tree_over held.types (trees held) node → is_empty node.spelling ≡ true → first ≡ first_in (facts_in held) (tree held number) → new ≡ old ++ first_number first → new ≡ old ++ printed_at held number
-one_printed held node number first old new is spelled found more =
-    more ∙ ap (λ (ns : List ℕ). old ++ ns) (ap first_number found ∙ sym (printed_first (facts_in held) (tree held number) (sym (spelling_is held node number is) ∙ spelled)))
-
-pub none_added : (old : List FactId) (first : Option FactId) → first ≡ None → numbers_in old ≡ numbers_in old ++ first_number (option_map number_in first)
-none_added old first none = sym (ap (λ (o : Option FactId). numbers_in old ++ first_number (option_map number_in o)) none ∙ append-nil (numbers_in old))
-
-pub one_added : (old new : List FactId) (first : Option FactId) (number : FactId) → first ≡ Some number → new ≡ old ++ number ∷ [] → numbers_in new ≡ numbers_in old ++ first_number (option_map number_in first)
-one_added old new first number some more = one_declared old new number more ∙ sym (ap (λ (o : Option FactId). numbers_in old ++ first_number (option_map number_in o)) some)
-
 -- ---- the objects of blocks
 
 -- the declarators that print are those of all that print
@@ -148,9 +102,6 @@ all_printed all (tree_then label children next) = by (nat_eq label.production pr
     by true inside behind = ap (λ (ts : List CxxTree). if_printed all one ++ ts) behind
     by false inside behind = ap (λ (ts : List CxxTree). ts ++ printed_in all next) inside ∙ ap (λ (ts : List CxxTree). flat_map (if_printed all) (found_in production.declarator production.declarator children) ++ ts) behind ∙ sym (joined (if_printed all) (found_in production.declarator production.declarator children) (found_in production.declarator production.declarator next))
 
-pub no_locals : (held : Held) (body : Option TreeId) (old : List ℕ) → body ≡ None → old ≡ old ++ locals_in (facts_in held) (option_map (tree held) body)
-no_locals held body old none = sym (ap (λ (o : Option TreeId). old ++ locals_in (facts_in held) (option_map (tree held) o)) none ∙ append-nil old)
-
 pub all_locals : (held : Held) (body : Option TreeId) (number : TreeId) (numbers : List TreeId) (old new : List ℕ) → body ≡ Some number → trees_in (trees held) numbers ≡ found_in 20 20 (tree held number).children → new ≡ old ++ flat_map (declared_by (facts_in held)) (flat_map (if_printed (facts_in held)) (trees_in (trees held) numbers)) → new ≡ old ++ locals_in (facts_in held) (option_map (tree held) body)
 all_locals held body number numbers old new some are more =
     more
@@ -162,10 +113,3 @@ all_locals held body number numbers old new some are more =
 
 abbrev pub parameters_of_list : Held → Option CxxTree → List ℕ
 parameters_of_list held body = parameters_in (list_of_body (facts_in held) body) 0 (facts_in held)
-
-pub definition_declares : (held : Held) (number : TreeId) (body : Option TreeId) (row : List FactId) (old mid new : List FactId) → option_map (tree held) body ≡ body_of (tree held number) → numbers_in row ≡ parameters_of_list held (option_map (tree held) body) → numbers_in mid ≡ numbers_in old ++ named_among (facts_in held) (numbers_in row) → numbers_in new ≡ numbers_in mid ++ locals_in (facts_in held) (option_map (tree held) body) → numbers_in new ≡ numbers_in old ++ declared_on (facts_in held) (definition_lines (tree held number))
-definition_declares held number body row old mid new is are first second =
-    second ∙ ap (λ (ns : List ℕ). ns ++ locals_in (facts_in held) (option_map (tree held) body)) first
-    ∙ append_assoc (numbers_in old) (named_among (facts_in held) (numbers_in row)) (locals_in (facts_in held) (option_map (tree held) body))
-    ∙ ap (λ (ns : List ℕ). numbers_in old ++ (named_among (facts_in held) ns ++ locals_in (facts_in held) (option_map (tree held) body))) are
-    ∙ ap (λ (o : Option CxxTree). numbers_in old ++ (named_among (facts_in held) (parameters_of_list held o) ++ locals_in (facts_in held) o)) is

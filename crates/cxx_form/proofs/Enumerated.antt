@@ -1,8 +1,6 @@
 -- Enumerations by their numbers, one declaration after another.
 use Rattle.std.proofs.Common.{◌≡◌, ℕ, zero, suc, ◌+◌, ◌<◌, Bool, true, false, cond, eqb, List, [], ◌∷◌, length, drop, Option, Some, None, refl, ap, sym, ◌∙◌, add-one, arith}
-use Rattle.std.specs.Prelude.{nat_eq, if◌then◌else◌}
 use Rattle.std.specs.List.{slice_get}
-use Rattle.std.proofs.lemmas.Bool.{eqb-true, eq-eqb}
 use Rattle.std.proofs.lemmas.List.{at_drop_all}
 use Rattle.cxx_model.specs.declared.facts.Access.{Access}
 use Rattle.cxx_model.specs.declared.facts.Fact.{Fact}
@@ -16,14 +14,7 @@ use Rattle.cxx_reading.specs.Plain.{number_of_enumeration}
 use Rattle.cxx_reading.specs.TextOrder.{enumerators_of, is_enumerator_of}
 use Rattle.cxx_form.specs.Giving.{declared_or, enumerator_given, holder_by, if_held, named_by, named_or, AreDeclared, HasDeclared, HasNamed}
 use Rattle.cxx_form.specs.Lines.{number_in, numbers_in}
-use Rattle.cxx_form.specs.Slots.{slot_at, IsSlotSet}
-
-apart : (k n : ℕ) → (k ≡ n → ⊥) → eqb k n ≡ false
-apart k n other = by (eqb k n) refl
-  where
-    by : (t : Bool) → eqb k n ≡ t → eqb k n ≡ false
-    by true e = absurd (other (eqb-true k n e))
-    by false e = e
+use Rattle.cxx_form.specs.Slots.{slot_at}
 
 -- ---- where enumerations are declared
 
@@ -48,33 +39,6 @@ next_by n number place scope name rights (facts.friend class target) others = re
 
 next_named : (n number : ℕ) (fact : CxxFact) (others : List CxxFact) → number_of_enumeration n number (fact ∷ others) ≡ named_or n number (named_by fact.what) (number_of_enumeration n (number + 1) others)
 next_named n number fact others = next_by n number fact.place fact.scope fact.name fact.access fact.what others ∙ ap (λ m. named_or n number (named_by fact.what) (number_of_enumeration n m others)) (sym (add-one number))
-
-pub none_named : (slots : List ℕ) (number : ℕ) → HasNamed slots slots number None
-none_named slots number n later = refl
-
-pub named_before : (slots : List ℕ) (number m : ℕ) → (slot_at slots m ≡ 0 → ⊥) → HasNamed slots slots number (Some m)
-named_before slots number m some n later = by (eqb m n) refl
-  where
-    set : (slot one two : ℕ) → (slot ≡ 0 → ⊥) → declared_or slot one ≡ declared_or slot two
-    set zero one two not = absurd (not refl)
-    set (suc k) one two not = refl
-
-    by : (t : Bool) → eqb m n ≡ t → declared_or (slot_at slots n) later ≡ declared_or (slot_at slots n) (if nat_eq m n then number else later)
-    by true e = set (slot_at slots n) later (if nat_eq m n then number else later) (λ none. some (ap (slot_at slots) (eqb-true m n e) ∙ none))
-    by false e = rw e refl
-
-pub one_named : (old new : List ℕ) (number m : ℕ) → slot_at old m ≡ 0 → IsSlotSet old new m (number + 1) → HasNamed old new number (Some m)
-one_named old new number m none set n later = by (eqb m n) refl
-  where
-    by : (t : Bool) → eqb m n ≡ t → declared_or (slot_at new n) later ≡ declared_or (slot_at old n) (if nat_eq m n then number else later)
-    by true e =
-        let same : n ≡ m = sym (eqb-true m n e) in
-        let is : slot_at new n ≡ suc number = ap (slot_at new) same ∙ set.here ∙ add-one number in
-        let was : slot_at old n ≡ 0 = ap (slot_at old) same ∙ none in
-        rw is (rw was (rw e refl))
-    by false e =
-        let other : n ≡ m → ⊥ = λ same. (let wrong : true ≡ false = sym (eq-eqb m n (sym same)) ∙ e in cc) in
-        rw (set.others n other) (rw e refl)
 
 pub named_at : (types : List CxxType) (all : List Fact) (number : ℕ) (fact : Fact) (old new : List ℕ) (named : Option ℕ) → number < length all → slice_get (facts_at types all) number ≡ Some (fact_at types fact) → named ≡ named_by (fact_at types fact).what → HasNamed old new number named → HasDeclared old new number (facts_at types (drop number all)) (facts_at types (drop (number + 1) all))
 named_at types all number fact old new named within at is has n =

@@ -1,7 +1,6 @@
 -- What is gathered from one more declaration.
-use Rattle.std.proofs.Common.{◌≡◌, ℕ, zero, suc, ◌+◌, ◌<◌, ◌≤◌, List, [], ◌∷◌, ◌++◌, length, drop, get_or, Option, Some, None, option_map, refl, ap, sym, subst, ◌∙◌, append_assoc, add-one, arith}
+use Rattle.std.proofs.Common.{◌≡◌, ℕ, zero, suc, ◌+◌, ◌<◌, List, [], ◌∷◌, ◌++◌, length, drop, get_or, Option, Some, None, option_map, refl, ap, sym, subst, ◌∙◌, append_assoc, add-one, arith}
 use Rattle.std.specs.List.{slice_get}
-use Rattle.std.proofs.lemmas.List.{at_drop_all, append-nil}
 use Rattle.std.proofs.lemmas.Option.{slice_get-get_or}
 use Rattle.cxx_model.specs.declared.facts.Fact.{Fact}
 use Rattle.cxx_model.specs.Types.Trees.{CxxType}
@@ -33,10 +32,6 @@ fact_below count (first ∷ facts) (suc n) fact all within is = fact_below count
 
 pub fact_fits : (count : ℕ) (seen facts : List Fact) (n : ℕ) (fact : Fact) → AreFactsBelow count facts → seen ≡ facts → n < length facts → fact ≡ get_or seen n fact → IsFactBelow count fact
 fact_fits count seen facts n fact all same within is = fact_below count facts n fact all within (is ∙ ap (λ (xs : List Fact). get_or xs n fact) same)
-
--- past the last fact
-pub gathered_all : {A : Type 0} (give : ℕ → CxxFact → Option A) (types : List CxxType) (facts : List Fact) (number : ℕ) (found : List A) → length facts ≤ number → found ++ gathered give number (facts_at types (drop number facts)) ≡ found
-gathered_all give types facts number found le = at_drop_all (λ fs. found ++ gathered give number (facts_at types fs)) facts number le ∙ append-nil found
 
 before_first : {A : Type 0} (o : Option A) (xs : List A) → before o xs ≡ before o [] ++ xs
 before_first None xs = refl

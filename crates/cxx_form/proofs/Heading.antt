@@ -4,28 +4,25 @@ use Rattle.std.proofs.Common.{◌≡◌, ℕ, Bool, true, false, List, [], ◌�
 use Rattle.std.specs.List.{slice_get}
 use Rattle.cxx_model.specs.declared.base.Base.TheVariants.{Void}
 use Rattle.cxx_model.specs.declared.facts.Fact.{Fact}
-use Rattle.cxx_model.specs.declared.tree.Node.{Node}
 use Rattle.cxx_model.specs.declared.types.FactId.{FactId}
 use Rattle.cxx_model.specs.declared.types.TreeId.{TreeId}
-use Rattle.cxx_model.specs.Facts.Declarations.{declares_at, type_of_option}
+use Rattle.cxx_model.specs.Facts.Declarations.{declares_at}
 use Rattle.cxx_model.specs.Types.Trees.{CxxType, fundamental}
 use Rattle.cxx_phrase_text.specs.Listed.{listed_words}
 use Rattle.cxx_phrase_text.proofs.Listing.{all_listed}
 use Rattle.cxx_reading.specs.Declarators.{no_cv}
-use Rattle.cxx_reading.specs.Plain.{type_or_void}
 use Rattle.cxx_reading.specs.Trees.{CxxTree}
 use Rattle.cxx_reading.specs.Words.{close_word, declared, name_word, open_word, separated, Word}
 use Rattle.cxx_statement_text.specs.Statements.{open_brace}
-use Rattle.cxx_tree.specs.Arena.{number_of_option, tree_over}
-use Rattle.cxx_tree.specs.Held.{Held, tree, trees}
+use Rattle.cxx_tree.specs.Held.{Held, tree}
 use Rattle.cxx_form.specs.declared.book.Book.{Book}
 use Rattle.cxx_form.specs.Books.{facts_of, graph_of, names_of}
-use Rattle.cxx_form.specs.Definitions.{definition_words, ellipsis_words, first_by, first_of_declarator, function_first, function_first_by, has_ellipsis, head_words, object_type, object_type_by, parameter_words, result_of, type_of_declarator}
+use Rattle.cxx_form.specs.Definitions.{definition_words, ellipsis_words, first_of_declarator, function_first, function_first_by, has_ellipsis, head_words, object_type, object_type_by, parameter_words, result_of, type_of_declarator}
 use Rattle.cxx_form.specs.Lines.{numbers_in}
 use Rattle.cxx_form.specs.Order.{body_of, declarator_of, is_named, parameters_of}
 use Rattle.cxx_form.specs.Parts.{definition_parts, dots_behind, head_at, head_of, is_none, list_at, name_if, named_list, parameter_at}
 use Rattle.cxx_form.specs.Views.{facts_in}
-use Rattle.cxx_form.proofs.Defining.{found_is, parameters_of_list, target_is}
+use Rattle.cxx_form.proofs.Defining.{found_is, parameters_of_list}
 use Rattle.cxx_form.proofs.Listing.{both_listed}
 
 -- ---- parameters
@@ -68,29 +65,11 @@ list_is book row ellipsis =
 
 -- ---- what a declarator says
 
-pub no_declarator : (held : Held) (declarator : Option TreeId) → declarator ≡ None → fundamental Void ≡ type_of_declarator (option_map (tree held) declarator)
-no_declarator held declarator none = sym (ap (λ (o : Option TreeId). type_of_declarator (option_map (tree held) o)) none)
-
-pub type_is : (held : Held) (declarator : Option TreeId) (number : TreeId) (node : Node) → declarator ≡ Some number → tree held number ≡ tree_over held.types (trees held) node → type_or_void (type_of_option held.types node.of) ≡ type_of_declarator (option_map (tree held) declarator)
-type_is held declarator number node some is = sym (ap (λ (o : Option TreeId). type_of_declarator (option_map (tree held) o)) some ∙ ap (λ (t : CxxTree). type_or_void t.label.of) is)
-
 pub function_is : (held : Held) (number : ℕ) (fact : Fact) → Some fact ≡ slice_get held.graph.facts number → function_first_by number (declares_at held.types fact.what) ≡ function_first number (slice_get (facts_in held) number)
 function_is held number fact is = sym (ap (function_first number) (found_is held number (Some fact) is))
 
 pub no_function : (held : Held) (number : ℕ) → None ≡ slice_get held.graph.facts number → number ≡ function_first number (slice_get (facts_in held) number)
 no_function held number is = sym (ap (function_first number) (found_is held number None is))
-
-pub first_without : (held : Held) (declarator : Option TreeId) → declarator ≡ None → 0 ≡ first_of_declarator (facts_in held) (option_map (tree held) declarator)
-first_without held declarator none = sym (ap (λ (o : Option TreeId). first_of_declarator (facts_in held) (option_map (tree held) o)) none)
-
-first_is : (held : Held) (declarator : Option TreeId) (number : TreeId) (node : Node) → declarator ≡ Some number → tree held number ≡ tree_over held.types (trees held) node → first_of_declarator (facts_in held) (option_map (tree held) declarator) ≡ first_by (facts_in held) (number_of_option node.target)
-first_is held declarator number node some is = ap (λ (o : Option TreeId). first_of_declarator (facts_in held) (option_map (tree held) o)) some ∙ ap (first_by (facts_in held)) (target_is held node number is)
-
-pub first_untold : (held : Held) (declarator : Option TreeId) (number : TreeId) (node : Node) → declarator ≡ Some number → tree held number ≡ tree_over held.types (trees held) node → node.target ≡ None → 0 ≡ first_of_declarator (facts_in held) (option_map (tree held) declarator)
-first_untold held declarator number node some is none = sym (first_is held declarator number node some is ∙ ap (λ (o : Option FactId). first_by (facts_in held) (number_of_option o)) none)
-
-pub first_told : (held : Held) (declarator : Option TreeId) (number : TreeId) (node : Node) (target : FactId) (one : ℕ) → declarator ≡ Some number → tree held number ≡ tree_over held.types (trees held) node → node.target ≡ Some target → one ≡ function_first target.0 (slice_get (facts_in held) target.0) → one ≡ first_of_declarator (facts_in held) (option_map (tree held) declarator)
-first_told held declarator number node target one some is same found = found ∙ sym (first_is held declarator number node some is ∙ ap (λ (o : Option FactId). first_by (facts_in held) (number_of_option o)) same)
 
 -- ---- the whole
 

@@ -1,8 +1,8 @@
 -- The trees of a production that are found in others, one part after another.
-use Rattle.std.proofs.Common.{◌≡◌, ℕ, zero, suc, ◌+◌, ◌<◌, ◌≤◌, Bool, true, false, eqb, List, [], ◌∷◌, ◌++◌, length, drop, get_or, map, refl, ap, sym, subst, ◌∙◌, append-nil, append_assoc, arith}
+use Rattle.std.proofs.Common.{◌≡◌, ℕ, zero, suc, ◌+◌, ◌<◌, Bool, true, false, eqb, List, [], ◌∷◌, ◌++◌, length, drop, get_or, map, refl, ap, sym, subst, ◌∙◌, append-nil, append_assoc, arith}
 use Rattle.std.specs.Prelude.{nat_eq, if◌then◌else◌}
-use Rattle.std.proofs.lemmas.Bool.{eqb-true, eq-eqb}
-use Rattle.std.proofs.lemmas.List.{at_drop_more, at_drop_all}
+use Rattle.std.proofs.lemmas.Bool.{eqb-true}
+use Rattle.std.proofs.lemmas.List.{at_drop_more}
 use Rattle.cxx_model.specs.declared.tree.Node.{Node}
 use Rattle.cxx_model.specs.declared.types.TreeId.{TreeId}
 use Rattle.cxx_model.specs.Types.Trees.{CxxType}
@@ -54,23 +54,9 @@ not_it n m other = by (eqb n m) refl
     by true e = absurd (other (eqb-true n m e))
     by false e = e
 
-it : (n m : ℕ) → n ≡ m → eqb n m ≡ true
-it n m same = eq-eqb n m same
-
 module _ (types : List CxxType) (trees : List CxxTree) (node : Node) (tree : CxxTree) (is : tree ≡ tree_over types trees node) (wanted passed : ℕ) where
   production_is : tree.label.production ≡ node.production
   production_is = ap (λ (t : CxxTree). t.label.production) is
-
-  -- what is wanted is found itself
-  wanted_is : node.production ≡ wanted → found_of wanted passed tree ≡ tree ∷ []
-  wanted_is same = of_tests wanted passed tree ∙ ap (λ t. by_tests wanted passed t (nat_eq tree.label.production passed) tree.label tree.children []) (it tree.label.production wanted (production_is ∙ same))
-
-  -- in what is passed there is none
-  passed_is : (node.production ≡ wanted → ⊥) → node.production ≡ passed → found_of wanted passed tree ≡ []
-  passed_is other same =
-      of_tests wanted passed tree
-      ∙ ap (λ t. by_tests wanted passed t (nat_eq tree.label.production passed) tree.label tree.children []) (not_it tree.label.production wanted (λ e. other (sym production_is ∙ e)))
-      ∙ ap (λ t. by_tests wanted passed false t tree.label tree.children []) (it tree.label.production passed (production_is ∙ same))
 
   -- in another one are those of its parts
   pub parts_are : (node.production ≡ wanted → ⊥) → (node.production ≡ passed → ⊥) → found_of wanted passed tree ≡ each_found wanted passed (trees_in trees node.children)
@@ -81,12 +67,6 @@ module _ (types : List CxxType) (trees : List CxxTree) (node : Node) (tree : Cxx
       ∙ append-nil (found_in wanted passed tree.children)
       ∙ ap (λ (t : CxxTree). found_in wanted passed t.children) is
       ∙ in_each wanted passed (trees_in trees node.children)
-
-  pub wanted_added : (old new : List TreeId) → node.production ≡ wanted → AddsTrees trees old new (tree ∷ []) → AddsTrees trees old new (found_of wanted passed tree)
-  wanted_added old new same added = subst (λ (ts : List CxxTree). AddsTrees trees old new ts) (sym (wanted_is same)) added
-
-  pub none_added : (old : List TreeId) → (node.production ≡ wanted → ⊥) → node.production ≡ passed → AddsTrees trees old old (found_of wanted passed tree)
-  none_added old other same = subst (λ (ts : List CxxTree). AddsTrees trees old old ts) (sym (passed_is other same)) (record { is = sym (append-nil (trees_in trees old)); below = λ all. all })
 
   pub within_parts : (children numbers : List TreeId) → children ≡ node.children → AreTrees trees numbers (each_found wanted passed (trees_in trees children)) → AreTrees trees numbers (found_in wanted passed tree.children)
   within_parts children numbers same are =
@@ -113,29 +93,16 @@ pub record SoFar (trees : List CxxTree) (first now : List TreeId) (left all : Li
   pub is : trees_in trees now ++ left ≡ trees_in trees first ++ all
   pub below : AreTreesBelow (length trees) first → AreTreesBelow (length trees) now
 
-pub at_first : (trees : List CxxTree) (first : List TreeId) (all : List CxxTree) → SoFar trees first first all all
-at_first trees first all = record { is = refl; below = λ below. below }
-
 goes_on : (trees : List CxxTree) (first now new : List TreeId) (one rest left all : List CxxTree) → left ≡ one ++ rest → SoFar trees first now left all → AddsTrees trees now new one → SoFar trees first new rest all
 goes_on trees first now new one rest left all cut so added = record {
   is = ap (λ (ts : List CxxTree). ts ++ rest) added.is ∙ append_assoc (trees_in trees now) one rest ∙ ap (λ (ts : List CxxTree). trees_in trees now ++ ts) (sym cut) ∙ so.is;
   below = λ below. added.below (so.below below);
 }
 
-at_last : (trees : List CxxTree) (first now : List TreeId) (left all : List CxxTree) → left ≡ [] → SoFar trees first now left all → AddsTrees trees first now all
-at_last trees first now left all none so = record {
-  is = sym (append-nil (trees_in trees now)) ∙ ap (λ (ts : List CxxTree). trees_in trees now ++ ts) (sym none) ∙ so.is;
-  below = so.below;
-}
-
 pub part_more : (wanted passed : ℕ) (trees : List CxxTree) (first now new parts : List TreeId) (i : ℕ) (d : TreeId) (all : List CxxTree) → i < length parts → SoFar trees first now (each_found wanted passed (trees_in trees (drop i parts))) all → AddsTrees trees now new (found_of wanted passed (tree_in trees (get_or parts i d).0)) → SoFar trees first new (each_found wanted passed (trees_in trees (drop (i + 1) parts))) all
 part_more wanted passed trees first now new parts i d all within so added =
     goes_on trees first now new (found_of wanted passed (tree_in trees (get_or parts i d).0)) (each_found wanted passed (trees_in trees (drop (i + 1) parts))) (each_found wanted passed (trees_in trees (drop i parts))) all
     (at_drop_more (λ (ns : List TreeId). each_found wanted passed (trees_in trees ns)) parts i d within) so added
-
-pub parts_all : (wanted passed : ℕ) (trees : List CxxTree) (first now parts : List TreeId) (i : ℕ) (all : List CxxTree) → length parts ≤ i → SoFar trees first now (each_found wanted passed (trees_in trees (drop i parts))) all → AddsTrees trees first now all
-parts_all wanted passed trees first now parts i all past so =
-    at_last trees first now (each_found wanted passed (trees_in trees (drop i parts))) all (at_drop_all (λ (ns : List TreeId). each_found wanted passed (trees_in trees ns)) parts i past) so
 
 pub child_below : (count : ℕ) (children : List TreeId) (i : ℕ) (d : TreeId) → AreTreesBelow count children → i < length children → (get_or children i d).0 < count
 child_below count [] i d all within = absurd (omega arith)
@@ -159,7 +126,3 @@ piece_below count (p ∷ pieces) (suc i) d all within = piece_below count pieces
 
 pub piece_within : (count : ℕ) (pieces : List Piece) (i : ℕ) (piece : Piece) → piece ≡ get_or pieces i piece → ArePiecesBelow count pieces → i < length pieces → piece.tree.0 < count
 piece_within count pieces i piece is all within = subst (λ (p : Piece). p.tree.0 < count) (sym is) (piece_below count pieces i piece all within)
-
-pub pieces_all : (wanted passed : ℕ) (trees : List CxxTree) (now : List TreeId) (pieces : List Piece) (i : ℕ) (all : List CxxTree) → length pieces ≤ i → SoFar trees [] now (of_pieces wanted passed trees (drop i pieces)) all → AreTrees trees now all
-pieces_all wanted passed trees now pieces i all past so =
-    all_added trees [] now all refl (at_last trees [] now (of_pieces wanted passed trees (drop i pieces)) all (at_drop_all (λ (ps : List Piece). of_pieces wanted passed trees ps) pieces i past) so)

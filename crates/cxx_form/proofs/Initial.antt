@@ -1,11 +1,7 @@
 -- The first of a production among some trees; the initializer of a declarator, and the words of its line.
-use Rattle.std.proofs.Common.{◌≡◌, ℕ, ◌+◌, ◌<◌, ◌≤◌, Bool, true, false, eqb, List, [], ◌∷◌, ◌++◌, length, drop, get_or, Option, Some, None, refl, ap, sym, ◌∙◌, append-nil, arith}
-use Rattle.std.specs.Prelude.{if◌then◌else◌}
-use Rattle.std.proofs.lemmas.Bool.{eq-eqb}
-use Rattle.std.proofs.lemmas.List.{at_drop_more, at_drop_all}
+use Rattle.std.proofs.Common.{◌≡◌, ℕ, ◌+◌, ◌<◌, List, [], ◌∷◌, ◌++◌, Option, Some, None, refl, ap, sym, ◌∙◌, append-nil, arith}
 use Rattle.cxx_model.specs.declared.tree.Node.{Node}
 use Rattle.cxx_model.specs.declared.types.TreeId.{TreeId}
-use Rattle.cxx_model.specs.Types.Trees.{CxxType}
 use Rattle.cxx_page.specs.Sheets.{put, Sheet}
 use Rattle.cxx_page.proofs.Put.{put_none}
 use Rattle.cxx_phrase_text.specs.Calls.{calls_of, CallOfText}
@@ -18,36 +14,9 @@ use Rattle.cxx_tree.specs.Held.{tree, trees, Held}
 use Rattle.cxx_tree.proofs.Arenas.{below_later}
 use Rattle.cxx_form.specs.declared.book.Book.{Book}
 use Rattle.cxx_form.specs.Books.{named_by, names_of, trees_of}
-use Rattle.cxx_form.specs.Order.{first_tree, parts_of_production}
+use Rattle.cxx_form.specs.Order.{first_tree}
 use Rattle.cxx_form.specs.Parts.{initializer_among, object_parts}
 use Rattle.cxx_form.specs.Text.{calls_of_trees, initializer_words, initializers_in, object_words}
-use Rattle.cxx_form.proofs.InTrees.{not_it}
-
--- ---- which is first
-
-module _ (production : ℕ) where
-  first_is : (tree : CxxTree) (others : List CxxTree) (t : Bool) → eqb tree.label.production production ≡ t → first_tree (parts_of_production production (in_turn (tree ∷ others))) ≡ (if t then Some tree else first_tree (parts_of_production production (in_turn others)))
-  first_is tree others true e = rw e refl
-  first_is tree others false e = rw e refl
-
-  next : (trees : List CxxTree) (parts : List TreeId) (i : ℕ) (d : TreeId) → i < length parts → first_tree (parts_of_production production (in_turn (trees_in trees (drop i parts)))) ≡ first_tree (parts_of_production production (in_turn (tree_in trees (get_or parts i d).0 ∷ trees_in trees (drop (i + 1) parts))))
-  next trees parts i d within = at_drop_more (λ (ns : List TreeId). first_tree (parts_of_production production (in_turn (trees_in trees ns)))) parts i d within
-
-  production_is : (types : List CxxType) (trees : List CxxTree) (node : Node) (tree : CxxTree) → tree ≡ tree_over types trees node → tree.label.production ≡ node.production
-  production_is types trees node tree is = ap (λ (t : CxxTree). t.label.production) is
-
-  pub found_first : (types : List CxxType) (trees : List CxxTree) (node : Node) (parts : List TreeId) (i : ℕ) (d : TreeId) (whole : Option CxxTree) → i < length parts → tree_in trees (get_or parts i d).0 ≡ tree_over types trees node → node.production ≡ production → first_tree (parts_of_production production (in_turn (trees_in trees (drop i parts)))) ≡ whole → Some (tree_in trees (get_or parts i d).0) ≡ whole
-  found_first types trees node parts i d whole within is same so =
-      let tree : CxxTree = tree_in trees (get_or parts i d).0 in
-      sym (first_is tree (trees_in trees (drop (i + 1) parts)) true (eq-eqb tree.label.production production (production_is types trees node tree is ∙ same))) ∙ sym (next trees parts i d within) ∙ so
-
-  pub passed : (types : List CxxType) (trees : List CxxTree) (node : Node) (parts : List TreeId) (i : ℕ) (d : TreeId) (whole : Option CxxTree) → i < length parts → tree_in trees (get_or parts i d).0 ≡ tree_over types trees node → (node.production ≡ production → ⊥) → first_tree (parts_of_production production (in_turn (trees_in trees (drop i parts)))) ≡ whole → first_tree (parts_of_production production (in_turn (trees_in trees (drop (i + 1) parts)))) ≡ whole
-  passed types trees node parts i d whole within is other so =
-      let tree : CxxTree = tree_in trees (get_or parts i d).0 in
-      sym (first_is tree (trees_in trees (drop (i + 1) parts)) false (ap (λ n. eqb n production) (production_is types trees node tree is) ∙ not_it node.production production other)) ∙ sym (next trees parts i d within) ∙ so
-
-  pub none_left : (trees : List CxxTree) (parts : List TreeId) (i : ℕ) (whole : Option CxxTree) → length parts ≤ i → first_tree (parts_of_production production (in_turn (trees_in trees (drop i parts)))) ≡ whole → None ≡ whole
-  none_left trees parts i whole past so = sym (at_drop_all (λ (ns : List TreeId). first_tree (parts_of_production production (in_turn (trees_in trees ns)))) parts i past) ∙ so
 
 -- ---- its words and its calls
 

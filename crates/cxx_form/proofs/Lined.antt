@@ -38,9 +38,6 @@ line_added trees old new line more within = record {
   below = λ all. subst (λ (xs : List Line). AreLinesBelow (length trees) xs) (sym more) (lines_below (length trees) old (line ∷ []) all (within, tt));
 }
 
-pub no_line_added : (trees : List CxxTree) (old : List Line) → AddsLines trees old old []
-no_line_added trees old = record { is = sym (append-nil (lines_at trees old)); below = λ all. all }
-
 pub adds_same : (trees : List CxxTree) (old new : List Line) (one two : List text.Line) → one ≡ two → AddsLines trees old new one → AddsLines trees old new two
 adds_same trees old new one two same adds = subst (λ (xs : List text.Line). AddsLines trees old new xs) same adds
 
@@ -52,9 +49,6 @@ line_given give types trees all number fact old new o is gives added =
 pub record SoFar (trees : List CxxTree) (first now : List Line) (left all : List text.Line) : Type 0 where
   pub is : lines_at trees now ++ left ≡ lines_at trees first ++ all
   pub below : AreLinesBelow (length trees) first → AreLinesBelow (length trees) now
-
-pub at_first : (trees : List CxxTree) (first : List Line) (all : List text.Line) → SoFar trees first first all all
-at_first trees first all = record { is = refl; below = λ below. below }
 
 pub at_last : (trees : List CxxTree) (first now : List Line) (left all : List text.Line) → left ≡ [] → SoFar trees first now left all → AddsLines trees first now all
 at_last trees first now left all none so = record {
@@ -128,9 +122,6 @@ object_on trees facts declarators i d first now new all within so added =
     goes_on trees first now new (object_by facts (tree_in trees (get_or declarators i d).0) (tree_in trees (get_or declarators i d).0).label.target) (object_lines facts (trees_in trees (drop (i + 1) declarators))) (object_lines facts (trees_in trees (drop i declarators))) all
     (at_drop_more (λ (ns : List TreeId). object_lines facts (trees_in trees ns)) declarators i d within) so added
 
-pub objects_all : (trees : List CxxTree) (facts : List CxxFact) (declarators : List TreeId) (i : ℕ) (first now : List Line) (all : List text.Line) → length declarators ≤ i → SoFar trees first now (object_lines facts (trees_in trees (drop i declarators))) all → AddsLines trees first now all
-objects_all trees facts declarators i first now all past so = at_last trees first now (object_lines facts (trees_in trees (drop i declarators))) all (at_drop_all (λ (ns : List TreeId). object_lines facts (trees_in trees ns)) declarators i past) so
-
 -- ---- definitions of functions
 
 pub definition_on : (trees : List CxxTree) (definitions : List TreeId) (i : ℕ) (d : TreeId) (first now new : List Line) (all : List text.Line) → AreTreesBelow (length trees) definitions → i < length definitions → SoFar trees first now (map text.definition_lines (trees_in trees (drop i definitions))) all → new ≡ now ++ line.Definition (get_or definitions i d) ∷ [] → SoFar trees first new (map text.definition_lines (trees_in trees (drop (i + 1) definitions))) all
@@ -138,9 +129,6 @@ definition_on trees definitions i d first now new all below within so more =
     goes_on trees first now new (text.definition_lines (tree_in trees (get_or definitions i d).0) ∷ []) (map text.definition_lines (trees_in trees (drop (i + 1) definitions))) (map text.definition_lines (trees_in trees (drop i definitions))) all
     (at_drop_more (λ (ns : List TreeId). map text.definition_lines (trees_in trees ns)) definitions i d within) so
     (line_added trees now new (line.Definition (get_or definitions i d)) more (child_below (length trees) definitions i d below within))
-
-pub definitions_all : (trees : List CxxTree) (definitions : List TreeId) (i : ℕ) (first now : List Line) (all : List text.Line) → length definitions ≤ i → SoFar trees first now (map text.definition_lines (trees_in trees (drop i definitions))) all → AddsLines trees first now all
-definitions_all trees definitions i first now all past so = at_last trees first now (map text.definition_lines (trees_in trees (drop i definitions))) all (at_drop_all (λ (ns : List TreeId). map text.definition_lines (trees_in trees ns)) definitions i past) so
 
 -- ---- all lines
 

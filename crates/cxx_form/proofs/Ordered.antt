@@ -1,7 +1,7 @@
 -- What lines declare, one line after another.
 use Rattle.std.proofs.Common.{◌≡◌, ℕ, ◌+◌, ◌<◌, ◌≤◌, List, [], ◌∷◌, ◌++◌, length, drop, take, get_or, refl, ap, sym, subst, ◌∙◌, append-nil, append_assoc}
 use Rattle.std.specs.Prelude.{flat_map}
-use Rattle.std.proofs.lemmas.List.{at_drop_more, at_drop_all, map-append, take_all, take_more}
+use Rattle.std.proofs.lemmas.List.{at_drop_more, at_drop_all, map-append, take_more}
 use Rattle.cxx_model.specs.declared.types.EnumId.{EnumId}
 use Rattle.cxx_model.specs.declared.types.FactId.{FactId}
 use Rattle.cxx_model.specs.Facts.Declarations.{CxxFact}
@@ -46,9 +46,6 @@ numbered_more numbers i d count slots within is =
     let same : with_each_new [] (numbers_in (take (i + 1) numbers)) ≡ with_new (with_each_new [] (numbers_in (take i numbers))) (get_or numbers i d).0 =
     ap (λ (ns : List FactId). with_each_new [] (numbers_in ns)) (take_more numbers i d within) ∙ ap (with_each_new []) (map-append number_in (take i numbers) (get_or numbers i d ∷ [])) ∙ each_more [] (numbers_in (take i numbers)) (get_or numbers i d).0 in
     subst (λ (order : List ℕ). IsNumbering order count slots) (sym same) is
-
-pub numbered_all : (numbers : List FactId) (i : ℕ) (count : ℕ) (slots : List ℕ) → length numbers ≤ i → IsNumbering (with_each_new [] (numbers_in (take i numbers))) count slots → IsNumbering (with_each_new [] (numbers_in numbers)) count slots
-numbered_all numbers i count slots past is = subst (λ (ns : List FactId). IsNumbering (with_each_new [] (numbers_in ns)) count slots) (take_all i numbers past) is
 
 pub in_order : (held : Held) (found : List Line) (numbers : List FactId) (count : ℕ) (slots : List ℕ) → lines_at (trees held) found ≡ lines (meaning held) → numbers_in numbers ≡ flat_map (declared_on (facts_in held)) (lines_at (trees held) found) → IsNumbering (with_each_new [] (numbers_in numbers)) count slots → IsNumbering (text_order (meaning held)) count slots
 unfolding text_order meaning

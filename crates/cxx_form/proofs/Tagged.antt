@@ -1,7 +1,6 @@
 -- The printed names of enumerations, and what is declared with them.
-use Rattle.std.proofs.Common.{◌≡◌, ℕ, zero, suc, ◌+◌, ◌<◌, ◌≤◌, Bool, true, false, List, [], ◌∷◌, ◌++◌, length, drop, Some, None, option_map, refl, ap, sym, ◌∙◌, arith, length-append}
-use Rattle.std.specs.Prelude.{if◌then◌else◌, codes, nat_lt}
-use Rattle.std.proofs.lemmas.Bool.{ltb-true, ltb-false}
+use Rattle.std.proofs.Common.{◌≡◌, ℕ, ◌+◌, ◌<◌, Bool, List, [], ◌∷◌, ◌++◌, length, drop, Some, None, option_map, refl, ap, sym, ◌∙◌}
+use Rattle.std.specs.Prelude.{if◌then◌else◌, codes}
 use Rattle.std.specs.List.{slice_get}
 use Rattle.std.proofs.lemmas.List.{at_drop_more}
 use Rattle.std.proofs.lemmas.Option.{get_or_from_slice_get, slice_get_within}
@@ -19,7 +18,7 @@ use Rattle.cxx_form.specs.Order.{text_order}
 use Rattle.cxx_reading.specs.Words.{Tags, Word, ampersand_word, bound_words, close_bracket_word, close_word, cv_words, declared, declared_each, is_bracketed, one_word, open_bracket_word, open_word, separated, star_word, type_name_word, within}
 use Rattle.cxx_tree.specs.Held.{meaning, Held}
 use Rattle.cxx_form.specs.Giving.{declared_or, AreDeclared}
-use Rattle.cxx_form.specs.Names.{names_in, AreTags}
+use Rattle.cxx_form.specs.Names.{names_in}
 use Rattle.cxx_form.specs.Slots.{slot_at}
 use Rattle.cxx_form.specs.Views.{facts_in}
 use Rattle.cxx_form.proofs.Enumerated.{length_facts}
@@ -54,39 +53,6 @@ tag_is held slots n text stem number place count are all is made numbered printe
 pub record SoFar (held : Held) (texts : List (List ℕ)) (number : ℕ) : Type 0 where
   pub count : length texts ≡ number
   pub each : (n : ℕ) → n < number → text_or_none (slice_get texts n) ≡ (names_in held).tags.enumeration_name n
-
-pub no_tag : (held : Held) (texts : List (List ℕ)) → texts ≡ [] → SoFar held texts 0
-no_tag held texts none = record { count = ap length none; each = λ n within. absurd (omega arith) }
-
-last_text : (texts : List (List ℕ)) (text : List ℕ) → slice_get (texts ++ text ∷ []) (length texts) ≡ Some text
-last_text [] text = refl
-last_text (first ∷ texts) text = last_text texts text
-
-first_text : (texts : List (List ℕ)) (text : List ℕ) (n : ℕ) → n < length texts → slice_get (texts ++ text ∷ []) n ≡ slice_get texts n
-first_text [] text n within = absurd (omega arith)
-first_text (first ∷ texts) text zero within = refl
-first_text (first ∷ texts) text (suc n) within = first_text texts text n (omega arith)
-
-pub tag_more : (held : Held) (old new : List (List ℕ)) (text : List ℕ) (number : ℕ) → SoFar held old number → text ≡ (names_in held).tags.enumeration_name number → new ≡ old ++ text ∷ [] → SoFar held new (number + 1)
-tag_more held old new text number so is more = record {
-  count = ap length more ∙ omega (arith, length-append old (text ∷ []), so.count);
-  each = λ n within. at n (nat_lt n number) refl (omega arith);
-}
-  where
-    at : (n : ℕ) (t : Bool) → nat_lt n number ≡ t → n ≤ number → text_or_none (slice_get new n) ≡ (names_in held).tags.enumeration_name n
-    at n true e upto =
-        let small : n < number = ltb-true n number e in
-        let count : length old ≡ number = so.count in
-        ap (λ (xs : List (List ℕ)). text_or_none (slice_get xs n)) more ∙ ap text_or_none (first_text old text n (omega arith)) ∙ so.each n small
-    at n false e upto =
-        let large : number ≤ n = ltb-false n number e in
-        let same : n ≡ number = omega arith in
-        let count : length old ≡ number = so.count in
-        let last : slice_get new n ≡ Some text = ap (λ (xs : List (List ℕ)). slice_get xs n) more ∙ ap (slice_get (old ++ text ∷ [])) (same ∙ sym count) ∙ last_text old text in
-        ap text_or_none last ∙ is ∙ ap (λ m. (names_in held).tags.enumeration_name m) (sym same)
-
-pub all_tags : (held : Held) (texts : List (List ℕ)) (number : ℕ) → enumerations held.graph.facts ≤ number → SoFar held texts number → AreTags held texts
-all_tags held texts number past so n within = so.each n (omega arith)
 
 -- ---- what is declared with one naming of classes and enumerations or another
 

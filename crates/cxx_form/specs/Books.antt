@@ -10,15 +10,12 @@ use Rattle.cxx_reading.specs.Plain.{type_or_void, NamesOfText}
 use Rattle.cxx_form.specs.Definitions.{value_or_zero}
 use Rattle.cxx_form.specs.Order.{text_order}
 use Rattle.cxx_reading.specs.Trees.{CxxTree}
-use Rattle.cxx_tree.specs.Held.{meaning, trees, Held}
+use Rattle.cxx_tree.specs.Held.{meaning, trees}
 use Rattle.cxx_form.specs.declared.book.Book.{Book}
 use Rattle.cxx_form.specs.Giving.{AreEnumerators, AreObjects}
 use Rattle.cxx_form.specs.Names.{names_in, AreTags}
 use Rattle.cxx_form.specs.Numbered.{IsNumbering}
 use Rattle.cxx_form.specs.Views.{facts_in}
-
-abbrev pub held_by : Book → Held
-held_by book = book.state.now
 
 abbrev pub names_of : Book → NamesOfText
 names_of book = names_in book.state.now

@@ -2,7 +2,7 @@
 use Rattle.std.specs.Prelude.{ℕ, Bool, true, false, zero, suc, ◌+◌, ◌≡◌, List, [], ◌++◌, length, Option, Some, None, nat_eq, if◌then◌else◌}
 use Rattle.cxx_model.specs.declared.types.FactId.{FactId}
 use Rattle.cxx_model.specs.Facts.Declarations as facts
-use Rattle.cxx_model.specs.Facts.Declarations.{CxxFact, Declares, fact_at, facts_at}
+use Rattle.cxx_model.specs.Facts.Declarations.{CxxFact, Declares}
 use Rattle.cxx_meaning.specs.Lookups.Gathered.{before, gathered}
 use Rattle.cxx_reading.specs.Declaring.{is_object}
 use Rattle.cxx_reading.specs.Plain.{number_of_enumeration}

@@ -2,7 +2,7 @@
 ghost use Rattle.std.specs.Prelude.{◌≡◌, ◌<◌, [], ◌∷◌, List, length, IfOk};
 ghost use Rattle.cxx_constant.specs.Constants as constants;
 ghost use Rattle.cxx_constant.specs.Known.{value_at};
-ghost use Rattle.cxx_form.specs.Books.{trees_of, value_of, IsBook};
+ghost use Rattle.cxx_form.specs.Books.{trees_of, value_of};
 ghost use Rattle.cxx_form.specs.Definitions.{value_or_zero as value_or_zero_of};
 ghost use Rattle.cxx_model.specs.Facts.Declarations.{graph_at};
 ghost use Rattle.cxx_page.specs.Sheets.{Writes, put};

@@ -10,7 +10,6 @@ ghost use Rattle.cxx_reading.specs.Plain.{enumeration_words};
 ghost use Rattle.cxx_reading.specs.Words.{keyword_word, name_word, value_words};
 ghost use Rattle.cxx_form.specs.Books.{facts_of, names_of, IsBook};
 ghost use Rattle.cxx_form.specs.Parts.{enumeration_end, enumeration_front, enumeration_parts, enumerator_at, value_by, value_found};
-ghost use Rattle.cxx_form.specs.Rows.{row_at};
 ghost use Rattle.cxx_form.specs.Views.{facts_in};
 
 use crate::book::Book;

@@ -13,7 +13,7 @@ ghost use Rattle.cxx_reading.specs.Declarators.{no_cv};
 ghost use Rattle.cxx_reading.specs.Plain.{type_or_void};
 ghost use Rattle.cxx_reading.specs.Words.{close_word, declared};
 ghost use Rattle.cxx_tree.specs.Held.{tree, trees};
-ghost use Rattle.cxx_form.specs.Books.{facts_of, names_of, type_for, IsBook};
+ghost use Rattle.cxx_form.specs.Books.{names_of, type_for, IsBook};
 ghost use Rattle.cxx_form.specs.Definitions as definitions;
 ghost use Rattle.cxx_form.specs.Parts as parts;
 ghost use Rattle.cxx_form.specs.Parts.{dots_behind, head_at, list_at, named_list, parameter_at};

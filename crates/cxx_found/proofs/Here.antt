@@ -1,32 +1,23 @@
 -- What is found in one scope that is no class's.
-use Rattle.std.proofs.Common.{◌≡◌, ℕ, suc, ◌≤◌, true, eqb, List, [], ◌∷◌, length, drop, Option, None, Ok, refl, ap, sym, ◌∙◌, subst, arith}
+use Rattle.std.proofs.Common.{◌≡◌, ℕ, suc, true, eqb, List, [], ◌∷◌, length, Option, None, Ok, refl, ap, sym, ◌∙◌, arith}
 use Rattle.std.proofs.lemmas.Bool.{eqb-true}
-use Rattle.std.proofs.lemmas.List.{append-nil, at_drop_all}
+use Rattle.std.proofs.lemmas.List.{append-nil}
 use Rattle.cxx_model.specs.declared.lookup.Found.{Found}
-use Rattle.cxx_model.specs.declared.types.FactId.{FactId}
 use Rattle.cxx_model.specs.declared.types.ScopeId.{ScopeId}
 use Rattle.cxx_model.specs.Facts.Declarations.{CxxGraph, CxxName, graph_at}
 use Rattle.cxx_model.specs.Facts.Graph.{Graph}
 use Rattle.cxx_model.specs.Types.Trees.{CxxType}
 use Rattle.cxx_meaning.specs.Lookups.Directives.{Shown}
-use Rattle.cxx_meaning.specs.Lookups.Gathered.{before}
 use Rattle.cxx_meaning.specs.Lookups.Member.{class_of_scope}
 use Rattle.cxx_meaning.specs.Lookups.Ordinary.{found_in_scope, found_in_sightings, sightings_at, standing_shown}
 use Rattle.cxx_meaning.specs.Lookups.Sightings.{Sighting, standing}
 use Rattle.cxx_meaning.specs.Lookups.Wanted.{Wanted}
 use Rattle.cxx_names.specs.Plain.{ArePlain}
-use Rattle.cxx_found.specs.declared.nearest.Alone.{Alone}
-use Rattle.cxx_found.specs.Rows.{sighted_in}
-use Rattle.cxx_found.specs.Views.{IsAlone}
 use Rattle.cxx_found.proofs.Outside.{no_class}
 
 pub none_left : {A : Type 0} (xs : List A) → eqb (length xs) 0 ≡ true → xs ≡ []
 none_left [] e = refl
 none_left (x ∷ xs) e = let zero_is : suc (length xs) ≡ 0 = eqb-true (suc (length xs)) 0 e in absurd (omega arith)
-
--- no number is left
-pub alone_all : (graph : CxxGraph) (wanted : Wanted) (numbers : List FactId) (i : ℕ) (only : Option Sighting) (alone : Alone) → length numbers ≤ i → before only (sighted_in graph wanted (drop i numbers)) ≡ sighted_in graph wanted numbers → IsAlone graph (before only []) alone → IsAlone graph (sighted_in graph wanted numbers) alone
-alone_all graph wanted numbers i only alone le e is = subst (λ xs. IsAlone graph xs alone) (sym (at_drop_all (λ ns. before only (sighted_in graph wanted ns)) numbers i le) ∙ e) is
 
 -- ---- a scope that is no class's
 

@@ -15,6 +15,7 @@ use Rattle.cxx_members.specs.Sighted.{AreBelow, sighting_at}
 use Rattle.cxx_members.specs.Views.{wanted_at}
 use Rattle.cxx_names.specs.Index.{Notes}
 use Rattle.cxx_names.specs.Plain.{ArePlain}
+use Rattle.cxx_names.specs.Words.{IsMetAs}
 use Rattle.cxx_found.specs.declared.again.Plain.{Plain}
 use Rattle.cxx_found.specs.declared.again.Plain.TheVariants as plain
 use Rattle.cxx_found.specs.declared.nearest.Alone.{Alone}
@@ -26,11 +27,13 @@ use Rattle.cxx_found.specs.declared.shown.Shown.{Shown}
 
 -- ---- what a lookup reads
 
--- The index is that of the graph, each type that the graph names stands in the table, and nothing is declared in classes.
+-- The index is that of the graph, each type that the graph names stands in the table, nothing is declared in classes, and
+-- what is known of the word is so.
 pub record IsSeeking (seeking : Seeking) : Type 0 where
   pub noted : Notes seeking.names.now seeking.looking.graph.now.facts
   pub below : IsGraphBelow (length seeking.looking.types.now) seeking.looking.graph.now
   pub plain : ArePlain seeking.looking.graph.now.facts
+  pub met : IsMetAs seeking.names.now.words seeking.word.now seeking.met
 
 abbrev pub types_of : Seeking → List CxxType
 types_of seeking = seeking.looking.types.now

@@ -47,6 +47,7 @@ fn seeking<'a>(
         names,
         wanted,
         word,
+        met: names.met_as(word),
     }
 }
 

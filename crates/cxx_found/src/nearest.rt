@@ -1,14 +1,12 @@
 //! What is found in one scope.
 
 ghost use Rattle.std.specs.Prelude.{◌≡◌, ℕ, [], ◌∷◌, List, Ok, is_none, length, map, option_map, IfOk, OnOk};
-ghost use Rattle.cxx_meaning.specs.Lookups.Gathered.{before};
 ghost use Rattle.cxx_model.specs.Facts.Declarations.{CxxGraph};
 ghost use Rattle.cxx_model.specs.Types.Trees.{CxxType};
 ghost use Rattle.cxx_meaning.specs.Lookups.Ordinary.{found_in_scope, found_in_sightings, sightings_at, standing_if, standing_shown};
-ghost use Rattle.cxx_meaning.specs.Lookups.Sightings.{standing};
 ghost use Rattle.cxx_members.specs.Sighted.{Adds, AreBelow, sighting_at};
 ghost use Rattle.cxx_found.specs.Rows.{sighted_in};
-ghost use Rattle.cxx_found.specs.Views.{IsAlone, IsNearBelow, IsSeeking, cut_of, found_near, graph_of, name_of, or_nothing, shown_of, types_of, wanted_of};
+ghost use Rattle.cxx_found.specs.Views.{IsNearBelow, IsSeeking, cut_of, found_near, graph_of, name_of, or_nothing, shown_of, types_of, wanted_of};
 
 use crate::seeking::Seeking;
 use crate::shown::Shown;

@@ -11,9 +11,11 @@ ghost use Rattle.cxx_found.specs.Views.{IsNearBelow, IsSeeking, cut_of, found_ne
 
 use crate::nearest::Nearest;
 use crate::seeking::Seeking;
-use crate::shown::{add_scopes, scope_at};
+use crate::shown::{add_scope, add_scopes, no_scopes, scope_at};
+use cxx_hash::Key;
 use cxx_members::Sighting;
 use cxx_model::{FactId, FactList, Found, ScopeId};
+use indexmap::IndexSet;
 use std::alloc::AllocError;
 
 impl Seeking<'_> {
@@ -32,9 +34,13 @@ impl Seeking<'_> {
 
     // Adds the namespaces to which a namespace leads, where they are not there yet.
     #[tactic(auto, using(crate::proofs::Searching::leads_nowhere, crate::proofs::Searching::leads_on))]
-    fn add_leads(&self, space: ScopeId, spaces: &mut Vec<ScopeId>) -> Result<(), AllocError>
+    fn add_leads(
+        &self,
+        space: ScopeId,
+        spaces: &mut IndexSet<ScopeId, Key>,
+    ) -> Result<(), AllocError>
         requires { IsSeeking self.now }
-        ensures { OnOk result (spaces.new.items ≡ with_scopes spaces.old.items (leads_to (graph_of self.now) (cut_of self.now) (wanted_of self.now) (name_of self.now) space)) }
+        ensures { OnOk result (spaces.new.keys ≡ with_scopes spaces.old.keys (leads_to (graph_of self.now) (cut_of self.now) (wanted_of self.now) (name_of self.now) space)) }
     {
         if self.has_seen(self.row(space)) {
             return Ok(());
@@ -44,12 +50,12 @@ impl Seeking<'_> {
 
     // The namespaces in which the name is searched, each once.
     #[tactic(auto, using(cxx_scopes::proofs::Spreading::turn_first, cxx_scopes::proofs::Spreading::turn_done, cxx_scopes::proofs::Spreading::turn_over), unfolding(cxx_meaning::specs::Lookups::Qualified::searched))]
-    fn searched(&self, space: ScopeId) -> Result<Vec<ScopeId>, AllocError>
+    fn searched(&self, space: ScopeId) -> Result<IndexSet<ScopeId, Key>, AllocError>
         requires { IsSeeking self.now }
-        ensures { IfOk result (λ spaces. spaces.items ≡ searched_from (graph_of self.now) (cut_of self.now) (wanted_of self.now) (name_of self.now) space) }
+        ensures { IfOk result (λ spaces. spaces.keys ≡ searched_from (graph_of self.now) (cut_of self.now) (wanted_of self.now) (name_of self.now) space) }
     {
-        let mut found = Vec::new(self.looking.alloc);
-        found.push(space)?;
+        let mut found = no_scopes(self.looking.alloc);
+        add_scope(&mut found, space)?;
         for place in 0..self.looking.graph.length() {
             match scope_at(&found, place as usize) {
                 None => return Ok(found),
@@ -84,7 +90,7 @@ impl Seeking<'_> {
     {
         let spaces = self.searched(space)?;
         let mut found = Vec::new(self.looking.alloc);
-        self.add_standing_in(&spaces, &mut found)?;
+        self.add_standing_in(spaces.as_slice(), &mut found)?;
         Ok(found)
     }
 

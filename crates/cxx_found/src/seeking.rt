@@ -6,7 +6,6 @@ ghost use Rattle.std.specs.Option.{option_copied};
 ghost use Rattle.cxx_model.specs.Facts.Declarations.{fact_at};
 ghost use Rattle.cxx_model.specs.Facts.Entities.{is_space as is_space_kind};
 ghost use Rattle.cxx_model.specs.Facts.Fitted.{IsEntityBelow, IsFactBelow};
-ghost use Rattle.cxx_meaning.specs.Lookups.Gathered.{before};
 ghost use Rattle.cxx_meaning.specs.Lookups.Scopes.{kind_of, parent_of};
 ghost use Rattle.cxx_meaning.specs.Lookups.Sightings.{sighting_of, standing};
 ghost use Rattle.cxx_members.specs.Sighted.{Adds, sighting_at};
@@ -16,7 +15,7 @@ ghost use Rattle.cxx_found.specs.Views.{IsSeeking, cut_of, facts_of, graph_of, n
 use cxx_graph::Graph;
 use cxx_members::{Looking, Sighting, Wanted};
 use cxx_model::{Entity, Fact, FactId, ScopeId};
-use cxx_names::Names;
+use cxx_names::{MetWord, Names};
 use std::alloc::AllocError;
 
 /// A spelled name that is looked up, what for, and where.
@@ -26,6 +25,8 @@ pub(crate) struct Seeking<'a> {
     pub names: &'a Names,
     pub wanted: Wanted,
     pub word: &'a [u8],
+    /// What the word is among the names that were met.
+    pub met: MetWord,
 }
 
 fn fact_of(graph: &Graph, number: FactId) -> Option<&Fact>
@@ -118,7 +119,8 @@ impl Seeking<'_> {
         requires { IsSeeking self.now }
         ensures { standing (graph_of self.now) (cut_of self.now) (wanted_of self.now) (name_of self.now) scope ≡ sighted_in (graph_of self.now) (wanted_of self.now) result.now }
     {
-        self.names.declared_in(self.looking.graph, scope, self.word)
+        self.names
+            .declared_as(self.looking.graph, scope, self.word, self.met)
     }
 
     /// Adds the declarations of the name in a scope that are of what is wanted.

@@ -9,9 +9,10 @@ ghost use Rattle.cxx_meaning.specs.Lookups.Scopes.{chain, first_common, kind_of}
 ghost use Rattle.cxx_found.specs.Views.{IsSeeking, cut_of, facts_of, shown_of};
 
 use crate::seeking::Seeking;
-use cxx_members::holds_scope;
+use cxx_hash::Key;
 use cxx_model::ScopeId;
-use std::alloc::AllocError;
+use indexmap::IndexSet;
+use std::alloc::{AllocError, Global};
 
 /// A namespace, and the one in which its names show.
 #[derive(Clone, Copy)]
@@ -22,27 +23,38 @@ pub(crate) struct Shown {
 
 // ---- lists of scopes without repetition
 
-/// The scope at a place of a list.
-pub(crate) fn scope_at(scopes: &[ScopeId], place: usize) -> Option<ScopeId>
-    ensures { result ≡ slice_get scopes.now place }
+/// A list of no scopes that tells at once whether it holds one.
+pub(crate) fn no_scopes(alloc: Global) -> IndexSet<ScopeId, Key>
+    ensures { result.keys ≡ [] }
 {
-    scopes.get(place).copied()
+    IndexSet::with_hasher(alloc, Key::of(&[]))
 }
 
-// Adds a scope at the end, where it is not there yet.
-fn add_scope(scopes: &mut Vec<ScopeId>, scope: ScopeId) -> Result<(), AllocError>
-    ensures { OnOk result (scopes.new.items ≡ with_scope scopes.old.items scope) }
+/// The scope at a place of a list.
+pub(crate) fn scope_at(scopes: &IndexSet<ScopeId, Key>, place: usize) -> Option<ScopeId>
+    ensures { result ≡ slice_get scopes.now.keys place }
 {
-    if !holds_scope(scopes, scope) {
-        scopes.push(scope)?;
-    }
+    scopes.get_index(place).copied()
+}
+
+/// Adds a scope at the end, where it is not there yet.
+pub(crate) fn add_scope(
+    scopes: &mut IndexSet<ScopeId, Key>,
+    scope: ScopeId,
+) -> Result<(), AllocError>
+    ensures { OnOk result (scopes.new.keys ≡ with_scope scopes.old.keys scope) }
+{
+    scopes.insert(scope)?;
     Ok(())
 }
 
 /// Adds each of some scopes at the end, where it is not there yet.
 #[tactic(auto, unfolding(cxx_meaning::specs::Lookups::Gathered::with_scopes))]
-pub(crate) fn add_scopes(scopes: &mut Vec<ScopeId>, others: &[ScopeId]) -> Result<(), AllocError>
-    ensures { OnOk result (scopes.new.items ≡ with_scopes scopes.old.items others.now) }
+pub(crate) fn add_scopes(
+    scopes: &mut IndexSet<ScopeId, Key>,
+    others: &[ScopeId],
+) -> Result<(), AllocError>
+    ensures { OnOk result (scopes.new.keys ≡ with_scopes scopes.old.keys others.now) }
 {
     for scope in others {
         add_scope(scopes, *scope)?;
@@ -72,11 +84,11 @@ impl Seeking<'_> {
 
     // The namespaces that are reached from a scope, each once.
     #[tactic(auto, using(cxx_scopes::proofs::Spreading::turn_first, cxx_scopes::proofs::Spreading::turn_more, cxx_scopes::proofs::Spreading::turn_done, cxx_scopes::proofs::Spreading::turn_over), unfolding(cxx_meaning::specs::Lookups::Directives::reached))]
-    fn reached(&self, scope: ScopeId) -> Result<Vec<ScopeId>, AllocError>
+    fn reached(&self, scope: ScopeId) -> Result<IndexSet<ScopeId, Key>, AllocError>
         requires { IsSeeking self.now }
-        ensures { IfOk result (λ spaces. spaces.items ≡ reached_from (facts_of self.now) (cut_of self.now) scope) }
+        ensures { IfOk result (λ spaces. spaces.keys ≡ reached_from (facts_of self.now) (cut_of self.now) scope) }
     {
-        let mut found = Vec::new(self.looking.alloc);
+        let mut found = no_scopes(self.looking.alloc);
         add_scopes(&mut found, self.nominated(scope))?;
         for place in 0..self.looking.graph.length() {
             match scope_at(&found, place as usize) {
@@ -174,6 +186,6 @@ impl Seeking<'_> {
             return Ok(());
         }
         let reached = self.reached(scope)?;
-        self.add_reached(scope, &reached, shown)
+        self.add_reached(scope, reached.as_slice(), shown)
     }
 }

@@ -18,7 +18,7 @@ use Rattle.cxx_model.specs.declared.types.Argument.{Argument}
 use Rattle.cxx_model.specs.declared.types.TemplateId.{TemplateId}
 use Rattle.cxx_model.specs.Facts.Graph.{Graph, InRange, AreSameArguments, IsClassInRange, IsPatternInRange, IsReservedAlready, IsReservedFor, IsSpecialisationOf, appended, with_class}
 use Rattle.cxx_graph.proofs.GraphRange.{pattern-in-range, reserved-in-range}
-use Rattle.cxx_graph.specs.Reserved.{IsNew, IsUnknown, KeepsClasses}
+use Rattle.cxx_graph.specs.Reserved.{IsNew, IsUnknown}
 use Rattle.cxx_graph.specs.Stored.{AreClassesApart, IsMarked, IsPlaced, IsStored, classes_of, graph_of, held}
 use Rattle.cxx_graph.proofs.Marks.{get-more, marked-class, open-class}
 use Rattle.cxx_graph.proofs.Same.{same_specialisation, same-specialisation, specialisation-same}
@@ -324,11 +324,3 @@ reserved-for old new whole of given (Ok class) is same number added =
       arguments_are = same;
     })
 reserved-for old new whole of given (Err e) is same number added = tt
-
--- ---- what stays where classes are reserved
-
-pub kept-again : (one two three : Graph) → KeepsClasses one two → KeepsClasses two three → KeepsClasses one three
-kept-again one two three p q =
-    let first : length one.classes ≤ length two.classes = p.more in
-    let second : length two.classes ≤ length three.classes = q.more in
-    record { facts = q.facts ∙ p.facts; patterns = q.patterns ∙ p.patterns; more = omega arith; same = λ n within. q.same n (omega arith) ∙ p.same n within }

@@ -16,7 +16,7 @@ use Rattle.cxx_model.specs.declared.types.ScopeId.{ScopeId}
 use Rattle.cxx_model.specs.declared.types.TemplateId.{TemplateId}
 use Rattle.cxx_model.specs.Types.Trees.{CxxType, fundamental, class_type, enumeration, pointer_to, reference_to, array_of, function_of, qualified, type_parameter, specialisation, nested_in, CxxTypes, no_types, type_then, CxxBound, unknown_bound, number_bound, formula_bound, CxxArgument, type_argument, value_argument, formula_argument, CxxArguments, no_arguments, argument_then, CxxFormula, value_of, value_parameter, member_of, size_of, cast_to, unary, binary, conditional}
 use Rattle.cxx_model.specs.Types.Numbers.{tree_at}
-use Rattle.cxx_model.specs.Facts.Graph.{Graph, InRange, MayFollow, EachMayFollow, appended, counted, enumerations, is_enumeration, with_class, with_pattern, IsClassInRange, AreClassesInRange, IsClassNumberInRange, IsEntityInRange, IsKindInRange, IsKindOfParameterInRange, AreParametersInRange, IsPatternInRange, ArePatternsInRange, IsScopeInRange, IsTemplateInRange, IsTypeInRange, AreTypesInRange, IsBoundInRange, IsArgumentInRange, AreArgumentsInRange, IsFormulaInRange}
+use Rattle.cxx_model.specs.Facts.Graph.{Graph, InRange, MayFollow, EachMayFollow, appended, counted, enumerations, is_enumeration, with_class, with_pattern, IsClassInRange, AreClassesInRange, IsClassNumberInRange, IsEntityInRange, IsKindInRange, IsKindOfParameterInRange, AreParametersInRange, IsPatternInRange, ArePatternsInRange, IsScopeInRange, IsTypeInRange, AreTypesInRange, IsBoundInRange, IsArgumentInRange, AreArgumentsInRange, IsFormulaInRange}
 
 -- ---- facts
 
@@ -139,10 +139,6 @@ parameter-later old new more (OfValue of) ok = type-in-range-later old new more 
 parameters-later : (old new : Graph) → Grows old new → (parameters : List Parameter) → AreParametersInRange old parameters → AreParametersInRange new parameters
 parameters-later old new more [] ok = tt
 parameters-later old new more (x ∷ xs) ok = (parameter-later old new more x.kind ok.0, parameters-later old new more xs ok.1)
-
-pub named-template-later : (old new : Graph) → Grows old new → (template : Option TemplateId) → IsTemplateInRange old template → IsTemplateInRange new template
-named-template-later old new more None ok = tt
-named-template-later old new more (Some template) ok = template-later old new more template ok
 
 named-class-later : (old new : Graph) → Grows old new → (class : Option ClassId) → IsClassNumberInRange old class → IsClassNumberInRange new class
 named-class-later old new more None ok = tt

@@ -11,7 +11,7 @@ use Rattle.cxx_model.specs.declared.facts.Fact.{Fact}
 use Rattle.cxx_model.specs.declared.types.EnumId.{EnumId}
 use Rattle.cxx_model.specs.declared.types.FactId.{FactId}
 use Rattle.cxx_model.specs.Facts.Graph.{values_of}
-use Rattle.cxx_model.specs.Types.Integral.{holds}
+use Rattle.cxx_model.specs.Types.Integral.{holds, one_holds}
 use Rattle.cxx_graph.specs.declared.promotion.Holders.{Holders}
 use Rattle.cxx_graph.specs.Kept.{AreSameHolders, HasBase, HasValue, IsKept, holders_at, holders_of, with_value}
 use Rattle.cxx_graph.specs.Numbered.{is_ancestor_of, is_in_scope, numbers_from, numbers_of}
@@ -93,6 +93,12 @@ holders-last values value =
     ∙ ap (λ c. whole (one base.Int) (one base.Unsigned) c (all base.UnsignedLong)) (holds-last (holds base.Long) values value)
     ∙ ap (whole (one base.Int) (one base.Unsigned) (one base.Long)) (holds-last (holds base.UnsignedLong) values value)
 
+-- one type holds the values of an enumeration and one more
+pub one_more_holds : (seen facts : List Fact) (number : ℕ) (value : ℤ) (held more : Holders) (result : Bool) → seen ≡ facts → held ≡ holders_of (values_of facts number) → more ≡ with_value held value → ((values : List ℤ) → more ≡ holders_of values → result ≡ one_holds values) → result ≡ one_holds (values_of seen number ++ value ∷ [])
+one_more_holds seen facts number value held more result same is one any =
+    any (values_of facts number ++ value ∷ []) (one ∙ ap (λ (h : Holders). with_value h value) is ∙ sym (holders-last (values_of facts number) value))
+    ∙ ap (λ (all : List Fact). one_holds (values_of all number ++ value ∷ [])) (sym same)
+
 nil-last : (xs : List ℤ) → xs ++ [] ≡ xs
 nil-last [] = refl
 nil-last (x ∷ xs) = ap (λ z. x ∷ z) (nil-last xs)
@@ -124,11 +130,4 @@ kept_more facts fact members members' bases bases' holders placed holders' numbe
   of_scopes = rows-more facts fact members members' is_in_scope fact.scope.0 number is (λ n. refl) member so.of_scopes;
   of_classes = bases-by facts fact fact.what bases bases' number is base so.of_classes;
   of_enumerations = holders-by facts fact fact.what placed holders' value (λ n. same n ∙ so.of_enumerations n);
-}
-
-pub kept_same : (facts : List Fact) (members members' bases bases' : List (List FactId)) (holders placed : List Holders) → IsKept facts members bases holders → AreSameRows members members' → AreSameRows bases bases' → AreSameHolders holders placed → IsKept facts members' bases' placed
-kept_same facts members members' bases bases' holders placed so member base same = record {
-  of_scopes = λ n. member n ∙ so.of_scopes n;
-  of_classes = λ n. base n ∙ so.of_classes n;
-  of_enumerations = λ n. same n ∙ so.of_enumerations n;
 }

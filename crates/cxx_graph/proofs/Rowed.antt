@@ -1,5 +1,5 @@
 -- What becomes of rows of numbers at each step.
-use Rattle.std.specs.Prelude.{ℕ, zero, suc, ◌≡◌, ◌<◌, ◌≤◌, Bool, true, false, List, [], ◌∷◌, ◌++◌, length, map, nat_eq, refl, Option, Some, None, IsSome, ◌↔◌, Result, Ok, Err, OnErr}
+use Rattle.std.specs.Prelude.{ℕ, zero, suc, ◌≡◌, ◌<◌, Bool, true, false, List, [], ◌∷◌, ◌++◌, length, map, nat_eq, refl, Option, Some, None, IsSome, ◌↔◌, Result, Ok, Err, OnErr}
 use Rattle.std.specs.Global.{Vec}
 use Rattle.std.specs.Option.{option_to_list}
 use Rattle.std.proofs.Common.{ap, sym, subst, ◌∙◌, arith, length-append, vec_len, set, get_or, get_or-set_other, get_or-set_same}
@@ -79,19 +79,6 @@ popped rows n row now within is old fact x more are k = by (nat_eq k n) refl
         let whole : now.items ++ x ∷ [] ≡ row_at old n ++ fact ∷ [] = sym are ∙ before rows n row now within is ∙ more.here in
         subst (λ (m : ℕ). row_at (rows_of (set rows n now)) m ≡ row_at old m) (sym equal) (here-now rows n row now within is ∙ last-cancels now.items (row_at old n) x fact whole)
     by false e = (let apart : k ≡ n → ⊥ = λ equal. (let wrong : true ≡ false = sym (eq-eqb k n equal) ∙ e in cc) in other-now rows n row now within is k apart ∙ more.others k apart)
-
--- a row that has a number is there, and is not empty
-pub none-there : (before rows : List (List FactId)) (n : ℕ) (fact : FactId) → IsRowMore before rows n fact → row_at rows n ≡ [] → ⊥
-none-there before rows n fact more empty = by (row_at before n) (sym more.here ∙ empty)
-  where
-    by : (xs : List FactId) → xs ++ fact ∷ [] ≡ [] → ⊥
-    by [] e = cc
-    by (x ∷ xs) e = cc
-
-pub past-rows : (rows : List (Vec FactId)) (n : ℕ) → length rows ≤ n → row_at (rows_of rows) n ≡ []
-past-rows [] n past = refl
-past-rows (r ∷ rs) zero past = absurd (omega arith)
-past-rows (r ∷ rs) (suc n) past = past-rows rs n (omega arith)
 
 pub on_err : {T E : Type 0} {P : Type 0} (r : Result T E) → P → OnErr r P
 on_err (Ok x) p = tt

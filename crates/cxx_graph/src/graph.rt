@@ -5,7 +5,7 @@ ghost use Rattle.cxx_model.specs.Facts.Graph.{InRange, IsClassInRange, IsOneClas
 ghost use Rattle.cxx_model.specs.Facts.Declarations.{graph_at};
 ghost use Rattle.cxx_model.specs.Facts.Pending.{is_pending};
 ghost use Rattle.cxx_model.specs.Types.Trees.{CxxType};
-ghost use Rattle.cxx_model.specs.Types.Integral.{promoted_of_values};
+ghost use Rattle.cxx_model.specs.Types.Integral.{one_holds, promoted_of_values};
 ghost use Rattle.cxx_graph.specs.Ended.{ended};
 ghost use Rattle.cxx_graph.specs.Numbered.{is_ancestor_of, is_in_scope, numbers_of};
 ghost use Rattle.cxx_graph.specs.Reserved.{IsNew, IsUnknown, KeepsClasses};
@@ -155,6 +155,14 @@ impl Graph {
         ensures { result ≡ promoted_of_values (values_of self.now.facts number.0) }
     {
         self.kept.holders_of(number).promoted()
+    }
+
+    /// Whether one of the types to which an enumeration may be promoted holds the values of its enumerators and one more
+    /// (7.2). It takes one step, however many enumerators there are.
+    pub fn one_holds(&self, number: EnumId, value: i128) -> bool
+        ensures { result ≡ one_holds (values_of self.now.facts number.0 ++ value ∷ []) }
+    {
+        self.kept.holders_of(number).with(value).any()
     }
 
     /// The fact with a number. It takes one step.

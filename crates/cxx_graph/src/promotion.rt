@@ -1,6 +1,6 @@
 ghost use Rattle.std.specs.Prelude.{◌≡◌, List, ℤ};
 ghost use Rattle.cxx_model.specs.declared.base.Base.TheVariants as base;
-ghost use Rattle.cxx_model.specs.Types.Integral.{holds, promoted_of_values};
+ghost use Rattle.cxx_model.specs.Types.Integral.{holds, one_holds, promoted_of_values};
 ghost use Rattle.cxx_graph.specs.Kept.{all_hold, holders_of, with_value};
 
 use cxx_model::Base;
@@ -61,6 +61,13 @@ impl Holders {
             long: self.long && long_holds(value),
             unsigned_long: self.unsigned_long && unsigned_long_holds(value),
         }
+    }
+
+    /// Whether one of the types holds the values.
+    pub(crate) fn any(self) -> bool
+        ensures { (values : List ℤ) → self ≡ holders_of values → result ≡ one_holds values }
+    {
+        self.int || (self.unsigned || (self.long || self.unsigned_long))
     }
 
     /// The first of the types.

@@ -1,5 +1,5 @@
 -- Worked statements and conditions: what each begins with.
-use Rattle.std.specs.Prelude.{ℕ, pos, Bool, true, false, ◌≡◌, refl, ◌++◌, ◌==◌, if◌then◌else◌, List, [], ◌∷◌, Result, Ok, Err, codes}
+use Rattle.std.specs.Prelude.{ℕ, zero, suc, pos, Bool, true, false, ◌≡◌, refl, ◌++◌, ◌==◌, if◌then◌else◌, List, [], ◌∷◌, Result, Ok, Err, codes}
 use Rattle.cxx_heads.specs.declared.head.Head.{Head}
 use Rattle.cxx_heads.specs.declared.head.Head.TheVariants as head
 use Rattle.cxx_heads.specs.Heads.{name_step, name_passed, list_step, exceptions_step, suffix_step, suffixes_passed, closing_step, closed_passed, bound_step, bounds_passed, declarator_begins, specifiers_begin, is_declaration, head_at, type_word_step, types_alone, initializer_follows, condition_begins, is_declared_condition}
@@ -12,11 +12,10 @@ use Rattle.cxx_model.specs.Text.Lexemes.{first_place, lexemes}
 use Rattle.cxx_model.specs.Text.Spelling.{spelling_of, keywords, alternatives, operators, digraphs, word_kind, number_kind, operator, literal, hash, slash, percent, literal_type, literal_value}
 use Rattle.cxx_model.specs.Text.Tokens.{Unread, tokens_of, tokens_from, front, longest_within}
 use Rattle.cxx_model.specs.Types.Trees.{fundamental}
-use Rattle.cxx_reading.specs.Kinds.{Kinds}
+use Rattle.cxx_reading.specs.Kinds.{Kinds, Readers, too_deep}
 use Rattle.cxx_reading.specs.Reads.{Ahead, Got, place_ahead, repeat}
 use Rattle.cxx_reading.specs.Shapes as shape
 use Rattle.cxx_reading.specs.Shapes.{bracket_step, brackets_passed, key_shape, name_shape, keyword_shape, run_step, run_passed, begins_type, is_abstract_list, prefix_step, prefix_passed, list_shape, suffixes_by, declarator_passed, default_step, default_passed, piece_step, parameters_shape}
-use Rattle.cxx_reading.specs.Syntax.{readers}
 use Rattle.cxx_reading.specs.Tokens.{is_punct, is_keyword, is_name, is_end, passed_from, kind_of_name}
 use Rattle.cxx_reading.specs.Trees.{CxxPathPart, CxxPath, last_part}
 
@@ -53,6 +52,11 @@ user room = record {
   leave_parameters = λ state. Ok (tt, state);
 }
 
+-- readers with room for so many brackets: of them only whether parameters stand behind one is asked
+shapes : ℕ → Readers (List ℕ)
+shapes zero = too_deep
+shapes (suc room) = record (too_deep {S = List ℕ}) { holds_parameters = parameters_shape (user room) (shapes room) }
+
 -- what stands ahead, and the column of the next token then
 pub data Row : Type 0 where
   Begins : Head → ℕ → Row
@@ -80,8 +84,8 @@ abbrev ahead_of : List ℕ → List Token → Ahead
 ahead_of bytes tokens = record { last = first_place; tokens = lexemes bytes tokens }
 
 statement_row : List ℕ → Result (List Token) Unread → Row
-unfolding spelling_of keywords alternatives operators digraphs word_kind number_kind operator literal hash slash percent literal_type literal_value tokens_of tokens_from front longest_within repeat is_punct is_keyword is_name is_end passed_from kind_of_name bracket_step brackets_passed key_shape name_shape keyword_shape run_step run_passed begins_type is_abstract_list prefix_step prefix_passed list_shape shape.suffix_step suffixes_by declarator_passed default_step default_passed piece_step parameters_shape readers name_step name_passed list_step exceptions_step suffix_step suffixes_passed closing_step closed_passed bound_step bounds_passed declarator_begins specifiers_begin is_declaration head_at type_word_step types_alone initializer_follows condition_begins is_declared_condition
-statement_row bytes (Ok tokens) = begins_by (head_at (user 9) (readers user 9) [] (ahead_of bytes tokens))
+unfolding spelling_of keywords alternatives operators digraphs word_kind number_kind operator literal hash slash percent literal_type literal_value tokens_of tokens_from front longest_within repeat is_punct is_keyword is_name is_end passed_from kind_of_name bracket_step brackets_passed key_shape name_shape keyword_shape run_step run_passed begins_type is_abstract_list prefix_step prefix_passed list_shape shape.suffix_step suffixes_by declarator_passed default_step default_passed piece_step parameters_shape shapes name_step name_passed list_step exceptions_step suffix_step suffixes_passed closing_step closed_passed bound_step bounds_passed declarator_begins specifiers_begin is_declaration head_at type_word_step types_alone initializer_follows condition_begins is_declared_condition
+statement_row bytes (Ok tokens) = begins_by (head_at (user 9) (shapes 9) [] (ahead_of bytes tokens))
 statement_row bytes (Err why) = Nothing
 
 -- what a statement begins with
@@ -90,8 +94,8 @@ unfolding spelling_of keywords alternatives operators digraphs word_kind number_
 statement bytes = statement_row bytes (tokens_of bytes)
 
 condition_row : List ℕ → Result (List Token) Unread → Row
-unfolding spelling_of keywords alternatives operators digraphs word_kind number_kind operator literal hash slash percent literal_type literal_value tokens_of tokens_from front longest_within repeat is_punct is_keyword is_name is_end passed_from kind_of_name bracket_step brackets_passed key_shape name_shape keyword_shape run_step run_passed begins_type is_abstract_list prefix_step prefix_passed list_shape shape.suffix_step suffixes_by declarator_passed default_step default_passed piece_step parameters_shape readers name_step name_passed list_step exceptions_step suffix_step suffixes_passed closing_step closed_passed bound_step bounds_passed declarator_begins specifiers_begin is_declaration head_at type_word_step types_alone initializer_follows condition_begins is_declared_condition
-condition_row bytes (Ok tokens) = condition_by (is_declared_condition (user 9) (readers user 9) [] (ahead_of bytes tokens))
+unfolding spelling_of keywords alternatives operators digraphs word_kind number_kind operator literal hash slash percent literal_type literal_value tokens_of tokens_from front longest_within repeat is_punct is_keyword is_name is_end passed_from kind_of_name bracket_step brackets_passed key_shape name_shape keyword_shape run_step run_passed begins_type is_abstract_list prefix_step prefix_passed list_shape shape.suffix_step suffixes_by declarator_passed default_step default_passed piece_step parameters_shape shapes name_step name_passed list_step exceptions_step suffix_step suffixes_passed closing_step closed_passed bound_step bounds_passed declarator_begins specifiers_begin is_declaration head_at type_word_step types_alone initializer_follows condition_begins is_declared_condition
+condition_row bytes (Ok tokens) = condition_by (is_declared_condition (user 9) (shapes 9) [] (ahead_of bytes tokens))
 condition_row bytes (Err why) = Nothing
 
 -- whether a condition, with the bracket behind it, is declared
@@ -100,8 +104,8 @@ unfolding spelling_of keywords alternatives operators digraphs word_kind number_
 condition bytes = condition_row bytes (tokens_of bytes)
 
 asked_row : List ℕ → Result (List Token) Unread → List ℕ
-unfolding spelling_of keywords alternatives operators digraphs word_kind number_kind operator literal hash slash percent literal_type literal_value tokens_of tokens_from front longest_within repeat is_punct is_keyword is_name is_end passed_from kind_of_name bracket_step brackets_passed key_shape name_shape keyword_shape run_step run_passed begins_type is_abstract_list prefix_step prefix_passed list_shape shape.suffix_step suffixes_by declarator_passed default_step default_passed piece_step parameters_shape readers name_step name_passed list_step exceptions_step suffix_step suffixes_passed closing_step closed_passed bound_step bounds_passed declarator_begins specifiers_begin is_declaration head_at type_word_step types_alone initializer_follows condition_begins is_declared_condition
-asked_row bytes (Ok tokens) = asked_by (head_at (user 9) (readers user 9) [] (ahead_of bytes tokens))
+unfolding spelling_of keywords alternatives operators digraphs word_kind number_kind operator literal hash slash percent literal_type literal_value tokens_of tokens_from front longest_within repeat is_punct is_keyword is_name is_end passed_from kind_of_name bracket_step brackets_passed key_shape name_shape keyword_shape run_step run_passed begins_type is_abstract_list prefix_step prefix_passed list_shape shape.suffix_step suffixes_by declarator_passed default_step default_passed piece_step parameters_shape shapes name_step name_passed list_step exceptions_step suffix_step suffixes_passed closing_step closed_passed bound_step bounds_passed declarator_begins specifiers_begin is_declaration head_at type_word_step types_alone initializer_follows condition_begins is_declared_condition
+asked_row bytes (Ok tokens) = asked_by (head_at (user 9) (shapes 9) [] (ahead_of bytes tokens))
 asked_row bytes (Err why) = []
 
 -- the names that are asked where a statement begins

@@ -1,7 +1,6 @@
 //! Arrays from what stands in braces (8.5.1).
 
 ghost use Rattle.std.specs.Prelude.{◌≡◌, ◌<◌, length};
-ghost use Rattle.cxx_reading.specs.Trees.{children_of};
 ghost use Rattle.cxx_tree.specs.Answered.{IsAnswered};
 ghost use Rattle.cxx_tree.specs.Arena.{bound_of};
 ghost use Rattle.cxx_tree.specs.Held.{meaning, tree, trees, type_of};

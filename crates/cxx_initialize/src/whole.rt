@@ -3,7 +3,6 @@
 ghost use Rattle.std.specs.Prelude.{◌≡◌, ◌<◌, [], ◌∷◌, length};
 ghost use Rattle.cxx_model.specs.Facts.Fitted.{Fitted};
 ghost use Rattle.cxx_model.specs.Types.Numbers.{type_at};
-ghost use Rattle.cxx_reading.specs.Trees.{children_of};
 ghost use Rattle.cxx_tree.specs.Answered.{IsAnswered};
 ghost use Rattle.cxx_tree.specs.Held.{meaning, tree, trees, type_of};
 ghost use Rattle.cxx_expr.specs.Initializing as definition;

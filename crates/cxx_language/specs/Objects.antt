@@ -44,15 +44,20 @@ is_empty_array _ = false
 unfoldable pub some_elements : Lexeme → CxxType → Reads CxxState (Unit {0})
 some_elements name of state ahead = if is_empty_array of then fault_at name.place says.OperandsDoNotFit state ahead else got tt state ahead
 
+-- 3.5, 8.3.4: the type of the object with a declaration, with the bound that any of its declarations gives
+abbrev pub known_so_far : ℕ → CxxType → Reads CxxState CxxType
+known_so_far number of state ahead = got (type_so_far state number of) state ahead
+
 -- from `=` or `(` on, of the object with a declaration
 unfoldable pub initialized_part : Questions → Phrases CxxState → Inner CxxState → Lexeme → CxxType → ℕ → Reads CxxState (List CxxTree)
 initialized_part q at inner name of number = do
   from ← looked
   read ← initializer_at at inner
   to ← looked
-  tree ← ask (initialize q of (initializer_tree read from to))
-  fits ← some_elements name (type_known of tree)
-  noted ← ask (note_known name number of tree)
+  known ← known_so_far number of
+  tree ← ask (initialize q known (initializer_tree read from to))
+  fits ← some_elements name (type_known known tree)
+  noted ← ask (note_known name number known tree)
   give (tree ∷ [])
 
 abbrev pub begins_initializer : Ahead → Bool

@@ -1,5 +1,5 @@
 -- Namespaces (7.3.1), their other names (7.3.2), using-declarations (7.3.3) and using-directives (7.3.4).
-use Rattle.std.specs.Prelude.{ℕ, if◌then◌else◌, List, [], ◌∷◌}
+use Rattle.std.specs.Prelude.{ℕ, if◌then◌else◌, List, []}
 use Rattle.cxx_model.specs.declared.keyword.TheConstants as keyword
 use Rattle.cxx_model.specs.declared.place.Place.{Place}
 use Rattle.cxx_model.specs.declared.punct.TheConstants as punct

@@ -87,8 +87,9 @@ impl<D: Declares> Reader<'_, D> {
         let from = cursor.mark();
         let read = self.declares.initializer(state, cursor, self.room)?;
         let node = initializer_node(state, read, &from, cursor)?;
-        let given = self.declares.initialize(state, of, node)?;
-        self.initialized_by(state, cursor, name, of, number, given)
+        let known = type_so_far(state, number, of);
+        let given = self.declares.initialize(state, known, node)?;
+        self.initialized_by(state, cursor, name, known, number, given)
     }
 
     // Behind the name of an object that is defined.

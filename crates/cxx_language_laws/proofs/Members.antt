@@ -18,7 +18,7 @@ use Rattle.cxx_reading.specs.Paths.{name_in, region_of, sought_in}
 use Rattle.cxx_reading.specs.Reads.{Ahead, Got, Reads, answered, ask, got, kind_ahead, behind, beside, then_read, tokens}
 use Rattle.cxx_reading.specs.State.{CxxState}
 use Rattle.cxx_reading.specs.Syntax.{ampersand_part, bracket_part, declarator_at, grouped_at, grouped_part, member_read, name_part, name_read, pointed_at, qualified_part, referred_at, star_part, suffixes_at}
-use Rattle.cxx_reading.specs.Tokens.{begins_name, behind_name, is_plain_name, is_punct, is_unbuilt_part, is_whole_name, no_declarator, no_part_there, not_built, path_ahead, path_taken, refused, token_taken}
+use Rattle.cxx_reading.specs.Tokens.{begins_name, behind_name, is_plain_name, is_punct, is_unbuilt_part, lacks_first_part, is_whole_name, no_declarator, no_part_there, not_built, path_ahead, path_taken, refused, token_taken}
 use Rattle.cxx_reading.specs.Trees.{CxxPath, last_part}
 use Rattle.cxx_knot.specs.Readers.{both}
 use Rattle.cxx_language.specs.Answers.{asking}
@@ -131,9 +131,9 @@ qualified_enters {asks = a} asks {inner = i} inner state ahead begins plain = by
     no_part true = enters_stop _ tt
     no_part false = enters_stop _ tt
 
-    by : (b : Bool) → is_whole_name ahead ≡ b → EntersIn state ahead (then_read (if b then got (path_ahead ahead) state (behind_name ahead) else no_part_there state (behind_name ahead)) go)
+    by : (b : Bool) → is_whole_name ahead ≡ b → EntersIn state ahead (then_read (if b then got (path_ahead ahead) state (behind_name ahead) else no_part_there (lacks_first_part ahead) state (behind_name ahead)) go)
     by true whole = behind_it (asks.entered state ahead begins whole plain)
-    by false whole = no_part (is_unbuilt_part (kind_ahead (behind_name ahead)))
+    by false whole = no_part (is_unbuilt_part (lacks_first_part ahead) (kind_ahead (behind_name ahead)))
 
 name_enters : {asks : Kinds CxxState} → KindsEnter asks → {inner : Readers CxxState} → ReadersEnter inner → EachEnters (name_part asks inner naming.Qualified)
 unfolding name_part

@@ -13,7 +13,7 @@ use Rattle.cxx_reading.specs.Reads.{Ahead, Got, Reads, then_read}
 use Rattle.cxx_reading.specs.State.{CxxState}
 use Rattle.cxx_reading.specs.Trees.{CxxTree}
 use Rattle.cxx_reading.specs.Units.{is_unbounded}
-use Rattle.cxx_answers.specs.Typed.{entity_number, first_of}
+use Rattle.cxx_answers.specs.Typed.{entity_number, first_of, type_so_far}
 use Rattle.cxx_language.specs.Known.{is_some_value, known_answer, known_object, known_value, note_known, noted, type_known}
 use Rattle.cxx_language.specs.Objects.{initialized_part, initializer_tree, is_empty_array, some_elements}
 use Rattle.cxx_language.specs.Asked.{answers, inner_at, phrases_at}
@@ -79,7 +79,8 @@ initialized_tells room name of number state ahead there =
     then_there later_is_told number there (looked_in later_is_told state ahead) (λ from state ahead there.
     then_there later_is_told number there (initializer_tells later_is_told (phrases_tell room (both_tell room).types) (both_tell room).phrases state ahead) (λ read state ahead there.
     then_there later_is_told number there (looked_in later_is_told state ahead) (λ to state ahead there.
-    then_there later_is_told number there (ask_in ahead (initialize_tells later_is_told answers of (initializer_tree read from to) state ahead)) (λ tree state ahead there.
-    then_there later_is_told number there (some_elements_tell name (type_known of tree) state ahead) (λ fits state ahead there.
-    then_in later_is_told (ask_in ahead (calm_by later_is_told (note_tells name number of tree state ahead there))) (λ noted.
-    give_in later_is_told (tree ∷ [])))))))
+    then_there later_is_told number there (same_in later_is_told (type_so_far state number of) state ahead) (λ known state ahead there.
+    then_there later_is_told number there (ask_in ahead (initialize_tells later_is_told answers known (initializer_tree read from to) state ahead)) (λ tree state ahead there.
+    then_there later_is_told number there (some_elements_tell name (type_known known tree) state ahead) (λ fits state ahead there.
+    then_in later_is_told (ask_in ahead (calm_by later_is_told (note_tells name number known tree state ahead there))) (λ noted.
+    give_in later_is_told (tree ∷ []))))))))

@@ -10,7 +10,7 @@ use Rattle.cxx_model.specs.declared.lookup.Found.TheVariants as found
 use Rattle.cxx_model.specs.declared.types.FactId.{FactId}
 use Rattle.cxx_model.specs.declared.types.ScopeId.{ScopeId}
 use Rattle.cxx_model.specs.Facts.Declarations as facts
-use Rattle.cxx_model.specs.Facts.Declarations.{CxxFact, CxxGraph, CxxName, Declares, spelled}
+use Rattle.cxx_model.specs.Facts.Declarations.{CxxFact, CxxGraph, CxxName, Declares}
 use Rattle.cxx_model.specs.Facts.Entities.{CxxEntity, Meant, meant_by, of_fact, of_space, of_type, same_entity, scope_kinds}
 use Rattle.cxx_model.proofs.Champion.{first_of, first_or_later, later_of}
 use Rattle.cxx_meaning.specs.Lookups.Directives.{Shown, shows}

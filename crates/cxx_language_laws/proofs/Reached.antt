@@ -121,10 +121,6 @@ told_sooner s t ahead rest (Limited kind) first stands told = tt
 pub later_is_told : IsTold IsLater Told
 later_is_told = record { keeps = later_is_kept; quiet = quiet_told; sooner = λ s t ahead rest why first stands told. told_sooner s t ahead rest why (reached_by_later s t first) stands told }
 
--- what is true of a stop in one state and with these tokens ahead, wherever that comes
-pub later_is_told_of : (state : CxxState) (ahead : Ahead) → IsTold IsLater (λ t rest why. Told state ahead why)
-later_is_told_of state ahead = record { keeps = later_is_kept; quiet = λ t rest why quiet. quiet_told state ahead why quiet; sooner = λ s t one two why first stands told. told }
-
 -- the same, as far as that state is a later one
 abbrev pub ToldSince : CxxState → Ahead → CxxState → Ahead → Stopped → Type 0
 ToldSince state ahead t rest why = IsLater state t → Told state ahead why

@@ -28,7 +28,7 @@ use Rattle.cxx_reading.specs.Reads.{Ahead, Got, Reads, ◌>>=◌, then_read, ans
 use Rattle.cxx_reading.specs.Seen.{Numbered, fact_numbers, numbered_at, set_in}
 use Rattle.cxx_reading.specs.Spaces.{declare_alias, declare_directive, directive_fact, first_opening, space_by, space_fact, space_found, space_here, told}
 use Rattle.cxx_reading.specs.State.{CxxState}
-use Rattle.cxx_reading.specs.Tokens.{begins_name, behind_name, is_keyword, is_plain_name, is_punct, is_unbuilt_part, is_whole_name, no_part_there, not_built, path_ahead, path_taken, punct_taken, refused}
+use Rattle.cxx_reading.specs.Tokens.{begins_name, behind_name, is_keyword, is_plain_name, is_punct, is_unbuilt_part, lacks_first_part, is_whole_name, no_part_there, not_built, path_ahead, path_taken, punct_taken, refused}
 use Rattle.cxx_reading.specs.Trees.{CxxPath, CxxPathPart, CxxTree}
 use Rattle.cxx_reading.specs.Usings.{bring_all, bring_each, bring_found, bring_here, brought_in, space_among, using_fact}
 use Rattle.cxx_language.specs.Spaces.{NamedSpace, alias_at, alias_or_not, brought_name_at, directive_at, give_part, named_space, part_tree, space_name_at, using_at, using_declaration_at}
@@ -91,9 +91,9 @@ space_name_read state ahead = by (begins_name ahead) refl
     no_part true = space_quiet _ refl
     no_part false = space_quiet _ refl
 
-    whole : (b : Bool) → is_whole_name ahead ≡ b → begins_name ahead ≡ true → SpaceRead state ahead (then_read (if b then got (path_ahead ahead) state (behind_name ahead) else no_part_there state (behind_name ahead)) named_space)
+    whole : (b : Bool) → is_whole_name ahead ≡ b → begins_name ahead ≡ true → SpaceRead state ahead (then_read (if b then got (path_ahead ahead) state (behind_name ahead) else no_part_there (lacks_first_part ahead) state (behind_name ahead)) named_space)
     whole true is begins = named_space_read state ahead (behind_name ahead) (last_ahead ahead).place (name_stands ahead) (space_here_so state ahead begins is)
-    whole false is begins = no_part (is_unbuilt_part (kind_ahead (behind_name ahead)))
+    whole false is begins = no_part (is_unbuilt_part (lacks_first_part ahead) (kind_ahead (behind_name ahead)))
 
     by : (b : Bool) → begins_name ahead ≡ b → SpaceRead state ahead (if b then (path_taken >>= named_space) state ahead else refused state ahead)
     by true begins = whole (is_whole_name ahead) refl begins

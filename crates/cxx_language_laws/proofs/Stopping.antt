@@ -181,9 +181,6 @@ calm_from {s = s} {t = t} {ahead = ahead} {middle = middle} later stands tells =
 pub then_calm : {A B : Type 0} {part : Part} {state : CxxState} {ahead : Ahead} {r : Answer (Got CxxState A)} {go : A → Reads CxxState B} → Inside part state ahead r → ((x : A) → Tells IsLater Quietly (go x)) → Inside part state ahead (then_read r go)
 then_calm {go = go} first second = then_from go first (λ one is_read later stands. calm_from later stands (second one.value one.state one.rest))
 
-pub whole_then_calm : {A B : Type 0} {part : Part} {state : CxxState} {ahead : Ahead} {r : Answer (Got CxxState A)} {go : A → Reads CxxState B} → Stops part state ahead r → ((x : A) → Tells IsLater Quietly (go x)) → Stops part state ahead (then_read r go)
-whole_then_calm {state = state} {ahead = ahead} {go = go} first second = then_from go first (λ one is_read later stands. whole_calm (from_in later_is_quiet state one.state ahead one.rest later stands (second one.value one.state one.rest)))
-
 -- a question that is answered
 pub then_asked_from : {A B : Type 0} {part : Part} {s t : CxxState} {ahead middle : Ahead} (go : A → Reads CxxState B) (question : Asks CxxState A) → ToldBy IsLater Quietly t middle (question t) → IsLater s t → EndsIn ahead.tokens middle.tokens
     → ((answer : A × CxxState) → question t ≡ Ok answer → IsLater t answer.1 → IsLater s answer.1 → Inside part s ahead (go answer.0 answer.1 middle)) → Inside part s ahead (then_read (answered (question t) middle) go)

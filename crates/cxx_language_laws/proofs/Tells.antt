@@ -18,7 +18,7 @@ use Rattle.cxx_reading.specs.Reads.{Ahead, Got, Reads, Asks, Turn, More, Done, �
 use Rattle.cxx_reading.specs.Shapes.{returned}
 use Rattle.cxx_reading.specs.declared.specifier.Naming.{Naming}
 use Rattle.cxx_reading.specs.Syntax.{may_qualify}
-use Rattle.cxx_reading.specs.Tokens.{begins_name, behind_name, is_name, is_punct, is_unbuilt_part, is_whole_name, kind_of_name, name_taken, no_part_there, not_built, part_of, part_then, passed_from, passed_to, path_ahead, path_taken, punct_taken, refused, token_taken}
+use Rattle.cxx_reading.specs.Tokens.{begins_name, behind_name, is_name, is_punct, is_unbuilt_part, lacks_first_part, is_whole_name, kind_of_name, name_taken, no_part_there, not_built, part_of, part_then, passed_from, passed_to, path_ahead, path_taken, punct_taken, refused, token_taken}
 use Rattle.cxx_reading.specs.Trees.{CxxPath, CxxTree}
 use Rattle.cxx_reading.proofs.Keeps.{IsKept}
 use Rattle.cxx_language_laws.specs.Told.{EndsIn}
@@ -267,7 +267,7 @@ kind_tells is kind tells state ahead = if_in (is_whole_name ahead) (ask_in ahead
 
 pub path_told : {S : Type 0} {kept : S → S → Type 0} {told : S → Ahead → Stopped → Type 0} → IsTold kept told → (state : S) (ahead : Ahead) → ToldIn kept told state ahead (path_taken state ahead)
 unfolding path_taken no_part_there
-path_told is state ahead = if_in (is_whole_name ahead) (tells_read (record { value = path_ahead ahead; state = state; rest = behind_name ahead }) (is.keeps.same state) (name_stands ahead)) (if_in (is_unbuilt_part (kind_ahead (behind_name ahead))) (quiet_in is refl) (quiet_in is refl))
+path_told is state ahead = if_in (is_whole_name ahead) (tells_read (record { value = path_ahead ahead; state = state; rest = behind_name ahead }) (is.keeps.same state) (name_stands ahead)) (if_in (is_unbuilt_part (lacks_first_part ahead) (kind_ahead (behind_name ahead))) (quiet_in is refl) (quiet_in is refl))
 
 -- what follows a name that is whole
 pub path_then : {S B : Type 0} {kept : S → S → Type 0} {told : S → Ahead → Stopped → Type 0} → IsTold kept told → (go : CxxPath → Reads S B) (state : S) (ahead : Ahead) → (is_whole_name ahead ≡ true → ToldIn kept told state ahead (go (path_ahead ahead) state (behind_name ahead))) → ToldIn kept told state ahead (then_read (path_taken state ahead) go)
@@ -278,9 +278,9 @@ path_then {S = S} {B = B} {kept = kept} {told = told} is go state ahead tells = 
     none true = quiet_in is refl
     none false = quiet_in is refl
 
-    by : (b : Bool) → (b ≡ true → ToldIn kept told state ahead (go (path_ahead ahead) state (behind_name ahead))) → ToldIn kept told state ahead (then_read (if b then got (path_ahead ahead) state (behind_name ahead) else no_part_there state (behind_name ahead)) go)
+    by : (b : Bool) → (b ≡ true → ToldIn kept told state ahead (go (path_ahead ahead) state (behind_name ahead))) → ToldIn kept told state ahead (then_read (if b then got (path_ahead ahead) state (behind_name ahead) else no_part_there (lacks_first_part ahead) state (behind_name ahead)) go)
     by true tells = tells refl
-    by false tells = none (is_unbuilt_part (kind_ahead (behind_name ahead)))
+    by false tells = none (is_unbuilt_part (lacks_first_part ahead) (kind_ahead (behind_name ahead)))
 
 -- what is read is not taken
 pub returned_in : {S A : Type 0} {kept : S → S → Type 0} {told : S → Ahead → Stopped → Type 0} {state : S} {r : Answer (Got S A)} (ahead : Ahead) → ToldIn kept told state ahead r → ToldIn kept told state ahead (returned ahead r)

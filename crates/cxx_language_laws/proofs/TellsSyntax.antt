@@ -1,44 +1,33 @@
 -- What the readers of declarators, parameters and enumerators keep of the state, and what stops them.
 use Rattle.std.proofs.Common.{◌≡◌, refl}
 use Rattle.cxx_model.specs.Stops.{Stopped}
-use Rattle.std.specs.Prelude.{ℕ, zero, suc, Bool, true, false, not, if◌then◌else◌, ◌&&◌, ◌||◌, ◌==◌, List, [], ◌∷◌, ◌++◌, length, Option, Some, None}
+use Rattle.std.specs.Prelude.{ℕ, Bool, true, false, not, if◌then◌else◌, ◌&&◌, ◌||◌, ◌==◌, List, [], length}
 use Rattle.cxx_model.specs.declared.fault.FaultText.{FaultText}
 use Rattle.cxx_model.specs.declared.keyword.TheConstants as keyword
 use Rattle.cxx_model.specs.declared.limits.TheConstants as limits
 use Rattle.cxx_model.specs.declared.punct.TheConstants as punct
 use Rattle.cxx_model.specs.declared.types.Cv.{Cv}
-use Rattle.cxx_model.specs.Text.Lexemes.{Lexeme}
 use Rattle.cxx_reading.specs.declared.specifier.Naming.{Naming}
 use Rattle.cxx_reading.specs.declared.specifier.Naming.TheVariants as naming
 use Rattle.cxx_reading.specs.declared.specifier.SpecifierPlace.TheVariants as where_
-use Rattle.cxx_reading.specs.Constants.{constant_at, literal_tree, literal_by, literal_at, keyword_text, begins_operand, begins_unary, expression_text, no_expression, is_member_pointer, continues, ends_by, literal_ended}
+use Rattle.cxx_reading.specs.Constants.{keyword_text, begins_operand, begins_unary, expression_text, no_expression}
 use Rattle.cxx_reading.specs.Declarators.{Specifiers, pointer_layer, reference_layer, Declarator, no_declarator_yet, outward, is_named, ParameterTypes, parameter_type}
 use Rattle.cxx_reading.specs.Specifiers.{with_const, with_volatile}
-use Rattle.cxx_reading.specs.Tokens.{is_punct, is_keyword, is_name, is_number, is_plain_name, begins_name, no_declarator}
+use Rattle.cxx_reading.specs.Tokens.{is_punct, is_keyword, is_plain_name, begins_name, no_declarator}
 use Rattle.cxx_reading.specs.Trees.{CxxTree}
-use Rattle.cxx_model.specs.declared.base.Base.{Base}
 use Rattle.cxx_model.specs.declared.token.TokenKind.{TokenKind}
 use Rattle.cxx_model.specs.declared.token.TokenKind.TheVariants.{Name, Keyword, Punct, Text, Integer, Character, End}
-use Rattle.cxx_model.specs.Text.Spelling.{literal_type}
-use Rattle.cxx_reading.specs.Syntax.{default_at, no_fallback, is_required, is_never, may_qualify, qualified_part, cv_step, cv_at, suffixed, array_part, function_part, array_suffix, exceptions_at, function_suffix, function_by, bracket_suffix, suffix_at, give_declarator, suffixes_at, name_read, name_part, grouped_part, grouped_by, bracket_part, star_part, ampersand_part, declarator_at, pointed_at, referred_at, grouped_at, valued, bound_value, bound_at, specified_type, place_of_declarator, is_refused_parameter, parameter_fits, parameter_tree, with_parameter, with_ellipsis, parameter_at, list_ended, comma_passed, parameter_ended, parameter_step, past_most, parameters_over, no_parameters, some_parameters, turn_result, is_void_list, list_at, parameters_at, no_value, value_at, enumerator_at, enumerator_ended, enumerator_step, enumerators_at, readers, Suffixed}
+use Rattle.cxx_reading.specs.Syntax.{default_at, is_required, is_never, may_qualify, qualified_part, cv_step, cv_at, suffixed, array_part, function_part, array_suffix, exceptions_at, function_suffix, function_by, bracket_suffix, suffix_at, give_declarator, suffixes_at, name_read, name_part, grouped_part, grouped_by, bracket_part, star_part, ampersand_part, declarator_at, pointed_at, referred_at, grouped_at, specified_type, place_of_declarator, is_refused_parameter, parameter_fits, parameter_tree, with_parameter, with_ellipsis, parameter_at, list_ended, comma_passed, parameter_ended, parameter_step, past_most, parameters_over, no_parameters, some_parameters, turn_result, is_void_list, list_at, parameters_at, enumerator_ended, Suffixed}
 use Rattle.cxx_model.specs.Types.Trees.{CxxType}
 use Rattle.cxx_reading.specs.Kinds.{Fallback, Kinds, Readers}
-use Rattle.cxx_reading.specs.Reads.{Ahead, Turn, More, Done, give, kind_ahead, word_ahead, behind}
-use Rattle.cxx_language_laws.proofs.Tells.{IsTold, Tells, ToldIn, saying, nothing, quiet_in, KindsTell, ReadersTell, if_in, past_in, then_in, ask_in, same_in, next_in, repeat_tells, taken_in, looked_in, token_told, punct_in, give_in, tokens_in, unit_is_told, returned_in, names_tell, lists_tell}
-use Rattle.cxx_language_laws.proofs.TellsShapes.{begins_tells, abstract_tells, parameters_shape_tells}
+use Rattle.cxx_reading.specs.Reads.{Ahead, Turn, More, Done, give, kind_ahead, behind}
+use Rattle.cxx_language_laws.proofs.Tells.{IsTold, Tells, ToldIn, saying, nothing, quiet_in, KindsTell, ReadersTell, if_in, past_in, then_in, ask_in, same_in, next_in, repeat_tells, taken_in, looked_in, token_told, punct_in, give_in, tokens_in, unit_is_told, returned_in, names_tell}
+use Rattle.cxx_language_laws.proofs.TellsShapes.{begins_tells, abstract_tells}
 use Rattle.cxx_language_laws.proofs.TellsSpecifiers.{specifiers_tell}
 
 pub no_declarator_tells : {S A : Type 0} {kept : S → S → Type 0} {told : S → Ahead → Stopped → Type 0} → IsTold kept told → Tells kept told (no_declarator {S = S} {A = A})
 unfolding no_declarator
 no_declarator_tells is state ahead = if_in _ (quiet_in is refl) (quiet_in is refl)
-
-literal_by_tells : {S : Type 0} {kept : S → S → Type 0} {told : S → Ahead → Stopped → Type 0} → IsTold kept told → (of : Option Base) → Tells kept told (literal_by {S = S} of)
-literal_by_tells is (Some of) state ahead = next_in is (literal_tree of ahead) state ahead
-literal_by_tells is None state ahead = quiet_in is refl
-
-pub literal_tells : {S : Type 0} {kept : S → S → Type 0} {told : S → Ahead → Stopped → Type 0} → IsTold kept told → Tells kept told (literal_at {S = S})
-unfolding literal_at
-literal_tells is state ahead = literal_by_tells is (literal_type (word_ahead ahead)) state ahead
 
 pub quiet_if : (b : Bool) (x y : FaultText) → saying x ≡ nothing → saying y ≡ nothing → saying (if b then x else y) ≡ nothing
 quiet_if true x y one two = one
@@ -59,23 +48,6 @@ expression_quiet End = refl
 pub no_expression_tells : {S : Type 0} {kept : S → S → Type 0} {told : S → Ahead → Stopped → Type 0} → IsTold kept told → {A : Type 0} → Tells kept told (no_expression {S = S} {A = A})
 unfolding no_expression
 no_expression_tells is state ahead = quiet_in is (expression_quiet (kind_ahead ahead))
-
-ends_by_tells : {S : Type 0} {kept : S → S → Type 0} {told : S → Ahead → Stopped → Type 0} → IsTold kept told → (kind : TokenKind) (tree : CxxTree) → Tells kept told (ends_by {S = S} kind tree)
-ends_by_tells is (Punct n) tree state ahead = if_in (is_member_pointer n) (quiet_in is refl) (if_in (continues n) (quiet_in is refl) (same_in is tree state ahead))
-ends_by_tells is Name tree state ahead = same_in is tree state ahead
-ends_by_tells is (Keyword n) tree state ahead = same_in is tree state ahead
-ends_by_tells is Integer tree state ahead = same_in is tree state ahead
-ends_by_tells is Character tree state ahead = same_in is tree state ahead
-ends_by_tells is Text tree state ahead = same_in is tree state ahead
-ends_by_tells is End tree state ahead = same_in is tree state ahead
-
-pub literal_ended_tells : {S : Type 0} {kept : S → S → Type 0} {told : S → Ahead → Stopped → Type 0} → IsTold kept told → (tree : CxxTree) → Tells kept told (literal_ended {S = S} tree)
-unfolding literal_ended
-literal_ended_tells is tree state ahead = ends_by_tells is (kind_ahead ahead) tree state ahead
-
-pub constant_tells : {S : Type 0} {kept : S → S → Type 0} {told : S → Ahead → Stopped → Type 0} → IsTold kept told → Tells kept told (constant_at {S = S})
-unfolding constant_at
-constant_tells is state ahead = if_in (is_number (kind_ahead ahead)) (then_in is (literal_tells is state ahead) (literal_ended_tells is)) (no_expression_tells is state ahead)
 
 pub cv_step_tells : {S : Type 0} {kept : S → S → Type 0} {told : S → Ahead → Stopped → Type 0} → IsTold kept told → (cv : Cv) → Tells kept told (cv_step {S = S} cv)
 unfolding cv_step
@@ -163,18 +135,6 @@ pub grouped_tells : {S : Type 0} {kept : S → S → Type 0} {told : S → Ahead
 unfolding grouped_at
 grouped_tells is asks inner naming plain state ahead = then_in is (declarator_tells is asks inner naming plain state ahead) (λ inside state ahead. then_in is (tokens_in is (punct_in unit_is_told punct.RIGHT_PARENTHESIS) state ahead) (λ closed. give_in is inside))
 
-pub valued_tells : {S : Type 0} {kept : S → S → Type 0} {told : S → Ahead → Stopped → Type 0} → IsTold kept told → {asks : Kinds S} → KindsTell kept told asks → Tells kept told (valued asks)
-unfolding valued
-valued_tells is asks state ahead = then_in is (constant_tells is state ahead) (λ tree state ahead. then_in is (ask_in ahead (asks.constant tree state ahead)) (λ value. give_in is (Some value, tree ∷ [])))
-
-pub bound_value_tells : {S : Type 0} {kept : S → S → Type 0} {told : S → Ahead → Stopped → Type 0} → IsTold kept told → {asks : Kinds S} → KindsTell kept told asks → Tells kept told (bound_value asks)
-unfolding bound_value
-bound_value_tells is asks state ahead = then_in is (valued_tells is asks state ahead) (λ value state ahead. then_in is (tokens_in is (punct_in unit_is_told punct.RIGHT_BRACKET) state ahead) (λ closed. give_in is value))
-
-pub bound_tells : {S : Type 0} {kept : S → S → Type 0} {told : S → Ahead → Stopped → Type 0} → IsTold kept told → {asks : Kinds S} → KindsTell kept told asks → (is_first : Bool) → Tells kept told (bound_at asks is_first)
-unfolding bound_at
-bound_tells is asks is_first state ahead = if_in (is_punct punct.RIGHT_BRACKET (kind_ahead ahead)) (if_in is_first (next_in is (None, []) state ahead) (quiet_in is refl)) (bound_value_tells is asks state ahead)
-
 pub parameter_fits_tells : {S : Type 0} {kept : S → S → Type 0} {told : S → Ahead → Stopped → Type 0} → IsTold kept told → (specifiers : Specifiers) (declarator : Declarator) → Tells kept told (parameter_fits {S = S} specifiers declarator)
 unfolding parameter_fits
 parameter_fits_tells is specifiers declarator state ahead = if_in (is_refused_parameter declarator.layers (specified_type specifiers)) (quiet_in is refl) (same_in is tt state ahead)
@@ -182,9 +142,6 @@ parameter_fits_tells is specifiers declarator state ahead = if_in (is_refused_pa
 -- the reader of default arguments keeps and tells too
 abbrev pub FallbackTells : {S : Type 0} → (S → S → Type 0) → (S → Ahead → Stopped → Type 0) → Fallback S → Type 0
 FallbackTells kept told fallback = (index : ℕ) (of : CxxType) → Tells kept told (fallback index of)
-
-pub no_fallback_tells : {S : Type 0} {kept : S → S → Type 0} {told : S → Ahead → Stopped → Type 0} → IsTold kept told → FallbackTells kept told (no_fallback {S = S})
-no_fallback_tells is index of state ahead = quiet_in is refl
 
 pub default_tells : {S : Type 0} {kept : S → S → Type 0} {told : S → Ahead → Stopped → Type 0} → IsTold kept told → {fallback : Fallback S} → FallbackTells kept told fallback → (index : ℕ) (of : CxxType) → Tells kept told (default_at fallback index of)
 unfolding default_at
@@ -234,44 +191,6 @@ pub parameters_tell : {S : Type 0} {kept : S → S → Type 0} {told : S → Ahe
 unfolding parameters_at
 parameters_tell is {asks = a} asks {fallback = f} fallback {inner = i} inner state ahead = asks.listed (list_at a f i) (parameter_list_tells is asks fallback inner) state ahead
 
-pub value_tells : {S : Type 0} {kept : S → S → Type 0} {told : S → Ahead → Stopped → Type 0} → IsTold kept told → {asks : Kinds S} → KindsTell kept told asks → Tells kept told (value_at asks)
-unfolding value_at no_value
-value_tells is asks state ahead = if_in (is_punct punct.EQUALS (kind_ahead ahead)) (past_in is (valued_tells is asks state (behind ahead))) (same_in is (None, []) state ahead)
-
-pub enumerator_tells : {S : Type 0} {kept : S → S → Type 0} {told : S → Ahead → Stopped → Type 0} → IsTold kept told → {asks : Kinds S} → KindsTell kept told asks → (number : ℕ) (so_far : List CxxTree) (name : Lexeme) → Tells kept told (enumerator_at asks number so_far name)
-unfolding enumerator_at
-enumerator_tells is asks number so_far name state ahead = then_in is (value_tells is asks state ahead) (λ value state ahead. then_in is (ask_in ahead (asks.enumerator number name value.0 state ahead)) (λ declared. give_in is (so_far ++ value.1)))
-
 pub enumerator_ended_tells : {S : Type 0} {kept : S → S → Type 0} {told : S → Ahead → Stopped → Type 0} → IsTold kept told → (so_far : List CxxTree) → Tells kept told (enumerator_ended {S = S} so_far)
 unfolding enumerator_ended
 enumerator_ended_tells is so_far state ahead = if_in (is_punct punct.COMMA (kind_ahead ahead)) (next_in is (More so_far) state ahead) (if_in (is_punct punct.RIGHT_BRACE (kind_ahead ahead)) (next_in is (Done so_far) state ahead) (quiet_in is refl))
-
-pub enumerator_step_tells : {S : Type 0} {kept : S → S → Type 0} {told : S → Ahead → Stopped → Type 0} → IsTold kept told → {asks : Kinds S} → KindsTell kept told asks → (number : ℕ) (so_far : List CxxTree) → Tells kept told (enumerator_step asks number so_far)
-unfolding enumerator_step
-enumerator_step_tells is asks number so_far state ahead = if_in (is_name (kind_ahead ahead)) (then_in is (then_in is (token_told is state ahead) (enumerator_tells is asks number so_far)) (enumerator_ended_tells is)) (quiet_in is refl)
-
-pub enumerators_tell : {S : Type 0} {kept : S → S → Type 0} {told : S → Ahead → Stopped → Type 0} → IsTold kept told → {asks : Kinds S} → KindsTell kept told asks → (number : ℕ) → Tells kept told (enumerators_at asks number)
-unfolding enumerators_at
-enumerators_tell is {asks = a} asks number state ahead = if_in (is_punct punct.RIGHT_BRACE (kind_ahead ahead)) (next_in is [] state ahead) (repeat_tells is (enumerator_step a number) give (enumerator_step_tells is asks number) (give_in is) _ _ state ahead)
-
--- the readers behind brackets keep what each answer keeps
-pub readers_tell : {S : Type 0} {kept : S → S → Type 0} {told : S → Ahead → Stopped → Type 0} → IsTold kept told → (asks : ℕ → Kinds S) → ((room : ℕ) → KindsTell kept told (asks room)) → (room : ℕ) → ReadersTell kept told (readers asks room)
-unfolding readers
-readers_tell is asks keep zero = record {
-  pointed = λ naming plain state ahead. quiet_in is refl;
-  referred = λ naming plain state ahead. quiet_in is refl;
-  grouped = λ naming plain state ahead. quiet_in is refl;
-  bound = λ is_first state ahead. quiet_in is refl;
-  parameters = λ state ahead. quiet_in is refl;
-  enumerators = λ number state ahead. quiet_in is refl;
-  holds_parameters = λ state ahead. same_in is true state ahead;
-}
-readers_tell is asks keep (suc room) = record {
-  pointed = pointed_tells is (keep room) (readers_tell is asks keep room);
-  referred = referred_tells is (keep room) (readers_tell is asks keep room);
-  grouped = grouped_tells is (keep room) (readers_tell is asks keep room);
-  bound = bound_tells is (keep room);
-  parameters = parameters_tell is (keep room) (no_fallback_tells is) (readers_tell is asks keep room);
-  enumerators = enumerators_tell is (keep room);
-  holds_parameters = parameters_shape_tells is (names_tell (keep room)) (lists_tell (readers_tell is asks keep room));
-}

@@ -88,10 +88,6 @@ same_stop one two e = cc
 abbrev units : ℕ → Reads CxxState (Unit {0})
 units room = repeat unit_step give room tt
 
--- what follows one declaration
-abbrev turned : ℕ → CxxTree → Reads CxxState (Unit {0})
-turned room tree = (ask (part_added tree) >>= λ added. give (More tt)) >>= go_on (repeat unit_step give room)
-
 -- a turn reads a declaration, where one is ahead
 abbrev turn : ℕ → CxxState → Ahead → Bool → UnitAnswer
 turn room state ahead ends = then_read (if ends then got (Done tt) state ahead else (declaration_at limits.MOST_NESTING >>= λ tree. ask (part_added tree) >>= λ added. give (More tt)) state ahead) (go_on (repeat unit_step give room))

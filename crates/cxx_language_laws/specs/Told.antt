@@ -185,7 +185,6 @@ pub record AreTwo (graph : CxxGraph) (one two : FactId) (fault : Fault) : Type 0
 -- overloads
 pub data IsTwofold (at : CxxState) (ahead : Ahead) (fault : Fault) (word : List ℕ) : Type 0 where
   twofold_name : (wanted : Wanted) (one two : FactId) → IsNamed wanted (sought.Ambiguous one two) at ahead fault word → AreTwo at.graph one two fault → IsTwofold at ahead fault word
-  twofold_call : (room : ℕ) (wanted : Wanted) (one two : FactId) (call : IsUnitCall room at ahead) → IsSought call.at.graph call.at.here.scope (called call) wanted (sought.Ambiguous one two) fault word → AreTwo call.at.graph one two fault → IsTwofold at ahead fault word
 
 -- ---- the fault of a unit
 

@@ -10,7 +10,7 @@ use Rattle.cxx_model.specs.Facts.Declarations.{graph_at}
 use Rattle.cxx_model.specs.Facts.Graph.{Graph}
 use Rattle.cxx_model.specs.Types.Trees.{CxxType}
 use Rattle.cxx_names.specs.declared.words.Words.{Words}
-use Rattle.cxx_names.specs.Words.{AreSameRows, Files, IsSound, is_text, word_row}
+use Rattle.cxx_names.specs.Words.{Files, IsSound, is_text, word_row}
 use Rattle.cxx_reading.specs.Linked.{home_of}
 use Rattle.cxx_linked.specs.declared.linkages.Linkages.{Linkages}
 use Rattle.cxx_linked.specs.Links.{AreThere, FilesLinked, Links, holds_fact, home_in, is_linked_to, linked_to, same_fact}
@@ -30,9 +30,6 @@ filed_some old new graph number fact space at home files other word types =
     files other word
     ∙ (ap (λ n. cond (nat_eq n other.0 && is_text fact.name word) (word_row old other word ++ number ∷ []) (word_row old other word)) (home types ∙ home_is types graph fact.scope)
     ∙ ap (λ o. cond (is_linked_to types graph.facts other.0 word o) (word_row old other word ++ number ∷ []) (word_row old other word)) (sym at))
-
-pub filed_none : (words : Words) (facts : List Fact) (number : FactId) → slice_get facts number.0 ≡ None → FilesLinked words words facts number
-filed_none words facts number at other word types = ap (λ o. cond (is_linked_to types facts other.0 word o) (word_row words other word ++ number ∷ []) (word_row words other word)) (sym at)
 
 -- ---- one more that is linked
 
@@ -91,14 +88,6 @@ links_more old new facts linked number within sound filed known links = record {
       ∙ (ap (λ ns. cond (is_linked_to types facts space.0 word (slice_get facts number.0)) (ns ++ number ∷ []) ns) (links.rows space word types)
       ∙ sym (linked_more types facts space.0 word linked number));
   known = λ other. known other ∙ (ap (λ b. cond (same_fact number other) true b) (links.known other) ∙ sym (held_more linked number other));
-}
-
-pub links_same : (old new : Linkages) (facts : List Fact) (linked : List FactId) → IsSound new.words → AreSameRows old.words new.words → new.known.keys ≡ old.known.keys → Links old facts linked → Links new facts linked
-links_same old new facts linked sound same known links = record {
-  sound = sound;
-  there = links.there;
-  rows = λ space word types. same space word ∙ links.rows space word types;
-  known = λ number. ap (λ ks. holds_fact ks number) known ∙ links.known number;
 }
 
 -- ---- facts behind the others

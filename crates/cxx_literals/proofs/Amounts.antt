@@ -1,10 +1,10 @@
 -- Values of digits, of which too great ones count as one.
-use Rattle.std.proofs.Common.{◌≡◌, ◌≤◌, ◌<◌, ℕ, ◌+◌, ◌*◌, ◌^◌, min, Bool, true, false, cond, ◌&&◌, ◌||◌, nat_le, List, [], ◌∷◌, ◌++◌, Option, Some, None, refl, sym, ap, ◌∙◌, ⊎_elim, arith}
+use Rattle.std.proofs.Common.{◌≡◌, ◌≤◌, ◌<◌, ℕ, ◌+◌, ◌*◌, ◌^◌, min, Bool, cond, nat_le, List, [], ◌∷◌, ◌++◌, Option, Some, None, refl, sym, ap, ◌∙◌, ⊎_elim, arith}
 use Rattle.std.proofs.lemmas.Bool.{cases_lt, lt-leb}
 use Rattle.std.proofs.Math.Nat.{mul-le-mul, mul-le-mul_left}
 use Rattle.cxx_model.specs.declared.base.Base.{Base}
 use Rattle.cxx_model.specs.declared.base.Base.TheVariants.{Int, Unsigned, Long, UnsignedLong, Bool as BoolType, Char, WideChar, SignedChar, UnsignedChar, Short, UnsignedShort, Float, Double, LongDouble, Void}
-use Rattle.cxx_model.specs.Text.Spelling.{Spelled, type_of_parts, integer_by, number_by, number_kind, is_floating, digit_value, value_after, IntegerParts, with_suffix, is_u, is_l, integer_parts, integer_type, integer_types, first_holding, most_of}
+use Rattle.cxx_model.specs.Text.Spelling.{Spelled, type_of_parts, integer_by, number_by, number_kind, is_floating, digit_value, value_after, IntegerParts, integer_parts, integer_type, integer_types, first_holding, most_of}
 use Rattle.cxx_literals.specs.Integers.{capped_parts, capped_option}
 
 pub value_after_push : (base n : ℕ) (text : List ℕ) (b : ℕ) → value_after base n (text ++ b ∷ []) ≡ base * value_after base n text + digit_value b
@@ -24,22 +24,6 @@ too_much base value digit some =
   where
     both_much : (x y : ℕ) → 1 * 2 ^ 64 ≤ x → x ≤ y → min (x + digit) (2 ^ 64) ≡ min (y + digit) (2 ^ 64)
     both_much x y h k = omega arith
-
-pub suffix_capped : (is_decimal : Bool) (value : ℕ) (text : List ℕ) → with_suffix is_decimal (min value (2 ^ 64)) text ≡ capped_option (with_suffix is_decimal value text)
-suffix_capped is_decimal value [] = refl
-suffix_capped is_decimal value (a ∷ []) = by (is_u a) (is_l a)
-  where
-    by : (u l : Bool) → cond u (Some (record { is_decimal = is_decimal; value = min value (2 ^ 64); has_u = true; has_l = false })) (cond l (Some (record { is_decimal = is_decimal; value = min value (2 ^ 64); has_u = false; has_l = true })) None)
-        ≡ capped_option (cond u (Some (record { is_decimal = is_decimal; value = value; has_u = true; has_l = false })) (cond l (Some (record { is_decimal = is_decimal; value = value; has_u = false; has_l = true })) None))
-    by true l = refl
-    by false true = refl
-    by false false = refl
-suffix_capped is_decimal value (a ∷ b ∷ []) = by ((is_u a && is_l b) || (is_l a && is_u b))
-  where
-    by : (both : Bool) → cond both (Some (record { is_decimal = is_decimal; value = min value (2 ^ 64); has_u = true; has_l = true })) None ≡ capped_option (cond both (Some (record { is_decimal = is_decimal; value = value; has_u = true; has_l = true })) None)
-    by true = refl
-    by false = refl
-suffix_capped is_decimal value (a ∷ b ∷ c ∷ text) = refl
 
 -- ---- the types of literals
 

@@ -1,82 +1,12 @@
 -- The characters of a literal, one at a time.
-use Rattle.std.proofs.Common.{◌≡◌, ◌≤◌, ◌<◌, ℕ, zero, suc, ◌-◌, ◌^◌, min, Bool, true, false, cond, ◌==◌, ◌||◌, nat_lt, List, [], ◌∷◌, length, get_or, take, drop, Option, Some, None, refl, sym, ap, ◌∙◌, ⊎_elim, arith, length-drop, lt-ltb, le-ltb}
+use Rattle.std.proofs.Common.{◌≡◌, ◌≤◌, ◌<◌, ℕ, zero, suc, ◌-◌, ◌^◌, min, Bool, true, false, cond, ◌==◌, ◌||◌, nat_lt, List, [], ◌∷◌, length, take, drop, refl, sym, ap, ◌∙◌, ⊎_elim, arith, length-drop, lt-ltb, le-ltb}
 use Rattle.std.proofs.lemmas.Bool.{cases_lt, or_parts}
 use Rattle.std.proofs.lemmas.List.{take_rest, drop_all}
-use Rattle.std.proofs.lemmas.List.Sums.{prefix_len-le-length}
-use Rattle.std.specs.List.{list_any, prefix_len}
-use Rattle.std.specs.Char.{is_ascii_hexdigit}
+use Rattle.std.specs.List.{list_any}
 use Rattle.cxx_model.specs.declared.token.TokenReason.TheVariants as reason
 use Rattle.cxx_model.specs.declared.token.TokenKind.TheVariants.{Character}
-use Rattle.cxx_model.specs.Text.Spelling.{Good, Ill, Letter, Value, Unknown, Universal, Escape, escape, escape_by, simple_escape, octal_escape, hexadecimal_escape, universal_escape, put_letter, letters, is_octal, most_value, is_bad_letter, is_universal_letter, character_by}
+use Rattle.cxx_model.specs.Text.Spelling.{Good, Ill, Letter, Value, Unknown, Universal, Escape, escape, put_letter, letters, most_value, is_bad_letter, is_universal_letter, character_by}
 use Rattle.cxx_literals.specs.Escapes.{letter_at, capped_letter}
-
--- ---- what an escape spells
-
-pub nothing_escapes : (text : List ℕ) → length text ≡ 0 → escape text ≡ record { len = 0; is = Unknown }
-nothing_escapes [] e = refl
-nothing_escapes (b ∷ text) e = absurd (omega arith)
-
-pub escapes_simply : (text : List ℕ) (value : ℕ) → 0 < length text → simple_escape (get_or text 0 0) ≡ Some value → escape text ≡ record { len = 1; is = Value value }
-escapes_simply [] value some e = absurd (omega arith)
-escapes_simply (b ∷ text) value some e = ap (λ o. escape_by o b text) e
-
-none_simple : (b : ℕ) (text : List ℕ) → simple_escape b ≡ None → escape (b ∷ text) ≡ escape_by None b text
-none_simple b text e = ap (λ o. escape_by o b text) e
-
-rest_is : (b : ℕ) (text : List ℕ) → take (length (b ∷ text) - 1) (drop 1 (b ∷ text)) ≡ text
-rest_is b text = take_rest (b ∷ text) 1
-
-pub escapes_octal : (text : List ℕ) → 0 < length text → simple_escape (get_or text 0 0) ≡ None → is_octal (get_or text 0 0) ≡ true → escape text ≡ octal_escape text
-escapes_octal [] some e h = absurd (omega arith)
-escapes_octal (b ∷ text) some e h = none_simple b text e ∙ rw h refl
-
-pub escapes_by : (text : List ℕ) → 0 < length text → simple_escape (get_or text 0 0) ≡ None → is_octal (get_or text 0 0) ≡ false → escape text ≡ cond (get_or text 0 0 == 120) (hexadecimal_escape (take (length text - 1) (drop 1 text))) (cond (get_or text 0 0 == 117) (universal_escape 4 (take (length text - 1) (drop 1 text))) (cond (get_or text 0 0 == 85) (universal_escape 8 (take (length text - 1) (drop 1 text))) (record { len = 1; is = Unknown })))
-escapes_by [] some e h = absurd (omega arith)
-escapes_by (b ∷ text) some e h = rw (rest_is b text) (none_simple b text e ∙ rw h refl)
-
--- ---- how many bytes a character has
-
-len_if : (c : Bool) (x y : Escape) (n : ℕ) → x.len ≤ n → y.len ≤ n → (cond c x y).len ≤ n
-len_if true x y n h k = h
-len_if false x y n h k = k
-
-by_fits : (simple : Option ℕ) (b : ℕ) (text : List ℕ) → (escape_by simple b text).len ≤ suc (length text)
-by_fits (Some value) b text = omega arith
-by_fits None b text =
-    let octal = prefix_len-le-length is_octal (b ∷ text) in
-    let hex = prefix_len-le-length is_ascii_hexdigit text in
-    let one : 1 ≤ suc (length text) = omega arith in
-    len_if (is_octal b) (octal_escape (b ∷ text)) _ (suc (length text)) (min_fits 3 (prefix_len is_octal (b ∷ text)) (suc (length text)) octal)
-    (len_if (b == 120) (hexadecimal_escape text) _ (suc (length text)) (len_if (prefix_len is_ascii_hexdigit text == 0) _ _ (suc (length text)) one (omega (arith, hex)))
-    (len_if (b == 117) (universal_escape 4 text) _ (suc (length text)) (omega (arith, min_fits 4 (prefix_len is_ascii_hexdigit text) (length text) hex))
-    (len_if (b == 85) (universal_escape 8 text) (record { len = 1; is = Unknown }) (suc (length text)) (omega (arith, min_fits 8 (prefix_len is_ascii_hexdigit text) (length text) hex)) one)))
-  where
-    min_fits : (m n k : ℕ) → n ≤ k → min m n ≤ k
-    min_fits m n k h = omega arith
-
-escape_fits : (text : List ℕ) → (escape text).len ≤ length text
-escape_fits [] = omega arith
-escape_fits (b ∷ text) = by_fits (simple_escape b) b text
-
-pub letter_some : (text : List ℕ) → 0 < length text → 0 < (letter_at text).len
-letter_some [] some = absurd (omega arith)
-letter_some (b ∷ text) some = by (b == 92)
-  where
-    by : (c : Bool) → 0 < (cond {A = Escape} c (record { len = suc (escape text).len; is = (escape text).is }) (record { len = 1; is = Value b })).len
-    by true = omega arith
-    by false = omega arith
-
-pub letter_fits : (text : List ℕ) → (letter_at text).len ≤ length text
-letter_fits [] = omega arith
-letter_fits (b ∷ text) = len_if (b == 92) _ _ (suc (length text)) (omega (arith, escape_fits text)) (omega arith)
-
-pub letter_escaped : (text : List ℕ) → 0 < length text → get_or text 0 0 ≡ 92 → letter_at text ≡ record { len = suc (escape (take (length text - 1) (drop 1 text))).len; is = (escape (take (length text - 1) (drop 1 text))).is }
-letter_escaped [] some e = absurd (omega arith)
-letter_escaped (b ∷ text) some e = rw (rest_is b text) (rw e refl)
-
-pub letter_plain : (text : List ℕ) → 0 < length text → (get_or text 0 0 == 92) ≡ false → letter_at text ≡ record { len = 1; is = Value (get_or text 0 0) }
-letter_plain [] some e = absurd (omega arith)
-letter_plain (b ∷ text) some e = rw e refl
 
 -- ---- the letters of a text
 
@@ -118,10 +48,6 @@ universal_capped Universal = refl
 -- a test that sees no more than the capped letter, over the letters
 pub any_step : (test : Letter → Bool) (text : List ℕ) → 0 < length text → list_any test (letters 0 text) ≡ (test (letter_at text).is || list_any test (letters 0 (drop (letter_at text).len text)))
 any_step test text some = ap (list_any test) (letters_step text some)
-
-pub no_letters : (text : List ℕ) → length text ≡ 0 → letters 0 text ≡ []
-no_letters [] e = refl
-no_letters (b ∷ text) e = absurd (omega arith)
 
 -- ---- a character
 

@@ -1,8 +1,7 @@
 -- Graphs, tables and indices that grow.
-use Rattle.std.specs.Prelude.{ℕ, ◌≡◌, ◌<◌, ◌≤◌, ◌+◌, Bool, true, false, List, [], ◌∷◌, ◌++◌, length, take, Result, Ok, Option, Some, None, refl}
+use Rattle.std.specs.Prelude.{ℕ, ◌≡◌, ◌<◌, ◌≤◌, ◌+◌, Bool, true, false, List, [], ◌∷◌, ◌++◌, length, Result, Ok, Option, Some, None, refl}
 use Rattle.std.proofs.Common.{ap, sym, subst, ◌∙◌, arith}
 use Rattle.std.specs.List.{slice_get}
-use Rattle.std.proofs.lemmas.List.{take_at}
 use Rattle.cxx_model.specs.declared.facts.Entity.{Entity}
 use Rattle.cxx_model.specs.declared.facts.Fact.{Fact}
 use Rattle.cxx_model.specs.declared.facts.Specialisation.{Specialisation}
@@ -37,9 +36,6 @@ scopes_more facts fact = count_more _ facts fact
 
 pub enumerations_first : (fact : Fact) (facts : List Fact) → enumerations (fact ∷ facts) ≡ enumerations (fact ∷ []) + enumerations facts
 enumerations_first fact facts = (let e : enumerations facts ≡ 0 + enumerations facts = omega arith in ap (counted (is_enumeration fact.what)) e ∙ counted_more (is_enumeration fact.what) 0 (enumerations facts))
-
-pub taken_before : (old : List Fact) (fact : Fact) (n : ℕ) → n ≡ length old → take n (old ++ fact ∷ []) ≡ old
-taken_before old fact n e = take_at old (fact ∷ []) n (sym e)
 
 pub makes_fitted : (graph : Graph) (old new : List CxxType) (answer : Result TypeId OutOfMemory) (t : CxxType) → Fitted graph old → Makes old new answer t → IsTypeInRange graph t → Fitted graph new
 makes_fitted graph old new answer t fitted makes ok = fitted-table graph old new fitted makes.keeps (λ i least below. makes.fits graph fitted.names ok i below)

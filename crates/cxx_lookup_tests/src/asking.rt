@@ -1,12 +1,10 @@
 //! Lookups in a unit, and whether they find what a row says.
 
 ghost use Rattle.std.specs.Prelude.{◌≡◌, ◌<◌, length, IfOk};
-ghost use Rattle.cxx_model.specs.Facts.Fitted.{IsNameBelow};
 ghost use Rattle.cxx_lookup_tests.specs.Units.{IsUnit};
 
 use crate::answers::{push_facts, push_found, push_member, push_needed, push_sets};
 use crate::fits::is_type;
-use crate::reference::by_reference;
 use crate::rows::{Item, item_of, name};
 use crate::stopped::Stopped;
 use crate::unit::Unit;
@@ -150,13 +148,11 @@ fn halves(bytes: &[u8]) -> (&[u8], &[u8]) {
     (bytes, &[])
 }
 
-/// Whether a lookup finds what is written behind `=`, and the reference too where it is asked; else what they find is added
-/// to a text.
+/// Whether a lookup finds what is written behind `=`; else what it finds is added to a text.
 pub(crate) fn check<L: Ledger>(
     alloc: Global,
     unit: &Unit,
     query: &[u8],
-    with_reference: bool,
     report: &mut String,
     blank: Blank,
 ) -> Result<bool, Stopped>
@@ -169,19 +165,10 @@ pub(crate) fn check<L: Ledger>(
     let (asked, expected) = halves(query);
     let item = item_of(asked);
     let text = answer(alloc, unit, item, &mut steps)?;
-    let other = if with_reference {
-        by_reference(alloc, unit, item)?
-    } else {
-        String::from_str(alloc, text.as_str())?
-    };
-    if text.as_bytes() == expected && other.as_bytes() == expected {
+    if text.as_bytes() == expected {
         return Ok(true);
     }
     report.push(' ')?;
     report.push_str(text.as_str())?;
-    if text.as_bytes() != other.as_bytes() {
-        report.push_str(" and by the reference ")?;
-        report.push_str(other.as_str())?;
-    }
     Ok(false)
 }

@@ -1,7 +1,7 @@
 //! Whether a declaration may stand in a unit.
 
 ghost use Rattle.std.specs.Prelude.{◌≡◌, ◌<◌, ◌≤◌, ◌+◌, ◌∷◌, [], true, false, length, IfOk, IsTrue};
-ghost use Rattle.cxx_model.specs.Facts.Fitted.{IsEntityBelow, IsFactBelow, IsNameBelow};
+ghost use Rattle.cxx_model.specs.Facts.Fitted.{IsEntityBelow, IsNameBelow};
 ghost use Rattle.cxx_model.specs.Facts.Graph.{IsEntityInRange, IsKindInRange, enumerations, is_complete};
 ghost use Rattle.cxx_lookup_tests.specs.Units.{IsUnit};
 

@@ -1,6 +1,5 @@
 //! Rows of lookups: each line of the input is a graph, with what some lookups in it find. What they find is compared, and
-//! where it is something else the line is printed with it. A lookup behind `?` is asked of the reference too, and one behind
-//! `!`, where the reference would list too many paths, is not.
+//! where it is something else the line is printed with it.
 #![tactic(auto)]
 
 ghost use Rattle.cxx_lookup_tests.specs.Units.{IsUnit};
@@ -9,7 +8,6 @@ mod answers;
 mod asking;
 mod fits;
 mod kinds;
-mod reference;
 mod rows;
 mod stopped;
 mod unit;
@@ -42,16 +40,10 @@ fn counted(tally: Tally, holds: bool) -> Tally {
 }
 
 // Whether a lookup finds what a row says; else what it finds is added to a text.
-fn is_found(
-    alloc: Global,
-    unit: &Unit,
-    query: &[u8],
-    with_reference: bool,
-    report: &mut String,
-) -> Result<bool, Stopped>
+fn is_found(alloc: Global, unit: &Unit, query: &[u8], report: &mut String) -> Result<bool, Stopped>
     requires { IsUnit unit.now }
 {
-    check::<Brand>(alloc, unit, query, with_reference, report, Blank::new(1))
+    check::<Brand>(alloc, unit, query, report, Blank::new(1))
 }
 
 // Reads a line; what is found in place of what it says is added to a text.
@@ -61,11 +53,7 @@ fn read(alloc: Global, tally: Tally, line: &str, report: &mut String) -> Result<
     for word in line.split_whitespace() {
         match word.as_bytes() {
             [b'?', query @ ..] => {
-                let holds = is_found(alloc, &unit, query, true, report)?;
-                tally = counted(tally, holds);
-            }
-            [b'!', query @ ..] => {
-                let holds = is_found(alloc, &unit, query, false, report)?;
+                let holds = is_found(alloc, &unit, query, report)?;
                 tally = counted(tally, holds);
             }
             other => unit = step(alloc, unit, item_of(other))?,

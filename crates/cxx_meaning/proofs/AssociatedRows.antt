@@ -11,7 +11,7 @@ use Rattle.cxx_model.specs.declared.types.ClassId.{ClassId}
 use Rattle.cxx_model.specs.declared.types.Cv.{Cv}
 use Rattle.cxx_model.specs.declared.types.FactId.{FactId}
 use Rattle.cxx_model.specs.Facts.Declarations as facts
-use Rattle.cxx_model.specs.Facts.Declarations.{CxxFact, CxxGraph, CxxName, CxxPattern, Declares, unnamed, spelled, operator_function}
+use Rattle.cxx_model.specs.Facts.Declarations.{CxxFact, CxxGraph, CxxName, Declares, unnamed, spelled, operator_function}
 use Rattle.cxx_model.specs.Facts.Pending.{is_pending}
 use Rattle.cxx_model.specs.Types.Trees.{CxxType, fundamental, class_type, enumeration, pointer_to, reference_to, array_of, qualified, function_of, no_types, type_then, unknown_bound, type_argument, value_argument, no_arguments, argument_then}
 use Rattle.cxx_meaning.specs.Lookups.Associated.{adl, associated, befriended, collected, everything, followed, parts, standing_in_each, with_parts}

@@ -1,7 +1,7 @@
 -- Each way of a class is counted.
-use Rattle.std.proofs.Common.{◌≡◌, ℕ, Bool, true, false, cond, not, ◌&&◌, ◌||◌, List, [], ◌∷◌, ◌++◌, map, refl, ap, sym, ◌∙◌, subst, inl, inr, append_assoc, arith, IsTrue}
+use Rattle.std.proofs.Common.{◌≡◌, ℕ, Bool, true, false, cond, not, ◌&&◌, ◌||◌, List, [], ◌∷◌, ◌++◌, map, refl, ap, sym, ◌∙◌, subst, inl, inr, append_assoc, arith}
 use Rattle.std.specs.List.{Contains, list_any}
-use Rattle.std.proofs.lemmas.Bool.{eqb-true, eq-eqb}
+use Rattle.std.proofs.lemmas.Bool.{eq-eqb}
 use Rattle.std.proofs.lemmas.List.{append-nil}
 use Rattle.std.proofs.lemmas.List.Elements.{Contains-append_cases, Contains-append_left, Contains-append_right}
 use Rattle.std.proofs.lemmas.List.Folds.{list_any-append}
@@ -10,7 +10,7 @@ use Rattle.cxx_model.specs.declared.types.ClassId.{ClassId}
 use Rattle.cxx_model.specs.Facts.Declarations as facts
 use Rattle.cxx_model.specs.Facts.Declarations.{CxxFact, CxxGraph, CxxName, Declares}
 use Rattle.cxx_model.proofs.Champion.{first_of, first_or_later, later_of}
-use Rattle.cxx_meaning.specs.Lookups.Member.{BasesInOrder, EachWayIsCounted, IsWay, Itself, StandsInOrder, Through, Way, at_base, declares_member, ends, is_ended, own_ways, same_class, through, ways, ways_after, with_base}
+use Rattle.cxx_meaning.specs.Lookups.Member.{BasesInOrder, EachWayIsCounted, IsWay, Itself, StandsInOrder, Through, Way, declares_member, ends, is_ended, own_ways, same_class, through, ways, ways_after, with_base}
 use Rattle.cxx_meaning.specs.Lookups.Wanted.{Wanted}
 
 none_in : {A : Type 0} (x : A) → Contains [] x → ⊥

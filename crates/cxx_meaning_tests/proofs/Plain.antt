@@ -1,12 +1,11 @@
 -- A table of plain types beside a graph of no declarations.
-use Rattle.std.specs.Prelude.{◌≡◌, ◌<◌, List, [], length, Result}
+use Rattle.std.specs.Prelude.{◌≡◌, List, [], Result}
 use Rattle.std.proofs.Common.{subst, sym, arith}
 use Rattle.cxx_model.specs.declared.base.Base.{Base}
 use Rattle.cxx_model.specs.declared.memory.OutOfMemory.{OutOfMemory}
 use Rattle.cxx_model.specs.declared.types.TypeId.{TypeId}
 use Rattle.cxx_model.specs.Facts.Fitted.{Fitted}
 use Rattle.cxx_model.specs.Facts.Graph.{Graph}
-use Rattle.cxx_model.specs.Types.Numbers.{Keeps}
 use Rattle.cxx_model.specs.Types.Trees.{CxxType, fundamental}
 use Rattle.cxx_types.specs.Makes.{AreInRange, Makes}
 
@@ -26,6 +25,3 @@ two_fitted graph start first types one two a b none empty makes then =
 pub three_fitted : (graph : Graph) (start first second types : List CxxType) (from one two : Result TypeId OutOfMemory) (a b c : Base) → graph ≡ no_graph → start ≡ [] → Makes start first from (fundamental a) → Makes first second one (fundamental b) → Makes second types two (fundamental c) → Fitted graph types
 three_fitted graph start first second types from one two a b c none empty makes then last =
     fitted-none graph types none (last.fits no_graph (then.fits no_graph (makes.fits no_graph (none-in-range no_graph start empty) tt) tt) tt)
-
-pub number_kept : (old new : List CxxType) (n : TypeId) → n.0 < length old → Keeps old new → n.0 < length new
-number_kept old new n known keeps = (let grown = keeps.grows in omega (arith, grown))

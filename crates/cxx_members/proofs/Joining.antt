@@ -47,10 +47,6 @@ three_kept old new three grows known =
 
 -- ---- lists of ways
 
-or_else_none : {A : Type 0} (o : Option A) → or_else o None ≡ o
-or_else_none None = refl
-or_else_none (Some x) = refl
-
 find_append : (test : WayMeant → Bool) (xs ys : List WayMeant) → find test (xs ++ ys) ≡ or_else (find test xs) (find test ys)
 find_append test [] ys = refl
 find_append test (x ∷ xs) ys = by (test x) (find_append test xs ys)

@@ -1,13 +1,12 @@
 -- The ways of all classes, one fact after another.
 use Rattle.std.proofs.Common.{◌≡◌, ℕ, ◌≤◌, Bool, true, false, cond, not, ◌&&◌, List, [], ◌∷◌, ◌++◌, length, map, Option, Some, None, refl, ap, ◌∙◌, sym, subst, arith}
 use Rattle.std.proofs.lemmas.Bool.{eqb-true}
-use Rattle.std.proofs.lemmas.List.{append-nil}
 use Rattle.cxx_model.specs.declared.types.ClassId.{ClassId}
 use Rattle.cxx_meaning.specs.Lookups.Member.{Way as WayMeant, at_base, same_class, through}
 use Rattle.cxx_members.specs.declared.ways.Record.{Record}
 use Rattle.cxx_members.specs.declared.ways.Three.{Three}
 use Rattle.cxx_members.specs.Tables.{AllKnown, IsSound, IsTable, entry_of, holds, own_by}
-use Rattle.cxx_members.specs.Ways.{AreKnown, Grows, first_way, joined, latest, three_at, three_of, through_all}
+use Rattle.cxx_members.specs.Ways.{AreKnown, Grows, joined, latest, three_at, three_of, through_all}
 use Rattle.cxx_members.proofs.Joining.{three_joined, three_kept, three_known, three_through}
 
 -- a latest record is a known one
@@ -77,25 +76,6 @@ table_more old new holders before after derived parent index own base more ways 
 
     at : (class : ClassId) → entry_of new holders class (latest class None after) ≡ three_of (at_base (holds holders) derived parent index now class)
     at class = ap (λ rs. entry_of new holders class (latest class None rs)) e ∙ (ap (entry_of new holders class) (latest_push class None before (record { class = derived; ways = ways })) ∙ by class (same_class derived class) refl)
-
-pub no_way : (ways : List WayMeant) → first_way ways ≡ None → ways ≡ []
-no_way [] e = refl
-no_way (one ∷ others) e = absurd cc
-
--- a base without ways adds none, and a class that declares the name has none through its bases
-pub base_adds_none : (holders : List ClassId) (derived parent : ClassId) (index : ℕ) (now : ClassId → List WayMeant) (class : ClassId) → (now parent ≡ []) → now class ≡ at_base (holds holders) derived parent index now class
-base_adds_none holders derived parent index now class e = by (same_class derived class && not (holds holders class))
-  where
-    by : (t : Bool) → now class ≡ cond t (now class ++ map (through index) (now parent)) (now class)
-    by true = sym (append-nil (now class)) ∙ ap (λ ws. now class ++ map (through index) ws) (sym e)
-    by false = refl
-
-pub own_hides : (holders : List ClassId) (derived parent : ClassId) (index : ℕ) (now : ClassId → List WayMeant) (class : ClassId) → holds holders derived ≡ true → now class ≡ at_base (holds holders) derived parent index now class
-own_hides holders derived parent index now class e = by (same_class derived class) refl
-  where
-    by : (t : Bool) → same_class derived class ≡ t → now class ≡ cond (t && not (holds holders class)) (now class ++ map (through index) (now parent)) (now class)
-    by true h = subst (λ k. now k ≡ cond (not (holds holders k)) (now k ++ map (through index) (now parent)) (now k)) (class_is derived class h) (ap (λ u. cond (not u) (now derived ++ map (through index) (now parent)) (now derived)) (sym e))
-    by false h = refl
 
 pub table_as : (paths : List (List ℕ)) (holders : List ClassId) (records : List Record) (now after : ClassId → List WayMeant) → IsTable paths holders records now → ((class : ClassId) → now class ≡ after class) → IsTable paths holders records after
 table_as paths holders records now after table same = record { is = λ class. table.is class ∙ ap three_of (same class) }

@@ -9,7 +9,7 @@ ghost use Rattle.cxx_model.specs.Facts.Fitted.{IsNameBelow, IsFactBelow};
 ghost use Rattle.cxx_model.specs.Facts.Conflicts.{declares_name as declares_a_name, has_name as has_a_name, same_name as same_names};
 ghost use Rattle.cxx_meaning.specs.Lookups.Wanted.{hides_types as hides_a_type, is_hideable as is_one_hideable, is_function as is_a_function, is_of_functions as is_one_of_functions, is_wanted as is_one_wanted, names_type as names_a_type, names_space as names_a_space, is_nonstatic as is_one_nonstatic, is_nonstatic_kind};
 ghost use Rattle.cxx_meaning.specs.Lookups.Sightings.{is_named as is_one_named};
-ghost use Rattle.cxx_members.specs.Views.{IsLooking, graph_of, wanted_at};
+ghost use Rattle.cxx_members.specs.Views.{graph_of, wanted_at};
 
 use crate::looking::Looking;
 use cxx_model::{Entity, Fact, MemberKind, Name, Pattern, TemplateId};

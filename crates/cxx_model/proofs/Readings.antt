@@ -226,9 +226,6 @@ means_token bytes at len room before kind (Ok tokens) longest sound m =
 means_token bytes at len room before kind (Err (BadAt place reason)) longest sound m = (tokens_begun before kind + m.0, bad_after_token at len m.0 before kind longest sound m.1, omega (arith, m.2))
 means_token bytes at len room before kind (Err PastTokens) longest sound m = past_after_token at len room before kind longest sound m
 
-end_begun : (before : Option Width) (at : ℕ) (place : Place) → begun before (record { kind = End; place = place; from = at; to = at } ∷ []) ≡ 1
-end_begun before at place = omega arith
-
 means_end : (bytes : List ℕ) (at room : ℕ) (before : Option Width) → length bytes ≡ at → Means bytes at before room (ended room at (past bytes first_place))
 means_end bytes at zero before e = past_at_end at before e
 means_end bytes at (suc room) before e = (at_end at before e, omega arith)

@@ -1,14 +1,9 @@
 -- What a text is that spells a keyword or a punctuator.
-use Rattle.std.proofs.Common.{◌≡◌, ◌==◌, ◌⊎◌, inl, inr, ⊎_elim, ℕ, Bool, true, false, List, [], ◌∷◌, get_or, Some, sym, subst, eq-eqb}
-use Rattle.std.specs.Str.{bytes_eq}
-use Rattle.std.specs.List.{list_any}
-use Rattle.std.proofs.lemmas.Bool.{or_parts, both_ways}
-use Rattle.std.proofs.lemmas.List.Quantifiers.{position-Some}
-use Rattle.std.proofs.lemmas.Slice.Eq.{bytes_eq-Decides}
+use Rattle.std.proofs.Common.{◌≡◌, ◌⊎◌, inl, inr, ⊎_elim, ℕ, Bool, true, false, List, [], ◌∷◌, Some, sym, subst}
 use Rattle.cxx_model.specs.declared.token.TokenKind.{TokenKind}
 use Rattle.cxx_model.specs.declared.token.TokenKind.TheVariants.{Name, Keyword, Punct, Integer, Character, Text, End}
 use Rattle.cxx_model.specs.Text.Spelling.{Good, number_in, number_beside, keywords, alternatives, operators, digraphs, spelling_of}
-use Rattle.cxx_model.proofs.Shapes.{Shape, wordy, wide, number, quoted, operated, pick, no_empty, shape, word_kind_is, number_kind_is, literal_is, operator_is}
+use Rattle.cxx_model.proofs.Shapes.{Shape, wordy, wide, number, quoted, operated, no_empty, shape, word_kind_is, number_kind_is, literal_is, operator_is}
 
 -- the text is the primary spelling of a punctuator, a word for it or its digraph
 abbrev pub SpellsPunct : ℕ → List ℕ → Type 0
@@ -49,33 +44,3 @@ of_shape b rest kind (operated is) =
 pub kind_spells : (fresh : Bool) (text : List ℕ) (kind : TokenKind) → spelling_of fresh text ≡ Some (Good kind) → KindSpells kind text
 kind_spells fresh [] kind e = absurd (no_empty fresh kind e)
 kind_spells fresh (b ∷ rest) kind e = of_shape b rest kind (shape fresh b rest kind e)
-
-pub number_is : (table : List (List ℕ)) (text : List ℕ) (n : ℕ) → number_in table text ≡ Some n → text ≡ get_or table n []
-number_is table text n e = (bytes_eq-Decides text (get_or table n [])).0 (position-Some (λ entry. bytes_eq text entry) table n [] e).1
-
--- ---- punctuators with one spelling
-
--- the number stands beside no other spelling
-abbrev pub stands_beside : List (List ℕ × ℕ) → ℕ → Bool
-stands_beside table n = list_any (λ entry. entry.1 == n) table
-
-pub record IsOnlySpelling (n : ℕ) (text : List ℕ) : Type 0 where
-  pub primary : get_or operators n [] ≡ text
-  pub no_word : stands_beside alternatives n ≡ false
-  pub no_digraph : stands_beside digraphs n ≡ false
-
-not_beside : (table : List (List ℕ × ℕ)) (text : List ℕ) (n : ℕ) → stands_beside table n ≡ false → number_beside table text ≡ Some n → ⊥
-not_beside [] text n none e = cc
-not_beside (entry ∷ entries) text n none e =
-    let parts = or_parts (entry.1 == n) (stands_beside entries n) none in
-    ⊎_elim
-    (λ h. both_ways (entry.1 == n) parts.0 (eq-eqb entry.1 n (cc h.1)))
-    (λ h. not_beside entries text n parts.1 h.1)
-    (pick (bytes_eq text entry.0) _ _ _ e)
-
-pub only_spelling : (n : ℕ) (text other : List ℕ) → IsOnlySpelling n text → SpellsPunct n other → other ≡ text
-only_spelling n text other only spells =
-    ⊎_elim
-    (λ h. subst (λ t. other ≡ t) only.primary (number_is operators other n h))
-    (λ h. absurd (⊎_elim (λ k. not_beside alternatives other n only.no_word k) (λ k. not_beside digraphs other n only.no_digraph k) h))
-    spells

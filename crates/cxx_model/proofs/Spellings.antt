@@ -159,10 +159,6 @@ not_all_word [] (c ∷ tail) (suc m) ends low high = and_left _ _ ends
 not_all_word (x ∷ w) tail zero ends low high = absurd (omega arith)
 not_all_word (x ∷ w) tail (suc m) ends low high = and_right _ _ (not_all_word w tail m ends (omega arith) (omega arith))
 
--- a byte and the next do not begin a wide literal
-abbrev pub is_narrow : ℕ → List ℕ → Bool
-is_narrow b rest = not (b == 76 && starts is_quote rest)
-
 not_wide : (b c : ℕ) (rest : List ℕ) → (b == 76 && is_quote c) ≡ false → wide_literal b (c ∷ rest) ≡ None
 not_wide b c rest h = rw h refl
 
@@ -182,14 +178,6 @@ pub word_longest : (fresh : Bool) (b : ℕ) (w tail : List ℕ) → begins_word 
 word_longest fresh b w tail word all ends narrow =
     longest_from fresh b w tail (word_kind (b ∷ w)) (spells_whole_word fresh b w word all)
     (λ m low high. none_wordy fresh b (take m (w ++ tail)) word (not_all_word w tail m ends low high) (not_wide_at b (w ++ tail) m narrow))
-
-narrow_front : (w tail : List ℕ) → list_all is_word w ≡ true → starts is_quote tail ≡ false → starts is_quote (w ++ tail) ≡ false
-narrow_front [] tail all ends = ends
-narrow_front (x ∷ w) tail all ends = word_is_no_quote x (and_parts _ _ all).0
-
--- a word, before a byte that is no letter, digit, `_` or quote, and at the end
-pub word_front : (fresh : Bool) (b : ℕ) (w tail : List ℕ) → begins_word b ≡ true → list_all is_word w ≡ true → starts is_word tail ≡ false → starts is_quote tail ≡ false → IsLongest fresh (b ∷ (w ++ tail)) (record { len = suc (length w); spells = word_kind (b ∷ w) })
-word_front fresh b w tail word all ends no_quote = word_longest fresh b w tail word all ends (and_right (b == 76) _ (narrow_front w tail all no_quote))
 
 -- ---- numbers
 

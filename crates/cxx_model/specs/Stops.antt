@@ -7,7 +7,6 @@ use Rattle.cxx_model.specs.declared.stop.Fault.{Fault}
 use Rattle.cxx_model.specs.declared.stop.LimitKind.{LimitKind}
 use Rattle.cxx_model.specs.declared.stop.Stop.{Stop}
 use Rattle.cxx_model.specs.declared.stop.Stop.TheVariants as stop
-use Rattle.cxx_model.specs.Text.Lexemes.{Lexeme, place_of}
 
 -- the first fault of a unit, or the quantity that it passes
 pub data Stopped : Type 0 where
@@ -16,10 +15,6 @@ pub data Stopped : Type 0 where
 
 abbrev pub Answer : Type 0 → Type 0
 Answer A = Result A Stopped
-
--- a value, and the tokens behind it
-abbrev pub Reads : Type 0 → Type 0
-Reads A = Answer (A × List Lexeme)
 
 infixl 10 ◌>>=◌
 abbrev pub ◌>>=◌ : {A B : Type 0} → Answer A → (A → Answer B) → Answer B
@@ -37,10 +32,6 @@ not_built_at place = fault place says.NotBuilt
 
 abbrev pub undeclared_at : Place → List ℕ → Stopped
 undeclared_at place word = fault place (says.UndeclaredName word)
-
--- no production goes on with the token ahead
-abbrev pub unread : {A : Type 0} → List Lexeme → Answer A
-unread ahead = Err (not_built_at (place_of ahead))
 
 -- ---- meaning of what the code answers
 

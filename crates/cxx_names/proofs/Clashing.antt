@@ -24,7 +24,7 @@ use Rattle.cxx_names.specs.Looked.{looked_up, seen_by}
 use Rattle.cxx_reading.specs.Linked.{clash_among, rescoped}
 use Rattle.cxx_names.proofs.Looking.{facts_length}
 use Rattle.cxx_names.proofs.Openings.{kinds_are}
-use Rattle.cxx_names.specs.Clashes.{are_parameters_in, block_in, is_block_in, is_class_in, is_one_scope_in, IsNoTemplate, IsPlain, IsPlainEntity, NoTemplates, stand_in, conflict_in, conflict_in_scopes, holder_of_block, sooner}
+use Rattle.cxx_names.specs.Clashes.{are_parameters_in, block_in, is_block_in, is_class_in, is_one_scope_in, IsNoTemplate, IsPlain, IsPlainEntity, stand_in, conflict_in, conflict_in_scopes, holder_of_block, sooner}
 use Rattle.cxx_names.specs.Index.{blocks_from, is_outermost_kind, noted_by, scopes_of}
 
 -- ---- the first of those that pass a test
@@ -239,9 +239,6 @@ block_there number scope (suc k) (noted ∷ scopes) block =
 abbrev pub scopes_of_one : List Noted → ScopeId → List ScopeId
 scopes_of_one scopes scope = scope ∷ (holder_of_block (slice_get scopes scope.0) ++ blocks_from zero scope.0 scopes)
 
-one_of_three : (a b c : Bool) → (a || (b || c)) ≡ true → (b ≡ true → (a || (b || c)) ≡ true) → (a || (b || c)) ≡ true
-one_of_three a b c e rest = e
-
 scope_among : (types : List CxxType) (facts : List Fact) (old : ℕ) (scope : ScopeId) → is_one_scope (facts_at types facts) old scope.0 ≡ true → list_any (λ (t : ScopeId). nat_eq old t.0) (scopes_of_one (scopes_of facts) scope) ≡ true
 scope_among types facts old scope e = by (nat_eq old scope.0) (is_of_parameters all old scope.0) (is_of_parameters all scope.0 old) refl refl refl e
   where
@@ -449,9 +446,3 @@ pub here_step : (graph : CxxGraph) (new : CxxFact) (types : List CxxType) (facts
     → cond t (Some (get_or numbers i d).0) None ≡ clash_among graph new (looked_up types facts (get_or numbers i d ∷ []))
     → clash_among graph new (looked_up types facts (drop i numbers)) ≡ cond t (Some (get_or numbers i d).0) (clash_among graph new (looked_up types facts (drop (i + 1) numbers)))
 here_step graph new types facts numbers i d t h e = ap (λ ns. clash_among graph new (looked_up types facts ns)) (drop_at numbers i d h) ∙ here_more graph new types facts (get_or numbers i d) (drop (i + 1) numbers) t e
-
--- ---- templates
-
-pub no_templates_more : (facts : List Fact) (fact : Fact) → NoTemplates facts → IsNoTemplate fact.what → NoTemplates (facts ++ fact ∷ [])
-no_templates_more [] fact none e = (e, tt)
-no_templates_more (one ∷ facts) fact none e = (none.0, no_templates_more facts fact none.1 e)

@@ -10,3 +10,4 @@ pub mod Pairs
 pub mod Plain
 pub mod Templates
 pub mod Types
+pub mod Wordless

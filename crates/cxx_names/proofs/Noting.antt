@@ -1,5 +1,5 @@
 -- What is kept after one more fact.
-use Rattle.std.proofs.Common.{◌≡◌, ◌≤◌, ℕ, zero, suc, ◌+◌, ℤ, Bool, true, false, cond, ◌&&◌, List, [], ◌∷◌, ◌++◌, length, Option, Some, None, refl, sym, ap, ◌∙◌, subst, arith, append-nil, append_assoc, nat_eq}
+use Rattle.std.proofs.Common.{◌≡◌, ℕ, zero, suc, ◌+◌, ℤ, Bool, true, false, cond, ◌&&◌, List, [], ◌∷◌, ◌++◌, length, Option, Some, None, refl, sym, ap, ◌∙◌, subst, arith, append-nil, append_assoc, nat_eq}
 use Rattle.std.specs.Global.{Vec}
 use Rattle.std.specs.Map.{lookup}
 use Rattle.std.specs.Option.{option_to_list}
@@ -22,13 +22,13 @@ use Rattle.cxx_names.specs.declared.entry.Noted.{Noted}
 use Rattle.cxx_names.specs.declared.entry.Spelling.{Spelling}
 use Rattle.cxx_names.specs.declared.kept.Kept.{Kept}
 use Rattle.cxx_names.specs.declared.names.Names.{Names}
-use Rattle.cxx_names.specs.Filed.{row, those_in, AreSame, IsMoreBy}
+use Rattle.cxx_names.specs.Filed.{row, those_in, IsMoreBy}
 use Rattle.cxx_names.specs.declared.words.Words.{Words}
 use Rattle.cxx_names.specs.Words.{same_spelling, number_among, numbered_row, is_text, word_declared_by, IsNumbered, HasMet, HasWord}
 use Rattle.cxx_names.proofs.Known.{one_name, sound_met, row_met, sound_more}
 use Rattle.cxx_names.specs.declared.entry.SpaceEntry.{SpaceEntry}
 use Rattle.cxx_names.specs.declared.spaces.Spaces.{Spaces}
-use Rattle.cxx_names.specs.Index.{under, enumeration_by, enumeration_scopes, directive_by, directives_of, opening_by, openings_from, unnamed_by, unnamed_of, KeepsSpaces, HasSpaces, AreSameSpaces, same_scope, same_enumeration, filed_by, noted_by, value_by, is_outermost_kind, block_by, scopes_of, blocks_from, numbers_in, Keeps, Notes, HasKept, HasNoted, AreSameKept, AreSameNames}
+use Rattle.cxx_names.specs.Index.{under, enumeration_by, enumeration_scopes, directive_by, directives_of, opening_by, openings_from, unnamed_by, unnamed_of, KeepsSpaces, HasSpaces, same_scope, same_enumeration, filed_by, noted_by, value_by, is_outermost_kind, block_by, scopes_of, blocks_from, numbers_in, Keeps, Notes, HasKept, HasNoted}
 
 -- ---- declarations of a name
 
@@ -241,13 +241,6 @@ spaces_more old new one facts fact number n directive opening unnamed kept has =
     place : length facts ≡ zero + length facts
     place = omega arith
 
-spaces_same : (old new : Spaces) (facts : List Fact) → KeepsSpaces old facts → AreSameSpaces old new → KeepsSpaces new facts
-spaces_same old new facts kept same = record {
-  directives = λ scope. same.directives scope ∙ kept.directives scope;
-  openings = λ scope. same.openings scope ∙ kept.openings scope;
-  unnamed = λ scope. same.unnamed scope ∙ kept.unnamed scope;
-}
-
 keeps_more : (old new : Kept) (one : Entry) (facts : List Fact) (fact : Fact) (number : FactId) → number.0 ≡ length facts → one.noted ≡ noted_by fact.scope fact.what → one.block ≡ block_by (length (scopes_of facts)) (noted_by fact.scope fact.what) → one.value ≡ value_by fact.what → one.enumeration ≡ enumeration_by fact.scope fact.what
     → one.space.directive ≡ directive_by fact.scope fact.what → one.space.opening ≡ opening_by number fact.what → one.space.unnamed ≡ unnamed_by fact.scope fact.name fact.what
     → Keeps old facts → HasKept old new one → Keeps new (facts ++ fact ∷ [])
@@ -257,15 +250,6 @@ keeps_more old new one facts fact number n noted block value counts directive op
   enumerations = has.enumerations ∙ (ap (λ xs. xs ++ option_to_list one.enumeration) kept.enumerations ∙ (ap (λ o. enumeration_scopes facts ++ option_to_list o) counts ∙ sym (enumerations_more facts fact)));
   values = λ number types. values_noted types old.values.rows.entries new.values.rows.entries facts (λ n. kept.values n types) (value_by fact.what) (subst (λ o. IsMoreBy same_enumeration old.values.rows.entries new.values.rows.entries o) value has.values) number ∙ sym (values_more types number.0 facts fact);
   spaces = spaces_more old.spaces new.spaces one.space facts fact number n directive opening unnamed kept.spaces has.spaces;
-}
-
-keeps_same : (old new : Kept) (facts : List Fact) → Keeps old facts → AreSameKept old new → Keeps new facts
-keeps_same old new facts kept same = record {
-  scopes = same.scopes ∙ kept.scopes;
-  blocks = λ scope. same.blocks scope ∙ kept.blocks scope;
-  enumerations = same.enumerations ∙ kept.enumerations;
-  values = λ number types. same.values number ∙ kept.values number types;
-  spaces = spaces_same old.spaces new.spaces facts kept.spaces same.spaces;
 }
 
 -- ---- all of it
@@ -290,14 +274,3 @@ notes_more old new one facts fact name number scopes n m is filed noted block va
       words = λ scope word types. ap (λ ks. numbered_row new.words.rows.rows.entries scope (number_among ks word)) has_word.spellings ∙ names_noted types old.words.spellings.keys old.words.rows.rows.entries new.words.rows.rows.entries facts fact name number n is (λ s w. notes.words s w types) has_word.rows scope word;
       kept = keeps_more old.kept new.kept one facts fact number n noted (block ∙ ap (λ k. block_by k (noted_by fact.scope fact.what)) m) value counts directive opening unnamed notes.kept has.kept;
     }
-
-numbered_same : (old new : List (Spelling × Vec FactId)) → AreSame same_spelling old new → (scope : ScopeId) (o : Option ℕ) → numbered_row new scope o ≡ numbered_row old scope o
-numbered_same old new same scope None = refl
-numbered_same old new same scope (Some n) = same (record { scope = scope; number = n })
-
-pub notes_same : (old new : Names) (facts : List Fact) → Notes old facts → AreSameNames old new → Notes new facts
-notes_same old new facts notes same = record {
-  sound = λ key out. same.words.rows key ∙ notes.sound key (subst (λ ks. length ks ≤ key.number) same.words.spellings out);
-  words = λ scope word types. ap (λ ks. numbered_row new.words.rows.rows.entries scope (number_among ks word)) same.words.spellings ∙ (numbered_same old.words.rows.rows.entries new.words.rows.rows.entries same.words.rows scope (number_among old.words.spellings.keys word) ∙ notes.words scope word types);
-  kept = keeps_same old.kept new.kept facts notes.kept same.kept;
-}

@@ -55,10 +55,6 @@ space_is types graph n = spaces_are types graph.facts n
 passes : (number cut : ℕ) (later : Bool) → number < cut → (nat_lt number cut || later) ≡ true
 passes number cut later lt = ap (λ t. t || later) (lt-ltb number cut lt)
 
-and_true : (a b : Bool) → b ≡ true → (a && b) ≡ a
-and_true true b e = e
-and_true false b e = refl
-
 gathered_are : (types : List CxxType) (all : List CxxFact) (cut : ℕ) (scope : ScopeId) (number : ℕ) (facts : List Fact) → number + length facts ≤ cut → under scope (directives_of facts) ≡ gathered (nominates all cut scope) number (facts_at types facts)
 unfolding nominates
 gathered_are types all cut scope number [] le = refl

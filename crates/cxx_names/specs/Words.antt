@@ -10,6 +10,7 @@ use Rattle.cxx_model.specs.declared.types.ScopeId.{ScopeId}
 use Rattle.cxx_model.specs.Facts.Conflicts.{declares_name}
 use Rattle.cxx_model.specs.Facts.Declarations.{declares_at}
 use Rattle.cxx_names.specs.declared.entry.Spelling.{Spelling}
+use Rattle.cxx_names.specs.declared.words.MetWord.{MetWord}
 use Rattle.cxx_names.specs.declared.words.Words.{Words}
 use Rattle.cxx_names.specs.Filed.{row, AreSame, IsMoreBy}
 
@@ -28,6 +29,10 @@ numbered_row rows scope (Some number) = row same_spelling rows (record { scope =
 -- what is filed under a word in a scope
 abbrev pub word_row : Words → ScopeId → List ℕ → List FactId
 word_row words scope word = numbered_row words.rows.rows.entries scope (number_among words.spellings.keys word)
+
+-- this is what a word is among the spellings that were met
+abbrev pub IsMetAs : Words → List ℕ → MetWord → Type 0
+IsMetAs words word met = met.number ≡ number_among words.spellings.keys word
 
 -- nothing is filed under a number that no spelling has
 abbrev pub IsSound : Words → Type 0

@@ -99,7 +99,7 @@ fn same_arrays(types: &TypeTable, one: TypeId, two: TypeId) -> bool
 }
 
 /// Whether two types are one for declarations of one object: an array with a bound and one without are (3.5).
-pub(crate) fn agree(types: &TypeTable, one: TypeId, two: TypeId) -> bool
+pub fn agree(types: &TypeTable, one: TypeId, two: TypeId) -> bool
     requires one { one.0 < length types.now }
     requires two { two.0 < length types.now }
     ensures { result ≡ agree_of (type_at types.now one.0) (type_at types.now two.0) }

@@ -15,11 +15,13 @@ ghost use Rattle.cxx_reading.specs.Seen.{fact_numbers, kind_of_found as kind_of_
 ghost use Rattle.cxx_reading.specs.Paths.{first_space as first_space_by};
 ghost use Rattle.cxx_names.specs.Index.{Notes, numbers_in};
 ghost use Rattle.cxx_names.specs.Looked.{enumeration_number, looked_up, scope_number};
+ghost use Rattle.cxx_names.specs.Words.{IsMetAs};
 
 use crate::looked::{
     first_enumeration_of, first_function_of, first_object_of, first_space_of, kind_of,
 };
 use crate::names::Names;
+use crate::words::MetWord;
 use cxx_graph::Graph;
 use cxx_model::{EnumId, FactId, Kind, ScopeId, TypeId};
 use cxx_types::TypeTable;
@@ -72,6 +74,26 @@ pub fn first_space(graph: &Graph, numbers: &[FactId]) -> Option<ScopeId>
 }
 
 impl Names {
+    /// What a word is among the spellings that were met, for looks into more scopes than one.
+    pub fn met_as(&self, word: &[u8]) -> MetWord
+        ensures { IsMetAs self.now.words word.now result }
+    {
+        self.words.met_as(word)
+    }
+
+    /// The declarations of a spelled name in a scope, in order, by what it is among the spellings that were met.
+    #[tactic(auto, using(crate::proofs::Looking::numbered_is))]
+    pub fn declared_as(&self, graph: &Graph, scope: ScopeId, word: &[u8], met: MetWord) -> &[FactId]
+        requires noted { Notes self.now graph.now.facts }
+        requires met { IsMetAs self.now.words word.now met }
+        ensures numbers { (types : List CxxType) → result.now ≡ numbers_in (declared_by (graph_at types graph.now) scope.0 (spelled word.now)) }
+        ensures facts { (types : List CxxType) → looked_up types graph.now.facts result.now ≡ declared_by (graph_at types graph.now) scope.0 (spelled word.now) }
+        ensures numbered { (types : List CxxType) → numbered_at (graph_at types graph.now) (fact_numbers result.now) ≡ declared_by (graph_at types graph.now) scope.0 (spelled word.now) }
+    {
+        let _ = graph;
+        self.words.row_of(scope, word, met)
+    }
+
     /// The declarations of a spelled name in a scope, in order.
     #[tactic(auto, using(crate::proofs::Looking::numbered_is))]
     pub fn declared_in(&self, graph: &Graph, scope: ScopeId, word: &[u8]) -> &[FactId]

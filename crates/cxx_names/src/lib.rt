@@ -16,7 +16,8 @@ mod pair;
 mod spaces;
 mod words;
 
+pub use alike::agree;
 pub use found::{first_enumeration, first_function, first_object, first_space, kind_of_found};
 pub use named::type_in;
 pub use names::Names;
-pub use words::Words;
+pub use words::{MetWord, Words};

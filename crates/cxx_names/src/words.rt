@@ -1,6 +1,6 @@
 ghost use Rattle.std.specs.Prelude.{ℕ, ◌≡◌, List, [], Some, true, IfOk, OnOk, OnErr};
 ghost use Rattle.cxx_model.specs.declared.types.ScopeId.{ScopeId as ScopeNumber};
-ghost use Rattle.cxx_names.specs.Words.{AreSameRows, AreSameWords, Files, HasMet, HasWord, IsNumberOf, IsNumbered, IsSound, KnowsMore, number_among, spelled_word, word_row};
+ghost use Rattle.cxx_names.specs.Words.{AreSameRows, AreSameWords, Files, HasMet, HasWord, IsMetAs, IsNumberOf, IsNumbered, IsSound, KnowsMore, number_among, spelled_word, word_row};
 ghost use Rattle.cxx_names.specs.declared.words.Words.{Words as WordsBefore};
 
 use crate::entry::{Spelling, declared_word, filed_name};
@@ -17,6 +17,13 @@ pub struct Words {
     pub(crate) spellings: IndexSet<Vec<u8>, Key>,
     pub(crate) rows: Filed<Spelling, FactId>,
     alloc: Global,
+}
+
+/// What a word is among the spellings that were met.
+#[derive(Clone, Copy)]
+pub struct MetWord {
+    // Its number, if it was met.
+    pub(crate) number: Option<usize>,
 }
 
 // The number of a spelling, which is met now if it was not before.
@@ -49,14 +56,32 @@ impl Words {
         }
     }
 
+    /// What a word is among the spellings that were met, for looks into more scopes than one.
+    pub fn met_as(&self, word: &[u8]) -> MetWord
+        ensures { IsMetAs self.now word.now result }
+    {
+        MetWord {
+            number: self.spellings.get_index_of(word),
+        }
+    }
+
+    /// The declarations of a name in a scope, in order, by what it is among the spellings that were met.
+    pub fn row_of(&self, scope: ScopeId, word: &[u8], met: MetWord) -> &[FactId]
+        requires { IsMetAs self.now word.now met }
+        ensures { result.now ≡ word_row self.now scope word.now }
+    {
+        let _ = word;
+        match met.number {
+            Some(number) => self.rows.row(&Spelling { scope, number }),
+            None => &[],
+        }
+    }
+
     /// The declarations of a name in a scope, in order.
     pub fn row(&self, scope: ScopeId, word: &[u8]) -> &[FactId]
         ensures { result.now ≡ word_row self.now scope word.now }
     {
-        match self.spellings.get_index_of(word) {
-            Some(number) => self.rows.row(&Spelling { scope, number }),
-            None => &[],
-        }
+        self.row_of(scope, word, self.met_as(word))
     }
 
     /// The spelled name that a fact declares, if it does, in its scope. Its spelling is met.

@@ -54,10 +54,6 @@ listed_behind : (types : List CxxType) (numbers : List TypeId) → listed_at typ
 listed_behind types [] = refl
 listed_behind types (n ∷ numbers) = refl
 
-drop_none : {A : Type 0} (n : ℕ) → drop {A = A} n [] ≡ []
-drop_none zero = refl
-drop_none (suc n) = refl
-
 drop_behind : {A : Type 0} (n : ℕ) (xs : List A) → drop n (behind xs) ≡ behind (drop n xs)
 drop_behind zero xs = refl
 drop_behind (suc n) [] = refl

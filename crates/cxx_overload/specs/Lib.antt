@@ -14,3 +14,5 @@ pub mod Decisions
 pub mod Narrow
 pub mod Decided
 pub mod Kept
+pub mod Told
+pub mod Choosers

@@ -2,7 +2,6 @@
 
 ghost use Rattle.std.specs.Prelude.{◌≡◌, ◌≤◌, ◌<◌, ◌+◌, length, map, option_map, IfOk, IfSome, OnOk};
 ghost use Rattle.std.specs.List.{All};
-ghost use Rattle.cxx_model.specs.declared.limits.TheConstants as limits;
 ghost use Rattle.cxx_model.specs.Facts.Declarations.{fact_at, graph_at};
 ghost use Rattle.cxx_model.specs.Facts.Fitted.{Fitted, IsFactBelow};
 ghost use Rattle.cxx_model.specs.Stops.{Gives};

@@ -4,7 +4,7 @@ ghost use Rattle.std.specs.Prelude.{◌≡◌, ◌+◌, ◌-◌, ◌*◌, ◌<�
 ghost use Rattle.std.specs.List.{All, slice_get};
 ghost use Rattle.cxx_model.specs.Facts.Declarations.{graph_at};
 ghost use Rattle.cxx_model.specs.Facts.Fitted.{Fitted};
-ghost use Rattle.cxx_overload.specs.Choices.{beats as beats_of, choice as choice_of, choice_by, chosen as chosen_of, position_of, tie as tie_of, ties as ties_of};
+ghost use Rattle.cxx_overload.specs.Choices.{beats as beats_of, choice as choice_of, choice_by, chosen as chosen_of, position_of, ties as ties_of};
 ghost use Rattle.cxx_overload.specs.Viability.{viable as viable_of};
 ghost use Rattle.cxx_standard.specs.Views.{Computes};
 ghost use Rattle.cxx_overload.specs.Gathering.{AreNumbered};

@@ -6,7 +6,7 @@ ghost use Rattle.cxx_model.specs.declared.limits.TheConstants as limits;
 ghost use Rattle.cxx_model.specs.Facts.Declarations.{graph_at};
 ghost use Rattle.cxx_model.specs.Facts.Fitted.{Fitted};
 ghost use Rattle.cxx_model.specs.Stops.{Faulty, Gives, not_built_at as not_built};
-ghost use Rattle.cxx_overload.specs.Calls.{call_fault, decided, decided_among, decided_by, decided_rated};
+ghost use Rattle.cxx_overload.specs.Calls.{call_fault, decided, decided_among, decided_by};
 ghost use Rattle.cxx_overload.specs.Choices.{choice as choice_of, position_of};
 ghost use Rattle.cxx_overload.specs.Contests.{choice_at, IsChoiceBelow};
 ghost use Rattle.cxx_overload.specs.Decisions.{decision_at, decision_of, IsDecisionBelow};

@@ -2,12 +2,11 @@
 
 ghost use Rattle.std.specs.Prelude.{◌≡◌, ◌++◌, ◌<◌, length, map, IfOk, OnOk};
 ghost use Rattle.std.specs.List.{All};
-ghost use Rattle.cxx_model.specs.Types.Numbers.{AreTypesBelow};
 ghost use Rattle.cxx_standard.specs.Views.{sequence_at as standard_sequence_at, IsSequenceBelow};
 ghost use Rattle.cxx_overload.specs.Calls.{standards};
 ghost use Rattle.cxx_overload.specs.Contests.{contender_at, IsContenderBelow};
 ghost use Rattle.cxx_overload.specs.Kept.{standard_of};
-ghost use Rattle.cxx_overload.specs.Views.{row_at, sequence_at, sequence_found, AreOperandsBelow, IsSequenceFoundBelow};
+ghost use Rattle.cxx_overload.specs.Views.{sequence_found, AreOperandsBelow, IsSequenceFoundBelow};
 
 use crate::contender::Contender;
 use crate::conversion::behind;

@@ -2,11 +2,12 @@
 //!
 //! `candidates` takes the functions from the declarations that lookup found, `rate` asks how the arguments are converted
 //! to the parameters of each and whether it is viable, and `choose` gives the best viable one, or what shows that none
-//! is. `decide` is all three.
+//! is. `decide` is all three. A `Chooser` is somebody who is asked, and who may tell where.
 #![tactic(auto)]
 
 mod candidate;
 mod champion;
+mod chooser;
 mod contender;
 mod conversion;
 mod decision;
@@ -17,6 +18,7 @@ mod rating;
 
 pub use candidate::{Candidate, candidates};
 pub use champion::{Choice, choose, chosen, ties};
+pub use chooser::{Champion, Chooser, Choosing, Recorder};
 pub use contender::{Contender, contenders, refusals};
 pub use conversion::Conversion;
 pub use decision::{Decision, decide};

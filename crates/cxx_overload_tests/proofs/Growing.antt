@@ -4,7 +4,6 @@ use Rattle.std.proofs.Common.{ap, sym, subst, ◌∙◌, arith, cond}
 use Rattle.cxx_model.specs.declared.facts.Entity.{Entity}
 use Rattle.cxx_model.specs.declared.facts.Fact.{Fact}
 use Rattle.cxx_model.specs.declared.memory.OutOfMemory.{OutOfMemory}
-use Rattle.std.proofs.Common.{get_or, drop}
 use Rattle.cxx_model.specs.declared.facts.Access.TheVariants.{Public}
 use Rattle.cxx_model.specs.declared.facts.Entity.TheVariants.{Function}
 use Rattle.cxx_model.specs.declared.facts.MemberKind.TheVariants.{Free}
@@ -105,10 +104,6 @@ numbers_more count (m ∷ ns) n below last = (below.0, numbers_more count ns n b
 pub operands_more : (count : ℕ) (all : List Operand) (one : Operand) → AreOperandsBelow count all → one.of.0 < count → AreOperandsBelow count (all ++ one ∷ [])
 operands_more count [] one below last = (last, tt)
 operands_more count (x ∷ all) one below last = (below.0, operands_more count all one below.1 last)
-
-pub parts_below : (count : ℕ) (ns : List TypeId) (d : TypeId) → 0 < length ns → AreTypesBelow count ns → ((get_or ns 0 d).0 < count) × AreTypesBelow count (drop 1 ns)
-parts_below count [] d some below = absurd (omega (arith, some))
-parts_below count (n ∷ ns) d some below = (below.0, below.1)
 
 pub pushed : (graph : Graph) (types : List CxxType) (last : TypeId) (parameters : List TypeId) (new : List TypeId) → IsWorld graph types last parameters → new ≡ parameters ++ last ∷ [] → IsWorld graph types last new
 pushed graph types last parameters new whole is = record {

@@ -1,5 +1,5 @@
 -- Values of integers as the words of a literal.
-use Rattle.std.proofs.Common.{◌≡◌, ℕ, suc, ℤ, pos, negsuc, List, [], ◌∷◌, ◌++◌, refl}
+use Rattle.std.proofs.Common.{◌≡◌, ℕ, pos, negsuc, [], ◌∷◌, ◌++◌, refl}
 use Rattle.std.specs.Prelude.{codes}
 use Rattle.cxx_reading.specs.Words.{value_words, literal_word, minus_word, keyword_word}
 

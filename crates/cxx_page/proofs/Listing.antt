@@ -1,11 +1,11 @@
 -- Parameters that are written one after another.
-use Rattle.std.proofs.Common.{◌≡◌, ◌<◌, ◌+◌, ℕ, zero, suc, Bool, true, false, List, [], ◌∷◌, ◌++◌, length, drop, get_or, Option, Some, None, Err, refl, sym, ap, ◌∙◌}
+use Rattle.std.proofs.Common.{◌≡◌, ◌<◌, ◌+◌, ℕ, Bool, false, List, [], ◌++◌, length, drop, get_or, Option, Some, None, Err, sym, ap, ◌∙◌}
 use Rattle.std.proofs.lemmas.List.{at_drop_more}
 use Rattle.cxx_model.specs.declared.types.TypeId.{TypeId}
 use Rattle.cxx_model.specs.Types.Trees.{CxxType}
 use Rattle.cxx_model.specs.Types.Numbers.{type_at, types_at}
 use Rattle.cxx_reading.specs.Declarators.{no_cv}
-use Rattle.cxx_reading.specs.Words.{Word, Tags, declared}
+use Rattle.cxx_reading.specs.Words.{Tags, declared}
 use Rattle.cxx_page.specs.declared.fault.PlainFault.{PlainFault}
 use Rattle.cxx_page.specs.declared.fault.PlainFault.TheVariants as fault
 use Rattle.cxx_page.specs.Sheets.{Sheet, and_then, put, Writes}

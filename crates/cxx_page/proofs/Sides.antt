@@ -1,12 +1,12 @@
 -- What is declared is what stands before the name, the name, and what stands behind it.
-use Rattle.std.proofs.Common.{◌≡◌, ℕ, zero, suc, Bool, true, false, List, [], ◌∷◌, ◌++◌, refl, sym, ap, ◌∙◌}
+use Rattle.std.proofs.Common.{◌≡◌, Bool, true, false, List, [], ◌∷◌, ◌++◌, refl, sym, ap, ◌∙◌}
 use Rattle.std.proofs.lemmas.List.{append-nil, append_assoc}
 use Rattle.std.specs.Prelude.{if◌then◌else◌, codes}
 use Rattle.cxx_model.specs.declared.types.Cv.{Cv}
 use Rattle.cxx_model.specs.Types.Trees.{CxxType, fundamental, class_type, enumeration, pointer_to, reference_to, array_of, function_of, qualified, type_parameter, specialisation, nested_in, CxxTypes, no_types, type_then, CxxBound, merged}
 use Rattle.cxx_reading.specs.Declarators.{no_cv}
-use Rattle.cxx_reading.specs.Words.{Word, Tags, keyword_word, type_name_word, open_word, close_word, open_bracket_word, close_bracket_word, comma_word, star_word, ampersand_word, base_words, cv_words, bound_words, is_bracketed, within, declared, declared_each, separated, others_separated, one_word}
-use Rattle.cxx_page.specs.Sides.{opened, closed, comma_unless, dots, listed, front, bound_part, list_part, back}
+use Rattle.cxx_reading.specs.Words.{Word, Tags, type_name_word, open_word, close_word, open_bracket_word, close_bracket_word, comma_word, star_word, ampersand_word, base_words, cv_words, bound_words, is_bracketed, within, declared, declared_each, separated, others_separated, one_word}
+use Rattle.cxx_page.specs.Sides.{opened, closed, listed, front, bound_part, list_part, back}
 
 others_listed : (tags : Tags) (ts : CxxTypes) (ellipsis : Bool) → others_separated (declared_each tags ts ++ (if ellipsis then one_word (codes "...") ∷ [] else [])) ≡ listed tags false ts ellipsis
 unfolding listed

@@ -1,13 +1,13 @@
 -- What is on a page is the text of its lines.
-use Rattle.std.proofs.Common.{◌≡◌, ◌≤◌, ◌<◌, ◌+◌, ℕ, zero, suc, Bool, true, false, List, [], ◌∷◌, ◌++◌, length, Option, Some, None, refl, sym, ap, ◌∙◌, arith, length-append}
-use Rattle.std.specs.Prelude.{nat_lt, if◌then◌else◌, codes}
+use Rattle.std.proofs.Common.{◌≡◌, ◌≤◌, ◌<◌, ◌+◌, ℕ, Bool, true, false, List, [], ◌∷◌, ◌++◌, length, Option, refl, sym, ap, ◌∙◌, arith, length-append}
+use Rattle.std.specs.Prelude.{nat_lt, codes}
 use Rattle.std.proofs.lemmas.Bool.{ltb-true, ltb-false}
 use Rattle.std.proofs.lemmas.List.{append-nil, append_assoc}
 use Rattle.cxx_model.specs.declared.limits.TheConstants as limits
 use Rattle.cxx_reading.specs.declared.role.Role.{Role}
 use Rattle.cxx_reading.specs.declared.role.Role.TheVariants as role
 use Rattle.cxx_reading.specs.Words.{Word, text_behind, line_text}
-use Rattle.cxx_page.specs.Sheets.{Sheet, blank, and_then, held, gap_before, put_word, put, line_ended, put_line, put_lines, role_behind, text_of_lines, HasLines}
+use Rattle.cxx_page.specs.Sheets.{Sheet, and_then, held, gap_before, put_word, put, line_ended, put_line, put_lines, role_behind, text_of_lines, HasLines}
 use Rattle.cxx_page.proofs.Held.{held_fits, held_not}
 
 -- more behind a text that is held, or is not

@@ -1,10 +1,9 @@
 -- A declared type as it is written: the words before the declared name, and those behind it.
-use Rattle.std.specs.Prelude.{ℕ, zero, suc, Bool, true, false, if◌then◌else◌, List, [], ◌∷◌, ◌++◌, Option, Some, None, codes}
-use Rattle.std.specs.List.{slice_get}
+use Rattle.std.specs.Prelude.{Bool, true, false, List, [], ◌∷◌, ◌++◌, codes}
 use Rattle.cxx_model.specs.declared.types.Cv.{Cv}
 use Rattle.cxx_model.specs.Types.Trees.{CxxType, fundamental, class_type, enumeration, pointer_to, reference_to, array_of, function_of, qualified, type_parameter, specialisation, nested_in, CxxTypes, no_types, type_then, CxxBound, merged}
 use Rattle.cxx_reading.specs.Declarators.{no_cv}
-use Rattle.cxx_reading.specs.Words.{Word, Tags, keyword_word, type_name_word, open_word, close_word, open_bracket_word, close_bracket_word, comma_word, star_word, ampersand_word, base_words, cv_words, bound_words, is_bracketed, declared, one_word}
+use Rattle.cxx_reading.specs.Words.{Word, Tags, type_name_word, open_word, close_word, open_bracket_word, close_bracket_word, comma_word, star_word, ampersand_word, base_words, cv_words, bound_words, is_bracketed, declared, one_word}
 
 -- the bracket before a declarator, and behind it
 abbrev pub opened : Bool → List Word

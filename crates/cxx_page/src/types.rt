@@ -3,7 +3,7 @@ ghost use Rattle.std.specs.Prelude.{◌≡◌, ◌<◌, true, [], ◌∷◌, ◌
 ghost use Rattle.cxx_model.specs.Types.Numbers.{type_at, types_at, bound_at, AreTypesBelow};
 ghost use Rattle.cxx_model.specs.Types.Trees.{merged as merged_of};
 ghost use Rattle.cxx_reading.specs.Declarators.{no_cv as no_cv_of};
-ghost use Rattle.cxx_reading.specs.Words.{ampersand_word, bound_words, close_bracket_word, close_word, open_bracket_word, open_word, cv_words, base_words, declared, is_bracketed as is_bracketed_of, star_word, type_name_word};
+ghost use Rattle.cxx_reading.specs.Words.{ampersand_word, bound_words, close_bracket_word, close_word, cv_words, base_words, declared, is_bracketed as is_bracketed_of, star_word, type_name_word};
 ghost use Rattle.cxx_page.specs.Sheets.{Writes, put};
 ghost use Rattle.cxx_page.specs.Sides.{back, bound_part, comma_unless, dots, front, list_part, listed, opened};
 ghost use Rattle.cxx_page.specs.Views.{tags_of};

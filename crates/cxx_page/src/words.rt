@@ -1,7 +1,7 @@
 //! Single words and runs of them.
 ghost use Rattle.std.specs.Prelude.{◌≡◌, [], ◌∷◌, if◌then◌else◌};
 ghost use Rattle.cxx_reading.specs.Declarators.{no_cv as no_cv_of};
-ghost use Rattle.cxx_reading.specs.Words.{base_words, cv_words as cv_words_of, keyword_word, one_word, two_words};
+ghost use Rattle.cxx_reading.specs.Words.{base_words, cv_words as cv_words_of, one_word, two_words};
 ghost use Rattle.cxx_page.specs.Sheets.{Writes, put};
 ghost use Rattle.cxx_page.specs.Sides.{opened, closed, comma_unless};
 

@@ -3,7 +3,6 @@
 ghost use Rattle.std.specs.Prelude.{◌≡◌, ◌<◌, IfOk, IfSome, option_map};
 ghost use Rattle.cxx_model.specs.Facts.Graph.{scopes};
 ghost use Rattle.cxx_model.specs.Stops.{Gives};
-ghost use Rattle.cxx_names.specs.Looked.{scope_number as number_of_scope};
 ghost use Rattle.cxx_paths.specs.Asked.{IsRegionThere, same, scope_number};
 ghost use Rattle.cxx_reading.specs.Paths as definition;
 ghost use Rattle.cxx_reading.specs.Paths.{first_region as first_region_of, holder_by as holder_of, scope_of_region};

@@ -1,7 +1,6 @@
 //! What a name means in a region (3.4.1, 3.4.3.2, 7.3.4).
 
 ghost use Rattle.std.specs.Prelude.{◌≡◌, IfOk};
-ghost use Rattle.cxx_meaning.specs.Lookups.Wanted.{any_name};
 ghost use Rattle.cxx_members.specs.Views.{wanted_at};
 ghost use Rattle.cxx_model.specs.Facts.Declarations.{CxxGraph, spelled};
 ghost use Rattle.cxx_reading.specs.Paths as definition;

@@ -1,5 +1,3 @@
-mod Rows
 pub mod Kept
 pub mod Carried
 pub mod Binary
-pub mod Last

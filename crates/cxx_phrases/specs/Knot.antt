@@ -1,5 +1,5 @@
 -- The readers of expressions over those of declarators, and inside one another.
-use Rattle.std.specs.Prelude.{ℕ, zero, suc, Bool, if◌then◌else◌, List, ◌++◌}
+use Rattle.std.specs.Prelude.{if◌then◌else◌, List, ◌++◌}
 use Rattle.cxx_model.specs.declared.fault.FaultText.TheVariants as says
 use Rattle.cxx_model.specs.declared.punct.TheConstants as punct
 use Rattle.cxx_model.specs.Types.Trees.{CxxType}
@@ -7,15 +7,15 @@ use Rattle.cxx_phrases.specs.declared.shape.TypeShape.{TypeShape}
 use Rattle.cxx_phrases.specs.declared.shape.TypeShape.TheVariants as type_shape
 use Rattle.cxx_phrases.specs.Initializers.{expression_at}
 use Rattle.cxx_phrases.specs.Operands.{sized_at}
-use Rattle.cxx_phrases.specs.Phrases.{Phrases, Inner, too_deep}
+use Rattle.cxx_phrases.specs.Phrases.{Phrases, Inner}
 use Rattle.cxx_reading.specs.declared.specifier.Naming.TheVariants as naming
 use Rattle.cxx_reading.specs.declared.specifier.SpecifierPlace.TheVariants as where_
 use Rattle.cxx_reading.specs.Declarators.{Specifiers, Declarator, declared_type, refused_in, is_refused}
 use Rattle.cxx_reading.specs.Kinds.{Kinds, Readers}
-use Rattle.cxx_reading.specs.Reads.{Reads, Asks, ◌>>=◌, got, give, fault_at, kind_ahead, behind}
+use Rattle.cxx_reading.specs.Reads.{Reads, ◌>>=◌, got, give, fault_at, kind_ahead, behind}
 use Rattle.cxx_reading.specs.Shapes.{Run, no_type, a_type, surely, Outline, Fits, fits, fits_not, run_passed, prefix_passed, suffixes_by}
 use Rattle.cxx_reading.specs.Specifiers.{specifiers_at}
-use Rattle.cxx_reading.specs.Syntax.{declarator_at, readers, specified_type}
+use Rattle.cxx_reading.specs.Syntax.{declarator_at, specified_type}
 use Rattle.cxx_reading.specs.Tokens.{is_punct}
 use Rattle.cxx_reading.specs.Trees.{CxxTree}
 
@@ -59,16 +59,6 @@ type_passed_at asks inner = run_passed asks >>= shape_by asks inner
 
 -- ---- readers inside readers
 
--- what is asked with so much room
-abbrev pub phrases : {S : Type 0} → (ℕ → Kinds S) → (ℕ → CxxTree → Asks S CxxTree) → ℕ → Phrases S
-phrases asks whole room = record {
-  room = room;
-  kind = (asks room).kind;
-  type_named = (asks room).type_named;
-  whole = whole room;
-  type_id = type_id_at (asks room) (readers asks room);
-}
-
 abbrev pub inner_by : {S : Type 0} → Phrases S → Inner S → Kinds S → Readers S → Inner S
 inner_by here inner asks behind_it = record {
   expression = expression_at here inner;
@@ -76,8 +66,3 @@ inner_by here inner asks behind_it = record {
   type_id = type_id_at asks behind_it;
   type_passed = type_passed_at asks behind_it;
 }
-
--- The readers behind a bracket with room for so many more. What is asked may depend on the room.
-unfoldable pub nested : {S : Type 0} → (ℕ → Kinds S) → (ℕ → CxxTree → Asks S CxxTree) → ℕ → Inner S
-nested asks whole zero = too_deep
-nested asks whole (suc room) = inner_by (phrases asks whole room) (nested asks whole room) (asks room) (readers asks room)

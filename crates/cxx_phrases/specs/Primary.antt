@@ -11,7 +11,7 @@ use Rattle.cxx_phrases.specs.Forms.{literal_tree, name_tree, parenthesis_tree, c
 use Rattle.cxx_phrases.specs.Operators.{is_literal, is_cast_word, base_of_kind}
 use Rattle.cxx_phrases.specs.Phrases.{Phrases, Inner}
 use Rattle.cxx_reading.specs.Constants.{no_expression}
-use Rattle.cxx_reading.specs.Reads.{Reads, Ahead, ◌>>=◌, give, ask, looked, taken, tokens, kind_ahead, word_ahead, behind}
+use Rattle.cxx_reading.specs.Reads.{Reads, Ahead, ◌>>=◌, give, ask, looked, taken, tokens, kind_ahead, word_ahead}
 use Rattle.cxx_reading.specs.Tokens.{is_punct, begins_name, behind_name, kind_of_name, name_taken, path_ahead, path_taken, punct_taken, refused}
 use Rattle.cxx_reading.specs.Trees.{CxxPath, CxxTree}
 

@@ -10,12 +10,11 @@ ghost use Rattle.cxx_tree.specs.Arena.{path_at};
 ghost use Rattle.cxx_tree.specs.Held.{meaning, tree, type_of};
 
 use crate::lists::{one_tree, three_trees, two_trees, with_tree};
-use crate::names::last_place;
 use crate::phrases::Phrases;
 use crate::production;
 use cxx_model::{Listed, Path, Place, Stop, Text, TokenKind, TreeId, TreeIdList, TypeId};
 use cxx_strings::side_by_side;
-use cxx_syntax::{Cursor, joined, node_from, push};
+use cxx_syntax::{Cursor, joined, last_place, node_from, push};
 use cxx_tree::State;
 use std::alloc::{AllocError, Global};
 

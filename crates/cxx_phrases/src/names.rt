@@ -1,30 +1,15 @@
 //! Names, with qualifiers or without, as they stand ahead.
 
-ghost use Rattle.std.specs.Prelude.{◌≡◌};
 ghost use Rattle.cxx_phrases.specs.Phrases as asking;
 ghost use Rattle.cxx_reading.specs.Tokens.{kind_of_name};
-ghost use Rattle.cxx_reading.specs.Trees.{last_part};
 ghost use Rattle.cxx_syntax.specs.Asking.{AnyKnown, itself};
 ghost use Rattle.cxx_syntax.specs.Reading.{IsRead};
-ghost use Rattle.cxx_tree.specs.Arena.{path_parts_at};
 ghost use Rattle.cxx_tree.specs.Held.{meaning};
 
 use crate::phrases::Phrases;
-use cxx_model::{Kind, PathPart, Place, Stop};
+use cxx_model::{Kind, Stop};
 use cxx_syntax::Cursor;
 use cxx_tree::State;
-
-/// Where the last of some parts stands.
-#[tactic(auto, using(crate::proofs::Last::last_place, crate::proofs::Last::no_place))]
-pub(crate) fn last_place(parts: &[PathPart]) -> Place
-    ensures { result ≡ (last_part (path_parts_at parts.now)).place }
-{
-    let count = parts.len();
-    if count == 0 {
-        return Place { line: 0, column: 0 };
-    }
-    parts[count - 1].place
-}
 
 /// What the name ahead is to a reader (3.4). One that is not whole is met when it is read.
 #[tactic(auto, using(cxx_syntax::proofs::Kept::later_refl), unfolding(cxx_reading::specs::Tokens::kind_of_name))]

@@ -4,7 +4,7 @@ ghost use Rattle.std.specs.Prelude.{◌≡◌, ◌<◌, length, []};
 ghost use Rattle.cxx_model.specs.Types.Trees.{fundamental};
 ghost use Rattle.cxx_phrases.specs.Primary as definition;
 ghost use Rattle.cxx_phrases.specs.Views.{IsWritten, written_of};
-ghost use Rattle.cxx_syntax.specs.Asking.{IsTreeKnown, IsTypeKnown};
+ghost use Rattle.cxx_syntax.specs.Asking.{IsTreeKnown};
 ghost use Rattle.cxx_phrases.specs.Making.{GrowsType};
 ghost use Rattle.cxx_syntax.specs.Reading.{IsRead};
 ghost use Rattle.cxx_tree.specs.Arena.{path_at};

@@ -1,6 +1,5 @@
 -- A declared type is forbidden exactly where a layer of its declarator is refused, if its parts are not.
-use Rattle.std.specs.Prelude.{Bool, true, false, ◌≡◌, refl, List, [], ◌∷◌, Option, Some, None, if◌then◌else◌}
-use Rattle.cxx_model.specs.declared.evidence.SubstitutionText.{SubstitutionText}
+use Rattle.std.specs.Prelude.{Bool, true, false, ◌≡◌, refl, List, [], ◌∷◌, None, if◌then◌else◌}
 use Rattle.cxx_model.specs.declared.types.Cv.{Cv}
 use Rattle.cxx_model.specs.Types.Trees.{CxxType, pointer_to, qualified, layered, any_cv}
 use Rattle.cxx_reading.specs.Declarators.{Layer, pointer_layer, reference_layer, array_layer, function_layer, layer_on, declared_type, refused_on, refused_in, forbidden, or_later, HasParts, HaveParts}
@@ -12,10 +11,6 @@ layered_forbids cv of = by (any_cv cv)
     by : (b : Bool) → forbidden (if b then qualified cv of else of) ≡ forbidden of
     by true = refl
     by false = refl
-
-or_none : (x : Option SubstitutionText) → or_later x None ≡ x
-or_none None = refl
-or_none (Some why) = refl
 
 -- of one layer on a type
 layer_forbids : (layer : Layer) (of : CxxType) → HasParts layer → forbidden (layer_on layer of) ≡ or_later (forbidden of) (refused_on layer of)

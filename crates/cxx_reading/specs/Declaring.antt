@@ -18,7 +18,7 @@ use Rattle.cxx_model.specs.Facts.Declarations as facts
 use Rattle.cxx_model.specs.Facts.Declarations.{CxxFact, CxxGraph, CxxName, Declares, unnamed, spelled}
 use Rattle.cxx_model.specs.Facts.Entities.{entity_by, scope_kinds}
 use Rattle.cxx_model.specs.Stops.{Answer, Stopped, Faulty, Limited, ◌>>=◌, fault, undeclared_at}
-use Rattle.cxx_model.specs.Text.Lexemes.{Lexeme, nowhere}
+use Rattle.cxx_model.specs.Text.Lexemes.{Lexeme}
 use Rattle.cxx_model.specs.Types.Integral.{one_holds}
 use Rattle.cxx_model.specs.Types.Trees.{CxxType, enumeration}
 use Rattle.cxx_meaning.specs.Conversions.Enumerations.{values_in}

@@ -24,12 +24,18 @@ abbrev pub last_of : ℕ → List Numbered → Option Numbered
 last_of function [] = None
 last_of function (one ∷ others) = or_before (last_of function others) (when_of function one)
 
--- outward from a scope, up to the innermost namespace: the last declaration in the first block that has one
+-- Where a name is declared in a scope, nothing further out tells.
+abbrev pub told_by : ℕ → List Numbered → Option Numbered → Option Numbered
+told_by function [] outer = outer
+told_by function (one ∷ others) outer = last_of function (one ∷ others)
+
+-- 3.3.7, 8.3.6 p4: outward from a scope, up to the innermost namespace: in the first block that declares the name, the last
+-- declaration of the function
 abbrev pub outward_from : CxxGraph → ℕ → CxxName → ℕ → ℕ → Option Numbered
 outward_from graph function name zero scope = None
 outward_from graph function name (suc room) scope =
     if is_space_at graph scope then None else
-    or_before (last_of function (declared_in graph scope name)) (outward_from graph function name room (parent_of graph scope))
+    told_by function (declared_in graph scope name) (outward_from graph function name room (parent_of graph scope))
 
 abbrev pub scope_in : Option CxxFact → ℕ
 scope_in None = zero
@@ -42,7 +48,7 @@ name_by (Some fact) = fact.name
 abbrev pub name_of_fact : CxxGraph → ℕ → CxxName
 name_of_fact graph number = name_by (slice_get graph.facts number)
 
--- that of a function, where no block declares it again: the last declaration in its namespace
+-- that of a function which no block tells: the last declaration in its namespace
 abbrev pub giver_at_home : CxxGraph → ℕ → Option Numbered
 giver_at_home graph function = last_of function (declared_in graph (home_of graph (scope_in (slice_get graph.facts function))) (name_of_fact graph function))
 

@@ -5,7 +5,7 @@ use Rattle.cxx_model.specs.declared.lookup.Found.TheVariants as sought
 use Rattle.cxx_model.specs.Facts.Conflicts.{agree}
 use Rattle.cxx_model.specs.Facts.Declarations as facts
 use Rattle.cxx_model.specs.Facts.Declarations.{CxxGraph, Declares, spelled}
-use Rattle.cxx_model.specs.Stops.{Answer, ◌>>=◌, undeclared_at}
+use Rattle.cxx_model.specs.Stops.{◌>>=◌, undeclared_at}
 use Rattle.cxx_model.specs.Text.Lexemes.{Lexeme}
 use Rattle.cxx_model.specs.Types.Same.{same_type}
 use Rattle.cxx_model.specs.Types.Trees.{CxxType}

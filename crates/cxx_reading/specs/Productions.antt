@@ -2,9 +2,6 @@
 -- parts of a production that has no number of its own.
 use Rattle.std.specs.Prelude.{ℕ}
 
-abbrev pub unit_ : ℕ
-unit_ = 1
-
 abbrev pub empty_declaration : ℕ
 empty_declaration = 2
 
@@ -47,10 +44,6 @@ function_definition = 15
 -- clause 8
 abbrev pub declarator : ℕ
 declarator = 20
-
--- 8.3.5
-abbrev pub parameter_list : ℕ
-parameter_list = 21
 
 -- 8.5
 abbrev pub initializer : ℕ

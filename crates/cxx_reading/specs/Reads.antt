@@ -5,7 +5,7 @@ use Rattle.cxx_model.specs.declared.fault.FaultText.{FaultText}
 use Rattle.cxx_model.specs.declared.place.Place.{Place}
 use Rattle.cxx_model.specs.declared.stop.LimitKind.{LimitKind}
 use Rattle.cxx_model.specs.declared.token.TokenKind.{TokenKind}
-use Rattle.cxx_model.specs.Stops.{Answer, Stopped, Limited, fault}
+use Rattle.cxx_model.specs.Stops.{Answer, Limited, fault}
 use Rattle.cxx_model.specs.Text.Lexemes.{Lexeme, kind_of, place_of, spelling_ahead}
 
 -- What a reader sees: the place of the last token that was taken, and the tokens that are left.
@@ -36,10 +36,6 @@ abbrev pub ◌>>=◌ : {S A B : Type 0} → Reads S A → (A → Reads S B) → 
 -- nothing is read
 abbrev pub give : {S A : Type 0} → A → Reads S A
 give value state ahead = got value state ahead
-
--- nothing more is read
-abbrev pub stop : {S A : Type 0} → Stopped → Reads S A
-stop why state ahead = Err why
 
 abbrev pub limited : {S A : Type 0} → LimitKind → Reads S A
 limited kind state ahead = Err (Limited kind)

@@ -9,7 +9,7 @@ use Rattle.cxx_model.specs.declared.tree.Kind.TheVariants as kind
 use Rattle.cxx_model.specs.declared.types.FactId.{FactId}
 use Rattle.cxx_model.specs.Facts.Conflicts.{declares_name, has_name, same_name, scope_facts}
 use Rattle.cxx_model.specs.Facts.Declarations as facts
-use Rattle.cxx_model.specs.Facts.Declarations.{CxxFact, CxxGraph, CxxName, Declares, unnamed, spelled}
+use Rattle.cxx_model.specs.Facts.Declarations.{CxxFact, CxxGraph, CxxName, Declares}
 use Rattle.cxx_model.specs.Types.Trees.{CxxType, fundamental, class_type, enumeration}
 use Rattle.cxx_meaning.specs.Lookups.Ordinary.{ordinary}
 use Rattle.cxx_meaning.specs.Lookups.Pending.{Asked}

@@ -129,10 +129,15 @@ begins_by asks _ state ahead = got false state ahead
 unfoldable pub begins_type : {S : Type 0} → Kinds S → Reads S Bool
 begins_type asks state ahead = begins_by asks (kind_ahead ahead) state ahead
 
+-- 7.1.1, 8.3.5: with what no declarator begins in brackets: their end, an ellipsis, a storage word of parameters
+abbrev pub is_no_declarator : TokenKind → Bool
+is_no_declarator kind =
+    is_punct punct.RIGHT_PARENTHESIS kind || (is_punct punct.ELLIPSIS kind || (is_keyword keyword.AUTO kind || is_keyword keyword.REGISTER kind))
+
 -- 8.2: whether a bracket, which stands ahead where no name was read, holds parameters
 unfoldable pub is_abstract_list : {S : Type 0} → Kinds S → Reads S Bool
 is_abstract_list asks state ahead =
-    if is_punct punct.RIGHT_PARENTHESIS (kind_ahead (behind ahead)) || is_punct punct.ELLIPSIS (kind_ahead (behind ahead))
+    if is_no_declarator (kind_ahead (behind ahead))
     then got true state ahead
     else look (past (begins_type asks)) state ahead
 

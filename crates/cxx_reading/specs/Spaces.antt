@@ -6,7 +6,7 @@ use Rattle.cxx_model.specs.declared.lookup.Found.TheVariants as sought
 use Rattle.cxx_model.specs.declared.place.Place.{Place}
 use Rattle.cxx_model.specs.Facts.Conflicts.{has_name, same_name}
 use Rattle.cxx_model.specs.Facts.Declarations as facts
-use Rattle.cxx_model.specs.Facts.Declarations.{CxxFact, CxxGraph, CxxName, Declares, unnamed, spelled}
+use Rattle.cxx_model.specs.Facts.Declarations.{CxxFact, CxxGraph, CxxName, unnamed, spelled}
 use Rattle.cxx_model.specs.Stops.{Answer, ◌>>=◌, undeclared_at}
 use Rattle.cxx_model.specs.Text.Lexemes.{Lexeme}
 use Rattle.cxx_meaning.specs.Lookups.Wanted.{namespaces_only}

@@ -1,5 +1,5 @@
--- How declarators, parameters and lists of enumerators are read (8.2, 8.3, 7.2), and how readers nest.
-use Rattle.std.specs.Prelude.{ℕ, zero, suc, ℤ, pos, negsuc, Bool, true, false, not, ◌&&◌, ◌||◌, if◌then◌else◌, List, [], ◌∷◌, ◌++◌, length, Option, Some, None}
+-- How declarators and parameters are read (8.2, 8.3), and what stands behind an enumerator (7.2).
+use Rattle.std.specs.Prelude.{ℕ, zero, ℤ, pos, negsuc, Bool, true, false, not, ◌&&◌, ◌||◌, if◌then◌else◌, List, [], ◌∷◌, ◌++◌, length, Option, Some, None}
 use Rattle.cxx_model.specs.declared.fault.FaultText.TheVariants as says
 use Rattle.cxx_model.specs.declared.fault.LeftOut.TheVariants as form
 use Rattle.cxx_model.specs.declared.keyword.TheConstants as keyword
@@ -14,15 +14,14 @@ use Rattle.cxx_model.specs.Types.Trees.{CxxType, CxxBound, unknown_bound, number
 use Rattle.cxx_reading.specs.declared.specifier.Naming.{Naming}
 use Rattle.cxx_reading.specs.declared.specifier.Naming.TheVariants as naming
 use Rattle.cxx_reading.specs.declared.specifier.SpecifierPlace.TheVariants as where_
-use Rattle.cxx_reading.specs.Constants.{constant_at}
 use Rattle.cxx_reading.specs.Declarators.{Specifiers, type_of_specifiers, Layer, pointer_layer, reference_layer, array_layer, function_layer, Declarator, no_declarator_yet, outward, is_named, ParameterTypes, adjusted_types, parameter_type, declared_type, refused_in, is_refused, is_void, no_cv}
-use Rattle.cxx_reading.specs.Kinds.{Kinds, Fallback, Readers, too_deep}
+use Rattle.cxx_reading.specs.Kinds.{Kinds, Fallback, Readers}
 use Rattle.cxx_reading.specs.Labels.{label_from}
 use Rattle.cxx_reading.specs.Productions as production
 use Rattle.cxx_reading.specs.Reads.{Reads, Ahead, Turn, More, Done, ◌>>=◌, got, give, ask, limited, fault_at, looked, taken, tokens, kind_ahead, place_ahead, count_ahead, behind, repeat}
-use Rattle.cxx_reading.specs.Shapes.{look, past, is_abstract_list, begins_type, parameters_shape}
+use Rattle.cxx_reading.specs.Shapes.{look, past, is_abstract_list, begins_type}
 use Rattle.cxx_reading.specs.Specifiers.{specifiers_at, with_const, with_volatile, path_of_option, place_or}
-use Rattle.cxx_reading.specs.Tokens.{is_punct, is_keyword, is_name, is_plain_name, begins_name, path_taken, token_taken, punct_taken, not_built, refused, no_declarator}
+use Rattle.cxx_reading.specs.Tokens.{is_punct, is_keyword, is_plain_name, begins_name, path_taken, token_taken, punct_taken, refused, no_declarator}
 use Rattle.cxx_reading.specs.Trees.{CxxPathPart, CxxTree, last_part, tree_of}
 
 -- ---- declarators (8.3)
@@ -199,27 +198,6 @@ grouped_at asks inner naming = do
   closed ← tokens (punct_taken punct.RIGHT_PARENTHESIS)
   give inside
 
--- ---- bounds (8.3.4)
-
--- a constant, with its value, which is asked before what follows is looked at
-unfoldable pub valued : {S : Type 0} → Kinds S → Reads S (Option ℤ × List CxxTree)
-valued asks = do
-  tree ← constant_at
-  value ← ask (asks.constant tree)
-  give (Some value, tree ∷ [])
-
-unfoldable pub bound_value : {S : Type 0} → Kinds S → Reads S (Option ℤ × List CxxTree)
-bound_value asks = do
-  value ← valued asks
-  closed ← tokens (punct_taken punct.RIGHT_BRACKET)
-  give value
-
--- behind `[`
-unfoldable pub bound_at : {S : Type 0} → Kinds S → Bool → Reads S (Option ℤ × List CxxTree)
-bound_at asks is_first state ahead =
-    if is_punct punct.RIGHT_BRACKET (kind_ahead ahead) then (if is_first then got (None, []) state (behind ahead) else refused state ahead) else
-    bound_value asks state ahead
-
 -- ---- parameters (8.3.5)
 
 abbrev pub some_or_void : Option CxxType → CxxType
@@ -333,53 +311,13 @@ parameters_at asks fallback inner = do
 
 -- ---- enumerators (7.2)
 
+-- where no value is written
 unfoldable pub no_value : {S : Type 0} → Reads S (Option ℤ × List CxxTree)
 no_value = give (None, [])
 
-unfoldable pub value_at : {S : Type 0} → Kinds S → Reads S (Option ℤ × List CxxTree)
-value_at asks state ahead =
-    if is_punct punct.EQUALS (kind_ahead ahead) then valued asks state (behind ahead) else no_value state ahead
-
-unfoldable pub enumerator_at : {S : Type 0} → Kinds S → ℕ → List CxxTree → Lexeme → Reads S (List CxxTree)
-enumerator_at asks number so_far name = do
-  value ← value_at asks
-  declared ← ask (asks.enumerator number name value.0)
-  give (so_far ++ value.1)
-
+-- behind an enumerator
 unfoldable pub enumerator_ended : {S : Type 0} → List CxxTree → Reads S (Turn (List CxxTree) (List CxxTree))
 enumerator_ended so_far state ahead =
     if is_punct punct.COMMA (kind_ahead ahead) then got (More so_far) state (behind ahead) else (
     if is_punct punct.RIGHT_BRACE (kind_ahead ahead) then got (Done so_far) state (behind ahead) else
     refused state ahead)
-
-unfoldable pub enumerator_step : {S : Type 0} → Kinds S → ℕ → List CxxTree → Reads S (Turn (List CxxTree) (List CxxTree))
-enumerator_step asks number so_far state ahead =
-    if is_name (kind_ahead ahead) then ((token_taken >>= enumerator_at asks number so_far) >>= enumerator_ended) state ahead else refused state ahead
-
--- behind the `{` of an enumeration
-unfoldable pub enumerators_at : {S : Type 0} → Kinds S → ℕ → Reads S (List CxxTree)
-enumerators_at asks number state ahead =
-    if is_punct punct.RIGHT_BRACE (kind_ahead ahead) then got [] state (behind ahead) else
-    repeat (enumerator_step asks number) give (count_ahead ahead) [] state ahead
-
--- ---- readers inside readers
-
--- these readers read no default argument
-abbrev pub no_fallback : {S : Type 0} → Fallback S
-no_fallback index of = not_built
-
-abbrev pub readers_by : {S : Type 0} → Kinds S → Readers S → Readers S
-readers_by asks inner = record {
-  pointed = pointed_at asks inner;
-  referred = referred_at asks inner;
-  grouped = grouped_at asks inner;
-  bound = bound_at asks;
-  parameters = parameters_at asks no_fallback inner;
-  enumerators = enumerators_at asks;
-  holds_parameters = parameters_shape asks inner;
-}
-
--- The readers behind a bracket with room for so many more. What is asked may depend on the room.
-unfoldable pub readers : {S : Type 0} → (ℕ → Kinds S) → ℕ → Readers S
-readers asks zero = too_deep
-readers asks (suc room) = readers_by (asks room) (readers asks room)

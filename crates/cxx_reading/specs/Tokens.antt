@@ -103,18 +103,23 @@ refused state ahead = fault_at (place_ahead ahead) says.SyntaxError state ahead
 abbrev pub not_built : {S A : Type 0} → Reads S A
 not_built state ahead = fault_at (place_ahead ahead) says.NotBuilt state ahead
 
--- 5.1, 5.3.4, 5.3.5, 14.2: what may stand behind `::` and is not read yet
-abbrev pub is_unbuilt_part : TokenKind → Bool
-is_unbuilt_part kind =
-    is_keyword keyword.TEMPLATE kind || (is_keyword keyword.OPERATOR kind || (is_punct punct.TILDE kind || (is_keyword keyword.NEW kind || is_keyword keyword.DELETE kind)))
+-- 5.1, 14.2: what may stand behind `::` and is not read yet; 5.3.4, 5.3.5: `new` and `delete` only where no name stands before
+abbrev pub is_unbuilt_part : Bool → TokenKind → Bool
+is_unbuilt_part is_first kind =
+    is_keyword keyword.TEMPLATE kind || (is_keyword keyword.OPERATOR kind || (is_punct punct.TILDE kind || (is_first && (is_keyword keyword.NEW kind || is_keyword keyword.DELETE kind))))
 
--- what stands where a part of a name is wanted
-unfoldable pub no_part_there : {S A : Type 0} → Reads S A
-no_part_there state ahead = if is_unbuilt_part (kind_ahead ahead) then not_built state ahead else refused state ahead
+-- what stands where a part of a name is wanted, the first or a later one
+unfoldable pub no_part_there : {S A : Type 0} → Bool → Reads S A
+no_part_there is_first state ahead = if is_unbuilt_part is_first (kind_ahead ahead) then not_built state ahead else refused state ahead
+
+-- whether `::` stands ahead, and no name behind it
+abbrev pub lacks_first_part : Ahead → Bool
+lacks_first_part ahead = is_punct punct.SCOPE (kind_ahead ahead) && not (is_name (kind_ahead (behind ahead)))
 
 -- the name ahead with its qualifiers, taken
 unfoldable pub path_taken : {S : Type 0} → Reads S CxxPath
-path_taken state ahead = if is_whole_name ahead then got (path_ahead ahead) state (behind_name ahead) else no_part_there state (behind_name ahead)
+path_taken state ahead =
+    if is_whole_name ahead then got (path_ahead ahead) state (behind_name ahead) else no_part_there (lacks_first_part ahead) state (behind_name ahead)
 
 -- the same, where it is not asked which it is
 abbrev pub name_taken : {S : Type 0} → Reads S (Unit {0})

@@ -5,7 +5,7 @@ use Rattle.cxx_model.specs.declared.lookup.Found.TheVariants as sought
 use Rattle.cxx_model.specs.declared.types.FactId.{FactId}
 use Rattle.cxx_model.specs.Facts.Declarations as facts
 use Rattle.cxx_model.specs.Facts.Declarations.{CxxFact, CxxGraph, CxxName, spelled}
-use Rattle.cxx_model.specs.Stops.{Answer, ◌>>=◌, undeclared_at}
+use Rattle.cxx_model.specs.Stops.{◌>>=◌, undeclared_at}
 use Rattle.cxx_meaning.specs.Lookups.Qualified.{brought}
 use Rattle.cxx_meaning.specs.Lookups.Wanted.{names_space}
 use Rattle.cxx_reading.specs.declared.region.Region.{Region}

@@ -7,8 +7,7 @@ use Rattle.cxx_model.specs.declared.memory.OutOfMemory.{OutOfMemory}
 use Rattle.cxx_model.specs.declared.types.TypeId.{TypeId}
 use Rattle.cxx_model.specs.Facts.Declarations.{CxxFact, CxxGraph, facts_at, graph_at}
 use Rattle.cxx_model.specs.Facts.Fitted.{Fitted, IsClassBelow}
-use Rattle.cxx_model.specs.Facts.Graph.{Graph, IsOneClassMore, IsTypeInRange, with_class}
-use Rattle.cxx_model.specs.Types.Numbers.{type_at}
+use Rattle.cxx_model.specs.Facts.Graph.{Graph, IsOneClassMore}
 use Rattle.cxx_model.specs.Types.Trees.{CxxType, class_type}
 use Rattle.cxx_graph.proofs.Fitting.{fitted-class, fitted-table, graph-kept}
 use Rattle.cxx_types.specs.Makes.{Makes}

@@ -1,18 +1,21 @@
 //! The unit (2.1, 3.5).
 
-ghost use Rattle.std.specs.Prelude.{◌≡◌, ◌<◌, ◌^◌, length};
+ghost use Rattle.std.specs.Prelude.{◌≡◌, ◌<◌, ◌^◌, length, IfOk};
 ghost use Rattle.cxx_language.specs.Units as definition;
 ghost use Rattle.cxx_model.specs.Stops.{Gives};
 ghost use Rattle.cxx_model.specs.Text.Lexemes.{lexemes};
+ghost use Rattle.cxx_overload.specs.Choosers.{IsNew};
 ghost use Rattle.cxx_reading.specs.Reads.{count_ahead, give, repeat};
 ghost use Rattle.cxx_syntax.specs.Asking.{AnyKnown, itself};
 ghost use Rattle.cxx_syntax.specs.Reading.{IsRead};
 ghost use Rattle.cxx_tree.specs.Held.{meaning};
+ghost use Rattle.cxx_tree.specs.Told.{IsAskedBy};
 ghost use Rattle.cxx_units.specs.Read.{nothing_turn, reading_of};
 
 use crate::space::{Defines, Space};
 use cxx_model::limits::MOST_NESTING;
 use cxx_model::{Options, Stop, Token};
+use cxx_overload::Choosing;
 use cxx_syntax::{Cursor, Turn, is_end};
 use cxx_tree::State;
 use cxx_units::{begun, first_place, part_added, whole};
@@ -58,19 +61,23 @@ fn unit_steps<D: Defines>(
 }
 
 /// Reads a unit whose initializers, bounds and enumerators are expressions (2.1, 3.5): its reading, the first fault, or the
-/// limit that is passed first, of the tokens with the bytes that spell them.
-#[tactic(auto, unfolding(cxx_language::specs::Units::unit_reading))]
+/// limit that is passed first, of the tokens with the bytes that spell them. Which function a call means is asked of the
+/// chooser, which was asked nothing yet: where it tells at which places it was asked, these are the places of the calls.
+#[tactic(auto, using(crate::proofs::Told::asked_by), unfolding(cxx_language::specs::Units::unit_reading))]
 pub fn read_unit<D: Defines>(
     alloc: Global,
     declares: &D,
     bytes: &[u8],
     tokens: &[Token],
     options: Options,
+    chooser: Choosing,
 ) -> Result<State, Stop>
-    requires { length tokens.now < 2 ^ 32 }
-    ensures { Gives (reading_of options) result (definition.unit_reading options (lexemes bytes.now tokens.now)) }
+    requires few { length tokens.now < 2 ^ 32 }
+    requires new { IsNew chooser }
+    ensures is { Gives (reading_of options) result (definition.unit_reading options (lexemes bytes.now tokens.now)) }
+    ensures asked { IfOk result (IsAskedBy chooser) }
 {
-    let mut state = begun(alloc, bytes)?;
+    let mut state = begun(alloc, bytes, chooser)?;
     let mut cursor = Cursor::new(alloc, bytes, tokens, first_place());
     let ended = unit_steps(declares, &mut state, &mut cursor);
     whole(options, state, ended)

@@ -173,13 +173,6 @@ any_inserted good (x ∷ xs) n = inserted good x n xs (insert_key nat_cmp xs n) 
 pub noted_one : (good : ℕ → Bool) (old new : List ℕ) (number before : ℕ) → number < before → new ≡ insert_key nat_cmp old number → list_any good new ≡ (list_any good old || (nat_lt number before && good number))
 noted_one good old new number before h is = ap (list_any good) is ∙ any_inserted good old number ∙ ap (λ b. list_any good old || (b && good number)) (sym (lt-true number before h))
 
-pub noted_none : (good : ℕ → Bool) (old : List ℕ) (number before : ℕ) → before ≤ number → list_any good old ≡ (list_any good old || (nat_lt number before && good number))
-noted_none good old number before h = or-false (list_any good old) ∙ ap (λ b. list_any good old || (b && good number)) (sym (lt-false number before h))
-  where
-    or-false : (b : Bool) → b ≡ (b || false)
-    or-false true = refl
-    or-false false = refl
-
 pub noted_more : (good : ℕ → Bool) (initial now new : List ℕ) (numbers : List FactId) (i before : ℕ) (number d : FactId) → i < length numbers → number ≡ get_or numbers i d → list_any good now ≡ (list_any good initial || list_any (passes_below before good) (take i numbers)) → list_any good new ≡ (list_any good now || (nat_lt number.0 before && good number.0)) → list_any good new ≡ (list_any good initial || list_any (passes_below before good) (take (i + 1) numbers))
 noted_more good initial now new numbers i before number d within is so_far step =
     let more : list_any (passes_below before good) (take (i + 1) numbers) ≡ (list_any (passes_below before good) (take i numbers) || passes_below before good (get_or numbers i d)) = list_any_more (passes_below before good) numbers i d within in

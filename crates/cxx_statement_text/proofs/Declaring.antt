@@ -1,25 +1,21 @@
 -- The objects of declarations, by the nodes of their declarators.
-use Rattle.std.proofs.Common.{◌≡◌, ◌<◌, ℕ, ℤ, Bool, true, false, List, [], ◌∷◌, ◌++◌, length, Option, Some, None, option_map, refl, ap, sym, subst, ◌∙◌, arith}
+use Rattle.std.proofs.Common.{◌≡◌, ◌<◌, ℕ, ℤ, Bool, true, false, List, [], ◌∷◌, length, Option, Some, None, refl, ap, sym, subst, ◌∙◌, arith}
 use Rattle.std.specs.Prelude.{flat_map}
 use Rattle.std.specs.List.{slice_get}
-use Rattle.cxx_model.specs.declared.tree.Node.{Node}
-use Rattle.cxx_model.specs.declared.types.FactId.{FactId}
 use Rattle.cxx_model.specs.declared.types.TreeId.{TreeId}
 use Rattle.cxx_page.specs.Sheets.{put, put_lines, Sheet}
 use Rattle.cxx_page.proofs.Put.{put_none}
-use Rattle.cxx_phrase_text.specs.Named.{NamedState, trees_of, type_for}
+use Rattle.cxx_phrase_text.specs.Named.{NamedState, trees_of}
 use Rattle.cxx_phrase_text.specs.Phrases.{initializer_words}
 use Rattle.cxx_phrase_text.specs.Written.{initializer_at}
-use Rattle.cxx_reading.specs.Declarators.{no_cv}
-use Rattle.cxx_reading.specs.Plain.{target_or, type_or_void}
 use Rattle.cxx_reading.specs.Trees.{CxxTree}
-use Rattle.cxx_reading.specs.Words.{Word, declared, name_word}
-use Rattle.cxx_tree.specs.Arena.{AreTreesBelow, tree_in, tree_over, trees_in}
+use Rattle.cxx_reading.specs.Words.{Word}
+use Rattle.cxx_tree.specs.Arena.{AreTreesBelow, trees_in}
 use Rattle.cxx_tree.specs.Held.{Held, tree, trees}
 use Rattle.cxx_tree.proofs.Arenas.{below_later}
-use Rattle.cxx_statement_text.specs.Objects.{first_in, first_initializer, first_name, initializers_in, is_static, object_words, printed_in}
+use Rattle.cxx_statement_text.specs.Objects.{first_initializer, first_name, initializers_in, is_static, printed_in}
 use Rattle.cxx_statement_text.specs.Statements.{Lines, declaration_lines, first_objects, has_several, is_first_static, object_lines, one_object, several_lines}
-use Rattle.cxx_statement_text.specs.Written.{AreTrees, facts_in, number_in, object_line_at, parts_in, scene_of}
+use Rattle.cxx_statement_text.specs.Written.{AreTrees, facts_in, object_line_at, parts_in, scene_of}
 use Rattle.cxx_statement_text.proofs.Lining.{lines_none}
 use Rattle.cxx_statement_text.proofs.Parts.{objects_are}
 
@@ -29,22 +25,6 @@ earlier_below number count children all within = below_later number count childr
 -- ---- how it is written
 
 module _ (named : NamedState) (value : CxxTree → ℤ) where
-  here : (held : Held) (node : Node) (number : TreeId) → held ≡ named.held → tree held number ≡ tree_over held.types (trees held) node → tree named.held number ≡ tree_over named.held.types (trees_of named) node
-  here held node number same is = subst (λ (h : Held). tree h number ≡ tree_over h.types (trees h) node) same is
-
-  first_here : (held : Held) (number : TreeId) (found : Option FactId) (first : ℕ) → held ≡ named.held → option_map number_in found ≡ first_in (facts_in held) (tree held number) → first ≡ target_or (option_map number_in found) → first ≡ target_or (first_in (facts_in named.held) (tree named.held number))
-  first_here held number found first same is it = it ∙ ap target_or (is ∙ ap (λ (h : Held). first_in (facts_in h) (tree h number)) same)
-
-  abbrev made : ℕ → CxxTree → List Word
-  made first t = declared named.tags no_cv (type_or_void t.label.of) (name_word (named.name first) ∷ []) ++ first_initializer (scene_of named value) (initializers_in t.children)
-
-  pub object_is : (held : Held) (node : Node) (number : TreeId) (found : Option FactId) (first : ℕ) (parts : List TreeId) → held ≡ named.held → tree held number ≡ tree_over held.types (trees held) node → option_map number_in found ≡ first_in (facts_in held) (tree held number) → first ≡ target_or (option_map number_in found) → parts ≡ node.children
-      → declared named.tags no_cv (type_for named node.of) (name_word (named.name first) ∷ []) ++ first_initializer (scene_of named value) (initializers_in (parts_in named.held parts)) ≡ object_words (scene_of named value) false (tree_in (trees_of named) number.0)
-  object_is held node number found first parts same is found_is it are =
-      ap (λ (ns : List TreeId). declared named.tags no_cv (type_for named node.of) (name_word (named.name first) ∷ []) ++ first_initializer (scene_of named value) (initializers_in (parts_in named.held ns))) are
-      ∙ ap (made first) (sym (here held node number same is))
-      ∙ ap (λ n. made n (tree named.held number)) (first_here held number found first same found_is it)
-
   -- ---- initializers
 
   abbrev words_of : Option CxxTree → List Word

@@ -4,3 +4,4 @@ pub mod Statements
 pub mod Views
 pub mod Making
 pub mod Knot
+pub mod Known

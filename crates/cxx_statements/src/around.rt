@@ -1,12 +1,13 @@
 //! What stands around a statement, and what was read with it.
 
-use cxx_model::{Listed, TreeId, TreeIdList, TypeId};
+use crate::values::Values;
+use cxx_model::{TreeId, TreeIdList, TypeId};
 
 /// The switch to which labels belong: the promoted type of what it is over, and the labels so far (6.4.2).
 #[derive(Drop)]
 pub(crate) struct Switch {
     pub of: TypeId,
-    pub values: Listed<i128>,
+    pub values: Values,
     pub has_default: bool,
 }
 

@@ -1,28 +1,24 @@
 //! Labels (6.1).
 
-ghost use Rattle.std.specs.Prelude.{◌≡◌, ◌++◌, [], ◌∷◌, IfOk};
+ghost use Rattle.std.specs.Prelude.{◌≡◌, ◌++◌, [], ◌∷◌, IfOk, codes};
 ghost use Rattle.cxx_reading.specs.Reads.{place_ahead};
+ghost use Rattle.cxx_statements.specs.Productions as productions;
 ghost use Rattle.cxx_statements.specs.Statements as definition;
 ghost use Rattle.cxx_statements.specs.Views.{IsAround, IsLabelled, IsSeveral, IsSeveralTurn, IsStated, IsSwitch, around_of, labelled_of, several_of, several_turn, stated_of, switch_of};
-ghost use Rattle.cxx_syntax.specs.Asking.{AnyKnown, itself};
+ghost use Rattle.cxx_syntax.specs.Asking.{AnyKnown, IsTreeKnown, itself};
+ghost use Rattle.cxx_syntax.specs.Making.{GrowsTree};
 ghost use Rattle.cxx_syntax.specs.Reading.{IsRead};
-ghost use Rattle.cxx_tree.specs.Held.{meaning};
+ghost use Rattle.cxx_tree.specs.Held.{meaning, tree};
 
 use crate::around::{Around, Labelled, Several, Stated, Switch};
 use crate::making::{one_tree, with_tree, word_tree};
 use crate::parts::{Parts, Purpose, Target};
 use crate::production;
 use crate::tests::is_label;
-use cxx_model::{FaultText, Listed, Stop, keyword, punct};
+use cxx_model::{FaultText, Listed, Stop, TreeId, keyword, punct};
 use cxx_syntax::{Cursor, Turn, is_keyword};
 use cxx_tree::State;
 use std::alloc::AllocError;
-
-fn has_value(value: i128, values: &[i128]) -> bool
-    ensures { result ≡ definition.has_value value values.now }
-{
-    values.contains(&value)
-}
 
 // No two labels of a switch have one value (6.4.2).
 #[tactic(auto, using(cxx_syntax::proofs::Kept::later_refl), unfolding(crate::specs::Statements::fresh_label))]
@@ -37,7 +33,7 @@ fn fresh_label(
 {
     let _ = state;
     let _ = cursor;
-    if has_value(value, switch.values.as_slice()) {
+    if switch.values.has(value) {
         return Err(Stop::Fault(from.faulty(FaultText::OperandsDoNotFit)?));
     }
     Ok(())
@@ -46,13 +42,25 @@ fn fresh_label(
 fn with_label(value: i128, switch: Switch) -> Result<Switch, AllocError>
     ensures { IfOk result (λ more. more ≡ record switch { values = switch.values ++ value ∷ [] }) }
 {
-    let mut values = switch.values;
-    values.push(value)?;
     Ok(Switch {
         of: switch.of,
-        values,
+        values: switch.values.with(value)?,
         has_default: switch.has_default,
     })
+}
+
+// The tree of a label with its constant (6.1).
+fn case_tree(
+    state: &mut State,
+    constant: TreeId,
+    from: &Cursor<'_>,
+    to: &Cursor<'_>,
+) -> Result<TreeId, Stop>
+    requires { IsTreeKnown state.old constant }
+    ensures { GrowsTree state.old state.new result (definition.word_tree productions.label (codes "case") (tree state.old constant ∷ []) from.now to.now) }
+{
+    let all = one_tree(from.alloc(), constant)?;
+    word_tree(state, production::LABEL, b"case", all, from, to)
 }
 
 #[tactic(auto, using(cxx_syntax::proofs::Kept::later_trans, cxx_syntax::proofs::Kept::later_refl, crate::proofs::Kept::tree_kept, crate::proofs::Kept::tree_later, cxx_syntax::proofs::Kept::type_kept, cxx_syntax::proofs::Kept::type_later), unfolding(crate::specs::Statements::case_of))]
@@ -74,8 +82,7 @@ fn case_of<P: Parts>(
     let value = parts.value(state, constant, room)?;
     fresh_label(state, &from, cursor, value, &switch)?;
     cursor.punct(punct::COLON)?;
-    let all = one_tree(cursor.alloc(), constant)?;
-    let tree = word_tree(state, production::LABEL, b"case", all, &from, cursor)?;
+    let tree = case_tree(state, constant, &from, cursor)?;
     Ok(Labelled {
         tree,
         switch: with_label(value, switch)?,

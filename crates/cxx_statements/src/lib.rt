@@ -13,6 +13,7 @@ mod production;
 mod reader;
 mod simple;
 mod tests;
+mod values;
 mod within;
 
 pub use knot::read_body;

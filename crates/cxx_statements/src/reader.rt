@@ -17,6 +17,7 @@ use crate::parts::{Parts, Target};
 use crate::production;
 use crate::simple::{empty_in, flat_in};
 use crate::tests::begins_statement;
+use crate::values::Values;
 use crate::within::Within;
 use cxx_model::{Listed, Stop, TreeId, TreeIdList, TypeId, keyword, punct};
 use cxx_syntax::{Cursor, Turn, is_keyword, is_punct};
@@ -63,7 +64,7 @@ fn in_a_switch(alloc: Global, of: TypeId, around: &Around) -> Around
         breaks: true,
         switch: Some(Switch {
             of,
-            values: Listed::new(alloc),
+            values: Values::new(alloc),
             has_default: false,
         }),
     }

@@ -24,7 +24,3 @@ word_of_name destructor = []
 
 unfoldable pub stem_of_name : CxxName → List ℕ
 stem_of_name name = stem (word_of_name name)
-
--- the stem of a tag, by which a constructor is told from others
-abbrev pub tag_stem : List ℕ
-tag_stem = codes "ctor"

@@ -113,10 +113,6 @@ all_strings zero fresh (b ∷ text) =
 
 -- ---- what is written
 
-some_next : (string next : List ℕ) → spelling_of false string ≡ Some (Good Text) → with_next string next ≡ string ++ 32 ∷ next
-some_next [] next e = let none = nothing_spells false in absurd cc
-some_next (b ∷ string) next e = refl
-
 joined : (string next : List ℕ) (others : List (List ℕ)) → spaced ((string ++ 32 ∷ next) ∷ others) ≡ spaced (string ∷ next ∷ others)
 joined string next [] = refl
 joined string next (other ∷ others) = append_assoc string (32 ∷ next) (32 ∷ spaced (other ∷ others))

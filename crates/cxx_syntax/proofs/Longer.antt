@@ -5,18 +5,18 @@ use Rattle.cxx_model.specs.declared.stop.Stop.{Stop}
 use Rattle.cxx_model.specs.declared.stop.Stop.TheVariants as stop
 use Rattle.cxx_model.specs.declared.types.TreeId.{TreeId}
 use Rattle.cxx_model.specs.declared.types.TypeId.{TypeId}
-use Rattle.cxx_model.specs.Stops.{Answer, Stops}
+use Rattle.cxx_model.specs.Stops.{Stops}
 use Rattle.cxx_model.specs.Types.Numbers.{type_at, AreTypesBelow}
 use Rattle.cxx_model.specs.Types.Trees.{CxxType}
 use Rattle.cxx_reading.specs.Declarators as definition
-use Rattle.cxx_reading.specs.Reads.{Ahead, Got, got}
+use Rattle.cxx_reading.specs.Reads.{Ahead, got}
 use Rattle.cxx_reading.specs.State.{CxxState}
 use Rattle.cxx_reading.specs.Syntax.{with_parameter}
 use Rattle.cxx_reading.specs.Trees.{CxxTree}
 use Rattle.cxx_syntax.specs.declared.declarator.ParameterTypes.{ParameterTypes}
 use Rattle.cxx_syntax.specs.Reading.{IsRead}
 use Rattle.cxx_syntax.specs.Views.{AreParameters, parameters_of, types_in}
-use Rattle.cxx_tree.specs.Arena.{AreTreesBelow, tree_in, trees_in}
+use Rattle.cxx_tree.specs.Arena.{tree_in, trees_in}
 use Rattle.cxx_tree.specs.Held.{Held, meaning, trees, type_of}
 use Rattle.cxx_tree.specs.Later.{Later}
 use Rattle.cxx_syntax.proofs.Kept as kept

@@ -1,5 +1,5 @@
 -- Names with their qualifiers, as they are passed.
-use Rattle.std.specs.Prelude.{ℕ, zero, suc, ◌≡◌, ◌+◌, ◌-◌, ◌≤◌, ◌++◌, Bool, true, false, not, List, [], ◌∷◌, length, Option, None, refl}
+use Rattle.std.specs.Prelude.{ℕ, suc, ◌≡◌, ◌+◌, ◌-◌, ◌≤◌, ◌++◌, Bool, true, false, not, List, [], ◌∷◌, length, Option, refl}
 use Rattle.std.specs.List.{slice_get}
 use Rattle.std.proofs.Common.{ap, sym, ◌∙◌, arith}
 use Rattle.std.proofs.lemmas.Bool.{not-true}
@@ -9,11 +9,11 @@ use Rattle.cxx_model.specs.declared.place.Place.{Place}
 use Rattle.cxx_model.specs.declared.punct.TheConstants as punct
 use Rattle.cxx_model.specs.declared.token.TokenKind.{TokenKind}
 use Rattle.cxx_model.specs.declared.token.TokenKind.TheVariants as kind
-use Rattle.cxx_model.specs.Text.Lexemes.{Lexeme, kind_of, place_of, spelling_ahead}
-use Rattle.cxx_reading.specs.Reads.{Ahead, behind, count_ahead, kind_ahead, place_ahead, word_ahead}
+use Rattle.cxx_model.specs.Text.Lexemes.{Lexeme, kind_of}
+use Rattle.cxx_reading.specs.Reads.{Ahead, behind, count_ahead, kind_ahead}
 use Rattle.cxx_reading.specs.Specifiers.{path_of}
-use Rattle.cxx_reading.specs.Tokens.{Passed, behind_name, is_name, is_plain_name, is_punct, passed_from, path_ahead, token_in}
-use Rattle.cxx_reading.specs.Trees.{CxxPath, CxxPathPart, last_part}
+use Rattle.cxx_reading.specs.Tokens.{Passed, is_name, is_plain_name, is_punct, passed_from, path_ahead, token_in}
+use Rattle.cxx_reading.specs.Trees.{CxxPathPart, last_part}
 use Rattle.cxx_model.specs.declared.tree.PathPart.{PathPart}
 use Rattle.cxx_tree.specs.Arena.{path_part_at, path_parts_at}
 use Rattle.cxx_syntax.specs.Passing.{IsCollecting, IsPassing, goes_on, part_or, part_there, passed_at}
@@ -146,32 +146,9 @@ plain_parts : (last : Place) (tokens : List Lexeme) → is_name (kind_of tokens)
 plain_parts last tokens name alone =
     parts_more true last tokens name ∙ ap (λ ps. part_there true (ahead_at last tokens) ++ ps) (parts_end false (behind (ahead_at last tokens)).last (behind (ahead_at last tokens)).tokens alone)
 
-plain_rest : (last : Place) (tokens : List Lexeme) → is_name (kind_of tokens) ≡ true → is_punct punct.SCOPE (kind_ahead (behind (ahead_at last tokens))) ≡ false
-    → (passed_from true last tokens).rest ≡ behind (ahead_at last tokens)
-plain_rest last tokens name alone =
-    rest_more true last tokens name ∙ rest_ends false (behind (ahead_at last tokens)).last (behind (ahead_at last tokens)).tokens alone
-
 pub plain_path : (ahead : Ahead) → is_plain_name ahead ≡ true → path_ahead ahead ≡ path_of (token_in ahead.tokens)
 plain_path ahead plain =
     let both = and_true (is_name (kind_ahead ahead)) (not (is_punct punct.SCOPE (kind_ahead (behind ahead)))) plain in
     let alone : is_punct punct.SCOPE (kind_ahead (behind ahead)) ≡ false = not-true (is_punct punct.SCOPE (kind_ahead (behind ahead))) both.1 in
     let no : is_punct punct.SCOPE (kind_ahead ahead) ≡ false = name_is_no_punct punct.SCOPE (kind_ahead ahead) both.0 in
     rw no (ap (λ (ps : List CxxPathPart). record { global = false; parts = ps }) (plain_parts ahead.last ahead.tokens both.0 alone))
-
-abbrev pub path_of_word : List ℕ → Place → CxxPath
-path_of_word word place = record { global = false; parts = record { word = word; place = place; arguments = None } ∷ [] }
-
-word_of_token : (tokens : List Lexeme) → path_of (token_in tokens) ≡ path_of_word (spelling_ahead tokens) (place_of tokens)
-word_of_token [] = refl
-word_of_token (token ∷ tokens) = refl
-
--- the same with what a cursor tells of it
-pub plain_word : (ahead : Ahead) → is_plain_name ahead ≡ true → path_ahead ahead ≡ path_of_word (word_ahead ahead) (place_ahead ahead)
-plain_word ahead plain = plain_path ahead plain ∙ word_of_token ahead.tokens
-
-pub plain_behind : (ahead : Ahead) → is_plain_name ahead ≡ true → behind_name ahead ≡ behind ahead
-plain_behind ahead plain =
-    let both = and_true (is_name (kind_ahead ahead)) (not (is_punct punct.SCOPE (kind_ahead (behind ahead)))) plain in
-    let alone : is_punct punct.SCOPE (kind_ahead (behind ahead)) ≡ false = not-true (is_punct punct.SCOPE (kind_ahead (behind ahead))) both.1 in
-    let no : is_punct punct.SCOPE (kind_ahead ahead) ≡ false = name_is_no_punct punct.SCOPE (kind_ahead ahead) both.0 in
-    ap (λ (b : Bool). (passed_from (not b) ahead.last ahead.tokens).rest) no ∙ plain_rest ahead.last ahead.tokens both.0 alone

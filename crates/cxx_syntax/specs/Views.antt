@@ -5,7 +5,7 @@ use Rattle.cxx_model.specs.declared.types.TypeId.{TypeId}
 use Rattle.cxx_model.specs.Facts.Declarations.{type_of_option}
 use Rattle.cxx_model.specs.Facts.Fitted.{IsTypeNumberBelow}
 use Rattle.cxx_model.specs.Text.Lexemes.{Lexeme}
-use Rattle.cxx_model.specs.Types.Trees.{CxxType, CxxBound, unknown_bound, number_bound}
+use Rattle.cxx_model.specs.Types.Trees.{CxxType}
 use Rattle.cxx_model.specs.Types.Numbers.{type_at, AreTypesBelow}
 use Rattle.cxx_reading.specs.Declarators as definition
 use Rattle.cxx_reading.specs.Declarators.{pointer_layer, reference_layer, array_layer, function_layer, adjusted_types}
@@ -21,7 +21,7 @@ use Rattle.cxx_syntax.specs.declared.name.NameToken.{NameToken}
 use Rattle.cxx_syntax.specs.declared.specifiers.Specifiers.{Specifiers}
 use Rattle.cxx_syntax.specs.declared.turn.Turn.{Turn}
 use Rattle.cxx_syntax.specs.declared.turn.Turn.TheVariants as turn
-use Rattle.cxx_tree.specs.Arena.{AreTreesBelow, trees_in}
+use Rattle.cxx_tree.specs.Arena.{AreTreesBelow, bound_of, trees_in}
 use Rattle.cxx_tree.specs.Held.{Held, trees}
 
 abbrev pub lexeme_at : Spelled → Lexeme
@@ -65,10 +65,6 @@ IsSpecifiersTurn held = IsTurn (AreSpecifiers held) (AreSpecifiers held)
 abbrev pub types_in : List CxxType → List TypeId → List CxxType
 types_in types [] = []
 types_in types (n ∷ others) = type_at types n.0 ∷ types_in types others
-
-abbrev pub bound_of : Option ℕ → CxxBound
-bound_of None = unknown_bound
-bound_of (Some n) = number_bound n
 
 abbrev pub layer_in : List CxxType → Layer → definition.Layer
 layer_in types (layer.Pointer cv) = pointer_layer cv

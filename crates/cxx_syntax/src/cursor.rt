@@ -126,13 +126,14 @@ pub fn is_end(kind: TokenKind) -> bool
 }
 
 // What may stand behind `::` and is not read yet (14.2, 5.1, 5.3.4).
-fn is_unbuilt_part(kind: TokenKind) -> bool
-    ensures { result ≡ definition.is_unbuilt_part kind }
+fn is_unbuilt_part(is_first: bool, kind: TokenKind) -> bool
+    ensures { result ≡ definition.is_unbuilt_part is_first kind }
 {
     is_keyword(keyword::TEMPLATE, kind)
         || (is_keyword(keyword::OPERATOR, kind)
             || (is_punct(punct::TILDE, kind)
-                || (is_keyword(keyword::NEW, kind) || is_keyword(keyword::DELETE, kind))))
+                || (is_first
+                    && (is_keyword(keyword::NEW, kind) || is_keyword(keyword::DELETE, kind)))))
 }
 
 // Some parts, and one more where one is wanted.
@@ -424,11 +425,18 @@ impl<'a> Cursor<'a> {
         })
     }
 
-    // No part of a name stands there: what may stand behind `::` and is not read yet, or no form of the language (14.2, 5.1).
-    fn no_part_there(&self) -> Result<Box<Fault>, AllocError>
-        ensures { IfOk result (λ at. Faulty at.value ≡ fault (place_ahead self.now) (if definition.is_unbuilt_part (kind_ahead self.now) then says.NotBuilt else says.SyntaxError)) }
+    // Whether `::` stands ahead, and no name behind it.
+    fn lacks_first_part(&self) -> bool
+        ensures { result ≡ definition.lacks_first_part self.now }
     {
-        if is_unbuilt_part(self.kind()) {
+        is_punct(punct::SCOPE, self.kind()) && !is_name(self.kind_behind())
+    }
+
+    // No part of a name stands there: what may stand behind `::` and is not read yet, or no form of the language (14.2, 5.1).
+    fn no_part_there(&self, is_first: bool) -> Result<Box<Fault>, AllocError>
+        ensures { IfOk result (λ at. Faulty at.value ≡ fault (place_ahead self.now) (if definition.is_unbuilt_part is_first (kind_ahead self.now) then says.NotBuilt else says.SyntaxError)) }
+    {
+        if is_unbuilt_part(is_first, self.kind()) {
             self.not_built()
         } else {
             self.refused()
@@ -443,7 +451,8 @@ impl<'a> Cursor<'a> {
     {
         let _ = state;
         if !self.is_whole_name() {
-            return Err(Stop::Fault(self.behind_name().no_part_there()?));
+            let is_first = self.lacks_first_part();
+            return Err(Stop::Fault(self.behind_name().no_part_there(is_first)?));
         }
         let path = self.path()?;
         self.pass_name();

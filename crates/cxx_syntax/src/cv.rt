@@ -1,4 +1,3 @@
-ghost use Rattle.std.specs.Prelude.{◌≡◌};
 ghost use Rattle.cxx_reading.specs.Syntax as definition;
 ghost use Rattle.cxx_syntax.specs.Reading.{Takes};
 ghost use Rattle.cxx_syntax.specs.Views.{turn_at};

@@ -10,11 +10,11 @@ ghost use Rattle.cxx_syntax.specs.Asking.{AnyKnown, itself};
 ghost use Rattle.cxx_syntax.specs.Outlines.{names_type};
 ghost use Rattle.cxx_syntax.specs.Reading.{IsRead};
 ghost use Rattle.cxx_syntax.specs.Suffixes.{IsSuffixed, IsSuffixedTurn, suffixed_of, suffixed_turn};
-ghost use Rattle.cxx_syntax.specs.Views.{IsConstantOption, IsDeclarator, bound_of, declarator_of, name_at};
-ghost use Rattle.cxx_tree.specs.Arena.{path_at};
+ghost use Rattle.cxx_syntax.specs.Views.{IsConstantOption, IsDeclarator, declarator_of, name_at};
+ghost use Rattle.cxx_tree.specs.Arena.{bound_of, path_at};
 ghost use Rattle.cxx_tree.specs.Held.{meaning};
 
-use crate::cursor::{Cursor, is_punct};
+use crate::cursor::{Cursor, is_keyword, is_punct};
 use crate::cv::{cv_at, exceptions_at};
 use crate::declarator::{Declarator, Layer, ParameterTypes};
 use crate::kinds::Kinds;
@@ -187,6 +187,15 @@ pub(crate) fn is_key(number: u8) -> bool
     number == keyword::ENUM || begins_class(number)
 }
 
+// Whether no declarator begins so in brackets: by their end, an ellipsis, or a storage word of parameters (7.1.1, 8.3.5).
+fn is_no_declarator(kind: TokenKind) -> bool
+    ensures { result ≡ shape.is_no_declarator kind }
+{
+    is_punct(punct::RIGHT_PARENTHESIS, kind)
+        || (is_punct(punct::ELLIPSIS, kind)
+            || (is_keyword(keyword::AUTO, kind) || is_keyword(keyword::REGISTER, kind)))
+}
+
 impl<K: Kinds, N: Nested> Reader<'_, K, N> {
     // Whether the name ahead is one of a type (3.4).
     #[tactic(auto, using(crate::proofs::Kept::later_trans, crate::proofs::Kept::later_refl))]
@@ -232,8 +241,7 @@ impl<K: Kinds, N: Nested> Reader<'_, K, N> {
         requires ready { K.is_ready self.now.kinds.now }
         ensures { IsRead itself AnyKnown state.old state.new cursor.now result (shape.is_abstract_list (K.asks self.now.kinds.now self.now.room) (meaning state.old) cursor.now) }
     {
-        let behind = cursor.kind_behind();
-        if is_punct(punct::RIGHT_PARENTHESIS, behind) || is_punct(punct::ELLIPSIS, behind) {
+        if is_no_declarator(cursor.kind_behind()) {
             return Ok(true);
         }
         let mut ahead = cursor.mark();

@@ -29,28 +29,3 @@ pub trait Defaults {
         requires known { of.0 < length (state.old).types }
         ensures { IsRead trees_held AreTreesHeld state.old state.new cursor.new result ((fallback_by self.now) index (type_of state.old of) (meaning state.old) cursor.old) };
 }
-
-/// Reads no default argument.
-pub(crate) struct NoDefaults;
-
-impl Defaults for NoDefaults {
-    ghost use Rattle.cxx_reading.specs.Syntax.{no_fallback};
-
-    ghost fallback_by = { λ self. no_fallback };
-
-    ghost is_open = { λ self. Unit {0} };
-
-    #[tactic(auto, using(crate::proofs::Kept::later_refl))]
-    fn fallback(
-        &self,
-        state: &mut State,
-        cursor: &mut Cursor<'_>,
-        index: usize,
-        of: TypeId,
-    ) -> Result<TreeIdList, Stop> {
-        let _ = state;
-        let _ = index;
-        let _ = of;
-        Err(Stop::Fault(cursor.not_built()?))
-    }
-}

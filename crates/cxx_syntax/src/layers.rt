@@ -6,7 +6,8 @@ ghost use Rattle.cxx_model.specs.Types.Trees.{fundamental};
 ghost use Rattle.cxx_reading.specs.Declarators as definition;
 ghost use Rattle.cxx_reading.specs.Declarators.{declared_type, is_below_one, layer_on, parameter_type, refused_in};
 ghost use Rattle.cxx_syntax.specs.Layering.{footing_of as footing_of_type, footing_on as footing_on_layer, is_bare_void, refused_by};
-ghost use Rattle.cxx_syntax.specs.Views.{AreLayersBelow, IsLayerBelow, bound_of, layer_in, layers_in};
+ghost use Rattle.cxx_syntax.specs.Views.{AreLayersBelow, IsLayerBelow, layer_in, layers_in};
+ghost use Rattle.cxx_tree.specs.Arena.{bound_of};
 ghost use Rattle.cxx_tree.specs.Held.{type_of};
 ghost use Rattle.cxx_tree.specs.Later.{MakesType};
 

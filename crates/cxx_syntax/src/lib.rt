@@ -1,15 +1,13 @@
 //! Readers of declarations: specifiers and declarators, over any user that says what a name is.
 #![tactic(auto)]
 
-mod behind;
-mod constants;
+mod beginnings;
 mod cursor;
 mod cv;
 mod declarator;
 mod declarators;
 mod defaults;
 mod kinds;
-mod knot;
 mod layers;
 mod name;
 mod nested;
@@ -22,16 +20,12 @@ mod steps;
 mod turn;
 mod words;
 
-pub use constants::{
-    begins_operand, begins_unary, continues, is_member_pointer, is_number, literal_at,
-    no_expression,
-};
+pub use beginnings::{begins_operand, begins_unary, is_member_pointer, no_expression};
 pub use cursor::{Cursor, Spelled, is_end, is_keyword, is_name, is_punct};
 pub use declarator::{Declarator, Layer, LayerList, ParameterTypes};
 pub use declarators::joined;
 pub use defaults::Defaults;
 pub use kinds::Kinds;
-pub use knot::{read_declarator, read_specifiers};
 pub use layers::{declared, declared_parameter, is_declared_void, refused};
 pub use name::NameToken;
 pub use nested::Nested;

@@ -1,6 +1,6 @@
 //! The trees of what is read.
 
-ghost use Rattle.std.specs.Prelude.{◌≡◌, ◌<◌, ◌-◌, [], length, None, IfOk, codes};
+ghost use Rattle.std.specs.Prelude.{◌≡◌, ◌<◌, ◌-◌, length, None, IfOk};
 ghost use Rattle.std.specs.List.{slice_get};
 ghost use Rattle.std.specs.Option.{option_copied};
 ghost use Rattle.cxx_reading.specs.Productions as production;
@@ -29,8 +29,6 @@ pub(crate) mod production {
     pub const ELABORATED: u8 = 9;
 
     pub const ENUMERATION_LIST: u8 = 11;
-
-    pub const LITERAL: u8 = 34;
 
     pub const PARAMETER: u8 = 54;
 }

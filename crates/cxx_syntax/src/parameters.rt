@@ -3,7 +3,7 @@
 ghost use Rattle.std.specs.Prelude.{◌≡◌, ◌++◌, ◌<◌, ◌∷◌, [], length, IfOk, IfErr, false};
 ghost use Rattle.cxx_model.specs.declared.stop.Stop.TheVariants as stop;
 ghost use Rattle.cxx_reading.specs.Syntax as definition;
-ghost use Rattle.cxx_syntax.specs.Asking.{AnyKnown, IsTypeKnown, itself};
+ghost use Rattle.cxx_syntax.specs.Asking.{IsTypeKnown};
 ghost use Rattle.cxx_syntax.specs.Making.{GrowsTree};
 ghost use Rattle.cxx_syntax.specs.Parameters.{IsParametersTurn, ellipsis_alone as ellipsis_alone_at, parameter_added as parameter_added_by, parameter_behind as parameter_behind_by, parameter_declared as parameter_declared_by, parameter_typed as parameter_typed_by, parameters_turn};
 ghost use Rattle.cxx_syntax.specs.Reading.{IsRead};

@@ -1,7 +1,7 @@
 //! Whether parameters stand behind a bracket (8.2): told by the shape of what stands there and by the kinds of names.
 
 ghost use Rattle.std.specs.Prelude.{◌≡◌, ◌<◌, ◌≤◌, ◌+◌, ◌^◌, IfOk, false};
-ghost use Rattle.cxx_reading.specs.Reads.{count_ahead, give, repeat};
+ghost use Rattle.cxx_reading.specs.Reads.{count_ahead, repeat};
 ghost use Rattle.cxx_reading.specs.Shapes as shape;
 ghost use Rattle.cxx_syntax.specs.Asking.{AnyKnown, itself};
 ghost use Rattle.cxx_syntax.specs.Outlines.{HasFewerPrefix, fits_of, outline_of, prefix_turn, run_in, run_turn, suffix_turn};

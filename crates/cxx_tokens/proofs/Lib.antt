@@ -3,4 +3,5 @@ pub mod Pushes
 pub mod Scans
 pub mod Steps
 pub mod Lines
+pub mod Shorter
 pub mod Signs

@@ -14,17 +14,11 @@ use Rattle.cxx_tokens.specs.MarkerWords.{makes_marker}
 use Rattle.cxx_tokens.proofs.Scans.{same_by}
 use Rattle.cxx_tokens.proofs.Pieces.{run_all, run_ends}
 
-digit_is_word : (b : ℕ) → is_ascii_digit b ≡ true → is_word b ≡ true
-digit_is_word b h = grind (arith, nat_tests)
-
 blank_no_newline : (b : ℕ) → is_blank b ≡ true → is_newline b ≡ false
 blank_no_newline b h = grind (arith, nat_tests)
 
 word_no_newline : (b : ℕ) → is_word b ≡ true → is_newline b ≡ false
 word_no_newline b h = grind (arith, nat_tests)
-
-word_no_blank : (b : ℕ) → is_word b ≡ true → is_blank b ≡ false
-word_no_blank b h = grind (arith, nat_tests)
 
 none_of : (test : ℕ → Bool) → ((b : ℕ) → test b ≡ true → is_newline b ≡ false) → (text : List ℕ) → list_all test text ≡ true → list_any is_newline text ≡ false
 none_of test never [] all = refl
@@ -154,9 +148,6 @@ directive_behind blanks word tail white all ends black marks = record {
     nothing text (c ∷ tail) (suc j) ends low high = marker_is_none text word c (take j tail) all ends marks
 
 -- ---- as the code cuts it
-
-first_black : (rest : List ℕ) → starts is_blank (drop (prefix_len is_blank rest) rest) ≡ false
-first_black rest = run_ends is_blank rest
 
 abbrev behind_blanks : List ℕ → List ℕ
 behind_blanks rest = drop (prefix_len is_blank rest) rest

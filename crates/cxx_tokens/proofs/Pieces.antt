@@ -1,20 +1,19 @@
 -- The longest front of a text by its slices, as the code finds it.
-use Rattle.std.proofs.Common.{◌≡◌, ◌≤◌, ◌<◌, ℕ, zero, suc, ◌+◌, ◌-◌, Bool, true, false, not, ◌&&◌, ◌||◌, ◌==◌, cond, List, [], ◌∷◌, length, get_or, take, drop, map, Option, Some, None, unwrap_or, refl, eq-eqb, sym, ap, ◌∙◌, subst, ⊎_elim, arith, take-append-drop, length-take-le, eqb-true, le-leb, bytes_eq}
-use Rattle.std.proofs.Math.Seq.{drop-cons}
+use Rattle.std.proofs.Common.{◌≡◌, ◌≤◌, ◌<◌, ℕ, zero, suc, ◌+◌, ◌-◌, Bool, true, false, ◌&&◌, ◌||◌, ◌==◌, cond, List, [], ◌∷◌, length, get_or, take, drop, Option, Some, None, unwrap_or, refl, sym, ap, ◌∙◌, subst, ⊎_elim, arith, take-append-drop, length-take-le, eqb-true, le-leb}
 use Rattle.std.proofs.lemmas.List.{take_rest}
-use Rattle.std.proofs.lemmas.Bool.{or_cases, or_left, or_parts, and_parts, and_left, and_right, both_ways, cases_lt, cases_Bool}
+use Rattle.std.proofs.lemmas.Bool.{or_cases, or_left, or_parts, and_parts, and_right, both_ways, cases_lt}
 use Rattle.std.proofs.lemmas.Bool.Decides.{nat_tests}
 use Rattle.std.proofs.lemmas.List.Sums.{prefix_len-le-length}
 use Rattle.std.specs.List.{list_all, prefix_len}
 use Rattle.std.specs.Char.{is_ascii_digit}
 use Rattle.cxx_model.specs.declared.token.TokenReason.TheVariants as reason
-use Rattle.cxx_model.specs.Text.Spelling.{Spelled, Blank, Ill, alone, is_white, is_word, begins_word, begins_number, is_number_rest, is_quote, word_kind, number_kind, operator, number_beside, literal, within_line, hash, slash, backslash, percent, spelling_of}
-use Rattle.cxx_model.specs.Text.Continuing.{starts, number_goes_on, last_of, begins_comment, is_colon, comment, BeginsOperator, IsLongestBy}
+use Rattle.cxx_model.specs.Text.Spelling.{Spelled, Blank, Ill, alone, is_white, is_word, begins_word, begins_number, is_number_rest, is_quote, word_kind, number_kind, operator, literal, within_line, hash, slash, backslash, percent, spelling_of}
+use Rattle.cxx_model.specs.Text.Continuing.{starts, number_goes_on, last_of, comment, BeginsOperator, IsLongestBy}
 use Rattle.cxx_model.specs.Text.Tokens.{IsLongest}
 use Rattle.cxx_model.proofs.Fronts.{IsSpelled, operator_alone}
 use Rattle.cxx_model.proofs.Spellings.{blank_front, word_longest, number_front, operator_front, longest_under, longest_of, longest_from, spells_narrow, spells_word, spells_hash, spells_slash, spells_backslash, spells_percent, quote_is_no_word}
 use Rattle.cxx_tokens.specs.declared.piece.Spelled as code
-use Rattle.cxx_tokens.specs.Pieces.{spelled, spelled_option, operator_of, operator_at, begins_numeral, begins_wide, begins_with, IsOperatorText, IsOtherText}
+use Rattle.cxx_tokens.specs.Pieces.{spelled, spelled_option, operator_of, operator_at, begins_numeral, begins_wide, begins_with, IsOperatorText}
 
 -- what stands behind the first bytes, as the code cuts it
 abbrev pub behind_first : List ℕ → List ℕ
@@ -137,11 +136,6 @@ wide_quote [] h = absurd cc
 wide_quote (b ∷ []) h = absurd (both_ways _ (and_right (b == 76) false refl) h)
 wide_quote (b ∷ c ∷ rest) h = (and_parts (b == 76) (is_quote c) h).1
 
-pub wide_long : (text : List ℕ) → begins_wide text ≡ true → 2 ≤ length text
-wide_long [] h = absurd cc
-wide_long (b ∷ []) h = absurd (both_ways _ (and_right (b == 76) false refl) h)
-wide_long (b ∷ c ∷ rest) h = omega arith
-
 -- ---- comments and lines
 
 slash_of_line : (t : List ℕ) → slash (47 ∷ t) ≡ within_line t
@@ -186,10 +180,6 @@ alone_two fresh b c rest spells same = longest_of fresh (b ∷ c ∷ rest) 2 spe
 
 -- ---- `#`
 
-pub not_fresh : (fresh : Bool) → not fresh ≡ true → fresh ≡ false
-not_fresh true h = absurd cc
-not_fresh false h = refl
-
 hash_stale : (t : List ℕ) → hash false t ≡ alone t (Ill reason.Directive)
 unfolding hash
 hash_stale t = refl
@@ -207,9 +197,6 @@ hash_at fresh (b ∷ rest) n kind h e found =
     under_one fresh b rest (hash true) n kind (λ t. ap (λ x. spelling_of fresh (x ∷ t)) first ∙ spells_hash fresh t ∙ ap (λ f. hash f t) e) found
 
 -- ---- a backslash
-
-begins_universal : ℕ → Bool
-begins_universal b = b == 117 || b == 85
 
 backslash_more : (c : ℕ) (t : List ℕ) → (c == 117 || c == 85) ≡ true → backslash (c ∷ t) ≡ alone t (Ill reason.UniversalName)
 backslash_more c t h = rw h refl
@@ -297,60 +284,9 @@ one_at fresh [] answer otherwise begins none third is = absurd begins
 one_at fresh (b ∷ rest) (Some spells) otherwise begins none third is = one_in fresh b rest (spelled spells) begins none third is
 one_at fresh (b ∷ rest) None otherwise begins none third is = let one = always_one b rest in absurd (cc (is, one.1))
 
--- ---- the first byte of a text
-
-pub starts_at : (test : ℕ → Bool) (text : List ℕ) → 0 < length text → test (get_or text 0 0) ≡ true → starts test text ≡ true
-starts_at test [] some h = absurd (omega arith)
-starts_at test (b ∷ rest) some h = h
-
-pub other_text : (text : List ℕ) → 0 < length text → is_white (get_or text 0 0) ≡ false → begins_word (get_or text 0 0) ≡ false → begins_numeral text ≡ false → is_quote (get_or text 0 0) ≡ false → IsOtherText text
-other_text [] some black other number quote = absurd (omega arith)
-other_text (b ∷ rest) some black other number quote = record { black = black; no_word = other; no_number = number; no_quote = quote }
-
-pub first_is : (text : List ℕ) (first : ℕ) → IsOtherText text → get_or text 0 0 ≡ first → begins_with first text ≡ true
-first_is [] first other e = absurd other
-first_is (b ∷ rest) first other e = eq-eqb b first e
-
-not_equal : (b c : ℕ) → (b ≡ c → ⊥) → (b == c) ≡ false
-not_equal b c h = ⊎_elim (λ (yes_it : (b == c) ≡ true). absurd (h (eqb-true b c yes_it))) (λ (not_it : (b == c) ≡ false). not_it) (cases_Bool (b == c))
-
-pub plain_operator : (text : List ℕ) → IsOtherText text → (get_or text 0 0 ≡ 35 → ⊥) → (get_or text 0 0 ≡ 47 → ⊥) → (get_or text 0 0 ≡ 92 → ⊥) → (get_or text 0 0 ≡ 37 → ⊥) → IsOperatorText text
-plain_operator [] other hash slash back percent = absurd other
-plain_operator (b ∷ rest) other hash slash back percent = record {
-  black = other.black;
-  no_word = other.no_word;
-  no_number = other.no_number;
-  no_quote = other.no_quote;
-  no_hash = not_equal b 35 hash;
-  no_comment = and_left (b == 47) _ (not_equal b 47 slash);
-  no_backslash = not_equal b 92 back;
-  no_directive = and_left (b == 37) _ (not_equal b 37 percent);
-}
-
-slash_record : (rest : List ℕ) → starts begins_comment rest ≡ false → BeginsOperator 47 rest
-slash_record rest h = record { black = refl; no_word = refl; no_number = refl; no_quote = refl; no_hash = refl; no_comment = h; no_backslash = refl; no_directive = refl }
-
-percent_record : (rest : List ℕ) → starts is_colon rest ≡ false → BeginsOperator 37 rest
-percent_record rest h = record { black = refl; no_word = refl; no_number = refl; no_quote = refl; no_hash = refl; no_comment = refl; no_backslash = refl; no_directive = h }
-
-pub slash_text : (text : List ℕ) → begins_with 47 text ≡ true → (2 ≤ length text → begins_comment (get_or text 1 0) ≡ false) → IsOperatorText text
-slash_text [] h other = absurd cc
-slash_text (b ∷ []) h other = let e : b ≡ 47 = eqb-true b 47 h in subst (λ x. BeginsOperator x []) (sym e) (slash_record [] refl)
-slash_text (b ∷ c ∷ rest) h other = let e : b ≡ 47 = eqb-true b 47 h in subst (λ x. BeginsOperator x (c ∷ rest)) (sym e) (slash_record (c ∷ rest) (other (omega arith)))
-
-pub percent_text : (text : List ℕ) → begins_with 37 text ≡ true → (2 ≤ length text → is_colon (get_or text 1 0) ≡ false) → IsOperatorText text
-percent_text [] h other = absurd cc
-percent_text (b ∷ []) h other = let e : b ≡ 37 = eqb-true b 37 h in subst (λ x. BeginsOperator x []) (sym e) (percent_record [] refl)
-percent_text (b ∷ c ∷ rest) h other = let e : b ≡ 37 = eqb-true b 37 h in subst (λ x. BeginsOperator x (c ∷ rest)) (sym e) (percent_record (c ∷ rest) (other (omega arith)))
-
 -- ---- what a whole text spells
 
 pub nothing_spells : (fresh : Bool) (text : List ℕ) → length text ≡ 0 → None ≡ spelling_of fresh text
 unfolding spelling_of
 nothing_spells fresh [] e = refl
 nothing_spells fresh (b ∷ rest) e = absurd (omega arith)
-
--- ---- tables
-
-pub beside_next : {X : Type 0} (f : X → List ℕ × ℕ) (xs : List X) (i : ℕ) (d : X) (text : List ℕ) → i < length xs → number_beside (map f (drop i xs)) text ≡ cond (bytes_eq text (f (get_or xs i d)).0) (Some (f (get_or xs i d)).1) (number_beside (map f (drop (suc i) xs)) text)
-beside_next f xs i d text inside = ap (λ l. number_beside (map f l) text) (drop-cons xs i d inside)

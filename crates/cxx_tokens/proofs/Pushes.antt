@@ -1,16 +1,11 @@
 -- One more byte at the end of a run.
 use Rattle.std.proofs.Common.{◌≡◌, ◌≤◌, ℕ, ◌+◌, true, false, ◌==◌, List, [], ◌∷◌, ◌++◌, length, ⊎_elim, refl, arith}
 use Rattle.std.proofs.lemmas.Bool.{and_from, and_parts, cases_Bool}
-use Rattle.std.specs.List.{list_all}
 use Rattle.cxx_model.specs.declared.place.Place.{Place}
 use Rattle.cxx_model.specs.Text.Lexemes.{after, past}
-use Rattle.cxx_model.specs.Text.Spelling.{is_word, is_number_rest}
+use Rattle.cxx_model.specs.Text.Spelling.{is_number_rest}
 use Rattle.cxx_model.specs.Text.Continuing.{number_goes_on, last_of}
 use Rattle.cxx_model.proofs.Readings.{past_append}
-
-pub all_word_push : (text : List ℕ) (b : ℕ) → list_all is_word text ≡ true → is_word b ≡ true → list_all is_word (text ++ b ∷ []) ≡ true
-all_word_push [] b all here = and_from _ _ here refl
-all_word_push (c ∷ text) b all here = let parts = and_parts (is_word c) (list_all is_word text) all in and_from _ _ parts.0 (all_word_push text b parts.1 here)
 
 pub last_of_push : (first : ℕ) (text : List ℕ) (b : ℕ) → last_of first (text ++ b ∷ []) ≡ b
 last_of_push first [] b = refl

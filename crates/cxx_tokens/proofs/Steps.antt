@@ -9,9 +9,9 @@ use Rattle.cxx_model.specs.declared.token.TokenKind.TheVariants.{End}
 use Rattle.cxx_model.specs.declared.token.TokenReason.{TokenReason}
 use Rattle.cxx_model.specs.declared.limits.TheConstants as limits
 use Rattle.cxx_model.specs.Text.Lexemes.{first_place, past}
-use Rattle.cxx_model.specs.Text.Spelling.{Spelled, Blank, Good, Ill}
-use Rattle.cxx_model.specs.Text.Tokens.{Unread, BadAt, PastTokens, IsLongest, Width, fresh_past, is_text, is_some_width, is_mixed, width_of, width_behind, joins, tokens_begun, reason_at, join, join_list, put, tokens_from, tokens_of, IsTokenList, IsBadPlace, IsPastTokens}
-use Rattle.cxx_model.proofs.Readings.{reads_end, reads_blank, reads_token, reads_full, reads_bad, ill_has_reason, text_is_wide, means_at, tokens_of_list, tokens_of_bad, tokens_of_limit, lies_within}
+use Rattle.cxx_model.specs.Text.Spelling.{Spelled, Blank, Good}
+use Rattle.cxx_model.specs.Text.Tokens.{Unread, BadAt, PastTokens, IsLongest, Width, fresh_past, is_text, is_some_width, width_behind, joins, tokens_begun, reason_at, join, join_list, put, tokens_from, tokens_of, IsTokenList, IsBadPlace, IsPastTokens}
+use Rattle.cxx_model.proofs.Readings.{reads_end, reads_blank, reads_token, reads_full, reads_bad, text_is_wide, means_at, tokens_of_list, tokens_of_bad, tokens_of_limit, lies_within}
 use Rattle.cxx_tokens.specs.declared.fault.TokenFault.{TokenFault}
 use Rattle.cxx_tokens.specs.declared.fault.TokenFault.TheVariants.{Bad, Limit, OutOfMemory}
 use Rattle.cxx_tokens.specs.Answers.{IsFault, IsAnswer, IsTokenizing, IsAtBadPlace, IsAtLimit, LiesWithin, behind, list_at, extended, ends_text, are_apart, IsSound, IsAdded, IsRefused, IsRefusedUnless}
@@ -96,12 +96,6 @@ behind_end was (t ∷ u ∷ tokens) end h k =
 
 pub passes_blank : (tokens : List Token) (text : List ℕ) (len : ℕ) (before : Option Width) (fresh : Bool) (at : ℕ) (place : Place) → IsLongest fresh text (record { len = len; spells = Blank }) → list_at tokens before (fresh_past (take len text) fresh) (at + len) (past (take len text) place) (drop len text) ≡ list_at tokens before fresh at place text
 passes_blank tokens text len before fresh at place h = ap (behind tokens) (sym (reads_blank text len (limits.MOST_TOKENS - length tokens) before fresh at place h))
-
--- white space, or what has a reason
-pub passes_other : (tokens : List Token) (text : List ℕ) (len : ℕ) (spells : Spelled) (before : Option Width) (fresh : Bool) (at : ℕ) (place : Place) → IsLongest fresh text (record { len = len; spells = spells }) → reason_at before text spells ≡ None → ((kind : TokenKind) → spells ≡ Good kind → ⊥) → list_at tokens before (fresh_past (take len text) fresh) (at + len) (past (take len text) place) (drop len text) ≡ list_at tokens before fresh at place text
-passes_other tokens text len Blank before fresh at place h sound other = passes_blank tokens text len before fresh at place h
-passes_other tokens text len (Good kind) before fresh at place h sound other = absurd (other kind refl)
-passes_other tokens text len (Ill reason) before fresh at place h sound other = absurd (ill_has_reason (is_mixed before (width_of text)) reason sound)
 
 abbrev pub token_of : ℕ → Place → ℕ → TokenKind → Token
 token_of at place len kind = record { kind = kind; place = place; from = at; to = at + len }

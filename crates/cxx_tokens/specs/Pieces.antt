@@ -1,5 +1,5 @@
 -- The pieces of the code as those of the definitions.
-use Rattle.std.specs.Prelude.{◌≡◌, ℕ, Bool, false, ◌==◌, ◌&&◌, List, [], ◌∷◌, length, take, nat_le, if◌then◌else◌, Option, Some, None}
+use Rattle.std.specs.Prelude.{◌≡◌, ℕ, Bool, false, ◌==◌, ◌&&◌, ◌||◌, List, [], ◌∷◌, length, take, nat_le, if◌then◌else◌, Option, Some, None}
 use Rattle.cxx_model.specs.Text.Spelling as spelling
 use Rattle.cxx_model.specs.Text.Spelling.{operator, operators, digraphs, first_of, number_in, number_beside, is_white, begins_word, is_quote, begins_number}
 use Rattle.cxx_model.specs.Text.Continuing.{BeginsOperator, starts}
@@ -30,6 +30,10 @@ operator_of (b ∷ rest) = operator b rest
 -- what the first bytes spell as an operator, where there are so many
 abbrev pub operator_at : List ℕ → ℕ → Option spelling.Spelled
 operator_at text len = if nat_le len (length text) then operator_of (take len text) else None
+
+-- a byte is the second of some operator
+abbrev pub comes_second : ℕ → Bool
+comes_second b = b == 37 || b == 38 || b == 42 || b == 43 || b == 45 || b == 46 || b == 58 || b == 60 || b == 61 || b == 62 || b == 124
 
 -- the first byte begins a number
 abbrev pub begins_numeral : List ℕ → Bool

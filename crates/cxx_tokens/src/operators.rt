@@ -1,9 +1,9 @@
 //! Operators and punctuators (2.5, 2.12).
 
-ghost use Rattle.std.specs.Prelude.{◌≡◌, ◌<◌, length};
+ghost use Rattle.std.specs.Prelude.{◌≡◌, ◌<◌, ◌≤◌, [], ◌∷◌, Some, length};
 ghost use Rattle.cxx_model.specs.Text.Spelling as spec;
 ghost use Rattle.cxx_model.specs.Text.Tokens.{IsLongest};
-ghost use Rattle.cxx_tokens.specs.Pieces.{spelled_option, operator_number, operator_of, operator_at, piece_of, IsOperatorText};
+ghost use Rattle.cxx_tokens.specs.Pieces.{spelled, spelled_option, comes_second, operator_number, operator_of, operator_at, piece_of, IsOperatorText};
 
 use crate::piece::{Piece, Spelled};
 use crate::tables::{number_beside, number_in};
@@ -36,6 +36,60 @@ fn operator_number(text: &[u8]) -> Option<u8>
     }
 }
 
+/// The number of an operator of one byte.
+fn alone_number(b: u8) -> Option<u8>
+    ensures { result ≡ operator_number (b ∷ []) }
+{
+    match b {
+        b'{' => Some(punct::LEFT_BRACE),
+        b'}' => Some(punct::RIGHT_BRACE),
+        b'[' => Some(punct::LEFT_BRACKET),
+        b']' => Some(punct::RIGHT_BRACKET),
+        b'(' => Some(punct::LEFT_PARENTHESIS),
+        b')' => Some(punct::RIGHT_PARENTHESIS),
+        b';' => Some(punct::SEMICOLON),
+        b':' => Some(punct::COLON),
+        b'?' => Some(punct::QUESTION),
+        b'.' => Some(punct::DOT),
+        b'+' => Some(punct::PLUS),
+        b'-' => Some(punct::MINUS),
+        b'*' => Some(punct::STAR),
+        b'/' => Some(punct::SLASH),
+        b'%' => Some(punct::PERCENT),
+        b'^' => Some(punct::CARET),
+        b'&' => Some(punct::AMPERSAND),
+        b'|' => Some(punct::BAR),
+        b'~' => Some(punct::TILDE),
+        b'!' => Some(punct::EXCLAMATION),
+        b'=' => Some(punct::EQUALS),
+        b'<' => Some(punct::LESS),
+        b'>' => Some(punct::GREATER),
+        b',' => Some(punct::COMMA),
+        _ => operator_number(&[b]),
+    }
+}
+
+/// What a text of one byte spells as an operator.
+#[tactic(auto, unfolding(cxx_model::specs::Text::Spelling::operator))]
+fn alone(b: u8) -> Spelled
+    ensures { Some (spelled result) ≡ operator_of (b ∷ []) }
+{
+    match alone_number(b) {
+        Some(n) => Spelled::Good(TokenKind::Punct(n)),
+        None => Spelled::Ill(TokenReason::StrayByte),
+    }
+}
+
+/// Whether a byte is the second of some operator.
+fn comes_second(b: u8) -> bool
+    ensures { result ≡ comes_second b }
+{
+    match b {
+        b'%' | b'&' | b'*' | b'+' | b'-' | b'.' | b':' | b'<' | b'=' | b'>' | b'|' => true,
+        _ => false,
+    }
+}
+
 /// What a whole text spells as an operator. Each byte spells something by itself.
 #[tactic(auto, unfolding(cxx_model::specs::Text::Spelling::operator))]
 fn operator_of(text: &[u8]) -> Option<Spelled>
@@ -60,17 +114,35 @@ fn operator_at(text: &[u8], len: usize) -> Option<Spelled>
     }
 }
 
+/// The same of more bytes than one: none where the second is that of no operator.
+#[tactic(auto, using(crate::proofs::Shorter::none_longer, crate::proofs::Shorter::none_short))]
+fn longer_at(text: &[u8], len: usize) -> Option<Spelled>
+    requires { 2 ≤ len }
+    ensures { spelled_option result ≡ operator_at text.now len }
+{
+    match text {
+        [_, second, ..] => {
+            if comes_second(*second) {
+                operator_at(text, len)
+            } else {
+                None
+            }
+        }
+        _ => None,
+    }
+}
+
 /// The longest front of a text that begins as an operator, or with a byte with which no token begins.
 pub fn operator(fresh: bool, text: &[u8]) -> Piece
     requires { IsOperatorText text.now }
     ensures { IsLongest fresh text.now (piece_of result) }
 {
-    if let Some(spells) = operator_at(text, 3) {
+    if let Some(spells) = longer_at(text, 3) {
         return Piece { len: 3, spells };
     }
-    if let Some(spells) = operator_at(text, 2) {
+    if let Some(spells) = longer_at(text, 2) {
         return Piece { len: 2, spells };
     }
-    let spells = operator_at(text, 1).unwrap_or(Spelled::Ill(TokenReason::StrayByte));
+    let spells = alone(text[0]);
     Piece { len: 1, spells }
 }

@@ -9,7 +9,7 @@ use Rattle.cxx_model.specs.declared.place.Place.{Place}
 use Rattle.cxx_model.specs.declared.types.ScopeId.{ScopeId}
 use Rattle.cxx_model.specs.Facts.Conflicts.{scope_facts}
 use Rattle.cxx_model.specs.Facts.Declarations as facts
-use Rattle.cxx_model.specs.Facts.Declarations.{CxxFact, CxxGraph, Declares, classes_at, declares_at, fact_at, facts_at, graph_at}
+use Rattle.cxx_model.specs.Facts.Declarations.{CxxFact, Declares, classes_at, declares_at, fact_at, facts_at, graph_at}
 use Rattle.cxx_model.specs.Facts.Fitted.{AreFactsBelow, Fitted, IsEntityBelow}
 use Rattle.cxx_model.specs.Facts.Graph.{EachMayFollow, Graph, InRange, IsEntityInRange, IsTypeInRange, IsUnitScope, MayFollow, count, counted, enumerations, scopes}
 use Rattle.cxx_model.specs.declared.facts.Specialisation.{Specialisation}
@@ -33,11 +33,6 @@ length_facts types (one ∷ others) = let e : length (facts_at types others) ≡
 pub length_classes : (types : List CxxType) (classes : List (Option Specialisation)) → length (classes_at types classes) ≡ length classes
 length_classes types [] = refl
 length_classes types (one ∷ others) = let e : length (classes_at types others) ≡ length others = length_classes types others in omega arith
-
-pub get_front : {A : Type 0} (xs ys : List A) (n : ℕ) (x : A) → slice_get xs n ≡ Some x → slice_get (xs ++ ys) n ≡ Some x
-get_front [] ys n x at = absurd (cc)
-get_front (one ∷ others) ys zero x at = at
-get_front (one ∷ others) ys (suc n) x at = get_front others ys n x at
 
 -- ---- counts
 

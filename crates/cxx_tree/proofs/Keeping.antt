@@ -9,7 +9,6 @@ use Rattle.cxx_model.specs.declared.types.ScopeId.{ScopeId}
 use Rattle.cxx_model.specs.declared.types.TreeId.{TreeId}
 use Rattle.cxx_model.specs.declared.types.TypeId.{TypeId}
 use Rattle.cxx_model.specs.Facts.Declarations.{type_of_option}
-use Rattle.cxx_model.specs.Facts.Graph.{scopes}
 use Rattle.cxx_model.specs.Types.Trees.{CxxType}
 use Rattle.cxx_reading.specs.Declaring.{at_scope, with_result, with_tested, within_step}
 use Rattle.cxx_reading.specs.Initializers.{with_call}
@@ -171,15 +170,9 @@ offer_added seen held new index number same is =
     make : List CxxOffered → CxxState
     make offered = record (meaning held) { offered = offered }
 
-pub sound_default : (held : Held) (inside : Bool) → IsSound held → IsSound (record held { in_default = inside })
-sound_default held inside sound = record { fitted = sound.fitted; nodes = sound.nodes; children = sound.children; fallbacks = sound.fallbacks; offers = sound.offers; pieces = sound.pieces; calls = sound.calls; scope = sound.scope; result = sound.result }
-
 pub default_set : (seen held : Held) (inside : Bool) → held ≡ seen → meaning (record held { in_default = inside }) ≡ within_default inside (meaning seen)
 unfolding meaning
 default_set seen held inside same = subst (λ (h : Held). meaning (record held { in_default = inside }) ≡ within_default inside (meaning h)) same refl
-
-pub sound_cleared : (held : Held) → IsSound held → IsSound (record held { offers = [] })
-sound_cleared held sound = record { fitted = sound.fitted; nodes = sound.nodes; children = sound.children; fallbacks = sound.fallbacks; offers = tt; pieces = sound.pieces; calls = sound.calls; scope = sound.scope; result = sound.result }
 
 pub offers_cleared : (seen held : Held) (offers : List Offer) → held ≡ seen → offers ≡ [] → meaning (record held { offers = offers }) ≡ without_offers (meaning seen)
 unfolding meaning
@@ -226,19 +219,6 @@ piece_added seen held new uses offers piece same outside taken none left is =
     part scope bound = record { tree = tree_in (trees held) piece.tree.0; scope = scope; uses = uses_at bound }
 
 -- ---- where the reader stands
-
-pub sound_scope : (seen held : Held) (scope : ScopeId) → held ≡ seen → IsSound held → scope.0 < scopes seen.graph.facts → IsSound (record held { scope = scope })
-sound_scope seen held scope same sound ok = record {
-  fitted = sound.fitted;
-  nodes = sound.nodes;
-  children = sound.children;
-  fallbacks = sound.fallbacks;
-  offers = sound.offers;
-  pieces = sound.pieces;
-  calls = sound.calls;
-  scope = subst (λ (h : Held). scope.0 < scopes h.graph.facts) (sym same) ok;
-  result = sound.result;
-}
 
 pub scope_set : (seen held : Held) (scope : ScopeId) → held ≡ seen → meaning (record held { scope = scope }) ≡ at_scope scope.0 (meaning seen)
 unfolding meaning

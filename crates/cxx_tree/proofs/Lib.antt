@@ -6,4 +6,5 @@ pub mod Homes
 pub mod Keeping
 pub mod Linking
 pub mod Steps
+pub mod Told
 pub mod Wholes

@@ -24,10 +24,10 @@ use Rattle.cxx_tree.proofs.Calls.{calls_kept, calls_later}
 use Rattle.cxx_tree.proofs.Arenas.{KeepsTrees_refl, KeepsTrees_trans, after_kept, after_more, children_more, fallbacks_kept, fallbacks_later, keeps_more, last_tree, length_trees, nodes_later, nodes_more, of_kept, of_later, offers_kept, offers_later, pieces_kept, pieces_later}
 
 pub Later_refl : (held : Held) → Later held held
-Later_refl held = record { types = Keeps-refl held.types; trees = KeepsTrees_refl (trees held) }
+Later_refl held = record { types = Keeps-refl held.types; trees = KeepsTrees_refl (trees held); tells = refl }
 
 pub Later_trans : (one two three : Held) → Later one two → Later two three → Later one three
-Later_trans one two three p q = record { types = Keeps-trans one.types two.types three.types p.types q.types; trees = KeepsTrees_trans (trees one) (trees two) (trees three) p.trees q.trees }
+Later_trans one two three p q = record { types = Keeps-trans one.types two.types three.types p.types q.types; trees = KeepsTrees_trans (trees one) (trees two) (trees three) p.trees q.trees; tells = q.tells ∙ p.tells }
 
 -- ---- a node
 
@@ -62,7 +62,7 @@ same_state held new sound kept =
 pub makes_node : (held : Held) (node : Node) (number : TreeId) → IsSound held → number.0 ≡ length held.nodes → MakesTree held (record held { nodes = held.nodes ++ node ∷ [] }) (Ok number) (tree_over held.types (trees held) node)
 unfolding meaning
 makes_node held node number sound e = record {
-  later = record { types = Keeps-refl held.types; trees = node_keeps held node };
+  later = record { types = Keeps-refl held.types; trees = node_keeps held node; tells = refl };
   same = same_state held (trees (with_node held node)) sound (node_keeps held node);
   made = (
     (let a : length (trees (with_node held node)) ≡ length (held.nodes ++ node ∷ []) = length_trees held.types (held.nodes ++ node ∷ []) in omega (arith, length-append held.nodes (node ∷ []))),
@@ -101,7 +101,7 @@ made_type held new (Ok number) t made = made
 made_type held new (Err memory) t made = tt
 
 types_later : (held : Held) (new : List CxxType) → IsSound held → Keeps held.types new → Later held (record held { types = new })
-types_later held new sound keeps = record { types = keeps; trees = subst (λ ts. KeepsTrees (trees held) ts) (sym (trees_same held new sound keeps)) (KeepsTrees_refl (trees held)) }
+types_later held new sound keeps = record { types = keeps; trees = subst (λ ts. KeepsTrees (trees held) ts) (sym (trees_same held new sound keeps)) (KeepsTrees_refl (trees held)); tells = refl }
 
 types_same : (held : Held) (new : List CxxType) → IsSound held → Keeps held.types new → meaning (record held { types = new }) ≡ meaning held
 unfolding meaning

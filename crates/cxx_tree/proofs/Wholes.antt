@@ -124,7 +124,7 @@ meaning_fact held fact = ap make (facts_more held.types held.graph.facts fact)
     make facts = record (meaning held) { graph = record (graph_at held.types held.graph) { facts = facts } }
 
 pub later_fact : (held : Held) (graph : Graph) → Later held (record held { graph = graph })
-later_fact held graph = record { types = Keeps-refl held.types; trees = KeepsTrees_refl (trees held) }
+later_fact held graph = record { types = Keeps-refl held.types; trees = KeepsTrees_refl (trees held); tells = refl }
 
 -- what `added` answers
 room_is : (held : Held) → (length (meaning held).graph.facts + length (meaning held).graph.classes) ≡ (length held.graph.facts + length held.graph.classes)
@@ -134,9 +134,6 @@ room_is held = (let a : length (facts_at held.types held.graph.facts) ≡ length
 number_is : (held : Held) → length (meaning held).graph.facts ≡ length held.graph.facts
 unfolding meaning
 number_is held = length_facts held.types held.graph.facts
-
-no_room : (m : ℕ) → nat_eq m 2097152 ≡ false → m ≡ 2097152 → ⊥
-no_room m e is = (let yes : nat_eq m 2097152 ≡ true = eq-eqb m 2097152 is in absurd (cc))
 
 added_full : (fact : CxxFact) (state : CxxState) → nat_eq (length state.graph.facts + length state.graph.classes) 2097152 ≡ true → added fact state ≡ Err (Limited Facts)
 unfolding added
@@ -339,10 +336,6 @@ whole_linked names definitions linkages linkages' openings layouts held new numb
   opened = whole.opened;
   measured = whole.measured;
 }
-
--- what was linked is filed otherwise, and is the same
-pub whole_relinked : (names : Names) (definitions : Definitions) (linkages linkages' : Linkages) (openings : List Place) (layouts : Option Layouts) (held : Held) → IsWhole names definitions linkages openings layouts held → Links linkages' held.graph.facts held.linked → IsWhole names definitions linkages' openings layouts held
-whole_relinked names definitions linkages linkages' openings layouts held whole links = record { sound = whole.sound; noted = whole.noted; plain = whole.plain; defines = whole.defines; links = links; opened = whole.opened; measured = whole.measured }
 
 pub linked_added : (seen held : Held) (new : List FactId) (number : FactId) → held ≡ seen → new ≡ held.linked ++ number ∷ [] → meaning (record held { linked = new }) ≡ with_linked number.0 (meaning seen)
 unfolding meaning
@@ -555,10 +548,10 @@ no_templates (fact ∷ facts) all = (one all.0, no_templates facts all.1)
 
 -- ---- the beginning
 
-module _ (names : Names) (definitions : Definitions) (linkages : Linkages) (graph : Graph) (types : List CxxType) (nodes : List Node) (defined linked : List FactId) (fallbacks : List Fallback) (offers : List Offer) (calls : List Decided) (pieces : List Piece) (uses : List Binding)
+module _ (names : Names) (definitions : Definitions) (linkages : Linkages) (graph : Graph) (types : List CxxType) (nodes : List Node) (defined linked : List FactId) (fallbacks : List Fallback) (offers : List Offer) (calls : List Decided) (pieces : List Piece) (uses : List Binding) (tells asks : Bool)
     (g : graph ≡ unit_graph) (t : types ≡ []) (n : nodes ≡ []) (d : defined ≡ []) (l : linked ≡ []) (f : fallbacks ≡ []) (o : offers ≡ []) (c : calls ≡ []) (p : pieces ≡ []) (u : uses ≡ []) where
   abbrev begun : Graph → List CxxType → List Node → List FactId → List FactId → List Fallback → List Offer → List Decided → List Piece → List Binding → Held
-  begun graph types nodes defined linked fallbacks offers calls pieces uses = record { graph = graph; types = types; nodes = nodes; scope = record { 0 = 0 }; enumeration = None; defined = defined; linked = linked; fallbacks = fallbacks; offers = offers; in_default = false; result = None; tested = None; in_step = false; calls = calls; pieces = pieces; uses = uses }
+  begun graph types nodes defined linked fallbacks offers calls pieces uses = record { graph = graph; types = types; nodes = nodes; scope = record { 0 = 0 }; enumeration = None; defined = defined; linked = linked; fallbacks = fallbacks; offers = offers; in_default = false; result = None; tested = None; in_step = false; calls = calls; pieces = pieces; uses = uses; tells = tells; asks = asks }
 
   is_begun : begun graph types nodes defined linked fallbacks offers calls pieces uses ≡ begun unit_graph [] [] [] [] [] [] [] [] []
   is_begun =

@@ -43,6 +43,8 @@ pub record Held : Type 0 where
   pub calls : List Decided
   pub pieces : List Piece
   pub uses : List Binding
+  pub tells : Bool
+  pub asks : Bool
 
 -- ---- what it means
 

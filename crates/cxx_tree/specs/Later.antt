@@ -9,10 +9,12 @@ use Rattle.cxx_reading.specs.Trees.{CxxTree}
 use Rattle.cxx_tree.specs.Arena.{KeepsTrees, tree_in}
 use Rattle.cxx_tree.specs.Held.{Held, meaning, trees}
 
--- Each number that was given before names the same type, or the same tree.
+-- Each number that was given before names the same type, or the same tree. And where it is told at which places somebody
+-- was asked, it is still told.
 pub record Later (old new : Held) : Type 0 where
   pub types : Keeps old.types new.types
   pub trees : KeepsTrees (trees old) (trees new)
+  pub tells : new.tells ≡ old.tells
 
 -- a number that is answered is one of the table, and its type is the wanted one
 abbrev pub IsType : Held → Result TypeId OutOfMemory → CxxType → Type 0

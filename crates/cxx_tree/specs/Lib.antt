@@ -1,7 +1,9 @@
 pub mod Answered
 pub mod Arena
+pub mod Asked
 pub mod Defaults
 pub mod Held
 pub mod Later
+pub mod Told
 pub mod Uses
 pub mod Whole

@@ -4,6 +4,7 @@
 //! position.
 #![tactic(auto)]
 
+mod asked;
 mod bodies;
 mod given;
 mod kept;

@@ -1,4 +1,4 @@
-ghost use Rattle.std.specs.Prelude.{ℕ, List, ◌≡◌, ◌<◌, ◌+◌, take, ◌++◌, length, Ok, Err, Some, [], ◌∷◌, IfOk, IfSome, OnOk, OnErr, option_map};
+ghost use Rattle.std.specs.Prelude.{ℕ, List, ◌≡◌, ◌<◌, ◌+◌, take, ◌++◌, length, Ok, Err, Some, [], ◌∷◌, true, false, is_some, IsTrue, IfOk, IfSome, OnOk, OnErr, option_map};
 ghost use Rattle.std.specs.List.{slice_get};
 ghost use Rattle.std.specs.Option.{option_copied};
 ghost use Rattle.cxx_model.specs.Facts.Declarations.{fact_at, graph_at};
@@ -26,13 +26,16 @@ ghost use Rattle.cxx_tree.specs.Defaults.{first_given as first_given_of, with_gi
 ghost use Rattle.cxx_tree.specs.Held.{AreCallsBelow, AreFallbacksBelow, AreOffersBelow, ArePiecesBelow, call_at, enumeration_of_option, fallback_at, meaning, numbers_at, tree, tree as tree_of, trees};
 ghost use Rattle.cxx_tree.specs.Later.{Later, MakesTree, MakesType};
 ghost use Rattle.cxx_sizes.specs.Noted.{Notes as Measures};
+ghost use Rattle.cxx_overload.specs.Choosers.{IsNew, told_by};
+ghost use Rattle.cxx_overload.specs.Told.{told_more};
+ghost use Rattle.cxx_tree.specs.Told.{told};
 ghost use Rattle.cxx_tree.specs.Uses.{with_use};
 ghost use Rattle.cxx_tree.specs.Whole.{entered_scope, left_scope, scope_at, scope_fact, stopped_as};
 
+use crate::asked::Calls;
 use crate::given::first_given;
 use crate::kept::{
-    Binding, BindingList, Decided, DecidedList, Fallback, FallbackList, Offer, OfferList, Piece,
-    PieceList,
+    Binding, BindingList, Decided, Fallback, FallbackList, Offer, OfferList, Piece, PieceList,
 };
 use crate::maker::MakesTypes;
 use crate::trees::Trees;
@@ -45,14 +48,12 @@ use cxx_model::{
     OutOfMemory, Place, ScopeId, ScopeKind, Stop, TreeId, TypeId,
 };
 use cxx_names::{Names, type_in as type_of_found};
+use cxx_overload::Choosing;
 use cxx_sizes::Layouts;
 use cxx_types::TypeTable;
 use std::alloc::Global;
 use std::marker::Model;
 use std::mem;
-
-/// The most calls: their numbers are below it.
-const MOST_CALLS: usize = 4_294_967_295;
 
 /// The state of a reading: what is declared so far, where the reader stands, and what the reading keeps.
 #[derive(Drop)]
@@ -80,7 +81,8 @@ pub struct State {
     pub(crate) tested: Option<FactId>,
     // Whether what a `for` does behind each turn is being read.
     pub(crate) in_step: bool,
-    calls: DecidedList,
+    // The calls that were decided, and who is asked.
+    calls: Calls,
     pieces: PieceList,
     uses: BindingList,
     pub(crate) alloc: Global,
@@ -98,9 +100,9 @@ impl Model for State {
 
     ghost coded = { Prim.hlevel (codes, coded_type, formula.the_row.coded, tree.the_row.coded) };
 
-    ghost view = { λ state. record { graph = state.graph; types = state.types; nodes = state.trees; scope = state.scope; enumeration = state.enumeration; defined = state.defined.items; linked = state.linked.items; fallbacks = state.fallbacks; offers = state.offers; in_default = state.in_default; result = state.result; tested = state.tested; in_step = state.in_step; calls = state.calls; pieces = state.pieces; uses = state.uses } };
+    ghost view = { λ state. record { graph = state.graph; types = state.types; nodes = state.trees; scope = state.scope; enumeration = state.enumeration; defined = state.defined.items; linked = state.linked.items; fallbacks = state.fallbacks; offers = state.offers; in_default = state.in_default; result = state.result; tested = state.tested; in_step = state.in_step; calls = state.calls.calls; pieces = state.pieces; uses = state.uses; tells = state.calls.tells; asks = state.calls.asks } };
 
-    ghost invariant = { λ state. IsWhole state.names state.definitions state.linkages state.openings.items state.layouts (record { graph = state.graph; types = state.types; nodes = state.trees; scope = state.scope; enumeration = state.enumeration; defined = state.defined.items; linked = state.linked.items; fallbacks = state.fallbacks; offers = state.offers; in_default = state.in_default; result = state.result; tested = state.tested; in_step = state.in_step; calls = state.calls; pieces = state.pieces; uses = state.uses }) };
+    ghost invariant = { λ state. IsWhole state.names state.definitions state.linkages state.openings.items state.layouts (record { graph = state.graph; types = state.types; nodes = state.trees; scope = state.scope; enumeration = state.enumeration; defined = state.defined.items; linked = state.linked.items; fallbacks = state.fallbacks; offers = state.offers; in_default = state.in_default; result = state.result; tested = state.tested; in_step = state.in_step; calls = state.calls.calls; pieces = state.pieces; uses = state.uses; tells = state.calls.tells; asks = state.calls.asks }) };
 }
 
 fn place_at(places: &[Place], scope: ScopeId) -> Option<&Place>
@@ -164,10 +166,16 @@ fn bound_with(bound: Option<u64>) -> Bound
     }
 }
 
+// The most levels of a type. Types are walked from the top, so a deeper one might not fit on the stack.
+const MOST_TYPE_LEVELS: u64 = 10_000;
+
 impl State {
-    /// The state in which a reading begins. What is looked up is hashed by the key.
-    pub fn new(alloc: Global, key: Key) -> Result<State, OutOfMemory>
-        ensures { IfOk result (λ state. meaning state ≡ first_state) }
+    /// The state in which a reading begins. What is looked up is hashed by the key. Who is asked which function a call means
+    /// was asked nothing yet.
+    pub fn new(alloc: Global, key: Key, chooser: Choosing) -> Result<State, OutOfMemory>
+        requires { IsNew chooser }
+        ensures is { IfOk result (λ state. meaning state ≡ first_state) }
+        ensures tells { IfOk result (λ state. state.tells ≡ is_some (told_by chooser)) }
     {
         let place = Place { line: 1, column: 1 };
         let mut openings = Vec::new(alloc);
@@ -206,7 +214,7 @@ impl State {
             result: None,
             tested: None,
             in_step: false,
-            calls: Listed::new(alloc),
+            calls: Calls::new(alloc, chooser),
             pieces: Listed::new(alloc),
             uses: Listed::new(alloc),
             alloc,
@@ -496,19 +504,52 @@ impl State {
         self.enumeration = number;
     }
 
-    /// Keeps a call that was decided (13.3). It answers its index among the calls.
-    pub fn add_call(&mut self, call: Decided) -> Result<u32, OutOfMemory>
-        requires { AreCallsBelow (length (self.old).types) (call ∷ []) }
+    /// Whether somebody is there who can be asked which function a call means (13.3).
+    pub fn is_asking(&self) -> bool
+        ensures { result ≡ (self.now).asks }
+    {
+        self.calls.is_asking()
+    }
+
+    /// The places at which somebody was asked which function a call means, where they are told: those of the calls.
+    pub fn asked(&self) -> Option<&[Place]>
+        requires { IsTrue (self.now).asks }
+        ensures { option_copied result ≡ told self.now }
+    {
+        self.calls.asked()
+    }
+
+    /// Takes out who is asked which function a call means (13.3); none where it is out.
+    pub fn take_chooser(&mut self) -> Option<Choosing>
+        ensures held { self.new ≡ record self.old { asks = false } }
+        ensures told { IfSome result (λ chooser. told_by chooser ≡ told self.old) }
+        ensures later { Later self.old self.new }
+        ensures same { meaning self.new ≡ meaning self.old }
+    {
+        self.calls.take()
+    }
+
+    /// Puts back who was asked nothing since it was taken out.
+    pub fn put_chooser(&mut self, chooser: Choosing)
+        requires { told_by chooser ≡ told self.old }
+        ensures held { self.new ≡ record self.old { asks = true } }
+        ensures later { Later self.old self.new }
+        ensures same { meaning self.new ≡ meaning self.old }
+    {
+        self.calls.put(chooser);
+    }
+
+    /// Keeps a call that was decided (13.3), and puts back who was asked which function it means. It answers the index of the
+    /// call among the calls. Where there is no memory for it, who was asked is let go.
+    pub fn add_call(&mut self, call: Decided, chooser: Choosing) -> Result<u32, OutOfMemory>
+        requires below { AreCallsBelow (length (self.old).types) (call ∷ []) }
+        requires told { told_by chooser ≡ told_more call.place (told self.old) }
         ensures later { Later self.old self.new }
         ensures number { IfOk result (λ number. number ≡ length (meaning self.old).calls) }
         ensures added { OnOk result (meaning self.new ≡ with_call (call_at (self.old).types call) (meaning self.old)) }
     {
-        let count = self.calls.len();
-        if count >= MOST_CALLS {
-            return Err(OutOfMemory);
-        }
-        self.calls.push(call)?;
-        Ok(count as u32)
+        let number = self.calls.add(call, chooser)?;
+        Ok(number)
     }
 
     /// Keeps that a name, by its place, means the entity with this first declaration (3.4).
@@ -646,11 +687,21 @@ impl State {
         self.types.plain(base)
     }
 
+    // Whether a type has as many levels as a type may have; one more is answered as want of memory.
+    fn is_deepest(&self, of: TypeId) -> bool
+        requires { of.0 < length (self.now).types }
+    {
+        self.types.levels(of) >= MOST_TYPE_LEVELS
+    }
+
     /// A pointer to a type (8.3.1).
     pub fn pointer_to(&mut self, of: TypeId) -> Result<TypeId, OutOfMemory>
         requires { of.0 < length (self.old).types }
         ensures { MakesType self.old self.new result (definition.pointer_to (type_at (self.old).types of.0)) }
     {
+        if self.is_deepest(of) {
+            return Err(OutOfMemory);
+        }
         self.types.pointer_to(of)
     }
 
@@ -659,6 +710,9 @@ impl State {
         requires { of.0 < length (self.old).types }
         ensures { MakesType self.old self.new result (definition.reference_to (type_at (self.old).types of.0)) }
     {
+        if self.is_deepest(of) {
+            return Err(OutOfMemory);
+        }
         self.types.reference_to(of)
     }
 
@@ -691,6 +745,9 @@ impl State {
         requires { of.0 < length (self.old).types }
         ensures { MakesType self.old self.new result (definition.array_of (type_at (self.old).types of.0) (bound_of bound)) }
     {
+        if self.is_deepest(of) {
+            return Err(OutOfMemory);
+        }
         let bound = bound_with(bound);
         self.types.array_of(of, bound)
     }
@@ -706,6 +763,9 @@ impl State {
         requires below { AreTypesBelow (length (self.old).types) parameters.now }
         ensures { MakesType self.old self.new result (definition.function_of (type_at (self.old).types returned.0) (adjusted_types (types_at (self.old).types parameters.now)) ellipsis no_cv) }
     {
+        if self.is_deepest(returned) {
+            return Err(OutOfMemory);
+        }
         let cv = Cv {
             is_const: false,
             is_volatile: false,

@@ -8,10 +8,15 @@ use std::marker::Model;
 /// The most nodes: their numbers are below it.
 const MOST: usize = 4_294_967_295;
 
+/// The most levels of a tree. Trees are walked from the top, so a deeper one might not fit on the stack.
+const MOST_LEVELS: u32 = 10_000;
+
 /// The nodes of all trees, each with a number. Children have smaller numbers than their parents.
 #[derive(Drop)]
 pub struct Trees {
     nodes: Vec<Node>,
+    // The levels of each tree.
+    levels: Vec<u32>,
 }
 
 impl Model for Trees {
@@ -31,6 +36,7 @@ impl Trees {
     {
         Trees {
             nodes: Vec::new(alloc),
+            levels: Vec::new(alloc),
         }
     }
 
@@ -41,17 +47,39 @@ impl Trees {
         self.nodes.len() as u32
     }
 
+    // The levels of the tree with a number, and none where there is no such tree.
+    fn levels_of(&self, number: TreeId) -> u32 {
+        match self.levels.get(number.0 as usize) {
+            Some(levels) => *levels,
+            None => 0,
+        }
+    }
+
+    // The levels of the tree that a node makes of others.
+    fn levels_over(&self, node: &Node) -> u32 {
+        let mut most = 0;
+        for child in node.children.as_slice() {
+            let levels = self.levels_of(*child);
+            if most < levels {
+                most = levels;
+            }
+        }
+        most.saturating_add(1)
+    }
+
     /// Adds a node. There are 2^32 - 1 at most, which is more than any memory of today holds: one more is answered as
-    /// want of memory.
+    /// want of memory. So is one whose tree has more levels than the stack may hold.
     pub fn push(&mut self, node: Node) -> Result<TreeId, OutOfMemory>
         ensures number { IfOk result (λ number. number.0 ≡ length self.old) }
         ensures added { OnOk result (self.new ≡ self.old ++ node ∷ []) }
         ensures unchanged { OnErr result (self.new ≡ self.old) }
     {
         let count = self.nodes.len();
-        if count == MOST {
+        let levels = self.levels_over(&node);
+        if count == MOST || levels > MOST_LEVELS {
             return Err(OutOfMemory);
         }
+        self.levels.push(levels)?;
         self.nodes.push(node)?;
         Ok(TreeId(count as u32))
     }

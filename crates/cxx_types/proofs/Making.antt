@@ -13,10 +13,6 @@ use Rattle.cxx_types.specs.Makes.{AreInRange, FitsEach, Makes, MakesEach}
 pub makes_here : (types : List CxxType) (number : TypeId) → number.0 < length types → Makes types types (Ok number) (type_at types number.0)
 makes_here types number known = record { keeps = Keeps-refl types; made = (known, refl); fits = λ graph old t. old }
 
--- nothing was made, and nothing changed
-pub makes_nothing : (types : List CxxType) (fault : OutOfMemory) (t : CxxType) → Makes types types (Err fault) t
-makes_nothing types fault t = record { keeps = Keeps-refl types; made = tt; fits = λ graph old t. old }
-
 -- the same type, said otherwise
 pub makes_same : (old new : List CxxType) (result : Result TypeId OutOfMemory) (t u : CxxType) → t ≡ u → Makes old new result t → Makes old new result u
 makes_same old new result t u same makes = let P : CxxType → Type 0 = λ x. Makes old new result x in subst P same makes
@@ -42,9 +38,6 @@ pub record AreMadeSoFar (old now : List CxxType) (numbers : List TypeId) (some a
   pub below : AreTypesBelow (length now) numbers
   pub is : types_at now numbers ≡ some
   pub fits : FitsEach old now all
-
-pub none_made : (old : List CxxType) (all : CxxTypes) → AreMadeSoFar old old [] no_types all
-none_made old all = record { keeps = Keeps-refl old; below = tt; is = refl; fits = λ graph old all. old }
 
 -- one more at the end
 abbrev pub with_last : CxxTypes → CxxType → CxxTypes
@@ -79,6 +72,3 @@ each_stopped old now new numbers some all step (Err fault) t so makes part stopp
   made = tt;
   fits = λ graph whole each. makes.fits graph (so.fits graph whole each) (part graph whole each);
 }
-
-pub each_made : (old now : List CxxType) (numbers : List TypeId) (all : CxxTypes) → AreMadeSoFar old now numbers all all → MakesEach old now (Ok numbers) all
-each_made old now numbers all so = record { keeps = so.keeps; made = (so.below, so.is); fits = so.fits }

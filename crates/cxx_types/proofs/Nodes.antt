@@ -234,3 +234,15 @@ made-by-insert old nodes keys counts x stored i view are table ok there same wit
       made = (omega (arith, length-types keys), type-of-stored old keys counts x stored i table kept ok there same);
       fits = subst (λ (types : List CxxType). Q keys types) view (subst (λ (ks : List TypeNode). Q ks (types_of nodes)) (sym are) (Fits-insert nodes x));
     }
+
+-- a number at hand is that of the node that stands there
+there-inside : (nodes : List TypeNode) (i : ℕ) (x : TypeNode) → slice_get nodes i ≡ Some x → i < length nodes
+there-inside [] i x e = cc
+there-inside (n ∷ ns) zero x e = omega arith
+there-inside (n ∷ ns) (suc i) x e = let h : i < length ns = there-inside ns i x e in omega arith
+
+pub at-hand : (old : List CxxType) (nodes : List TypeNode) (counts : List ℕ) (x stored : TypeNode) (i : ℕ) → types_of nodes ≡ old → IsTable nodes counts → IsNodeBelow (length old) x → slice_get nodes i ≡ Some stored → same_node x stored ≡ true → (i < length old) × (type_at old i ≡ type_over old x)
+at-hand old nodes counts x stored i view table ok there same =
+    let inside : i < length nodes = there-inside nodes i stored there in
+    let below : IsNodeBelow (length (types_of nodes)) x = subst (λ (ts : List CxxType). IsNodeBelow (length ts) x) (sym view) ok in
+    subst (λ (ts : List CxxType). (i < length ts) × (type_at ts i ≡ type_over ts x)) view (omega (arith, length-types nodes, inside), type-of-stored (types_of nodes) nodes counts x stored i table (Keeps-refl (types_of nodes)) below there same)

@@ -254,18 +254,6 @@ merged_none : (a b : Cv) → any_cv b ≡ false → merged a b ≡ a
 merged_none a b e =
     same_cv _ _ ((or_none a.is_const b.is_const b.is_volatile e).0) ((or_none a.is_volatile b.is_const b.is_volatile e).1)
 
-pub merged_empty : (a b : Cv) → any_cv a ≡ false → merged a b ≡ b
-merged_empty a b e = same_cv _ _ (one a.is_const a.is_volatile b.is_const e) (two a.is_const a.is_volatile b.is_volatile e)
-  where
-    one : (p q x : Bool) → (p || q) ≡ false → (p || x) ≡ x
-    one true q x e = cc
-    one false q x e = refl
-
-    two : (p q x : Bool) → (p || q) ≡ false → (q || x) ≡ x
-    two true q x e = cc
-    two false true x e = cc
-    two false false x e = refl
-
 layered_merges : (a b : Cv) (t : CxxType) → IsTrue (takes_cv t) → with_cv a (layered b t) ≡ layered (merged a b) t
 layered_merges a b t takes = by (any_cv b) refl
   where
@@ -286,20 +274,3 @@ with_cv_merges a b (qualified cv t) ok = layered_merges a (merged b cv) t ok.1 �
 with_cv_merges a b (type_parameter depth index) ok = layered_merges a b (type_parameter depth index) refl
 with_cv_merges a b (specialisation n given) ok = layered_merges a b (specialisation n given) refl
 with_cv_merges a b (nested_in t word) ok = layered_merges a b (nested_in t word) refl
-
-layered_none : (cv : Cv) (t : CxxType) → any_cv cv ≡ false → layered cv t ≡ t
-layered_none cv t e = ap (λ x. if x then qualified cv t else t) e
-
--- no words change nothing
-pub with_cv_none : (cv : Cv) (t : CxxType) → any_cv cv ≡ false → IsNormal t → with_cv cv t ≡ t
-with_cv_none cv (fundamental base) e ok = layered_none cv (fundamental base) e
-with_cv_none cv (class_type n) e ok = layered_none cv (class_type n) e
-with_cv_none cv (enumeration n) e ok = layered_none cv (enumeration n) e
-with_cv_none cv (pointer_to t) e ok = layered_none cv (pointer_to t) e
-with_cv_none cv (reference_to t) e ok = refl
-with_cv_none cv (array_of t bound) e ok = ap (λ u. array_of u bound) (with_cv_none cv t e ok.0)
-with_cv_none cv (function_of r ts ellipsis own) e ok = refl
-with_cv_none cv (qualified own t) e ok = ap (λ words. layered words t) (merged_empty cv own e) ∙ layered_any own t ok.0
-with_cv_none cv (type_parameter depth index) e ok = layered_none cv (type_parameter depth index) e
-with_cv_none cv (specialisation n given) e ok = layered_none cv (specialisation n given) e
-with_cv_none cv (nested_in t word) e ok = layered_none cv (nested_in t word) e

@@ -1,10 +1,10 @@
-ghost use Rattle.std.specs.Prelude.{◌≡◌, ◌<◌, ◌≤◌, ◌+◌, ◌^◌, [], length, max, IsTrue, ◌↔◌};
+ghost use Rattle.std.specs.Prelude.{◌≡◌, ◌<◌, ◌≤◌, ◌+◌, ◌^◌, [], length, max, IsTrue, IfSome, ◌↔◌};
 ghost use Rattle.cxx_model.specs.Types.Same.{same_type};
 ghost use Rattle.cxx_model.specs.Types.Proper.{IsInOneForm, IsProper};
 ghost use Rattle.cxx_model.specs.Types.Trees.{IsNormal};
 ghost use Rattle.cxx_model.specs.Types.Numbers.{type_at, types_at, type_over, AreTypesBelow, IsNodeBelow};
 ghost use Rattle.cxx_types.specs.Levels.{level_count, level_counts};
-ghost use Rattle.cxx_types.specs.Makes.{Makes};
+ghost use Rattle.cxx_types.specs.Makes.{IsMade, Makes};
 
 use cxx_hash::Key;
 use cxx_model::{OutOfMemory, TypeId, TypeNode};
@@ -18,7 +18,26 @@ pub struct TypeTable {
     pub(crate) nodes: IndexSet<TypeNode, Key>,
     // The levels of each type.
     level_counts: Vec<u64>,
+    // Numbers that were answered of late, each in the place of its node.
+    recent: [u64; 64],
     alloc: Global,
+}
+
+// Where the number of a node is kept at hand.
+fn place_of(node: &TypeNode) -> usize
+    ensures { result < 64 }
+{
+    let place = match node {
+        TypeNode::Plain(base) => *base as u64,
+        TypeNode::Pointer(of) => of.0 % 64 + 16,
+        TypeNode::Reference(of) => of.0 % 64 + 32,
+        TypeNode::Qualified(_, of) => of.0 % 64 + 48,
+        TypeNode::Array(of, _) => of.0 % 64 + 56,
+        TypeNode::Function { result, .. } => result.0 % 64 + 24,
+        TypeNode::Enum(number) => number.0 as u64,
+        _ => 0,
+    };
+    (place % 64) as usize
 }
 
 impl Model for TypeTable {
@@ -48,6 +67,7 @@ impl TypeTable {
         TypeTable {
             nodes: IndexSet::with_hasher(alloc, key),
             level_counts: Vec::new(alloc),
+            recent: [0; 64],
             alloc,
         }
     }
@@ -103,8 +123,45 @@ impl TypeTable {
         self.alloc
     }
 
+    // The number at hand in a place, where it is that of a node.
+    fn recent_number(&self, node: &TypeNode, place: usize) -> Option<TypeId>
+        requires below { IsNodeBelow (length self.now) node.now }
+        requires place { place < 64 }
+        ensures { IfSome result (λ number. IsMade self.now (Ok number) (type_over self.now node.now)) }
+    {
+        let number = self.recent[place];
+        match self.nodes.get_index(number as usize) {
+            Some(known) if node == known => Some(TypeId(number)),
+            _ => None,
+        }
+    }
+
+    // Keeps a number at hand.
+    fn keep(&mut self, place: usize, number: TypeId)
+        requires { place < 64 }
+        ensures { self.new ≡ self.old }
+    {
+        self.recent[place] = number.0;
+    }
+
     // The number of a type in the one form whose parts stand in the table.
     pub(crate) fn insert(&mut self, node: TypeNode) -> Result<TypeId, OutOfMemory>
+        requires below { IsNodeBelow (length self.old) node }
+        requires normal { AreNormal self.old → IsNormal (type_over self.old node) }
+        requires proper { AreProper self.old → IsProper (type_over self.old node) }
+        ensures { Makes self.old self.new result (type_over self.old node) }
+    {
+        let place = place_of(&node);
+        if let Some(number) = self.recent_number(&node, place) {
+            return Ok(number);
+        }
+        let number = self.find_or_add(node)?;
+        self.keep(place, number);
+        Ok(number)
+    }
+
+    // The same, of a node whose number may not be at hand.
+    fn find_or_add(&mut self, node: TypeNode) -> Result<TypeId, OutOfMemory>
         requires below { IsNodeBelow (length self.old) node }
         requires normal { AreNormal self.old → IsNormal (type_over self.old node) }
         requires proper { AreProper self.old → IsProper (type_over self.old node) }

@@ -1,5 +1,4 @@
 -- What stops the declarations of a unit stops its reading.
-use Rattle.std.specs.Prelude.{Result, Ok, Err}
 use Rattle.std.proofs.Common.{ap}
 use Rattle.cxx_model.specs.declared.options.Options.{Options}
 use Rattle.cxx_model.specs.declared.stop.Stop.{Stop}

@@ -1,7 +1,8 @@
 //! The state of a unit (2.1, 3.5): before its first declaration, behind each, and behind the last.
 
-ghost use Rattle.std.specs.Prelude.{◌≡◌, ◌<◌, length, IfErr, IfOk};
+ghost use Rattle.std.specs.Prelude.{◌≡◌, ◌<◌, length, is_some, IsTrue, IfErr, IfOk};
 ghost use Rattle.cxx_model.specs.declared.stop.Stop.TheVariants as stop;
+ghost use Rattle.cxx_overload.specs.Choosers.{IsNew, told_by};
 ghost use Rattle.cxx_model.specs.Stops.{Answer, Gives};
 ghost use Rattle.cxx_model.specs.Text.Lexemes.{first_place as first_place_of_unit};
 ghost use Rattle.cxx_reading.specs.Reads.{Ahead, Got};
@@ -14,15 +15,18 @@ ghost use Rattle.cxx_units.specs.Read.{reading_of};
 
 use cxx_hash::Key;
 use cxx_model::{Options, Place, Stop, TreeId};
+use cxx_overload::Choosing;
 use cxx_tree::State;
 use std::alloc::Global;
 
-/// The state before the first declaration.
-pub fn begun(alloc: Global, bytes: &[u8]) -> Result<State, Stop>
+/// The state before the first declaration. Who is asked which function a call means was asked nothing yet.
+pub fn begun(alloc: Global, bytes: &[u8], chooser: Choosing) -> Result<State, Stop>
+    requires { IsNew chooser }
     ensures is { IfOk result (λ state. meaning state ≡ first_state) }
+    ensures tells { IfOk result (λ state. state.tells ≡ is_some (told_by chooser)) }
     ensures memory { IfErr result (λ why. why ≡ stop.OutOfMemory) }
 {
-    match State::new(alloc, Key::of(bytes)) {
+    match State::new(alloc, Key::of(bytes), chooser) {
         Ok(state) => Ok(state),
         Err(_) => Err(Stop::OutOfMemory),
     }
@@ -39,13 +43,22 @@ pub fn part_added(state: &mut State, number: TreeId) -> Result<(), Stop>
     }
 }
 
-/// The state, where all declarations were read.
+/// The state, where all declarations were read. Somebody is left in it who is asked which function a call means: where
+/// nobody is, as where memory ran out at a call, the unit stops for want of memory.
 pub fn whole(options: Options, state: State, ended: Result<(), Stop>) -> Result<State, Stop>
-    ensures { (end : Ahead) (reading : Answer (Got CxxState (Unit {0}))) → Answers itself AnyKnown state end ended reading → Gives (reading_of options) result (definition.read_as options reading) }
+    ensures same { IfOk result (λ after. after ≡ state) }
+    ensures asks { IfOk result (λ after. IsTrue after.asks) }
+    ensures is { (end : Ahead) (reading : Answer (Got CxxState (Unit {0}))) → Answers itself AnyKnown state end ended reading → Gives (reading_of options) result (definition.read_as options reading) }
 {
     let _ = options;
     match ended {
-        Ok(()) => Ok(state),
+        Ok(()) => {
+            if state.is_asking() {
+                Ok(state)
+            } else {
+                Err(Stop::OutOfMemory)
+            }
+        }
         Err(why) => Err(why),
     }
 }

@@ -1,6 +1,6 @@
 -- When a text is not in a table of spellings.
-use Rattle.std.proofs.Common.{◌≡◌, ℕ, Bool, true, false, cond, ◌&&◌, ◌==◌, List, [], ◌∷◌, length, Some, None, refl, ap, ◌∙◌, arith, le-ltb, nat_lt, bytes_eq}
-use Rattle.std.proofs.lemmas.Bool.{and_left, and_right, or_parts, or_from, both_ways}
+use Rattle.std.proofs.Common.{◌≡◌, ℕ, Bool, true, false, cond, List, [], ◌∷◌, length, Some, None, refl, ap, ◌∙◌, arith, le-ltb, nat_lt, bytes_eq}
+use Rattle.std.proofs.lemmas.Bool.{or_parts, or_from, both_ways}
 use Rattle.std.proofs.lemmas.Slice.Eq.{bytes_eq-Decides}
 use Rattle.std.specs.List.{list_any, position_or_len}
 use Rattle.cxx_model.specs.Text.Spelling.{number_in, number_beside}
@@ -29,28 +29,6 @@ not_beside [] text none = refl
 not_beside (entry ∷ table) text none =
     let parts = or_parts (bytes_eq text entry.0) (list_any (λ entry. bytes_eq text entry.0) table) none in
     rw parts.0 (not_beside table text parts.1)
-
--- ---- by the first two bytes
-
-abbrev pub begins_with_two : ℕ → ℕ → List ℕ → Bool
-begins_with_two b c [] = false
-begins_with_two b c (x ∷ []) = false
-begins_with_two b c (x ∷ y ∷ entry) = (b == x) && (c == y)
-
-differs : (b c : ℕ) (text entry : List ℕ) → begins_with_two b c entry ≡ false → bytes_eq (b ∷ c ∷ text) entry ≡ false
-differs b c text [] none = refl
-differs b c text (x ∷ []) none = and_right (b == x) false refl
-differs b c text (x ∷ y ∷ entry) none = by (b == x) (c == y) none
-  where
-    by : (p q : Bool) → (p && q) ≡ false → (p && (q && bytes_eq text entry)) ≡ false
-    by false q h = refl
-    by true q h = and_left q (bytes_eq text entry) h
-
-pub none_begins : (table : List (List ℕ)) (b c : ℕ) (text : List ℕ) → list_any (begins_with_two b c) table ≡ false → number_in table (b ∷ c ∷ text) ≡ None
-none_begins table b c text none = not_in table (b ∷ c ∷ text) (less_often (λ entry. bytes_eq (b ∷ c ∷ text) entry) (begins_with_two b c) (differs b c text) table none)
-
-pub none_begins_beside : (table : List (List ℕ × ℕ)) (b c : ℕ) (text : List ℕ) → list_any (λ entry. begins_with_two b c entry.0) table ≡ false → number_beside table (b ∷ c ∷ text) ≡ None
-none_begins_beside table b c text none = not_beside table (b ∷ c ∷ text) (less_often (λ entry. bytes_eq (b ∷ c ∷ text) entry.0) (λ entry. begins_with_two b c entry.0) (λ entry. differs b c text entry.0) table none)
 
 -- ---- by a test of the whole text
 

@@ -27,23 +27,11 @@ volatile_of t = qualified (record { is_const = false; is_volatile = true }) t
 abbrev bool : CxxType
 bool = fundamental base.Bool
 
-abbrev char : CxxType
-char = fundamental base.Char
-
-abbrev wide : CxxType
-wide = fundamental base.WideChar
-
-abbrev short : CxxType
-short = fundamental base.Short
-
 abbrev int : CxxType
 int = fundamental base.Int
 
 abbrev long : CxxType
 long = fundamental base.Long
-
-abbrev float : CxxType
-float = fundamental base.Float
 
 abbrev double : CxxType
 double = fundamental base.Double
@@ -81,9 +69,6 @@ graph = record {
 abbrev an_e : CxxType
 an_e = enumeration 0
 
-abbrev an_l : CxxType
-an_l = enumeration 1
-
 abbrev a : CxxType
 a = class_type 0
 
@@ -98,15 +83,6 @@ x = class_type 3
 
 abbrev lvalue : CxxType → CxxOperand
 lvalue t = record { of = t; lvalue = true; constant = constant.No }
-
-abbrev rvalue : CxxType → CxxOperand
-rvalue t = record { of = t; lvalue = false; constant = constant.No }
-
-abbrev zero : CxxOperand
-zero = record { of = int; lvalue = false; constant = constant.Zero }
-
-abbrev text : CxxOperand
-text = record { of = array_of (const_of char) (number_bound 4); lvalue = true; constant = constant.NarrowText }
 
 abbrev found : CxxOperand → List CxxType → List Bool
 found from targets = map (λ target. is_found (standard_sequence graph from target)) targets

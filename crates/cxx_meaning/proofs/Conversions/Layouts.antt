@@ -7,7 +7,7 @@ use Rattle.cxx_model.specs.declared.facts.MemberKind.TheVariants as member
 use Rattle.cxx_model.specs.declared.facts.ScopeKind.TheVariants as kind
 use Rattle.cxx_model.specs.declared.types.Cv.{Cv}
 use Rattle.cxx_model.specs.Facts.Declarations as facts
-use Rattle.cxx_model.specs.Facts.Declarations.{CxxFact, CxxGraph, CxxSpecialisation, Declares, unnamed}
+use Rattle.cxx_model.specs.Facts.Declarations.{CxxFact, CxxSpecialisation, Declares, unnamed}
 use Rattle.cxx_model.specs.Types.Trees.{fundamental, class_type, pointer_to, reference_to, array_of, function_of, no_types, number_bound}
 use Rattle.cxx_meaning.specs.Conversions.Sizes.{added, class_extent, enumerations_in, extent_of, layouts_of, member_extent, object_extent}
 

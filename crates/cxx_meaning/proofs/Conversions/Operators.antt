@@ -7,7 +7,7 @@ use Rattle.cxx_model.specs.declared.sequence.ConstantKind.TheVariants as constan
 use Rattle.cxx_model.specs.declared.types.ClassId.{ClassId}
 use Rattle.cxx_model.specs.Facts.Declarations as facts
 use Rattle.cxx_model.specs.Facts.Declarations.{CxxFact, CxxGraph, Declares, unnamed}
-use Rattle.cxx_model.specs.Types.Trees.{CxxType, fundamental, class_type, enumeration, pointer_to, reference_to, array_of, function_of, qualified, no_types, number_bound, adjusted}
+use Rattle.cxx_model.specs.Types.Trees.{CxxType, fundamental, class_type, enumeration, pointer_to, array_of, function_of, qualified, no_types, number_bound, adjusted}
 use Rattle.cxx_model.specs.declared.punct.TheConstants as punct
 use Rattle.cxx_model.specs.Types.Same.{same_type}
 use Rattle.cxx_meaning.specs.Conversions.Arithmetic.{usual}
@@ -57,9 +57,6 @@ void = fundamental base.Void
 abbrev to : CxxType → CxxType
 to t = pointer_to t
 
-abbrev ref : CxxType → CxxType
-ref t = reference_to t
-
 abbrev three : CxxType → CxxType
 three t = array_of t (number_bound 3)
 
@@ -91,9 +88,6 @@ an_l = enumeration 1
 abbrev a : CxxType
 a = class_type 0
 
-abbrev b : CxxType
-b = class_type 1
-
 abbrev c : CxxType
 c = class_type 2
 
@@ -108,9 +102,6 @@ rvalue t = record { of = t; lvalue = false; constant = constant.No }
 
 abbrev zero : CxxOperand
 zero = record { of = int; lvalue = false; constant = constant.Zero }
-
-abbrev text : CxxOperand
-text = record { of = array_of (const_of char) (number_bound 4); lvalue = true; constant = constant.NarrowText }
 
 abbrev results : List CxxType
 results = (bool) ∷ (char) ∷ (short) ∷ (int) ∷ (fundamental base.Unsigned) ∷ (long) ∷ (fundamental base.UnsignedLong) ∷ (wide) ∷ (float) ∷ (double) ∷ (fundamental base.LongDouble) ∷ (an_e) ∷ (an_l) ∷ (to int) ∷ (to (const_of int)) ∷ (to (volatile_of int)) ∷ (to (to int)) ∷ (to (to (const_of int))) ∷ (to (const_of (to (const_of int)))) ∷ (to void) ∷ (to (const_of void)) ∷ (to a) ∷ (to (const_of a)) ∷ (to (const_of c)) ∷ (to x) ∷ (to (qualified (record { is_const = true; is_volatile = true }) int)) ∷ (to (const_of (to (volatile_of int)))) ∷ (to (three int)) ∷ (to (to (to int))) ∷ (to (to (to (const_of int)))) ∷ (to (to void)) ∷ (to (to (const_of void))) ∷ (to (to a)) ∷ (to (to (const_of c))) ∷ (to (to x)) ∷ (to function) ∷ (to (to function)) ∷ (to (volatile_of void)) ∷ (to (qualified (record { is_const = true; is_volatile = true }) void)) ∷ (to an_e) ∷ (to an_l) ∷ (to (fundamental base.Char)) ∷ (to (fundamental base.Bool)) ∷ (to (fundamental base.Unsigned)) ∷ (to (fundamental base.Long)) ∷ (to (fundamental base.UnsignedLong)) ∷ (to (fundamental base.WideChar)) ∷ (to (fundamental base.Float)) ∷ (to (fundamental base.Double)) ∷ (to (fundamental base.LongDouble)) ∷ []

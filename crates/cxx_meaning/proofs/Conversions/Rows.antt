@@ -36,9 +36,6 @@ char = fundamental base.Char
 abbrev wide : CxxType
 wide = fundamental base.WideChar
 
-abbrev short : CxxType
-short = fundamental base.Short
-
 abbrev int : CxxType
 int = fundamental base.Int
 
@@ -95,9 +92,6 @@ b = class_type 1
 
 abbrev c : CxxType
 c = class_type 2
-
-abbrev x : CxxType
-x = class_type 3
 
 abbrev lvalue : CxxType → CxxOperand
 lvalue t = record { of = t; lvalue = true; constant = constant.No }

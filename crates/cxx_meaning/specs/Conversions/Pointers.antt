@@ -3,7 +3,7 @@ use Rattle.std.specs.Prelude.{ℕ, Bool, true, false, ◌&&◌, ◌||◌, not, n
 use Rattle.std.specs.List.{list_any}
 use Rattle.cxx_model.specs.declared.types.Cv.{Cv}
 use Rattle.cxx_model.specs.Facts.Declarations as facts
-use Rattle.cxx_model.specs.Facts.Declarations.{CxxFact, CxxGraph, Declares}
+use Rattle.cxx_model.specs.Facts.Declarations.{CxxGraph, Declares}
 use Rattle.cxx_model.specs.Types.Same.{same_cv}
 use Rattle.cxx_model.specs.Types.Trees.{CxxType, pointer_to, array_of, qualified, CxxBound, number_bound, merged, with_cv, unqualified}
 use Rattle.cxx_meaning.specs.Conversions.Asking.{Asked, ◌>>=◌}

@@ -4,7 +4,7 @@ use Rattle.std.specs.List.{Contains}
 use Rattle.cxx_model.specs.declared.types.ScopeId.{ScopeId}
 use Rattle.cxx_model.specs.Facts.Entities.{is_seen}
 use Rattle.cxx_model.specs.Facts.Declarations as facts
-use Rattle.cxx_model.specs.Facts.Declarations.{CxxFact, CxxGraph, Declares}
+use Rattle.cxx_model.specs.Facts.Declarations.{CxxFact, Declares}
 use Rattle.cxx_meaning.specs.Lookups.Gathered.{gathered, spread, with_scopes}
 use Rattle.cxx_meaning.specs.Lookups.Scopes.{chain, first_common}
 

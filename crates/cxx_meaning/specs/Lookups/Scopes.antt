@@ -52,7 +52,3 @@ first_common all ones others = by (find (λ one. is_space (kind_of all one) && h
     by : Option ScopeId → ScopeId
     by None = unit_scope
     by (Some one) = one
-
--- 7.3.4: the nearest namespace that encloses both
-abbrev pub common : List CxxFact → ScopeId → ScopeId → ScopeId
-common all one two = first_common all (chain all one) (chain all two)

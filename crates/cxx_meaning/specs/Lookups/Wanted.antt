@@ -4,7 +4,7 @@ use Rattle.std.specs.List.{slice_get}
 use Rattle.cxx_model.specs.declared.facts.MemberKind.{MemberKind}
 use Rattle.cxx_model.specs.declared.facts.MemberKind.TheVariants as member
 use Rattle.cxx_model.specs.Facts.Declarations as facts
-use Rattle.cxx_model.specs.Facts.Declarations.{CxxFact, CxxGraph, CxxPattern, Declares}
+use Rattle.cxx_model.specs.Facts.Declarations.{CxxGraph, CxxPattern, Declares}
 use Rattle.cxx_model.specs.Types.Trees.{CxxType}
 
 -- A lookup passes over what is not wanted, as if it were not declared.

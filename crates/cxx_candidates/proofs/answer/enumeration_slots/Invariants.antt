@@ -1,8 +1,6 @@
-use Rattle.std.proofs.Common.{◌≡◌, filter, length, map, take}
-use Rattle.cxx_model.specs.Types.Trees.{enumeration, pointer_to}
-use Rattle.cxx_builtin.specs.Built.{list_at}
-use Rattle.cxx_candidates.specs.Shapes.{numbers_at, AreSlots, ArePointeesKnown}
-use Rattle.cxx_candidates.specs.Sources.{is_object}
+use Rattle.std.proofs.Common.{map, take}
+use Rattle.cxx_model.specs.Types.Trees.{enumeration}
+use Rattle.cxx_candidates.specs.Shapes.{numbers_at, AreSlots}
 use Rattle.cxx_candidates.proofs.answer.enumeration_slots.Given as goal
 
 abbrev pub invariant-loop-number : goal.invariant-loop-number

@@ -1,4 +1,4 @@
-use Rattle.std.proofs.Common.{◌≡◌, filter, length, map, take}
+use Rattle.std.proofs.Common.{◌≡◌, filter, length, take}
 use Rattle.cxx_builtin.specs.Built.{list_at}
 use Rattle.cxx_candidates.specs.Shapes.{ArePointeesKnown}
 use Rattle.cxx_meaning.specs.Conversions.Kinds.{is_function}

@@ -1,7 +1,6 @@
-use Rattle.std.proofs.Common.{◌≡◌, filter, length, map, take}
-use Rattle.cxx_model.specs.Types.Trees.{enumeration, pointer_to}
+use Rattle.std.proofs.Common.{◌≡◌, filter, length, take}
 use Rattle.cxx_builtin.specs.Built.{list_at}
-use Rattle.cxx_candidates.specs.Shapes.{numbers_at, AreSlots, ArePointeesKnown}
+use Rattle.cxx_candidates.specs.Shapes.{ArePointeesKnown}
 use Rattle.cxx_candidates.specs.Sources.{is_object}
 use Rattle.cxx_candidates.proofs.answer.objects_among.Given as goal
 

@@ -1,8 +1,7 @@
-use Rattle.std.proofs.Common.{◌≡◌, filter, length, map, take}
-use Rattle.cxx_model.specs.Types.Trees.{enumeration, pointer_to}
+use Rattle.std.proofs.Common.{map, take}
+use Rattle.cxx_model.specs.Types.Trees.{pointer_to}
 use Rattle.cxx_builtin.specs.Built.{list_at}
-use Rattle.cxx_candidates.specs.Shapes.{numbers_at, AreSlots, ArePointeesKnown}
-use Rattle.cxx_candidates.specs.Sources.{is_object}
+use Rattle.cxx_candidates.specs.Shapes.{AreSlots}
 use Rattle.cxx_candidates.proofs.answer.pointer_slots.Given as goal
 
 abbrev pub invariant-loop-to : goal.invariant-loop-to

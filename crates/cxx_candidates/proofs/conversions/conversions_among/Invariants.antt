@@ -1,8 +1,8 @@
-use Rattle.std.proofs.Common.{◌≡◌, take, length, filter, false, not}
-use Rattle.cxx_model.specs.Facts.Declarations.{graph_at, facts_at}
-use Rattle.cxx_candidates.specs.Shapes.{conversion_at, conversions_at, AreConversionsKnown}
+use Rattle.std.proofs.Common.{◌≡◌, take, length}
+use Rattle.cxx_model.specs.Facts.Declarations.{facts_at}
+use Rattle.cxx_candidates.specs.Shapes.{conversions_at, AreConversionsKnown}
 use Rattle.cxx_candidates.specs.Sources as definition
-use Rattle.std.specs.List.{filter_map, list_any}
+use Rattle.std.specs.List.{filter_map}
 use Rattle.cxx_candidates.proofs.conversions.conversions_among.Given as goal
 
 abbrev pub invariant-loop-fact : goal.invariant-loop-fact

@@ -1,4 +1,3 @@
-use Rattle.std.specs.Prelude.{◌≡◌}
 use Rattle.std.proofs.Common.{sym, ◌∙◌}
 use Rattle.cxx_model.specs.Facts.Declarations.{graph_at}
 use Rattle.cxx_candidates.specs.Shapes.{conversion_at}

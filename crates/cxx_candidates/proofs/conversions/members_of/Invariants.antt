@@ -1,8 +1,7 @@
-use Rattle.std.proofs.Common.{◌≡◌, take, length, filter, false, not}
-use Rattle.cxx_model.specs.Facts.Declarations.{graph_at, facts_at}
-use Rattle.cxx_candidates.specs.Shapes.{conversion_at, conversions_at, AreConversionsKnown}
+use Rattle.std.proofs.Common.{◌≡◌, take, length, filter}
+use Rattle.cxx_model.specs.Facts.Declarations.{graph_at}
+use Rattle.cxx_candidates.specs.Shapes.{conversions_at, AreConversionsKnown}
 use Rattle.cxx_candidates.specs.Sources as definition
-use Rattle.std.specs.List.{filter_map, list_any}
 use Rattle.cxx_candidates.proofs.conversions.members_of.Given as goal
 
 abbrev pub invariant-loop-one : goal.invariant-loop-one

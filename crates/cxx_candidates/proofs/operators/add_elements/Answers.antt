@@ -1,4 +1,3 @@
-use Rattle.std.specs.Prelude.{◌++◌}
 use Rattle.cxx_candidates.specs.Candidates as definition
 use Rattle.cxx_candidates.specs.Shapes.{slots_at}
 use Rattle.cxx_candidates.proofs.Following.{then_adds}

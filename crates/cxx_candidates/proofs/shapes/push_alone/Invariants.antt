@@ -1,5 +1,4 @@
 use Rattle.std.proofs.Common.{◌≡◌, ◌++◌, take, map}
-use Rattle.std.specs.List.{flat_map}
 use Rattle.cxx_candidates.specs.Rows as rows
 use Rattle.cxx_candidates.proofs.shapes.push_alone.Given as goal
 

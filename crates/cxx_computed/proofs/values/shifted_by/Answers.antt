@@ -1,6 +1,4 @@
-use Rattle.std.proofs.Common.{rules, ◌≡◌, ◌<◌, ◌^◌, pos, ◌*ℤ◌, true, false, int_div, int_rem, bit_and, bit_or, bit_xor, ℕ, ◌+◌, ◌-◌, ◌*◌, ◌≤◌, length, ◌/◌, ◌%◌, Bool, nat_eq, nat_lt, ℤ, ◌+ℤ◌, ◌-ℤ◌, ◌≤ℤ◌, ◌<ℤ◌, FitsSigned, to_z, of_z, ap, sym, ◌∙◌, arith}
-use Rattle.cxx_model.specs.Types.Integral.{holds as holds_value}
-use Rattle.cxx_model.specs.Types.Integral.{signed, width}
+use Rattle.std.proofs.Common.{◌-◌, ap, ◌∙◌}
 use Rattle.cxx_computed.specs.Values as definition
 use Rattle.cxx_computed.proofs.Held.{shift_computed, shift_computed_fits}
 use Rattle.cxx_computed.proofs.values.shifted_by.Goals as goal

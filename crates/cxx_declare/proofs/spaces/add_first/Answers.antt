@@ -1,5 +1,4 @@
 use Rattle.cxx_declare.proofs.Spacing.{first_added, first_not_added, first_ready, first_there}
-use Rattle.cxx_tree.specs.Held.{meaning}
 use Rattle.cxx_model.specs.Facts.Declarations.{fact_at}
 use Rattle.cxx_declare.proofs.spaces.add_first.Goals as goal
 

@@ -1,5 +1,4 @@
 use Rattle.std.proofs.Common.{ap, ◌∙◌}
-use Rattle.cxx_model.specs.declared.tree.PathPart.{PathPart}
 use Rattle.cxx_reading.specs.Trees.{last_part}
 use Rattle.cxx_tree.specs.Arena.{path_at, path_parts_at}
 use Rattle.cxx_declare.proofs.Bringing.{inside_brought, inside_there}

@@ -1,4 +1,3 @@
-use Rattle.std.proofs.Common.{◌∙◌}
 use Rattle.cxx_model.specs.Facts.Declarations.{graph_at}
 use Rattle.cxx_declare.proofs.Bringing.{space_goes, space_stops}
 use Rattle.cxx_declare.proofs.usings.first_space.Goals as goal

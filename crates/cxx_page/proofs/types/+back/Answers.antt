@@ -1,4 +1,4 @@
-use Rattle.std.proofs.Common.{rules, ap, sym, ◌∙◌, length, get_or, Option, true, [], ◌++◌, ◌≡◌, ◌<◌, ◌+◌, ◌*◌, slice_index_or, arith}
+use Rattle.std.proofs.Common.{rules, sym, length, get_or, Option, true, [], ◌++◌, ◌≡◌, ◌<◌, ◌+◌, ◌*◌, slice_index_or, arith}
 use Rattle.cxx_model.specs.declared.types.TypeId.{TypeId}
 use Rattle.cxx_model.specs.Types.Numbers.{type_at, types_at}
 use Rattle.cxx_model.specs.Types.Trees.{CxxType}

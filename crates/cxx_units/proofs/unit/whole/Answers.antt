@@ -7,5 +7,5 @@ use Rattle.cxx_units.proofs.Ended.{stopped}
 use Rattle.cxx_units.proofs.unit.whole.Goals as goal
 
 -- src/unit.rt:43:1
-pub returns-in-Err : goal.returns-in-Err
-returns-in-Err c = λ end reading given. stopped c.args.options c.in-Err.why reading (subst (λ (ended : Result (Unit {0}) Stop). Answers itself AnyKnown c.args.state end ended reading) c.in-Err.is given)
+pub returns-in-Err-clause-is : goal.returns-in-Err-clause-is
+returns-in-Err-clause-is c = λ end reading given. stopped c.args.options c.in-Err.why reading (subst (λ (ended : Result (Unit {0}) Stop). Answers itself AnyKnown c.args.state end ended reading) c.in-Err.is given)

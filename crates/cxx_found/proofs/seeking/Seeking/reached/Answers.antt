@@ -12,6 +12,6 @@ loop-place-preserved c =
     let place = c.loop-place.place in
     let next = nominated (facts_of self) (cut_of self) in
     let lt : place < length self.looking.graph.now.facts = omega (arith, c.length-place-end.ensures.count) in
-    let at : slice_get c.loop-place.found.items place ≡ Some c.in-Some.space = ap (λ xs. slice_get xs place) (sym c.deref.ensures.value) ∙ sym c.in-Some.ensures in
-    let more = c.in_ok-add_scopes-in-Some.ensures ∙ ap (with_scopes c.loop-place.found.items) c.nominated-in-Some.ensures in
-    ap (λ xs. spread next (length (facts_of self) - (place + 1)) (place + 1) xs) more ∙ (sym (turn_more next (types_of self) self.looking.graph.now.facts place c.loop-place.found.items c.in-Some.space lt at) ∙ c.loop-place.invariant)
+    let at : slice_get c.loop-place.found.keys place ≡ Some c.in-Some.space = sym c.in-Some.ensures in
+    let more = c.in_ok-add_scopes-in-Some.ensures ∙ ap (with_scopes c.loop-place.found.keys) c.nominated-in-Some.ensures in
+    ap (λ xs. spread next (length (facts_of self) - (place + 1)) (place + 1) xs) more ∙ (sym (turn_more next (types_of self) self.looking.graph.now.facts place c.loop-place.found.keys c.in-Some.space lt at) ∙ c.loop-place.invariant)

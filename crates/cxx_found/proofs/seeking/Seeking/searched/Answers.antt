@@ -12,5 +12,5 @@ loop-place-preserved c =
     let place = c.loop-place.place in
     let next = leads_to (graph_of self) (cut_of self) (wanted_of self) (name_of self) in
     let lt : place < length self.looking.graph.now.facts = omega (arith, c.length-place-end.ensures.count) in
-    let at : slice_get c.loop-place.found.items place ≡ Some c.in-Some.one = ap (λ xs. slice_get xs place) (sym c.deref.ensures.value) ∙ sym c.in-Some.ensures in
-    ap (λ xs. spread next (length (facts_of self) - (place + 1)) (place + 1) xs) c.in_ok-add_leads-in-Some.ensures ∙ (sym (turn_more next (types_of self) self.looking.graph.now.facts place c.loop-place.found.items c.in-Some.one lt at) ∙ c.loop-place.invariant)
+    let at : slice_get c.loop-place.found.keys place ≡ Some c.in-Some.one = sym c.in-Some.ensures in
+    ap (λ xs. spread next (length (facts_of self) - (place + 1)) (place + 1) xs) c.in_ok-add_leads-in-Some.ensures ∙ (sym (turn_more next (types_of self) self.looking.graph.now.facts place c.loop-place.found.keys c.in-Some.one lt at) ∙ c.loop-place.invariant)

@@ -1,9 +1,0 @@
-pub mod Answers
-pub mod Views
-pub mod Means
-pub mod Meanings
-pub mod Shows
-pub mod Ways
-pub mod Parts
-pub mod Reserved
-pub mod Named

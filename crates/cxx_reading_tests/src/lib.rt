@@ -1,0 +1,5 @@
+//! Tests of the reading of whole units, through its public call.
+#![tactic(auto)]
+
+#[cfg(test)]
+mod asking;

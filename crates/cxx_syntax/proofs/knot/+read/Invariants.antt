@@ -1,4 +1,0 @@
-use Rattle.cxx_syntax.proofs.knot.+read.Given as goal
-
-abbrev pub decreases-read : goal.decreases-read
-decreases-read g l = l.room
