@@ -87,7 +87,7 @@ use Rattle.cxx_model.specs.Facts.Declarations.{CxxFact, CxxGraph, Declares, unna
 use Rattle.cxx_model.specs.Facts.Pending.{is_pending}
 use Rattle.cxx_model.specs.Types.Trees.{CxxType, fundamental, class_type, enumeration, pointer_to, reference_to, array_of, function_of, qualified, no_types, type_then, number_bound}
 use Rattle.cxx_meaning.specs.Conversions.Asking.{Asked}
-use Rattle.cxx_meaning.specs.Conversions.Casts.{CxxCast, between, cast, cast_between, cast_operand, cast_unless, const_cast, goes_down, reinterpret_cast, static_cast, static_kinds, static_objects, static_only, static_pointers, static_unless}
+use Rattle.cxx_meaning.specs.Conversions.Casts.{CxxCast, added, between, cast, cast_between, cast_by_two, cast_else, cast_operand, cast_unless, const_cast, goes_down, reinterpret_cast, static_cast, static_kinds, static_objects, static_only, static_pointers, static_unless}
 use Rattle.cxx_meaning.specs.Conversions.Derived.{is_derived}
 use Rattle.cxx_meaning.specs.Conversions.Enumerations.{promoted}
 use Rattle.cxx_meaning.specs.Conversions.Kinds.{no_cv}
@@ -114,7 +114,7 @@ abbrev is_yes : Asked Bool → Bool
 is_yes (Ok true) = true
 is_yes _ = false
 """]
-    unfold = "unfolding between cast cast_between cast_operand cast_unless const_cast goes_down reinterpret_cast static_cast static_kinds static_objects static_only static_pointers static_unless is_derived is_pending promoted class_step is_text pointer_to_class pointer_to_other related related_kinds step_of_enumeration steps_between steps_by_kinds steps_by_relation steps_of_arithmetic steps_of_enumeration steps_of_kinds steps_of_pointer steps_of_pointers steps_of_reference steps_of_related steps_of_unrelated steps_of_value steps_to_class steps_to_scalar value_step"
+    unfold = "unfolding added between cast cast_between cast_by_two cast_else cast_operand cast_unless const_cast goes_down reinterpret_cast static_cast static_kinds static_objects static_only static_pointers static_unless is_derived is_pending promoted class_step is_text pointer_to_class pointer_to_other related related_kinds step_of_enumeration steps_between steps_by_kinds steps_by_relation steps_of_arithmetic steps_of_enumeration steps_of_kinds steps_of_pointer steps_of_pointers steps_of_reference steps_of_related steps_of_unrelated steps_of_value steps_to_class steps_to_scalar value_step"
     count = int(sys.argv[1]) if sys.argv[1:] else 120
     n = 0
     for taken in (True, False):

@@ -10,7 +10,7 @@ use Rattle.cxx_model.specs.Facts.Graph.{Graph}
 use Rattle.cxx_model.specs.Types.Numbers.{type_at, Keeps}
 use Rattle.cxx_model.specs.Types.Trees.{CxxType, pointer_to, reference_to}
 use Rattle.cxx_meaning.specs.Conversions.Asking.{Asked}
-use Rattle.cxx_meaning.specs.Conversions.Casts.{CxxCast, by_const, by_static, by_static_and_const, by_reinterpret, by_reinterpret_and_const, cast_operand}
+use Rattle.cxx_meaning.specs.Conversions.Casts.{CxxCast, by_const, by_static, by_static_and_const, by_reinterpret, by_reinterpret_and_const, cast_operand, with_added}
 use Rattle.cxx_meaning.specs.Conversions.Standard.{CxxOperand}
 use Rattle.cxx_model.specs.declared.sequence.ConstantKind.TheVariants as constant
 use Rattle.cxx_meaning.specs.Conversions.Kinds.{cv_of, signature}
@@ -30,11 +30,15 @@ abbrev pub aim_at : List CxxType → Aims → Option CxxType
 aim_at types aims.Nowhere = None
 aim_at types (aims.Pointers one two) = Some (pointer_to (with_words (type_at types one.0) (type_at types two.0)))
 aim_at types (aims.Objects one two) = Some (reference_to (with_words (type_at types one.0) (type_at types two.0)))
+aim_at types (aims.MorePointers one two) = Some (pointer_to (with_added (type_at types one.0) (type_at types two.0)))
+aim_at types (aims.MoreObjects one two) = Some (reference_to (with_added (type_at types one.0) (type_at types two.0)))
 
 abbrev pub IsAimBelow : ℕ → Aims → Type 0
 IsAimBelow count aims.Nowhere = Unit {0}
 IsAimBelow count (aims.Pointers one two) = (one.0 < count) × (two.0 < count)
 IsAimBelow count (aims.Objects one two) = (one.0 < count) × (two.0 < count)
+IsAimBelow count (aims.MorePointers one two) = (one.0 < count) × (two.0 < count)
+IsAimBelow count (aims.MoreObjects one two) = (one.0 < count) × (two.0 < count)
 
 abbrev pub some_of : Result TypeId OutOfMemory → Result (Option TypeId) OutOfMemory
 some_of (Ok number) = Ok (Some number)

@@ -8,7 +8,7 @@ ghost use Rattle.cxx_meaning.specs.Conversions.Casts.{by_reinterpret};
 ghost use Rattle.cxx_casts.specs.Made.{bare_operand as bare_operand_of, AreCastsBelow, Casts, IsBareBelow, IsCast, casts_at, middle_at};
 ghost use Rattle.cxx_standard.specs.Views.{operand_at};
 
-use crate::middle::{aim, made};
+use crate::middle::{aim, made, more};
 use crate::named::{const_cast, reinterpret_cast, static_cast};
 use cxx_graph::Graph;
 use cxx_model::{ConstantKind, Operand, TypeId, TypeNode, Wait};
@@ -157,7 +157,7 @@ fn by_made(
     }
 }
 
-// By two casts, or by `reinterpret_cast` alone.
+// By two casts of which the first is to the type with the words of the expression alone, or by `reinterpret_cast` alone.
 fn cast_between(
     alloc: Global,
     graph: &Graph,
@@ -175,6 +175,49 @@ fn cast_between(
     match made(alloc, graph, types, aims) {
         Err(_) => Err(Wait::OutOfMemory),
         Ok(middle) => by_made(alloc, graph, types, is_single, from, to, middle),
+    }
+}
+
+// By two casts of which the first is to the type with the words of the expression besides its own, or by `reinterpret_cast`
+// alone.
+fn cast_added(
+    alloc: Global,
+    graph: &Graph,
+    types: &mut TypeTable,
+    is_single: bool,
+    from: Operand,
+    to: TypeId,
+) -> Result<Option<CastSteps>, Wait>
+    requires from_known { from.of.0 < length types.old }
+    requires to_known { to.0 < length types.old }
+    requires fitted { Fitted graph.now types.old }
+    ensures { Casts graph.now types.old types.new result (casts.cast_between (graph_at types.old graph.now) is_single (operand_at types.old from) (type_at types.old to.0) (casts.added (operand_at types.old from) (type_at types.old to.0))) }
+{
+    let aims = more(graph, types, from, to);
+    match made(alloc, graph, types, aims) {
+        Err(_) => Err(Wait::OutOfMemory),
+        Ok(middle) => by_made(alloc, graph, types, is_single, from, to, middle),
+    }
+}
+
+// By two casts, with either type between, or by `reinterpret_cast` alone.
+fn cast_by_two(
+    alloc: Global,
+    graph: &Graph,
+    types: &mut TypeTable,
+    is_single: bool,
+    from: Operand,
+    to: TypeId,
+) -> Result<Option<CastSteps>, Wait>
+    requires from_known { from.of.0 < length types.old }
+    requires to_known { to.0 < length types.old }
+    requires fitted { Fitted graph.now types.old }
+    ensures { Casts graph.now types.old types.new result (casts.cast_by_two (graph_at types.old graph.now) is_single (operand_at types.old from) (type_at types.old to.0)) }
+{
+    match cast_added(alloc, graph, types, is_single, from, to) {
+        Err(wait) => Err(wait),
+        Ok(Some(found)) => Ok(Some(found)),
+        Ok(None) => cast_between(alloc, graph, types, is_single, from, to),
     }
 }
 
@@ -199,6 +242,6 @@ pub fn cast(
     match static_cast(alloc, graph, types, is_single, from, to) {
         Err(wait) => Err(wait),
         Ok(true) => Ok(Some(CastSteps::Static)),
-        Ok(false) => cast_between(alloc, graph, types, is_single, from, to),
+        Ok(false) => cast_by_two(alloc, graph, types, is_single, from, to),
     }
 }

@@ -138,7 +138,11 @@ pub(crate) fn again(alloc: Global, one: &Printed, options: Options) -> Shown
     ensures { (first : CxxReading) → IsPrinted first one.now → IsShown (definition.read_again options first) result }
 {
     match read_bytes(alloc, one.text.as_slice(), options) {
-        Outcome::Whole(state) => printed_again(alloc, one, &state),
+        Outcome::Whole(state) => {
+            let shown = printed_again(alloc, one, &state);
+            state.let_go();
+            shown
+        }
         Outcome::Broken(fault) => told(broken_text(alloc, &fault)),
         Outcome::PassesLimit(_) => Shown::Nothing,
         Outcome::NoMemory => Shown::NoMemory,

@@ -61,7 +61,9 @@ fn printed_unit(alloc: Global, state: State) -> Result<Printed, PlainFault>
     ensures is { (options : OptionsOfRun) → IfOk result (IsPrinted (reading_of options state)) }
     ensures full { (options : OptionsOfRun) → result ≡ Err PlainFault.Limit → is_past_output (reading_of options state) ≡ true }
 {
-    print_reading(alloc, &state)
+    let printed = print_reading(alloc, &state);
+    state.let_go();
+    printed
 }
 
 // The plain form of a whole unit.
@@ -79,7 +81,9 @@ fn bound(alloc: Global, state: State, options: Options) -> Answer
 fn listed_unit(alloc: Global, state: State) -> Result<Vec<u8>, AllocError>
     ensures { (options : OptionsOfRun) → IfOk result (λ text. text.items ≡ listing_of (reading_of options state)) }
 {
-    calls_text(alloc, &state)
+    let text = calls_text(alloc, &state);
+    state.let_go();
+    text
 }
 
 // The calls of a whole unit.

@@ -23,7 +23,6 @@ use cxx_tree::State;
 use std::alloc::{AllocError, Global};
 
 /// What the bytes of a unit are.
-#[derive(Drop)]
 pub(crate) enum Outcome {
     Whole(State),
     Broken(Box<Fault>),

@@ -19,7 +19,9 @@ use crate::conflict::free;
 use crate::facts::{fact_in, tell, word_fact};
 use cxx_found::{Found, Wanted};
 use cxx_model::{Entity, Fact, Name, Path, Place, ScopeId, Stop};
-use cxx_paths::{ambiguous_name, name_sought, region_here, set_in, space_among, undeclared_name};
+use cxx_paths::{
+    ambiguous_name, name_sought, set_in, space_among, space_region_here, undeclared_name,
+};
 use cxx_reading::Region;
 use cxx_tree::State;
 
@@ -244,7 +246,7 @@ fn space_in(state: &State, path: &Path, region: Region) -> Result<ScopeId, Stop>
 pub fn space_here(state: &State, path: &Path) -> Result<ScopeId, Stop>
     ensures { IsAnswered scope_number IsScopeKnown state.now state.now result (spaces.space_here (path_at path.now) (meaning state.now)) }
 {
-    match region_here(state, path) {
+    match space_region_here(state, path) {
         Ok(region) => space_in(state, path, region),
         Err(stop) => Err(stop),
     }

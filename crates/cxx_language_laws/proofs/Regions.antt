@@ -15,11 +15,11 @@ use Rattle.cxx_model.specs.Facts.Conflicts.{scope_facts}
 use Rattle.cxx_model.specs.Facts.Declarations.{CxxFact, CxxGraph, spelled}
 use Rattle.cxx_model.specs.Stops.{Answer, Stopped, ◌>>=◌, undeclared_at}
 use Rattle.cxx_model.specs.Text.Lexemes.{Lexeme, kind_of}
-use Rattle.cxx_meaning.specs.Lookups.Wanted.{Wanted, before_colons}
+use Rattle.cxx_meaning.specs.Lookups.Wanted.{Wanted, before_colons, namespaces_only}
 use Rattle.cxx_reading.specs.declared.region.Region.{Region}
 use Rattle.cxx_reading.specs.declared.region.Region.TheVariants as region
 use Rattle.cxx_reading.specs.Linked.{scope_id}
-use Rattle.cxx_reading.specs.Paths.{ambiguous_at, first_region, first_space, held_by, holder, holder_by, name_in, or_later, place_of_fact, region_by, region_of, scope_of_region, sought_in, space_in}
+use Rattle.cxx_reading.specs.Paths.{ambiguous_at, first_region, first_space, held_by, holder, holder_by, name_in, or_later, place_of_fact, region_by, region_of, scope_of_region, sought_in, space_in, space_region_of}
 use Rattle.cxx_reading.specs.Reads.{Ahead}
 use Rattle.cxx_reading.specs.Seen.{Numbered, numbered_at, numbered_by, set_in}
 use Rattle.cxx_reading.specs.Spaces.{first_opening}
@@ -27,7 +27,7 @@ use Rattle.cxx_reading.specs.State.{CxxState}
 use Rattle.cxx_reading.specs.Tokens.{Passed, begins_name, is_name, is_plain_name, is_punct, is_whole_name, part_of, part_then, passed_from, passed_to, path_ahead}
 use Rattle.cxx_reading.specs.Trees.{CxxPath, CxxPathPart, last_part}
 use Rattle.cxx_language_laws.specs.Best.{IsClear}
-use Rattle.cxx_language_laws.specs.Told.{AreTwo, IsNamed, IsNotThere, IsSought, IsWantedBefore, twofold_name, unknown_name}
+use Rattle.cxx_language_laws.specs.Told.{AreTwo, IsNamed, IsNotThere, IsSought, IsWantedLast, MayStandBefore, twofold_name, unknown_name}
 use Rattle.cxx_language_laws.proofs.Outward.{IsSome}
 use Rattle.cxx_language_laws.proofs.Reached.{IsManifold, IsUndeclared, Told, quiet_told, reached_here}
 use Rattle.cxx_language_laws.proofs.Scopes.{InScopes, opened_of, opened_within}
@@ -152,30 +152,30 @@ same_reason : (one two : Stopped) → AreRegions (Err one) (Err two) → one ≡
 same_reason one two e = cc
 
 -- why it means no namespace
-data HolderStops (graph : CxxGraph) (where_ : Region) (part : CxxPathPart) : Stopped → Type 0 where
-  holds_two : (one two : FactId) → sought_in graph before_colons where_ (spelled part.word) ≡ sought.Ambiguous one two → HolderStops graph where_ part (ambiguous_at graph part one two)
-  holds_none : (x : Found) → sought_in graph before_colons where_ (spelled part.word) ≡ x → IsClear x → set_in graph x ≡ [] → HolderStops graph where_ part (undeclared_at part.place part.word)
-  holds_other : (why : Stopped) → IsQuiet why → HolderStops graph where_ part why
+data HolderStops (graph : CxxGraph) (wants : Wanted) (where_ : Region) (part : CxxPathPart) : Stopped → Type 0 where
+  holds_two : (one two : FactId) → sought_in graph wants where_ (spelled part.word) ≡ sought.Ambiguous one two → HolderStops graph wants where_ part (ambiguous_at graph part one two)
+  holds_none : (x : Found) → sought_in graph wants where_ (spelled part.word) ≡ x → IsClear x → set_in graph x ≡ [] → HolderStops graph wants where_ part (undeclared_at part.place part.word)
+  holds_other : (why : Stopped) → IsQuiet why → HolderStops graph wants where_ part why
 
-held_stops : (graph : CxxGraph) (where_ : Region) (part : CxxPathPart) (why : Stopped) (x : Found) → sought_in graph before_colons where_ (spelled part.word) ≡ x → IsClear x → (o : Option ℕ) (all : List Numbered) → set_in graph x ≡ all → AreNumbers (held_by part o all) (Err why) → HolderStops graph where_ part why
-held_stops graph where_ part why x is clear (Some inner) all are e = absurd cc
-held_stops graph where_ part why x is clear None [] are e = subst (HolderStops graph where_ part) (same_why _ why e) (holds_none x is clear are)
-held_stops graph where_ part why x is clear None (one ∷ others) are e = subst (HolderStops graph where_ part) (same_why _ why e) (holds_other _ refl)
+held_stops : (graph : CxxGraph) (wants : Wanted) (where_ : Region) (part : CxxPathPart) (why : Stopped) (x : Found) → sought_in graph wants where_ (spelled part.word) ≡ x → IsClear x → (o : Option ℕ) (all : List Numbered) → set_in graph x ≡ all → AreNumbers (held_by part o all) (Err why) → HolderStops graph wants where_ part why
+held_stops graph wants where_ part why x is clear (Some inner) all are e = absurd cc
+held_stops graph wants where_ part why x is clear None [] are e = subst (HolderStops graph wants where_ part) (same_why _ why e) (holds_none x is clear are)
+held_stops graph wants where_ part why x is clear None (one ∷ others) are e = subst (HolderStops graph wants where_ part) (same_why _ why e) (holds_other _ refl)
 
-holder_stops : (graph : CxxGraph) (where_ : Region) (part : CxxPathPart) (why : Stopped) → holder graph where_ part ≡ Err why → HolderStops graph where_ part why
+holder_stops : (graph : CxxGraph) (wants : Wanted) (where_ : Region) (part : CxxPathPart) (why : Stopped) → holder graph wants where_ part ≡ Err why → HolderStops graph wants where_ part why
 unfolding holder
-holder_stops graph where_ part why e = by (sought_in graph before_colons where_ (spelled part.word)) refl e
+holder_stops graph wants where_ part why e = by (sought_in graph wants where_ (spelled part.word)) refl e
   where
-    by : (x : Found) → sought_in graph before_colons where_ (spelled part.word) ≡ x → AreNumbers (holder_by graph part x) (Err why) → HolderStops graph where_ part why
-    by (sought.Ambiguous one two) is e = subst (HolderStops graph where_ part) (same_why _ why e) (holds_two one two is)
-    by (sought.Set all) is e = held_stops graph where_ part why (sought.Set all) is tt (first_space (set_in graph (sought.Set all))) (set_in graph (sought.Set all)) refl e
-    by (sought.Member class found) is e = held_stops graph where_ part why (sought.Member class found) is tt (first_space (set_in graph (sought.Member class found))) (set_in graph (sought.Member class found)) refl e
-    by sought.Empty is e = held_stops graph where_ part why sought.Empty is tt (first_space (set_in graph sought.Empty)) (set_in graph sought.Empty) refl e
+    by : (x : Found) → sought_in graph wants where_ (spelled part.word) ≡ x → AreNumbers (holder_by graph part x) (Err why) → HolderStops graph wants where_ part why
+    by (sought.Ambiguous one two) is e = subst (HolderStops graph wants where_ part) (same_why _ why e) (holds_two one two is)
+    by (sought.Set all) is e = held_stops graph wants where_ part why (sought.Set all) is tt (first_space (set_in graph (sought.Set all))) (set_in graph (sought.Set all)) refl e
+    by (sought.Member class found) is e = held_stops graph wants where_ part why (sought.Member class found) is tt (first_space (set_in graph (sought.Member class found))) (set_in graph (sought.Member class found)) refl e
+    by sought.Empty is e = held_stops graph wants where_ part why sought.Empty is tt (first_space (set_in graph sought.Empty)) (set_in graph sought.Empty) refl e
 
 -- the namespace that it means
-holder_is : (graph : CxxGraph) (where_ : Region) (part : CxxPathPart) (inner : ℕ) → holder graph where_ part ≡ Ok inner → IsSpaceOf graph inner
+holder_is : (graph : CxxGraph) (wants : Wanted) (where_ : Region) (part : CxxPathPart) (inner : ℕ) → holder graph wants where_ part ≡ Ok inner → IsSpaceOf graph inner
 unfolding holder
-holder_is graph where_ part inner e = by (sought_in graph before_colons where_ (spelled part.word)) e
+holder_is graph wants where_ part inner e = by (sought_in graph wants where_ (spelled part.word)) e
   where
     held : (x : Found) (o : Option ℕ) → first_space (set_in graph x) ≡ o → (all : List Numbered) → AreNumbers (held_by part o all) (Ok inner) → IsSpaceOf graph inner
     held x (Some other) is all e = set_space graph x inner (is ∙ ap (λ (n : ℕ). Some n) (same_number other inner e))
@@ -191,34 +191,34 @@ holder_is graph where_ part inner e = by (sought_in graph before_colons where_ (
 -- ---- regions by parts
 
 -- a part of a name before `::`, and the others round it
-record SplitAt (graph : CxxGraph) (first : Region) (parts : List CxxPathPart) : Type 0 where
+record SplitAt (graph : CxxGraph) (wants : Wanted) (first : Region) (parts : List CxxPathPart) : Type 0 where
   before : List CxxPathPart
   part : CxxPathPart
   next : CxxPathPart
   others : List CxxPathPart
   are : parts ≡ before ++ part ∷ next ∷ others
   where_ : Region
-  qualifies : region_by graph first (before ++ part ∷ []) ≡ Ok where_
+  qualifies : region_by graph wants first (before ++ part ∷ []) ≡ Ok where_
 
 some_last : (before : List CxxPathPart) (part : CxxPathPart) → IsSome (before ++ part ∷ [])
 some_last [] part = tt
 some_last (one ∷ before) part = tt
 
-region_step : (graph : CxxGraph) (first : Region) (part : CxxPathPart) (inner : ℕ) (parts : List CxxPathPart) → IsSome parts → holder graph first part ≡ Ok inner → region_by graph first (part ∷ parts) ≡ region_by graph (region.Inside (scope_id inner)) parts
+region_step : (graph : CxxGraph) (wants : Wanted) (first : Region) (part : CxxPathPart) (inner : ℕ) (parts : List CxxPathPart) → IsSome parts → holder graph wants first part ≡ Ok inner → region_by graph wants first (part ∷ parts) ≡ region_by graph wants (region.Inside (scope_id inner)) parts
 unfolding region_by
-region_step graph first part inner [] is e = absurd is
-region_step graph first part inner (next ∷ others) is e = ap (λ (o : Answer ℕ). o >>= λ inner. region_by graph (region.Inside (scope_id inner)) (next ∷ others)) e
+region_step graph wants first part inner [] is e = absurd is
+region_step graph wants first part inner (next ∷ others) is e = ap (λ (o : Answer ℕ). o >>= λ inner. region_by graph wants (region.Inside (scope_id inner)) (next ∷ others)) e
 
 -- where no region is found, a part before `::` means no namespace
-region_fails : (graph : CxxGraph) (first : Region) (parts : List CxxPathPart) (why : Stopped) → region_by graph first parts ≡ Err why → (split : SplitAt graph first parts) × (holder graph split.where_ split.part ≡ Err why)
+region_fails : (graph : CxxGraph) (wants : Wanted) (first : Region) (parts : List CxxPathPart) (why : Stopped) → region_by graph wants first parts ≡ Err why → (split : SplitAt graph wants first parts) × (holder graph wants split.where_ split.part ≡ Err why)
 unfolding region_by
-region_fails graph first [] why e = absurd cc
-region_fails graph first (part ∷ []) why e = absurd cc
-region_fails graph first (part ∷ next ∷ others) why e = by (holder graph first part) refl e (λ inner e. region_fails graph (region.Inside (scope_id inner)) (next ∷ others) why e)
+region_fails graph wants first [] why e = absurd cc
+region_fails graph wants first (part ∷ []) why e = absurd cc
+region_fails graph wants first (part ∷ next ∷ others) why e = by (holder graph wants first part) refl e (λ inner e. region_fails graph wants (region.Inside (scope_id inner)) (next ∷ others) why e)
   where
-    by : (o : Answer ℕ) → holder graph first part ≡ o → AreRegions (o >>= λ inner. region_by graph (region.Inside (scope_id inner)) (next ∷ others)) (Err why)
-        → ((inner : ℕ) → region_by graph (region.Inside (scope_id inner)) (next ∷ others) ≡ Err why → (split : SplitAt graph (region.Inside (scope_id inner)) (next ∷ others)) × (holder graph split.where_ split.part ≡ Err why))
-        → (split : SplitAt graph first (part ∷ next ∷ others)) × (holder graph split.where_ split.part ≡ Err why)
+    by : (o : Answer ℕ) → holder graph wants first part ≡ o → AreRegions (o >>= λ inner. region_by graph wants (region.Inside (scope_id inner)) (next ∷ others)) (Err why)
+        → ((inner : ℕ) → region_by graph wants (region.Inside (scope_id inner)) (next ∷ others) ≡ Err why → (split : SplitAt graph wants (region.Inside (scope_id inner)) (next ∷ others)) × (holder graph wants split.where_ split.part ≡ Err why))
+        → (split : SplitAt graph wants first (part ∷ next ∷ others)) × (holder graph wants split.where_ split.part ≡ Err why)
     by (Err other) is e later = (record { before = []; part = part; next = next; others = others; are = refl; where_ = first; qualifies = refl }, is ∙ ap Err (same_reason other why e))
     by (Ok inner) is e later = let found = later inner e in (
       record {
@@ -228,32 +228,32 @@ region_fails graph first (part ∷ next ∷ others) why e = by (holder graph fir
         others = found.0.others;
         are = ap (λ (ps : List CxxPathPart). part ∷ ps) found.0.are;
         where_ = found.0.where_;
-        qualifies = region_step graph first part inner (found.0.before ++ found.0.part ∷ []) (some_last found.0.before found.0.part) is ∙ found.0.qualifies;
+        qualifies = region_step graph wants first part inner (found.0.before ++ found.0.part ∷ []) (some_last found.0.before found.0.part) is ∙ found.0.qualifies;
       },
       found.1,
     )
 
 -- whatever holds of the first region and of those of namespaces
-region_holds : (P : Region → Type 0) (graph : CxxGraph) → ((inner : ℕ) → IsSpaceOf graph inner → P (region.Inside (scope_id inner))) → (first where_ : Region) (parts : List CxxPathPart) → P first → region_by graph first parts ≡ Ok where_ → P where_
+region_holds : (P : Region → Type 0) (graph : CxxGraph) (wants : Wanted) → ((inner : ℕ) → IsSpaceOf graph inner → P (region.Inside (scope_id inner))) → (first where_ : Region) (parts : List CxxPathPart) → P first → region_by graph wants first parts ≡ Ok where_ → P where_
 unfolding region_by
-region_holds P graph each first where_ [] is e = subst P (same_region first where_ e) is
-region_holds P graph each first where_ (part ∷ []) is e = subst P (same_region first where_ e) is
-region_holds P graph each first where_ (part ∷ next ∷ others) is e = by (holder graph first part) refl e (λ inner space e. region_holds P graph each (region.Inside (scope_id inner)) where_ (next ∷ others) (each inner space) e)
+region_holds P graph wants each first where_ [] is e = subst P (same_region first where_ e) is
+region_holds P graph wants each first where_ (part ∷ []) is e = subst P (same_region first where_ e) is
+region_holds P graph wants each first where_ (part ∷ next ∷ others) is e = by (holder graph wants first part) refl e (λ inner space e. region_holds P graph wants each (region.Inside (scope_id inner)) where_ (next ∷ others) (each inner space) e)
   where
-    by : (o : Answer ℕ) → holder graph first part ≡ o → AreRegions (o >>= λ inner. region_by graph (region.Inside (scope_id inner)) (next ∷ others)) (Ok where_)
-        → ((inner : ℕ) → IsSpaceOf graph inner → region_by graph (region.Inside (scope_id inner)) (next ∷ others) ≡ Ok where_ → P where_) → P where_
+    by : (o : Answer ℕ) → holder graph wants first part ≡ o → AreRegions (o >>= λ inner. region_by graph wants (region.Inside (scope_id inner)) (next ∷ others)) (Ok where_)
+        → ((inner : ℕ) → IsSpaceOf graph inner → region_by graph wants (region.Inside (scope_id inner)) (next ∷ others) ≡ Ok where_ → P where_) → P where_
     by (Err why) is e later = absurd cc
-    by (Ok inner) is e later = later inner (holder_is graph first part inner is) e
+    by (Ok inner) is e later = later inner (holder_is graph wants first part inner is) e
 
-region_behind : (P : Region → Type 0) (graph : CxxGraph) → ((inner : ℕ) → IsSpaceOf graph inner → P (region.Inside (scope_id inner))) → (first where_ : Region) (parts : List CxxPathPart) → AreTwoParts parts → region_by graph first parts ≡ Ok where_ → P where_
+region_behind : (P : Region → Type 0) (graph : CxxGraph) (wants : Wanted) → ((inner : ℕ) → IsSpaceOf graph inner → P (region.Inside (scope_id inner))) → (first where_ : Region) (parts : List CxxPathPart) → AreTwoParts parts → region_by graph wants first parts ≡ Ok where_ → P where_
 unfolding region_by
-region_behind P graph each first where_ [] is e = absurd is
-region_behind P graph each first where_ (part ∷ []) is e = absurd is
-region_behind P graph each first where_ (part ∷ next ∷ others) is e = by (holder graph first part) refl e
+region_behind P graph wants each first where_ [] is e = absurd is
+region_behind P graph wants each first where_ (part ∷ []) is e = absurd is
+region_behind P graph wants each first where_ (part ∷ next ∷ others) is e = by (holder graph wants first part) refl e
   where
-    by : (o : Answer ℕ) → holder graph first part ≡ o → AreRegions (o >>= λ inner. region_by graph (region.Inside (scope_id inner)) (next ∷ others)) (Ok where_) → P where_
+    by : (o : Answer ℕ) → holder graph wants first part ≡ o → AreRegions (o >>= λ inner. region_by graph wants (region.Inside (scope_id inner)) (next ∷ others)) (Ok where_) → P where_
     by (Err why) at e = absurd cc
-    by (Ok inner) at e = region_holds P graph each (region.Inside (scope_id inner)) where_ (next ∷ others) (each inner (holder_is graph first part inner at)) e
+    by (Ok inner) at e = region_holds P graph wants each (region.Inside (scope_id inner)) where_ (next ∷ others) (each inner (holder_is graph wants first part inner at)) e
 
 first_there : (state : CxxState) (global : Bool) → InScopes state → IsRegion state.graph (first_region state.here.scope global)
 first_there state false is = is.within
@@ -261,10 +261,14 @@ first_there state true is = tt
 
 pub region_there : (state : CxxState) (path : CxxPath) (where_ : Region) → InScopes state → region_of state.graph state.here.scope path ≡ Ok where_ → IsRegion state.graph where_
 unfolding region_of
-region_there state path where_ is e = region_holds (IsRegion state.graph) state.graph (λ inner space. tt) (first_region state.here.scope path.global) where_ path.parts (first_there state path.global is) e
+region_there state path where_ is e = region_holds (IsRegion state.graph) state.graph before_colons (λ inner space. tt) (first_region state.here.scope path.global) where_ path.parts (first_there state path.global is) e
 
-part_there : (state : CxxState) (global : Bool) (parts : List CxxPathPart) (where_ : Region) → InScopes state → region_by state.graph (first_region state.here.scope global) parts ≡ Ok where_ → IsRegion state.graph where_
-part_there state global parts where_ is e = region_holds (IsRegion state.graph) state.graph (λ inner space. tt) (first_region state.here.scope global) where_ parts (first_there state global is) e
+pub space_region_there : (state : CxxState) (path : CxxPath) (where_ : Region) → InScopes state → space_region_of state.graph state.here.scope path ≡ Ok where_ → IsRegion state.graph where_
+unfolding space_region_of
+space_region_there state path where_ is e = region_holds (IsRegion state.graph) state.graph namespaces_only (λ inner space. tt) (first_region state.here.scope path.global) where_ path.parts (first_there state path.global is) e
+
+part_there : (state : CxxState) (wants : Wanted) (global : Bool) (parts : List CxxPathPart) (where_ : Region) → InScopes state → region_by state.graph wants (first_region state.here.scope global) parts ≡ Ok where_ → IsRegion state.graph where_
+part_there state wants global parts where_ is e = region_holds (IsRegion state.graph) state.graph wants (λ inner space. tt) (first_region state.here.scope global) where_ parts (first_there state global is) e
 
 abbrev IsWithin : CxxGraph → Region → Type 0
 IsWithin graph where_ = scope_of_region where_ < length (scope_facts graph.facts)
@@ -276,7 +280,7 @@ first_within state true is = let within = is.within in omega (arith, within)
 -- a scope of a region is there
 pub region_within : (state : CxxState) (path : CxxPath) (where_ : Region) → InScopes state → region_of state.graph state.here.scope path ≡ Ok where_ → IsWithin state.graph where_
 unfolding region_of
-region_within state path where_ is e = region_holds (IsWithin state.graph) state.graph (λ inner space. opened_within state.graph.facts inner space.0 is.sound space.1) (first_region state.here.scope path.global) where_ path.parts (first_within state path.global is) e
+region_within state path where_ is e = region_holds (IsWithin state.graph) state.graph before_colons (λ inner space. opened_within state.graph.facts inner space.0 is.sound space.1) (first_region state.here.scope path.global) where_ path.parts (first_within state path.global is) e
 
 abbrev pub IsOfSpace : Region → Type 0
 IsOfSpace (region.Inside space) = Unit {0}
@@ -287,10 +291,10 @@ pub region_inside : (graph : CxxGraph) (scope : ℕ) (ahead : Ahead) (where_ : R
 unfolding region_of
 region_inside graph scope ahead where_ begins whole plain e = by (path_ahead ahead).global (path_ahead ahead).parts refl (is_qualified ahead begins whole plain) e
   where
-    by : (global : Bool) (parts : List CxxPathPart) → (path_ahead ahead).global ≡ global → IsQualified (path_ahead ahead) → region_by graph (first_region scope global) (path_ahead ahead).parts ≡ Ok where_ → IsOfSpace where_
-    by true parts is qualified e = region_holds IsOfSpace graph (λ inner space. tt) (first_region scope true) where_ (path_ahead ahead).parts tt e
+    by : (global : Bool) (parts : List CxxPathPart) → (path_ahead ahead).global ≡ global → IsQualified (path_ahead ahead) → region_by graph before_colons (first_region scope global) (path_ahead ahead).parts ≡ Ok where_ → IsOfSpace where_
+    by true parts is qualified e = region_holds IsOfSpace graph before_colons (λ inner space. tt) (first_region scope true) where_ (path_ahead ahead).parts tt e
     by false parts is (is_global global) e = absurd cc
-    by false parts is (has_two are) e = region_behind IsOfSpace graph (λ inner space. tt) (first_region scope false) where_ (path_ahead ahead).parts are e
+    by false parts is (has_two are) e = region_behind IsOfSpace graph before_colons (λ inner space. tt) (first_region scope false) where_ (path_ahead ahead).parts are e
 
 -- ---- what is true of a name that is ahead
 
@@ -311,7 +315,7 @@ last_split (part ∷ next ∷ others) is = let later = last_split (next ∷ othe
 abbrev pub last_ahead : Ahead → CxxPathPart
 last_ahead ahead = last_part (path_ahead ahead).parts
 
-unfoldable pub last_sought : (graph : CxxGraph) (scope : ℕ) (path : CxxPath) (wanted : Wanted) (finds : Found) (fault : Fault) (where_ : Region) → IsSome path.parts → IsWantedBefore wanted [] → fault.place ≡ (last_part path.parts).place → region_of graph scope path ≡ Ok where_ → sought_in graph wanted where_ (name_in path) ≡ finds
+unfoldable pub last_sought : (graph : CxxGraph) (scope : ℕ) (path : CxxPath) (wanted : Wanted) (finds : Found) (fault : Fault) (where_ : Region) → IsSome path.parts → IsWantedLast wanted → fault.place ≡ (last_part path.parts).place → region_of graph scope path ≡ Ok where_ → sought_in graph wanted where_ (name_in path) ≡ finds
     → IsSought graph scope path wanted finds fault (last_part path.parts).word
 unfolding region_of
 last_sought graph scope path wanted finds fault where_ some so at means is =
@@ -321,11 +325,34 @@ last_sought graph scope path wanted finds fault where_ some so at means is =
       part = last_part path.parts;
       others = [];
       parts = split.1;
+      wants = before_colons;
+      may_stand = tt;
       is_wanted_so = so;
       spelled_so = refl;
       is_at = sym at;
       where_ = where_;
-      qualifies = subst (λ (ps : List CxxPathPart). region_by graph (first_region scope path.global) ps ≡ Ok where_) split.1 means;
+      qualifies = subst (λ (ps : List CxxPathPart). region_by graph before_colons (first_region scope path.global) ps ≡ Ok where_) split.1 means;
+      finds_so = is;
+    }
+
+-- the same of the name of a namespace
+unfoldable space_sought : (graph : CxxGraph) (scope : ℕ) (path : CxxPath) (finds : Found) (fault : Fault) (where_ : Region) → IsSome path.parts → fault.place ≡ (last_part path.parts).place → space_region_of graph scope path ≡ Ok where_ → sought_in graph namespaces_only where_ (name_in path) ≡ finds
+    → IsSought graph scope path namespaces_only finds fault (last_part path.parts).word
+unfolding space_region_of
+space_sought graph scope path finds fault where_ some at means is =
+    let split = last_split path.parts some in
+    record {
+      before = split.0;
+      part = last_part path.parts;
+      others = [];
+      parts = split.1;
+      wants = namespaces_only;
+      may_stand = tt;
+      is_wanted_so = tt;
+      spelled_so = refl;
+      is_at = sym at;
+      where_ = where_;
+      qualifies = subst (λ (ps : List CxxPathPart). region_by graph namespaces_only (first_region scope path.global) ps ≡ Ok where_) split.1 means;
       finds_so = is;
     }
 
@@ -333,7 +360,7 @@ pub are_two : (state : CxxState) (wanted : Wanted) (where_ : Region) (part : Cxx
 are_two state wanted where_ part one two is there e = let both = two_sought state.graph wanted where_ (spelled part.word) one two (fitting state is) there e in record { apart = both.apart; declared = both.declared; no_overloads = both.no_overloads; places = refl }
 
 -- one that is ambiguous is told of
-pub twofold_ahead : (wanted : Wanted) → IsWantedBefore wanted [] → (state : CxxState) (ahead : Ahead) → begins_name ahead ≡ true → is_whole_name ahead ≡ true → (where_ : Region) → region_of state.graph state.here.scope (path_ahead ahead) ≡ Ok where_ → (one two : FactId) → sought_in state.graph wanted where_ (name_in (path_ahead ahead)) ≡ sought.Ambiguous one two
+pub twofold_ahead : (wanted : Wanted) → IsWantedLast wanted → (state : CxxState) (ahead : Ahead) → begins_name ahead ≡ true → is_whole_name ahead ≡ true → (where_ : Region) → region_of state.graph state.here.scope (path_ahead ahead) ≡ Ok where_ → (one two : FactId) → sought_in state.graph wanted where_ (name_in (path_ahead ahead)) ≡ sought.Ambiguous one two
     → Told state ahead (ambiguous_at state.graph (last_ahead ahead) one two)
 twofold_ahead wanted so state ahead begins whole where_ means one two is =
     reached_here state ahead (IsManifold (ambiguous_fault state.graph (last_ahead ahead) one two) (last_ahead ahead).word)
@@ -341,7 +368,7 @@ twofold_ahead wanted so state ahead begins whole where_ means one two is =
     (are_two state wanted where_ (last_ahead ahead) one two scopes (region_there state (path_ahead ahead) where_ scopes means) is))
 
 -- one of which nothing is found
-pub unknown_ahead : (wanted : Wanted) → IsWantedBefore wanted [] → (state : CxxState) (ahead : Ahead) → begins_name ahead ≡ true → is_whole_name ahead ≡ true → (where_ : Region) → region_of state.graph state.here.scope (path_ahead ahead) ≡ Ok where_
+pub unknown_ahead : (wanted : Wanted) → IsWantedLast wanted → (state : CxxState) (ahead : Ahead) → begins_name ahead ≡ true → is_whole_name ahead ≡ true → (where_ : Region) → region_of state.graph state.here.scope (path_ahead ahead) ≡ Ok where_
     → (InScopes state → (sought_in state.graph wanted where_ (name_in (path_ahead ahead)) ≡ sought.Empty) × IsNotThere state.graph wanted where_ (name_in (path_ahead ahead))) → Told state ahead (undeclared_at (last_ahead ahead).place (last_ahead ahead).word)
 unfolding last_sought
 unknown_ahead wanted so state ahead begins whole where_ means is =
@@ -351,38 +378,63 @@ unknown_ahead wanted so state ahead begins whole where_ means is =
       bare = refl;
     })
 
+-- the same of the name of a namespace
+pub space_twofold_ahead : (state : CxxState) (ahead : Ahead) → begins_name ahead ≡ true → is_whole_name ahead ≡ true → (where_ : Region) → space_region_of state.graph state.here.scope (path_ahead ahead) ≡ Ok where_ → (one two : FactId) → sought_in state.graph namespaces_only where_ (name_in (path_ahead ahead)) ≡ sought.Ambiguous one two
+    → Told state ahead (ambiguous_at state.graph (last_ahead ahead) one two)
+space_twofold_ahead state ahead begins whole where_ means one two is =
+    reached_here state ahead (IsManifold (ambiguous_fault state.graph (last_ahead ahead) one two) (last_ahead ahead).word)
+    (λ scopes. twofold_name namespaces_only one two (record { begins = begins; whole = whole; is_sought = space_sought state.graph state.here.scope (path_ahead ahead) (sought.Ambiguous one two) (ambiguous_fault state.graph (last_ahead ahead) one two) where_ (some_parts ahead begins whole) refl means is })
+    (are_two state namespaces_only where_ (last_ahead ahead) one two scopes (space_region_there state (path_ahead ahead) where_ scopes means) is))
+
+pub space_unknown_ahead : (state : CxxState) (ahead : Ahead) → begins_name ahead ≡ true → is_whole_name ahead ≡ true → (where_ : Region) → space_region_of state.graph state.here.scope (path_ahead ahead) ≡ Ok where_
+    → (InScopes state → (sought_in state.graph namespaces_only where_ (name_in (path_ahead ahead)) ≡ sought.Empty) × IsNotThere state.graph namespaces_only where_ (name_in (path_ahead ahead))) → Told state ahead (undeclared_at (last_ahead ahead).place (last_ahead ahead).word)
+unfolding space_sought
+space_unknown_ahead state ahead begins whole where_ means is =
+    reached_here state ahead (IsUndeclared (undeclared_fault (last_ahead ahead)) (last_ahead ahead).word) (record {
+      is = λ scopes. let found = is scopes in
+          (unknown_name namespaces_only (record { begins = begins; whole = whole; is_sought = space_sought state.graph state.here.scope (path_ahead ahead) sought.Empty (undeclared_fault (last_ahead ahead)) where_ (some_parts ahead begins whole) refl means found.0 }), found.1);
+      bare = refl;
+    })
+
 -- the same by what is found
-pub nothing_ahead : (wanted : Wanted) → IsWantedBefore wanted [] → (state : CxxState) (ahead : Ahead) → begins_name ahead ≡ true → is_whole_name ahead ≡ true → (where_ : Region) → region_of state.graph state.here.scope (path_ahead ahead) ≡ Ok where_ → (x : Found) → sought_in state.graph wanted where_ (name_in (path_ahead ahead)) ≡ x → IsClear x → set_in state.graph x ≡ []
+pub nothing_ahead : (wanted : Wanted) → IsWantedLast wanted → (state : CxxState) (ahead : Ahead) → begins_name ahead ≡ true → is_whole_name ahead ≡ true → (where_ : Region) → region_of state.graph state.here.scope (path_ahead ahead) ≡ Ok where_ → (x : Found) → sought_in state.graph wanted where_ (name_in (path_ahead ahead)) ≡ x → IsClear x → set_in state.graph x ≡ []
     → Told state ahead (undeclared_at (last_ahead ahead).place (last_ahead ahead).word)
 nothing_ahead wanted so state ahead begins whole where_ means x is clear none =
     unknown_ahead wanted so state ahead begins whole where_ means (λ scopes. nothing_sought state.graph wanted where_ (name_in (path_ahead ahead)) (fitting state scopes) (region_there state (path_ahead ahead) where_ scopes means) x is clear none)
 
 -- a part before `::`
-split_sought : (state : CxxState) (ahead : Ahead) (finds : Found) (fault : Fault) (split : SplitAt state.graph (first_region state.here.scope (path_ahead ahead).global) (path_ahead ahead).parts) → begins_name ahead ≡ true → is_whole_name ahead ≡ true → split.part.place ≡ fault.place → sought_in state.graph before_colons split.where_ (spelled split.part.word) ≡ finds
-    → IsNamed before_colons finds state ahead fault split.part.word
-split_sought state ahead finds fault split begins whole at is = record {
+split_sought : (state : CxxState) (wants : Wanted) → MayStandBefore wants → (ahead : Ahead) (finds : Found) (fault : Fault) (split : SplitAt state.graph wants (first_region state.here.scope (path_ahead ahead).global) (path_ahead ahead).parts) → begins_name ahead ≡ true → is_whole_name ahead ≡ true → split.part.place ≡ fault.place → sought_in state.graph wants split.where_ (spelled split.part.word) ≡ finds
+    → IsNamed wants finds state ahead fault split.part.word
+split_sought state wants stands ahead finds fault split begins whole at is = record {
   begins = begins;
   whole = whole;
-  is_sought = record { before = split.before; part = split.part; others = split.next ∷ split.others; parts = split.are; is_wanted_so = tt; spelled_so = refl; is_at = at; where_ = split.where_; qualifies = split.qualifies; finds_so = is };
+  is_sought = record { before = split.before; part = split.part; others = split.next ∷ split.others; parts = split.are; wants = wants; may_stand = stands; is_wanted_so = refl; spelled_so = refl; is_at = at; where_ = split.where_; qualifies = split.qualifies; finds_so = is };
 }
 
-holder_told : (state : CxxState) (ahead : Ahead) (split : SplitAt state.graph (first_region state.here.scope (path_ahead ahead).global) (path_ahead ahead).parts) → begins_name ahead ≡ true → is_whole_name ahead ≡ true → (why : Stopped) → HolderStops state.graph split.where_ split.part why → Told state ahead why
+holder_told : (state : CxxState) (wants : Wanted) → MayStandBefore wants → (ahead : Ahead) (split : SplitAt state.graph wants (first_region state.here.scope (path_ahead ahead).global) (path_ahead ahead).parts) → begins_name ahead ≡ true → is_whole_name ahead ≡ true → (why : Stopped) → HolderStops state.graph wants split.where_ split.part why → Told state ahead why
 unfolding split_sought
-holder_told state ahead split begins whole _ (holds_two one two is) =
+holder_told state wants stands ahead split begins whole _ (holds_two one two is) =
     reached_here state ahead (IsManifold (ambiguous_fault state.graph split.part one two) split.part.word)
-    (λ scopes. twofold_name before_colons one two (split_sought state ahead (sought.Ambiguous one two) (ambiguous_fault state.graph split.part one two) split begins whole refl is)
-    (are_two state before_colons split.where_ split.part one two scopes (part_there state (path_ahead ahead).global (split.before ++ split.part ∷ []) split.where_ scopes split.qualifies) is))
-holder_told state ahead split begins whole _ (holds_none x is clear none) =
+    (λ scopes. twofold_name wants one two (split_sought state wants stands ahead (sought.Ambiguous one two) (ambiguous_fault state.graph split.part one two) split begins whole refl is)
+    (are_two state wants split.where_ split.part one two scopes (part_there state wants (path_ahead ahead).global (split.before ++ split.part ∷ []) split.where_ scopes split.qualifies) is))
+holder_told state wants stands ahead split begins whole _ (holds_none x is clear none) =
     reached_here state ahead (IsUndeclared (undeclared_fault split.part) split.part.word) (record {
-      is = λ scopes. let found = nothing_sought state.graph before_colons split.where_ (spelled split.part.word) (fitting state scopes) (part_there state (path_ahead ahead).global (split.before ++ split.part ∷ []) split.where_ scopes split.qualifies) x is clear none in
-          (unknown_name before_colons (split_sought state ahead sought.Empty (undeclared_fault split.part) split begins whole refl found.0), found.1);
+      is = λ scopes. let found = nothing_sought state.graph wants split.where_ (spelled split.part.word) (fitting state scopes) (part_there state wants (path_ahead ahead).global (split.before ++ split.part ∷ []) split.where_ scopes split.qualifies) x is clear none in
+          (unknown_name wants (split_sought state wants stands ahead sought.Empty (undeclared_fault split.part) split begins whole refl found.0), found.1);
       bare = refl;
     })
-holder_told state ahead split begins whole why (holds_other _ quiet) = quiet_told state ahead why quiet
+holder_told state wants stands ahead split begins whole why (holds_other _ quiet) = quiet_told state ahead why quiet
 
 -- 3.4.3: where a part before `::` means no namespace
 pub region_told : (state : CxxState) (ahead : Ahead) → begins_name ahead ≡ true → is_whole_name ahead ≡ true → (why : Stopped) → region_of state.graph state.here.scope (path_ahead ahead) ≡ Err why → Told state ahead why
 unfolding region_of
 region_told state ahead begins whole why e =
-    let failed = region_fails state.graph (first_region state.here.scope (path_ahead ahead).global) (path_ahead ahead).parts why e in
-    holder_told state ahead failed.0 begins whole why (holder_stops state.graph failed.0.where_ failed.0.part why failed.1)
+    let failed = region_fails state.graph before_colons (first_region state.here.scope (path_ahead ahead).global) (path_ahead ahead).parts why e in
+    holder_told state before_colons tt ahead failed.0 begins whole why (holder_stops state.graph before_colons failed.0.where_ failed.0.part why failed.1)
+
+-- 3.4.6
+pub space_region_told : (state : CxxState) (ahead : Ahead) → begins_name ahead ≡ true → is_whole_name ahead ≡ true → (why : Stopped) → space_region_of state.graph state.here.scope (path_ahead ahead) ≡ Err why → Told state ahead why
+unfolding space_region_of
+space_region_told state ahead begins whole why e =
+    let failed = region_fails state.graph namespaces_only (first_region state.here.scope (path_ahead ahead).global) (path_ahead ahead).parts why e in
+    holder_told state namespaces_only tt ahead failed.0 begins whole why (holder_stops state.graph namespaces_only failed.0.where_ failed.0.part why failed.1)

@@ -22,7 +22,7 @@ use Rattle.cxx_meaning.specs.Lookups.Wanted.{any_name, namespaces_only}
 use Rattle.cxx_reading.specs.declared.region.Region.{Region}
 use Rattle.cxx_reading.specs.declared.region.Region.TheVariants as region
 use Rattle.cxx_reading.specs.Declaring.{added, declare, most_facts, with_fact}
-use Rattle.cxx_reading.specs.Paths.{first_space, name_in, region_of, sought_in}
+use Rattle.cxx_reading.specs.Paths.{first_space, name_in, region_of, sought_in, space_region_of}
 use Rattle.cxx_reading.specs.Productions as production
 use Rattle.cxx_reading.specs.Reads.{Ahead, Got, Reads, ◌>>=◌, then_read, answered, ask, give, got, tokens, kind_ahead, behind}
 use Rattle.cxx_reading.specs.Seen.{Numbered, fact_numbers, numbered_at, set_in}
@@ -38,7 +38,7 @@ use Rattle.cxx_language_laws.specs.Told.{EndsIn, IsGrown}
 use Rattle.cxx_language_laws.proofs.Later.{IsLater, MayBeAdded, added_tells, by_answer, by_then, calm_by, declare_tells, free_quiet, grown_by, grown_later, later_is_quiet, may_be_added, same_calls}
 use Rattle.cxx_language_laws.proofs.Outward.{OfNumber}
 use Rattle.cxx_language_laws.proofs.Reached.{Told, later_is_told}
-use Rattle.cxx_language_laws.proofs.Regions.{IsOfSpace, IsSpaceOf, last_ahead, nothing_ahead, region_inside, region_there, region_told, set_space, twofold_ahead, unknown_ahead}
+use Rattle.cxx_language_laws.proofs.Regions.{IsOfSpace, IsSpaceOf, last_ahead, nothing_ahead, region_inside, region_told, set_space, space_region_there, space_region_told, space_twofold_ahead, space_unknown_ahead, twofold_ahead}
 use Rattle.cxx_language_laws.proofs.Scopes.{InScopes, MayStand, may_stand, opened_within, scopes_added}
 use Rattle.cxx_language_laws.proofs.Sought.{IsThere, brought_there, fitting, no_space_sought}
 use Rattle.cxx_language_laws.proofs.Stopping.{Inside, Stops, calm, innermost_stops, leads_in, later_here, which_in}
@@ -51,24 +51,24 @@ data SpaceAnswered (state : CxxState) (ahead : Ahead) : Answer (ℕ × CxxState)
   space_answered : (inner : ℕ) → IsSpaceOf state.graph inner → SpaceAnswered state ahead (Ok (inner, state))
   space_refused : (why : Stopped) → Told state ahead why → SpaceAnswered state ahead (Err why)
 
-space_unknown : (state : CxxState) (ahead : Ahead) → begins_name ahead ≡ true → is_whole_name ahead ≡ true → (where_ : Region) → region_of state.graph state.here.scope (path_ahead ahead) ≡ Ok where_ → (x : Found) → sought_in state.graph namespaces_only where_ (name_in (path_ahead ahead)) ≡ x → IsClear x → (o : Option ℕ) → first_space (set_in state.graph x) ≡ o
+space_unknown : (state : CxxState) (ahead : Ahead) → begins_name ahead ≡ true → is_whole_name ahead ≡ true → (where_ : Region) → space_region_of state.graph state.here.scope (path_ahead ahead) ≡ Ok where_ → (x : Found) → sought_in state.graph namespaces_only where_ (name_in (path_ahead ahead)) ≡ x → IsClear x → (o : Option ℕ) → first_space (set_in state.graph x) ≡ o
     → SpaceAnswered state ahead (space_by (last_ahead ahead) o state)
 space_unknown state ahead begins whole where_ means x is clear (Some inner) e = space_answered inner (set_space state.graph x inner e)
-space_unknown state ahead begins whole where_ means x is clear None e = space_refused _ (unknown_ahead namespaces_only tt state ahead begins whole where_ means (λ scopes. no_space_sought state.graph where_ (name_in (path_ahead ahead)) (fitting state scopes) (region_there state (path_ahead ahead) where_ scopes means) x is clear e))
+space_unknown state ahead begins whole where_ means x is clear None e = space_refused _ (space_unknown_ahead state ahead begins whole where_ means (λ scopes. no_space_sought state.graph where_ (name_in (path_ahead ahead)) (fitting state scopes) (space_region_there state (path_ahead ahead) where_ scopes means) x is clear e))
 
-space_found_so : (state : CxxState) (ahead : Ahead) → begins_name ahead ≡ true → is_whole_name ahead ≡ true → (where_ : Region) → region_of state.graph state.here.scope (path_ahead ahead) ≡ Ok where_ → (x : Found) → sought_in state.graph namespaces_only where_ (name_in (path_ahead ahead)) ≡ x → SpaceAnswered state ahead (space_found (last_ahead ahead) x state)
-space_found_so state ahead begins whole where_ means (sought.Ambiguous one two) is = space_refused _ (twofold_ahead namespaces_only tt state ahead begins whole where_ means one two is)
+space_found_so : (state : CxxState) (ahead : Ahead) → begins_name ahead ≡ true → is_whole_name ahead ≡ true → (where_ : Region) → space_region_of state.graph state.here.scope (path_ahead ahead) ≡ Ok where_ → (x : Found) → sought_in state.graph namespaces_only where_ (name_in (path_ahead ahead)) ≡ x → SpaceAnswered state ahead (space_found (last_ahead ahead) x state)
+space_found_so state ahead begins whole where_ means (sought.Ambiguous one two) is = space_refused _ (space_twofold_ahead state ahead begins whole where_ means one two is)
 space_found_so state ahead begins whole where_ means (sought.Set all) is = space_unknown state ahead begins whole where_ means (sought.Set all) is tt (first_space (set_in state.graph (sought.Set all))) refl
 space_found_so state ahead begins whole where_ means (sought.Member class found) is = space_unknown state ahead begins whole where_ means (sought.Member class found) is tt (first_space (set_in state.graph (sought.Member class found))) refl
 space_found_so state ahead begins whole where_ means sought.Empty is = space_unknown state ahead begins whole where_ means sought.Empty is tt (first_space (set_in state.graph sought.Empty)) refl
 
 space_here_so : (state : CxxState) (ahead : Ahead) → begins_name ahead ≡ true → is_whole_name ahead ≡ true → SpaceAnswered state ahead (space_here (path_ahead ahead) state)
 unfolding space_here
-space_here_so state ahead begins whole = by (region_of state.graph state.here.scope (path_ahead ahead)) refl
+space_here_so state ahead begins whole = by (space_region_of state.graph state.here.scope (path_ahead ahead)) refl
   where
-    by : (o : Answer Region) → region_of state.graph state.here.scope (path_ahead ahead) ≡ o → SpaceAnswered state ahead (then_answer o (λ where_. space_found (last_ahead ahead) (sought_in state.graph namespaces_only where_ (name_in (path_ahead ahead))) state))
+    by : (o : Answer Region) → space_region_of state.graph state.here.scope (path_ahead ahead) ≡ o → SpaceAnswered state ahead (then_answer o (λ where_. space_found (last_ahead ahead) (sought_in state.graph namespaces_only where_ (name_in (path_ahead ahead))) state))
     by (Ok where_) means = space_found_so state ahead begins whole where_ means (sought_in state.graph namespaces_only where_ (name_in (path_ahead ahead))) refl
-    by (Err why) e = space_refused why (region_told state ahead begins whole why e)
+    by (Err why) e = space_refused why (space_region_told state ahead begins whole why e)
 
 -- ---- a name that is read
 

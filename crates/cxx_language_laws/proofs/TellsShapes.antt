@@ -101,7 +101,7 @@ passed_by_tells is false outline state ahead = same_in is _ state _
 
 pub list_shape_tells : {S : Type 0} {kept : S → S → Type 0} {told : S → Ahead → Stopped → Type 0} → IsTold kept told → {inner : Readers S} → ListsTell kept told inner → (outline : Outline) → Tells kept told (list_shape inner outline)
 unfolding list_shape
-list_shape_tells is inner outline state ahead = if_in (outline.is_named) (passed_by_tells is true outline state ahead) (then_in is (returned_in ahead (past_in is (inner.holds_parameters state _))) (λ is_list. passed_by_tells is is_list outline))
+list_shape_tells is inner outline state ahead = then_in is (returned_in ahead (past_in is (inner.holds_parameters state _))) (λ is_list. passed_by_tells is is_list outline)
 
 pub suffix_shape_tells : {S : Type 0} {kept : S → S → Type 0} {told : S → Ahead → Stopped → Type 0} → IsTold kept told → {inner : Readers S} → ListsTell kept told inner → (outline : Outline) → Tells kept told (suffix_step inner outline)
 unfolding suffix_step

@@ -20,7 +20,7 @@ use Rattle.cxx_meaning.specs.Lookups.Directives.{reached}
 use Rattle.cxx_meaning.specs.Lookups.Qualified.{searched}
 use Rattle.cxx_meaning.specs.Lookups.Scopes.{chain}
 use Rattle.cxx_meaning.specs.Lookups.Sightings.{both_functions, standing}
-use Rattle.cxx_meaning.specs.Lookups.Wanted.{Wanted, any_name, before_colons}
+use Rattle.cxx_meaning.specs.Lookups.Wanted.{Wanted, any_name, before_colons, namespaces_only}
 use Rattle.cxx_reading.specs.declared.region.Region.{Region}
 use Rattle.cxx_reading.specs.declared.region.Region.TheVariants as region
 use Rattle.cxx_reading.specs.Declaring.{scope_count}
@@ -113,12 +113,22 @@ pub data IsChoiceFault (before : CxxState) (ahead : Ahead) (fault : Fault) : Typ
 
 -- ---- the fault of one name
 
--- 3.4.3: exactly the parts before `::` are looked up for what may stand there
-abbrev pub IsWantedBefore : Wanted → List CxxPathPart → Type 0
-IsWantedBefore before_colons [] = ⊥
-IsWantedBefore before_colons (next ∷ others) = Unit {0}
-IsWantedBefore _ [] = Unit {0}
-IsWantedBefore _ (next ∷ others) = ⊥
+-- 3.4.3, 3.4.6: for what the parts of a name before `::` are looked up: for what may stand there, and in a using-directive or
+-- an alias for namespaces
+abbrev pub MayStandBefore : Wanted → Type 0
+MayStandBefore before_colons = Unit {0}
+MayStandBefore namespaces_only = Unit {0}
+MayStandBefore _ = ⊥
+
+-- for what its last part may be looked up
+abbrev pub IsWantedLast : Wanted → Type 0
+IsWantedLast before_colons = ⊥
+IsWantedLast _ = Unit {0}
+
+-- for what one of its parts is looked up, given those behind it
+abbrev pub IsWantedBefore : Wanted → Wanted → List CxxPathPart → Type 0
+IsWantedBefore wants wanted [] = IsWantedLast wanted
+IsWantedBefore wants wanted (next ∷ others) = wanted ≡ wants
 
 -- 3.4: A part of a name is looked up from a scope, the last one or one before `::`, at the place of the fault: what its
 -- qualifiers say of where it is looked up, and what is found of it there, as it is wanted.
@@ -127,11 +137,13 @@ pub record IsSought (graph : CxxGraph) (scope : ℕ) (path : CxxPath) (wanted : 
   pub part : CxxPathPart
   pub others : List CxxPathPart
   pub parts : path.parts ≡ before ++ part ∷ others
-  pub is_wanted_so : IsWantedBefore wanted others
+  pub wants : Wanted
+  pub may_stand : MayStandBefore wants
+  pub is_wanted_so : IsWantedBefore wants wanted others
   pub spelled_so : part.word ≡ word
   pub is_at : part.place ≡ fault.place
   pub where_ : Region
-  pub qualifies : region_by graph (first_region scope path.global) (before ++ part ∷ []) ≡ Ok where_
+  pub qualifies : region_by graph wants (first_region scope path.global) (before ++ part ∷ []) ≡ Ok where_
   pub finds_so : sought_in graph wanted where_ (spelled word) ≡ finds
 
 -- a name stands ahead, and a part of it is looked up where the reader stands

@@ -35,27 +35,27 @@ inside_found held graph types wanted space word (Ok one) same are is =
 
 -- ---- one part after another
 
-pub region_alone : (graph : CxxGraph) (where_ : Region) (part : PathPart) (others : List PathPart) → others ≡ [] → region_by graph where_ (path_parts_at (part ∷ others)) ≡ Ok where_
+pub region_alone : (graph : CxxGraph) (wanted : Wanted) (where_ : Region) (part : PathPart) (others : List PathPart) → others ≡ [] → region_by graph wanted where_ (path_parts_at (part ∷ others)) ≡ Ok where_
 unfolding region_by
-region_alone graph where_ part [] none = refl
-region_alone graph where_ part (one ∷ others) none = absurd (cc)
+region_alone graph wanted where_ part [] none = refl
+region_alone graph wanted where_ part (one ∷ others) none = absurd (cc)
 
-pub region_none : (graph : CxxGraph) (where_ : Region) (parts : List PathPart) → length parts < 1 → region_by graph where_ (path_parts_at parts) ≡ Ok where_
+pub region_none : (graph : CxxGraph) (wanted : Wanted) (where_ : Region) (parts : List PathPart) → length parts < 1 → region_by graph wanted where_ (path_parts_at parts) ≡ Ok where_
 unfolding region_by
-region_none graph where_ [] none = refl
-region_none graph where_ (one ∷ others) none = absurd (omega (arith, none))
+region_none graph wanted where_ [] none = refl
+region_none graph wanted where_ (one ∷ others) none = absurd (omega (arith, none))
 
 -- the parts behind the first are some
-region_more : (graph : CxxGraph) (where_ : Region) (part : PathPart) (others : List PathPart) → 0 < length others → region_by graph where_ (path_parts_at (part ∷ others)) ≡ (holder graph where_ (path_part_at part) >>= λ inner. region_by graph (Inside (scope_id inner)) (path_parts_at others))
+region_more : (graph : CxxGraph) (wanted : Wanted) (where_ : Region) (part : PathPart) (others : List PathPart) → 0 < length others → region_by graph wanted where_ (path_parts_at (part ∷ others)) ≡ (holder graph wanted where_ (path_part_at part) >>= λ inner. region_by graph wanted (Inside (scope_id inner)) (path_parts_at others))
 unfolding region_by
-region_more graph where_ part [] some = absurd (omega (arith, some))
-region_more graph where_ part (one ∷ others) some = refl
+region_more graph wanted where_ part [] some = absurd (omega (arith, some))
+region_more graph wanted where_ part (one ∷ others) some = refl
 
-pub region_next : (graph : CxxGraph) (where_ : Region) (part : PathPart) (others : List PathPart) (inner : ScopeId) → 0 < length others → holder graph where_ (path_part_at part) ≡ Ok inner.0 → region_by graph where_ (path_parts_at (part ∷ others)) ≡ region_by graph (Inside inner) (path_parts_at others)
-region_next graph where_ part others inner some is = region_more graph where_ part others some ∙ ap (λ (a : Answer ℕ). a >>= λ n. region_by graph (Inside (scope_id n)) (path_parts_at others)) is
+pub region_next : (graph : CxxGraph) (wanted : Wanted) (where_ : Region) (part : PathPart) (others : List PathPart) (inner : ScopeId) → 0 < length others → holder graph wanted where_ (path_part_at part) ≡ Ok inner.0 → region_by graph wanted where_ (path_parts_at (part ∷ others)) ≡ region_by graph wanted (Inside inner) (path_parts_at others)
+region_next graph wanted where_ part others inner some is = region_more graph wanted where_ part others some ∙ ap (λ (a : Answer ℕ). a >>= λ n. region_by graph wanted (Inside (scope_id n)) (path_parts_at others)) is
 
-pub region_stops : (graph : CxxGraph) (where_ : Region) (part : PathPart) (others : List PathPart) (why : Stop) → 0 < length others → Stops why (holder graph where_ (path_part_at part)) → Stops why (region_by graph where_ (path_parts_at (part ∷ others)))
-region_stops graph where_ part others why some stops = subst (λ a. Stops why a) (sym (region_more graph where_ part others some)) (stopped_on why (holder graph where_ (path_part_at part)) (λ n. region_by graph (Inside (scope_id n)) (path_parts_at others)) stops)
+pub region_stops : (graph : CxxGraph) (wanted : Wanted) (where_ : Region) (part : PathPart) (others : List PathPart) (why : Stop) → 0 < length others → Stops why (holder graph wanted where_ (path_part_at part)) → Stops why (region_by graph wanted where_ (path_parts_at (part ∷ others)))
+region_stops graph wanted where_ part others why some stops = subst (λ a. Stops why a) (sym (region_more graph wanted where_ part others some)) (stopped_on why (holder graph wanted where_ (path_part_at part)) (λ n. region_by graph wanted (Inside (scope_id n)) (path_parts_at others)) stops)
 
 -- ---- the same of a list that is split
 
@@ -70,13 +70,13 @@ some_behind : (others : List PathPart) → eqb (length others) 0 ≡ false → 0
 some_behind [] is = absurd (cc)
 some_behind (one ∷ others) is = omega arith
 
-pub region_whole : (graph : CxxGraph) (where_ : Region) (rest : List PathPart) (b : Bool) → 1 ≤ length rest → b ≡ eqb (length (take (length rest - 1) (drop 1 rest))) 0 → b ≡ true → region_by graph where_ (path_parts_at rest) ≡ Ok where_
-region_whole graph where_ [] b some is last = absurd (omega (arith, some))
-region_whole graph where_ (part ∷ others) b some is last =
-    region_alone graph where_ part others (none_behind others (ap (λ (xs : List PathPart). eqb (length xs) 0) (sym (rest_is part others)) ∙ sym is ∙ last))
+pub region_whole : (graph : CxxGraph) (wanted : Wanted) (where_ : Region) (rest : List PathPart) (b : Bool) → 1 ≤ length rest → b ≡ eqb (length (take (length rest - 1) (drop 1 rest))) 0 → b ≡ true → region_by graph wanted where_ (path_parts_at rest) ≡ Ok where_
+region_whole graph wanted where_ [] b some is last = absurd (omega (arith, some))
+region_whole graph wanted where_ (part ∷ others) b some is last =
+    region_alone graph wanted where_ part others (none_behind others (ap (λ (xs : List PathPart). eqb (length xs) 0) (sym (rest_is part others)) ∙ sym is ∙ last))
 
-pub region_goes : (graph : CxxGraph) (where_ : Region) (rest : List PathPart) (part d : PathPart) (b : Bool) (inner : ScopeId) → 1 ≤ length rest → part ≡ get_or rest 0 d → b ≡ eqb (length (take (length rest - 1) (drop 1 rest))) 0 → b ≡ false → holder graph where_ (path_part_at part) ≡ Ok inner.0 → region_by graph (Inside inner) (path_parts_at (take (length rest - 1) (drop 1 rest))) ≡ region_by graph where_ (path_parts_at rest)
-region_goes graph where_ [] part d b inner some at is more held = absurd (omega (arith, some))
-region_goes graph where_ (one ∷ others) part d b inner some at is more held =
-    ap (λ (xs : List PathPart). region_by graph (Inside inner) (path_parts_at xs)) (rest_is one others)
-    ∙ sym (region_next graph where_ one others inner (some_behind others (ap (λ (xs : List PathPart). eqb (length xs) 0) (sym (rest_is one others)) ∙ sym is ∙ more)) (subst (λ (p : PathPart). holder graph where_ (path_part_at p) ≡ Ok inner.0) at held))
+pub region_goes : (graph : CxxGraph) (wanted : Wanted) (where_ : Region) (rest : List PathPart) (part d : PathPart) (b : Bool) (inner : ScopeId) → 1 ≤ length rest → part ≡ get_or rest 0 d → b ≡ eqb (length (take (length rest - 1) (drop 1 rest))) 0 → b ≡ false → holder graph wanted where_ (path_part_at part) ≡ Ok inner.0 → region_by graph wanted (Inside inner) (path_parts_at (take (length rest - 1) (drop 1 rest))) ≡ region_by graph wanted where_ (path_parts_at rest)
+region_goes graph wanted where_ [] part d b inner some at is more held = absurd (omega (arith, some))
+region_goes graph wanted where_ (one ∷ others) part d b inner some at is more held =
+    ap (λ (xs : List PathPart). region_by graph wanted (Inside inner) (path_parts_at xs)) (rest_is one others)
+    ∙ sym (region_next graph wanted where_ one others inner (some_behind others (ap (λ (xs : List PathPart). eqb (length xs) 0) (sym (rest_is one others)) ∙ sym is ∙ more)) (subst (λ (p : PathPart). holder graph wanted where_ (path_part_at p) ≡ Ok inner.0) at held))

@@ -13,6 +13,6 @@ pub use faults::{
     undeclared_name, wrong_kind, wrong_name,
 };
 pub use last::{last_place, last_word};
-pub use regions::{region_here, scope_of};
+pub use regions::{region_here, scope_of, space_region_here};
 pub use seeking::{found_in, found_of, name_sought, set_in, sought_in};
 pub use spaces::space_among;

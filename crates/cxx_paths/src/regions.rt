@@ -1,6 +1,7 @@
 //! Where the last part of a name is looked up (3.4.1, 3.4.3).
 
 ghost use Rattle.std.specs.Prelude.{◌≡◌, ◌<◌, IfOk, IfSome, option_map};
+ghost use Rattle.cxx_members.specs.Views.{wanted_at};
 ghost use Rattle.cxx_model.specs.Facts.Graph.{scopes};
 ghost use Rattle.cxx_model.specs.Stops.{Gives};
 ghost use Rattle.cxx_paths.specs.Asked.{IsRegionThere, same, scope_number};
@@ -62,23 +63,28 @@ fn holder_by(state: &State, part: &PathPart, found: &Found) -> Result<ScopeId, S
     }
 }
 
-// The namespace that a part before `::` means in a region.
+// The namespace that a part before `::` means in a region, of what may stand there.
 #[tactic(auto, unfolding(cxx_reading::specs::Paths::holder))]
-fn holder(state: &State, region: Region, part: &PathPart) -> Result<ScopeId, Stop>
-    ensures is { Gives scope_number result (definition.holder (meaning state.now).graph region (path_part_at part.now)) }
+fn holder(state: &State, wanted: Wanted, region: Region, part: &PathPart) -> Result<ScopeId, Stop>
+    ensures is { Gives scope_number result (definition.holder (meaning state.now).graph (wanted_at wanted) region (path_part_at part.now)) }
     ensures there { IfOk result (λ inner. inner.0 < scopes (state.now).graph.facts) }
 {
-    match sought_in(state, Wanted::Holders, region, part.word.as_slice()) {
+    match sought_in(state, wanted, region, part.word.as_slice()) {
         Ok(found) => holder_by(state, part, &found),
         Err(_) => Err(Stop::OutOfMemory),
     }
 }
 
-// Where the last of some parts is looked up, by the region of the first.
+// Where the last of some parts is looked up, by the region of the first, and by what may stand before `::`.
 #[tactic(auto, using(crate::proofs::Behind::region_whole, crate::proofs::Behind::region_none, crate::proofs::Behind::region_goes, crate::proofs::Behind::region_stops))]
-fn region_by(state: &State, first: Region, parts: &[PathPart]) -> Result<Region, Stop>
+fn region_by(
+    state: &State,
+    wanted: Wanted,
+    first: Region,
+    parts: &[PathPart],
+) -> Result<Region, Stop>
     requires { IsRegionThere state.now first }
-    ensures is { Gives same result (definition.region_by (meaning state.now).graph first (path_parts_at parts.now)) }
+    ensures is { Gives same result (definition.region_by (meaning state.now).graph (wanted_at wanted) first (path_parts_at parts.now)) }
     ensures there { IfOk result (IsRegionThere state.now) }
 {
     let mut region = first;
@@ -87,7 +93,7 @@ fn region_by(state: &State, first: Region, parts: &[PathPart]) -> Result<Region,
         if others.is_empty() {
             return Ok(region);
         }
-        region = Region::Inside(holder(state, region, part)?);
+        region = Region::Inside(holder(state, wanted, region, part)?);
         rest = others;
     }
     Ok(region)
@@ -116,6 +122,21 @@ pub fn region_here(state: &State, path: &Path) -> Result<Region, Stop>
 {
     region_by(
         state,
+        Wanted::Holders,
+        first_region(state, path.global),
+        path.parts.as_slice(),
+    )
+}
+
+/// The same of the name of a namespace in a using-directive or an alias, of which each part is one of a namespace (3.4.6).
+#[tactic(auto, unfolding(cxx_reading::specs::Paths::space_region_of))]
+pub fn space_region_here(state: &State, path: &Path) -> Result<Region, Stop>
+    ensures is { Gives same result (definition.space_region_of (meaning state.now).graph (meaning state.now).here.scope (path_at path.now)) }
+    ensures there { IfOk result (IsRegionThere state.now) }
+{
+    region_by(
+        state,
+        Wanted::Spaces,
         first_region(state, path.global),
         path.parts.as_slice(),
     )

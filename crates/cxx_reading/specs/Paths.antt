@@ -12,7 +12,7 @@ use Rattle.cxx_model.specs.Facts.Declarations.{CxxFact, CxxGraph, CxxName, Decla
 use Rattle.cxx_model.specs.Stops.{Answer, Stopped, Faulty, ◌>>=◌, undeclared_at}
 use Rattle.cxx_model.specs.Text.Lexemes.{nowhere}
 use Rattle.cxx_meaning.specs.Lookups.Qualified.{qualified}
-use Rattle.cxx_meaning.specs.Lookups.Wanted.{Wanted, any_name, before_colons}
+use Rattle.cxx_meaning.specs.Lookups.Wanted.{Wanted, any_name, before_colons, namespaces_only}
 use Rattle.cxx_reading.specs.declared.region.Region.{Region}
 use Rattle.cxx_reading.specs.declared.region.Region.TheVariants as region
 use Rattle.cxx_reading.specs.Linked.{scope_id}
@@ -72,15 +72,16 @@ abbrev pub holder_by : CxxGraph → CxxPathPart → Sought → Answer ℕ
 holder_by graph part (sought.Ambiguous one two) = Err (ambiguous_at graph part one two)
 holder_by graph part other = held_among part (set_in graph other)
 
--- 3.4.3: the namespace that a part before `::` means in a region; objects, functions and enumerators are passed over
-unfoldable pub holder : CxxGraph → Region → CxxPathPart → Answer ℕ
-holder graph where_ part = holder_by graph part (sought_in graph before_colons where_ (spelled part.word))
+-- 3.4.3: the namespace that a part before `::` means in a region, of what may stand there; objects, functions and enumerators
+-- are passed over
+unfoldable pub holder : CxxGraph → Wanted → Region → CxxPathPart → Answer ℕ
+holder graph wanted where_ part = holder_by graph part (sought_in graph wanted where_ (spelled part.word))
 
--- 3.4.3: where the last of some parts is looked up, by the region of the first
-unfoldable pub region_by : CxxGraph → Region → List CxxPathPart → Answer Region
-region_by graph where_ [] = Ok where_
-region_by graph where_ (part ∷ []) = Ok where_
-region_by graph where_ (part ∷ next ∷ others) = holder graph where_ part >>= λ inner. region_by graph (region.Inside (scope_id inner)) (next ∷ others)
+-- 3.4.3: where the last of some parts is looked up, by the region of the first, and by what may stand before `::`
+unfoldable pub region_by : CxxGraph → Wanted → Region → List CxxPathPart → Answer Region
+region_by graph wanted where_ [] = Ok where_
+region_by graph wanted where_ (part ∷ []) = Ok where_
+region_by graph wanted where_ (part ∷ next ∷ others) = holder graph wanted where_ part >>= λ inner. region_by graph wanted (region.Inside (scope_id inner)) (next ∷ others)
 
 -- 3.4.3 p4: behind `::` alone a name is one of the scope of the unit
 abbrev pub first_region : ℕ → Bool → Region
@@ -89,7 +90,11 @@ first_region scope true = region.Inside (scope_id unit_scope.scope)
 
 -- where the last part of a name is looked up that stands in a scope
 unfoldable pub region_of : CxxGraph → ℕ → CxxPath → Answer Region
-region_of graph scope path = region_by graph (first_region scope path.global) path.parts
+region_of graph scope path = region_by graph before_colons (first_region scope path.global) path.parts
+
+-- 3.4.6: the same of the name of a namespace in a using-directive or an alias, of which each part is one of a namespace
+unfoldable pub space_region_of : CxxGraph → ℕ → CxxPath → Answer Region
+space_region_of graph scope path = region_by graph namespaces_only (first_region scope path.global) path.parts
 
 -- the scope of a region
 abbrev pub scope_of_region : Region → ℕ

@@ -178,11 +178,10 @@ abbrev pub passed_by : {S : Type 0} → Bool → Outline → Reads S (Turn Outli
 passed_by true outline = tokens brackets_passed >>= λ end. give (More outline)
 passed_by false outline = give (Done fits_not)
 
--- 8.2: parameters behind a name stand there whatever they are, and behind none they have to be such
+-- 8.2: what stands in a bracket behind the name, or where it would stand, has to be parameters: else an expression stands
+-- there, as in `T(f(1))`
 unfoldable pub list_shape : {S : Type 0} → Readers S → Outline → Reads S (Turn Outline Fits)
-list_shape inner outline state ahead =
-    if outline.is_named then passed_by true outline state ahead else
-    (look (past inner.holds_parameters) >>= λ is_list. passed_by is_list outline) state ahead
+list_shape inner outline state ahead = (look (past inner.holds_parameters) >>= λ is_list. passed_by is_list outline) state ahead
 
 -- cv words and an empty list of exceptions behind parameters
 unfoldable pub suffix_step : {S : Type 0} → Readers S → Outline → Reads S (Turn Outline Fits)

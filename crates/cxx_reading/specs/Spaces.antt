@@ -12,7 +12,7 @@ use Rattle.cxx_model.specs.Text.Lexemes.{Lexeme}
 use Rattle.cxx_meaning.specs.Lookups.Wanted.{namespaces_only}
 use Rattle.cxx_reading.specs.Declaring.{added, at_scope, declare, fact_here, free, scope_count}
 use Rattle.cxx_reading.specs.Linked.{scope_id}
-use Rattle.cxx_reading.specs.Paths.{ambiguous_at, first_space, name_in, or_later, region_of, sought_in, space_in}
+use Rattle.cxx_reading.specs.Paths.{ambiguous_at, first_space, name_in, or_later, sought_in, space_in, space_region_of}
 use Rattle.cxx_reading.specs.Reads.{Asks}
 use Rattle.cxx_reading.specs.Seen.{Numbered, declared_in, parent_of, set_in}
 use Rattle.cxx_reading.specs.State.{CxxState}
@@ -146,4 +146,4 @@ space_found part other state = space_by part (first_space (set_in state.graph ot
 
 -- the namespace that a name means; what is no namespace is passed over
 unfoldable pub space_here : CxxPath → Asks CxxState ℕ
-space_here path state = region_of state.graph state.here.scope path >>= λ where_. space_found (last_part path.parts) (sought_in state.graph namespaces_only where_ (name_in path)) state
+space_here path state = space_region_of state.graph state.here.scope path >>= λ where_. space_found (last_part path.parts) (sought_in state.graph namespaces_only where_ (name_in path)) state

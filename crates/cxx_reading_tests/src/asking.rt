@@ -32,7 +32,10 @@ fn asks_at(alloc: Global, text: &[u8], wanted: &[Place]) -> bool {
         Options { depth: 0 },
         chooser,
     ) {
-        Ok(state) => are_told(state.asked(), wanted),
+        Ok(state) => match state.into_chooser() {
+            Some(chooser) => are_told(chooser.asked(), wanted),
+            None => false,
+        },
         Err(_) => false,
     }
 }

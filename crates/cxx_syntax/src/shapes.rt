@@ -344,7 +344,7 @@ impl<K: Kinds, N: Nested> Reader<'_, K, N> {
         Ok(outline)
     }
 
-    // Parameters behind a name stand there whatever they are, and behind none they have to be such (8.2).
+    // What stands in a bracket behind the name, or where it would stand, has to be parameters (8.2).
     #[tactic(auto, using(crate::proofs::Kept::later_trans, crate::proofs::Kept::later_refl), unfolding(cxx_reading::specs::Shapes::list_shape))]
     fn list_shape(
         &self,
@@ -355,12 +355,10 @@ impl<K: Kinds, N: Nested> Reader<'_, K, N> {
         requires open { N.is_open self.now.nested.now }
         ensures { IsRead suffix_turn AnyKnown state.old state.new cursor.new result (shape.list_shape (N.inner self.now.nested.now) (outline_of outline) (meaning state.old) cursor.old) }
     {
-        if !outline.is_named {
-            let mut ahead = cursor.mark();
-            ahead.advance();
-            if !self.nested.holds_parameters(state, &mut ahead)? {
-                return Ok(Turn::Done(Fits::FitsNot));
-            }
+        let mut ahead = cursor.mark();
+        ahead.advance();
+        if !self.nested.holds_parameters(state, &mut ahead)? {
+            return Ok(Turn::Done(Fits::FitsNot));
         }
         brackets_passed(cursor)?;
         Ok(Turn::More(outline))

@@ -81,6 +81,7 @@ impl Calls {
     /// Takes out who is asked.
     pub(crate) fn take(&mut self) -> Option<Choosing>
         ensures held { self.new ≡ record self.old { asks = false } }
+        ensures given { is_some result ≡ (self.old).asks }
         ensures told { IfSome result (λ chooser. told_by chooser ≡ told_where (self.old).tells (places_at (self.old).calls)) }
     {
         self.chooser.take()

@@ -1,4 +1,4 @@
-ghost use Rattle.std.specs.Prelude.{ℕ, List, ◌≡◌, ◌<◌, ◌+◌, take, ◌++◌, length, Ok, Err, Some, [], ◌∷◌, true, false, is_some, IsTrue, IfOk, IfSome, OnOk, OnErr, option_map};
+ghost use Rattle.std.specs.Prelude.{ℕ, List, ◌≡◌, ◌<◌, ◌+◌, take, ◌++◌, length, Ok, Err, Some, [], ◌∷◌, true, false, is_ok, is_some, IsTrue, IfOk, IfSome, OnOk, OnErr, option_map};
 ghost use Rattle.std.specs.List.{slice_get};
 ghost use Rattle.std.specs.Option.{option_copied};
 ghost use Rattle.cxx_model.specs.Facts.Declarations.{fact_at, graph_at};
@@ -519,9 +519,37 @@ impl State {
         self.calls.asked()
     }
 
+    /// Lets go of the state. It is the one place where that is done.
+    pub fn let_go(self) {}
+
+    /// The state, where somebody is there who can be asked which function a call means (13.3).
+    pub fn settled(self) -> Result<State, OutOfMemory>
+        ensures same { IfOk result (λ after. after ≡ self) }
+        ensures asks { is_ok result ≡ self.asks }
+    {
+        if self.calls.is_asking() {
+            return Ok(self);
+        }
+        self.let_go();
+        Err(OutOfMemory)
+    }
+
+    /// Who is asked which function a call means (13.3), behind a reading of which nothing else is wanted; none where it is
+    /// out.
+    pub fn into_chooser(self) -> Option<Choosing>
+        ensures given { is_some result ≡ self.asks }
+        ensures told { IfSome result (λ chooser. told_by chooser ≡ told self) }
+    {
+        let mut state = self;
+        let chooser = state.take_chooser();
+        state.let_go();
+        chooser
+    }
+
     /// Takes out who is asked which function a call means (13.3); none where it is out.
     pub fn take_chooser(&mut self) -> Option<Choosing>
         ensures held { self.new ≡ record self.old { asks = false } }
+        ensures given { is_some result ≡ (self.old).asks }
         ensures told { IfSome result (λ chooser. told_by chooser ≡ told self.old) }
         ensures later { Later self.old self.new }
         ensures same { meaning self.new ≡ meaning self.old }

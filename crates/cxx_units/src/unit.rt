@@ -52,14 +52,14 @@ pub fn whole(options: Options, state: State, ended: Result<(), Stop>) -> Result<
 {
     let _ = options;
     match ended {
-        Ok(()) => {
-            if state.is_asking() {
-                Ok(state)
-            } else {
-                Err(Stop::OutOfMemory)
-            }
+        Ok(()) => match state.settled() {
+            Ok(state) => Ok(state),
+            Err(_) => Err(Stop::OutOfMemory),
+        },
+        Err(why) => {
+            state.let_go();
+            Err(why)
         }
-        Err(why) => Err(why),
     }
 }
 

@@ -7,7 +7,7 @@ use Rattle.cxx_model.specs.Choice.Standard.{same_base}
 use Rattle.cxx_model.specs.Facts.Declarations.{CxxGraph}
 use Rattle.cxx_model.specs.Facts.Pending.{is_pending}
 use Rattle.cxx_model.specs.Types.Same.{same_cv}
-use Rattle.cxx_model.specs.Types.Trees.{CxxType, pointer_to, reference_to, unqualified}
+use Rattle.cxx_model.specs.Types.Trees.{CxxType, merged, pointer_to, reference_to, unqualified}
 use Rattle.cxx_meaning.specs.declared.steps.SequenceSteps.{SequenceSteps}
 use Rattle.cxx_meaning.specs.Conversions.Asking.{Asked, ◌>>=◌}
 use Rattle.cxx_meaning.specs.Conversions.BuiltIn.{operand_kind}
@@ -128,13 +128,35 @@ pub data CxxCast : Type 0 where
   by_reinterpret : CxxCast
   by_reinterpret_and_const : CxxType → CxxCast
 
+-- the words of a type, and those behind each `*` in it
+abbrev pub words_in : CxxType → List Cv
+words_in t = cv_of t ∷ signature t
+
+-- the words of both, as far as both go
+abbrev pub merged_words : List Cv → List Cv → List Cv
+merged_words (one ∷ ones) (two ∷ twos) = merged one two ∷ merged_words ones twos
+merged_words _ _ = []
+
+-- a type with the words of another besides its own
+abbrev pub with_added : CxxType → CxxType → CxxType
+with_added one two = leveled (merged_words (words_in one) (words_in two)) two
+
+abbrev pub added_kinds : CxxKind → CxxKind → Option CxxType
+added_kinds (pointing s) (pointing t) = Some (pointer_to (with_added s t))
+added_kinds _ _ = None
+
+-- the type with the cv words of the expression besides its own, as far as both go
+unfoldable pub added : CxxOperand → CxxType → Option CxxType
+added from (reference_to t) = Some (reference_to (with_added from.of t))
+added from t = added_kinds (operand_kind from) (kind_of t)
+
 abbrev pub between_kinds : CxxKind → CxxKind → Option CxxType
-between_kinds (pointing s) (pointing t) = Some (pointer_to (leveled (cv_of s ∷ signature s) t))
+between_kinds (pointing s) (pointing t) = Some (pointer_to (leveled (words_in s) t))
 between_kinds _ _ = None
 
--- the type with the cv words of the expression, as far as both go
+-- the type with the cv words of the expression in the place of its own, as far as both go
 unfoldable pub between : CxxOperand → CxxType → Option CxxType
-between from (reference_to t) = if from.lvalue then Some (reference_to (leveled (cv_of from.of ∷ signature from.of) t)) else None
+between from (reference_to t) = if from.lvalue then Some (reference_to (leveled (words_in from.of) t)) else None
 between from t = between_kinds (operand_kind from) (kind_of t)
 
 abbrev pub by_other : CxxOperand → CxxType → CxxType → Option CxxCast
@@ -152,9 +174,20 @@ cast_between graph is_single from to (Some middle) = do
   is_static ← static_cast graph is_single from middle
   Ok (by_two from to middle is_static)
 
+unfoldable pub cast_else : CxxGraph → Bool → CxxOperand → CxxType → Option CxxCast → Asked (Option CxxCast)
+cast_else graph is_single from to (Some found) = Ok (Some found)
+cast_else graph is_single from to None = cast_between graph is_single from to (between from to)
+
+-- Of two casts the first is to the type with the words of the expression besides its own. Where no two casts lead there, as
+-- where a word is added behind a `*` and not `const` before it, it is to the type with the words of the expression alone.
+unfoldable pub cast_by_two : CxxGraph → Bool → CxxOperand → CxxType → Asked (Option CxxCast)
+cast_by_two graph is_single from to = do
+  found ← cast_between graph is_single from to (added from to)
+  cast_else graph is_single from to found
+
 unfoldable pub cast_unless : CxxGraph → Bool → CxxOperand → CxxType → Bool → Asked (Option CxxCast)
 cast_unless graph is_single from to true = Ok (Some by_static)
-cast_unless graph is_single from to false = cast_between graph is_single from to (between from to)
+cast_unless graph is_single from to false = cast_by_two graph is_single from to
 
 -- 5.4: the first that is allowed of `const_cast`, `static_cast`, `static_cast` and then `const_cast`, `reinterpret_cast`,
 -- and `reinterpret_cast` and then `const_cast`

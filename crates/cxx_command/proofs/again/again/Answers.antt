@@ -7,7 +7,7 @@ use Rattle.cxx_command.proofs.Showing.{shown_as}
 use Rattle.cxx_command.proofs.again.again.Goals as goal
 
 pub returns-in-Whole : goal.returns-in-Whole
-returns-in-Whole c first is = shown_as c.args.options first c.as_slice.result.now (Whole (reading_of c.args.options c.in-Whole.state)) c.printed_again.result (c.as_slice.ensures.value ∙ is.text) c.in-Whole.ensures (c.printed_again.ensures c.args.options first is)
+returns-in-Whole c first is = shown_as c.args.options first c.as_slice.result.now (Whole (reading_of c.args.options c.in-Whole.state)) c.printed_again-shown.result (c.as_slice.ensures.value ∙ is.text) c.in-Whole.ensures (c.printed_again-shown.ensures c.args.options first is)
 
 pub returns-in-Broken : goal.returns-in-Broken
 returns-in-Broken c first is =
