@@ -45,7 +45,7 @@ impl Asking<'_> {
     pub fn specialisation(&self, class: ClassId) -> Option<&Specialisation>
         ensures { option_copied result ≡ specialisation_in (slice_get self.now.graph.now.classes class.0) }
     {
-        if (class.0 as usize) < self.graph.class_count() {
+        if class.0 < self.graph.class_count() {
             self.graph.specialisation(class)
         } else {
             None

@@ -1,7 +1,12 @@
 //! The bodies of functions (8.4).
 
 ghost use Rattle.std.specs.Prelude.{◌≡◌, ◌<◌, [], length, Some, true};
-ghost use Rattle.cxx_body.specs.Opened.{IsReturned, statements_opened as statements_opened_of};
+ghost use Rattle.std.specs.List.{slice_get};
+ghost use Rattle.std.specs.Option.{option_copied};
+ghost use Rattle.cxx_model.specs.Facts.Declarations.{declares_at, facts_at};
+ghost use Rattle.cxx_model.specs.Facts.Fitted.{IsEntityBelow, IsGraphBelow};
+ghost use Rattle.cxx_reading.specs.Units.{is_incomplete as is_incomplete_of};
+ghost use Rattle.cxx_body.specs.Opened.{IsReturned, incomplete_by, statements_opened as statements_opened_of};
 ghost use Rattle.cxx_language.specs.Bodies as definition;
 ghost use Rattle.cxx_model.specs.Types.Numbers.{type_at};
 ghost use Rattle.cxx_model.specs.Facts.Graph.{scopes};
@@ -19,11 +24,14 @@ ghost use Rattle.cxx_expr.specs.Making.{GrowsType};
 use crate::body::Body;
 use crate::phrasing::Phrasing;
 use cxx_declare as declare;
+use cxx_expr::faults::fault;
 use cxx_expr::operands::plain_type;
 use cxx_graph::Graph;
 use cxx_model::{
-    Base, FactId, LimitKind, Listed, ScopeId, Stop, TreeId, TreeIdList, TypeId, TypeNode,
+    Base, Entity, Fact, FactId, FaultText, LimitKind, Listed, Place, ScopeId, Stop, TreeId,
+    TreeIdList, TypeId, TypeNode,
 };
+use cxx_names::is_incomplete;
 use cxx_statements::read_body;
 use cxx_syntax::{Cursor, NameToken, node_from, push};
 use cxx_tree::State;
@@ -170,6 +178,93 @@ fn body_tree(
     push(state, node)
 }
 
+fn is_incomplete_object(types: &TypeTable, what: Entity) -> bool
+    requires { IsEntityBelow (length types.now) what }
+    ensures { result ≡ definition.is_incomplete_object (declares_at types.now what) }
+{
+    match what {
+        Entity::Object { of, .. } => is_incomplete(types, of),
+        _ => false,
+    }
+}
+
+// The place of a declaration, where it is one of an object whose class is incomplete.
+fn incomplete_place(types: &TypeTable, fact: &Fact) -> Option<Place>
+    requires { IsEntityBelow (length types.now) fact.now.what }
+    ensures { result ≡ incomplete_by types.now (Some fact.now) }
+{
+    if is_incomplete_object(types, fact.what) {
+        Some(fact.place)
+    } else {
+        None
+    }
+}
+
+// The declaration with a number, where there is one.
+fn fact_of(graph: &Graph, number: FactId) -> Option<&Fact>
+    ensures { option_copied result ≡ slice_get graph.now.facts number.0 }
+{
+    graph.facts().get(number.0 as usize)
+}
+
+fn incomplete_at(graph: &Graph, types: &TypeTable, number: FactId) -> Option<Place>
+    requires { IsGraphBelow (length types.now) graph.now }
+    ensures { result ≡ incomplete_by types.now (slice_get graph.now.facts number.0) }
+{
+    match fact_of(graph, number) {
+        Some(fact) => incomplete_place(types, fact),
+        None => None,
+    }
+}
+
+// The place of the first parameter in a list whose class is incomplete (9.2).
+fn incomplete_among(graph: &Graph, types: &TypeTable, list: ScopeId) -> Option<Place>
+    requires { IsGraphBelow (length types.now) graph.now }
+    ensures { result ≡ definition.incomplete_among list.0 (facts_at types.now graph.now.facts) }
+{
+    for number in graph.facts_of(list) {
+        if let Some(place) = incomplete_at(graph, types, *number) {
+            return Some(place);
+        }
+    }
+    None
+}
+
+fn returns_incomplete(types: &TypeTable, of: TypeId) -> bool
+    requires { of.0 < length types.now }
+    ensures { result ≡ is_incomplete_of (definition.result_of (type_at types.now of.0)) }
+{
+    match returned(types, of) {
+        Some(of) => is_incomplete(types, of),
+        None => false,
+    }
+}
+
+// What a function that is defined returns, and its parameters, are of complete types (8.3.5).
+#[tactic(auto, using(cxx_syntax::proofs::Kept::later_refl), unfolding(cxx_language::specs::Bodies::complete_head, cxx_tree::specs::Held::meaning))]
+fn complete_head(
+    state: &State,
+    cursor: &Cursor<'_>,
+    name: &NameToken,
+    of: TypeId,
+    list: ScopeId,
+) -> Result<(), Stop>
+    requires { of.0 < length (state.now).types }
+    ensures { IsRead itself AnyKnown state.now state.now cursor.now result (definition.complete_head (name_at name.now) (type_of state.now of) list.0 (meaning state.now) cursor.now) }
+{
+    if returns_incomplete(state.types(), of) {
+        let fault = fault(cursor.alloc(), name.place, FaultText::IncompleteClass)?;
+        return Err(Stop::Fault(fault));
+    }
+    match incomplete_among(state.graph(), state.types(), list) {
+        None => Ok(()),
+        Some(place) => {
+            let fault = fault(cursor.alloc(), place, FaultText::IncompleteClass)?;
+            Err(Stop::Fault(fault))
+        }
+    }
+}
+
 /// The body of the function with a declaration, whose list of parameters has a scope, from its `{` on (8.4), with room for
 /// so many more brackets and statements inside one another.
 #[tactic(auto, using(cxx_syntax::proofs::Kept::type_kept, cxx_syntax::proofs::Kept::type_later, cxx_syntax::proofs::Kept::trees_kept, cxx_syntax::proofs::Kept::trees_later, cxx_syntax::proofs::Kept::later_refl, cxx_syntax::proofs::Kept::later_trans), unfolding(cxx_language::specs::Bodies::function_body))]
@@ -187,6 +282,7 @@ pub fn read_function_body<P: Phrasing>(
     ensures { IsRead tree IsTreeKnown state.old state.new cursor.new result (definition.function_body room (name_at name.now) (type_of state.old of) number.0 list.0 (meaning state.old) cursor.old) }
 {
     phrasing.define_declared(state, name, number)?;
+    complete_head(state, cursor, name, of, list)?;
     let from = cursor.mark();
     let scope = next_number(state);
     let returns = result_of(state, of)?;

@@ -1,10 +1,8 @@
 -- The last word of a name.
-use Rattle.std.specs.Prelude.{ℕ, zero, suc, ◌≡◌, ◌-◌, nat_eq, false, List, [], ◌∷◌, length, Option, option_map, refl}
+use Rattle.std.specs.Prelude.{ℕ, zero, suc, ◌≡◌, ◌-◌, List, [], ◌∷◌, length, Option, option_map, refl}
 use Rattle.std.specs.List.{slice_get}
-use Rattle.std.proofs.Common.{ap, arith, sym, ◌∙◌}
-use Rattle.std.proofs.lemmas.Bool.Decides.{nat_tests}
+use Rattle.std.proofs.Common.{ap, sym, ◌∙◌}
 use Rattle.cxx_model.specs.declared.tree.PathPart.{PathPart}
-use Rattle.cxx_reading.specs.Trees.{is_alone}
 use Rattle.cxx_tree.specs.Arena.{path_part_at, path_parts_at}
 
 part_at : (parts : List PathPart) (n : ℕ) → slice_get (path_parts_at parts) n ≡ option_map path_part_at (slice_get parts n)
@@ -21,11 +19,3 @@ part_is parts last is =
     ap (option_map path_part_at) is
     ∙ sym (part_at parts (length parts - 1))
     ∙ ap (λ n. slice_get (path_parts_at parts) (n - 1)) (sym (parts_length parts))
-
-two_or_more : (n : ℕ) → nat_eq (suc (suc n)) 1 ≡ false
-two_or_more n = grind (arith, nat_tests)
-
-pub alone_is : (parts : List PathPart) → nat_eq (length parts) 1 ≡ is_alone (path_parts_at parts)
-alone_is [] = refl
-alone_is (part ∷ []) = refl
-alone_is (part ∷ next ∷ parts) = two_or_more (length parts)

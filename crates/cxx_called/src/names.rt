@@ -10,9 +10,9 @@ ghost use Rattle.cxx_model.specs.Stops.{Faulty};
 ghost use Rattle.cxx_model.specs.Types.Integral.{promoted_of_values};
 ghost use Rattle.cxx_model.specs.Types.Trees.{enumeration};
 ghost use Rattle.cxx_reading.specs.Paths.{wrong_kind_at};
-ghost use Rattle.cxx_reading.specs.Trees.{is_alone, is_plain_path};
+ghost use Rattle.cxx_reading.specs.Trees.{is_plain_path};
 ghost use Rattle.cxx_tree.specs.Answered.{IsAnswered};
-ghost use Rattle.cxx_tree.specs.Arena.{label_at, path_at, path_part_at, path_parts_at};
+ghost use Rattle.cxx_tree.specs.Arena.{label_at, path_at, path_part_at};
 ghost use Rattle.cxx_tree.specs.Held.{enumeration_of_option, meaning, tree, type_of};
 ghost use Rattle.cxx_expr.specs.Making.{GrowsTree, GrowsType, IsTreeKnown};
 ghost use Rattle.cxx_expr.specs.Names as definition;
@@ -30,7 +30,7 @@ use cxx_model::{
     Base, ConstantKind, Entity, EnumId, Evidence, FactId, FactList, Fault, FaultText, LeftOut,
     Listed, Node, Operand, Path, PathPart, Place, Stop, TreeId, TypeId, Word,
 };
-use cxx_tree::State;
+use cxx_tree::{State, is_plain_path};
 use std::alloc::{AllocError, Global};
 
 /// What a name means: the entity, by its first declaration, and what the name gives.
@@ -100,19 +100,6 @@ pub(crate) fn no_path(alloc: Global) -> Path
         global: false,
         parts: Listed::new(alloc),
     }
-}
-
-#[tactic(auto, using(crate::proofs::Words::alone_is))]
-fn is_alone(parts: &[PathPart]) -> bool
-    ensures { result ≡ is_alone (path_parts_at parts.now) }
-{
-    parts.len() == 1
-}
-
-fn is_plain_path(path: &Path) -> bool
-    ensures { result ≡ is_plain_path (path_at path.now) }
-{
-    !path.global && is_alone(path.parts.as_slice())
 }
 
 /// Whether the name of a node has no qualifiers (3.4.1).

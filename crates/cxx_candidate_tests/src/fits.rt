@@ -14,7 +14,7 @@ use cxx_types::TypeTable;
 pub(crate) fn is_class(graph: &Graph, class: ClassId) -> bool
     ensures { IsTrue result → class.0 < length graph.now.classes }
 {
-    (class.0 as usize) < graph.class_count()
+    class.0 < graph.class_count()
 }
 
 fn enumerates(fact: &Fact) -> usize

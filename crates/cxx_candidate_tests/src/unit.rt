@@ -85,7 +85,7 @@ impl Unit {
 
     /// The class that was begun last.
     pub(crate) fn last_class(&self) -> ClassId {
-        ClassId(number_of(self.graph.class_count()).saturating_sub(1))
+        ClassId(self.graph.class_count().saturating_sub(1))
     }
 
     /// The number of the next enumeration.

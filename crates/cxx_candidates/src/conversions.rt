@@ -55,7 +55,7 @@ fn reserved(graph: &Graph, class: ClassId) -> Option<ClassId>
     ensures is { number_of result ≡ definition.reserved_class (length graph.now.classes) class }
     ensures known { IfSome result (λ class. class.0 < length graph.now.classes) }
 {
-    if (class.0 as usize) < graph.class_count() {
+    if class.0 < graph.class_count() {
         Some(class)
     } else {
         None

@@ -3,6 +3,7 @@ pub mod Asking
 pub mod Bringing
 pub mod Brought
 pub mod Clashing
+pub mod Classed
 pub mod Defining
 pub mod Giving
 pub mod Holding

@@ -1,5 +1,6 @@
 pub mod Agreed
 pub mod Brought
+pub mod Classes
 pub mod Functions
 pub mod Given
 pub mod Made

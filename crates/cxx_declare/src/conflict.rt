@@ -123,7 +123,7 @@ fn clash_in_space(state: &State, space: ScopeId, fact: &Fact) -> Result<Option<F
 
 // ---- objects of blocks
 
-fn same_bool(one: bool, two: bool) -> bool
+pub(crate) fn same_bool(one: bool, two: bool) -> bool
     ensures { result ≡ same_bool_of one two }
 {
     if one { two } else { !two }

@@ -3,6 +3,7 @@
 
 mod asks;
 mod bodies;
+mod classes;
 mod conflict;
 mod enumerations;
 mod facts;
@@ -18,6 +19,7 @@ mod values;
 
 pub use asks::{elaborated, kind, kind_of_name, type_named, type_of_name};
 pub use bodies::{begin_body, end_body};
+pub use classes::class_here;
 pub use enumerations::{declare_enumeration, declare_enumerator, end_enumeration};
 pub use functions::declare_function;
 pub use objects::{

@@ -12,7 +12,7 @@ use cxx_answers::{Answering, begin_default, constant_here, end_default};
 use cxx_declare as declare;
 use cxx_elaborate::whole;
 use cxx_knot::Asking;
-use cxx_model::{EnumId, Kind, Name, Node, Place, ScopeId, Stop, TreeId, TypeId, Word};
+use cxx_model::{EnumId, Kind, Name, Node, Path, Place, ScopeId, Stop, TreeId, TypeId, Word};
 use cxx_syntax::{Cursor, Kinds, NameToken, Spelled};
 use cxx_tree::State;
 use std::alloc::{AllocError, Global};
@@ -114,6 +114,18 @@ impl Kinds for Declaring {
     ) -> Result<TypeId, Stop> {
         let path = ahead.path()?;
         declare::elaborated(state, &path)
+    }
+
+    #[tactic(auto, using(crate::proofs::Answering::asked, cxx_syntax::proofs::Kept::later_refl), unfolding(cxx_language::specs::Answers::asking))]
+    fn class_named(
+        &self,
+        state: &mut State,
+        path: &Path,
+        is_union: bool,
+        is_all: bool,
+        _room: u32,
+    ) -> Result<TypeId, Stop> {
+        declare::class_here(state, path, is_union, is_all)
     }
 
     #[tactic(auto, using(crate::proofs::Answering::asked, cxx_syntax::proofs::Kept::later_refl), unfolding(cxx_language::specs::Answers::asking))]

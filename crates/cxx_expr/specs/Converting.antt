@@ -13,6 +13,7 @@ use Rattle.cxx_reading.specs.Initializers.{conversion_tree, operand_of}
 use Rattle.cxx_reading.specs.Reads.{Asks}
 use Rattle.cxx_reading.specs.State.{CxxState}
 use Rattle.cxx_reading.specs.Trees.{CxxTree}
+use Rattle.cxx_reading.specs.Units.{is_incomplete}
 use Rattle.cxx_expr.specs.Asking.{◌>>=◌, give}
 use Rattle.cxx_expr.specs.Operands.{is_none, judged_to}
 use Rattle.cxx_expr.specs.Questions.{Questions}
@@ -39,9 +40,16 @@ convert_known q place of tree state = by_sequence place of tree (sequence_to q o
 abbrev pub stays : CxxType → CxxTree → Bool
 stays of tree = is_none tree.label.operand || same_type (operand_of tree).of of
 
+-- 8.5, 9.2: no object is made of an incomplete class, and none is complete yet
+abbrev pub class_value : CxxTree → Asks CxxState CxxTree
+class_value tree state = if is_none tree.label.operand then Ok (tree, state) else Err (fault tree.label.start says.IncompleteClass)
+
 -- 13.3.3.1: an expression as it is converted to a type, asked at a place
 unfoldable pub convert : Questions → Place → CxxType → CxxTree → Asks CxxState CxxTree
-convert q place of tree state = if stays of tree then Ok (tree, state) else convert_known q place of tree state
+convert q place of tree state =
+    if is_incomplete of then class_value tree state else (
+    if stays of tree then Ok (tree, state) else
+    convert_known q place of tree state)
 
 -- ---- one after another
 

@@ -7,6 +7,8 @@ ghost use Rattle.cxx_meaning.specs.Conversions.Casts as meaning_casts;
 ghost use Rattle.cxx_meaning.specs.Conversions.Sizes as sizes;
 ghost use Rattle.cxx_meaning.specs.Conversions.Standard.{is_class as is_class_kind};
 ghost use Rattle.cxx_meaning.specs.Conversions.Kinds.{kind_of as kind_of_type};
+ghost use Rattle.cxx_model.specs.declared.fault.FaultText.TheVariants as says;
+ghost use Rattle.cxx_model.specs.Stops.{Faulty, fault as fault_of};
 ghost use Rattle.cxx_model.specs.Types.Trees.{CxxType};
 ghost use Rattle.cxx_reading.specs.Trees.{children_of};
 ghost use Rattle.cxx_standard.specs.Views.{kind_at, operand_at};
@@ -20,14 +22,18 @@ ghost use Rattle.cxx_expr.specs.Operands as operands;
 
 use crate::conditional::{is_class, is_of_class};
 use crate::converting::push;
-use crate::faults::not_built_at;
+use crate::faults::{fault, not_built_at};
 use crate::nodes::given_over;
 use crate::operands::{judged_to, operand_of, plain_type, referred, result_operand, value_operand};
 use crate::operators::{misshapen, no_fit};
 use crate::production::CAST;
 use crate::questions::Questions;
 use cxx_casts::{CastSteps, const_cast, reinterpret_cast, static_cast};
-use cxx_model::{Base, Listed, Node, Operand, Place, Stop, Text, TreeId, TreeIdList, TypeId, Wait};
+use cxx_model::{
+    Base, Fault, FaultText, Listed, Node, Operand, Place, Stop, Text, TreeId, TreeIdList, TypeId,
+    Wait,
+};
+use cxx_names::is_incomplete;
 use cxx_standard::{TypeKind, kind_of};
 use cxx_tree::State;
 use std::alloc::{AllocError, Global};
@@ -257,6 +263,30 @@ fn needs_class(state: &State, of: TypeId, one: TreeId) -> bool
     is_of_class(state, one) || is_to_class(state, of)
 }
 
+// No object is made of an incomplete class (9.2).
+fn incomplete(alloc: Global, place: Place) -> Result<Box<Fault>, AllocError>
+    ensures { IfOk result (λ at. Faulty at.value ≡ fault_of place says.IncompleteClass) }
+{
+    fault(alloc, place, FaultText::IncompleteClass)
+}
+
+// What constructors and conversion functions do is not read yet, and no class is complete yet.
+fn class_fault(
+    alloc: Global,
+    state: &State,
+    of: TypeId,
+    place: Place,
+) -> Result<Box<Fault>, AllocError>
+    requires { of.0 < length (state.now).types }
+    ensures { IfOk result (λ at. Faulty at.value ≡ definition.class_needed_at (type_of state.now of) place) }
+{
+    if is_incomplete(state.types(), of) {
+        incomplete(alloc, place)
+    } else {
+        not_built_at(alloc, place)
+    }
+}
+
 #[tactic(auto, using(crate::proofs::Kept::later_refl), unfolding(crate::specs::Casts::explicit))]
 fn explicit_to<Q: Questions>(
     alloc: Global,
@@ -276,7 +306,7 @@ fn explicit_to<Q: Questions>(
     ensures { IsAnswered tree IsTreeKnown state.old state.new result (definition.explicit (Q.asks questions.now) (node_tree state.old node.now) (trees_held state.old front) (tree state.old one) (meaning state.old)) }
 {
     if needs_class(state, of, one) {
-        return Err(Stop::Fault(not_built_at(alloc, node.place)?));
+        return Err(Stop::Fault(class_fault(alloc, state, of, node.place)?));
     }
     explicit_built(alloc, questions, state, of, node, front, one)
 }
@@ -363,7 +393,7 @@ fn static_to<Q: Questions>(
     ensures { IsAnswered tree IsTreeKnown state.old state.new result (definition.static_cast_of (Q.asks questions.now) (node_tree state.old node.now) (trees_held state.old front) (tree state.old one) (meaning state.old)) }
 {
     if needs_class(state, of, one) {
-        return Err(Stop::Fault(not_built_at(alloc, node.place)?));
+        return Err(Stop::Fault(class_fault(alloc, state, of, node.place)?));
     }
     static_built(alloc, questions, state, of, node, front, one)
 }
@@ -529,7 +559,7 @@ fn zero(alloc: Global, state: &mut State, of: TypeId, node: Node) -> Result<Tree
 {
     let kind = kind_of(state.graph(), state.types(), of);
     if is_class(kind) {
-        return Err(Stop::Fault(not_built_at(alloc, node.place)?));
+        return Err(Stop::Fault(incomplete(alloc, node.place)?));
     }
     if has_zero(kind) {
         return zero_tree(alloc, state, of, node);
@@ -544,7 +574,7 @@ fn several(alloc: Global, state: &mut State, of: TypeId, node: &Node) -> Result<
     ensures { IsAnswered tree IsTreeKnown state.old state.new result (definition.several (node_tree state.old node.now) (meaning state.old)) }
 {
     if is_class(kind_of(state.graph(), state.types(), of)) {
-        return Err(Stop::Fault(not_built_at(alloc, node.place)?));
+        return Err(Stop::Fault(incomplete(alloc, node.place)?));
     }
     Err(Stop::Fault(no_fit(alloc, node.place)?))
 }

@@ -22,6 +22,7 @@ use cxx_model::{
     FaultText, Listed, Node, Operand, Place, Second, StandardSequence, Stop, TreeId, TreeIdList,
     TypeId, Wait,
 };
+use cxx_names::is_incomplete;
 use cxx_standard::standard_sequence;
 use cxx_tree::State;
 use std::alloc::Global;
@@ -139,6 +140,22 @@ fn stays(state: &State, of: TypeId, number: TreeId) -> bool
     }
 }
 
+// No object is made of an incomplete class (8.5, 9.2).
+#[tactic(auto, using(crate::proofs::Kept::later_refl))]
+fn class_value(alloc: Global, state: &State, number: TreeId) -> Result<TreeId, Stop>
+    requires { number.0 < length (trees state.now) }
+    ensures { IsAnswered tree IsTreeKnown state.now state.now result (definition.class_value (tree state.now number) (meaning state.now)) }
+{
+    let node = state.node(number);
+    match node.operand {
+        None => Ok(number),
+        Some(_) => {
+            let fault = fault(alloc, node.start, FaultText::IncompleteClass)?;
+            Err(Stop::Fault(fault))
+        }
+    }
+}
+
 /// An expression as it is converted to a type, asked at a place (13.3.3.1).
 #[tactic(auto, using(crate::proofs::Kept::later_refl), unfolding(crate::specs::Converting::convert))]
 pub fn convert<Q: Questions>(
@@ -154,6 +171,9 @@ pub fn convert<Q: Questions>(
     requires number { number.0 < length (trees state.old) }
     ensures { IsAnswered tree IsTreeKnown state.old state.new result (definition.convert (Q.asks questions.now) place (type_of state.old of) (tree state.old number) (meaning state.old)) }
 {
+    if is_incomplete(state.types(), of) {
+        return class_value(alloc, state, number);
+    }
     if stays(state, of, number) {
         return Ok(number);
     }

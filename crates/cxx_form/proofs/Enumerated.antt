@@ -1,5 +1,5 @@
--- Enumerations by their numbers, one declaration after another.
-use Rattle.std.proofs.Common.{◌≡◌, ℕ, zero, suc, ◌+◌, ◌<◌, Bool, true, false, cond, eqb, List, [], ◌∷◌, length, drop, Option, Some, None, refl, ap, sym, ◌∙◌, add-one, arith}
+-- Enumerations and classes by their numbers, one declaration after another.
+use Rattle.std.proofs.Common.{◌≡◌, ℕ, zero, suc, ◌+◌, Bool, true, false, cond, eqb, List, [], ◌∷◌, length, drop, Option, Some, None, refl, ap, sym, ◌∙◌, add-one, arith}
 use Rattle.std.specs.List.{slice_get}
 use Rattle.std.proofs.lemmas.List.{at_drop_all}
 use Rattle.cxx_model.specs.declared.facts.Access.{Access}
@@ -12,8 +12,9 @@ use Rattle.cxx_model.specs.Facts.Declarations.{CxxFact, CxxName, Declares, fact_
 use Rattle.cxx_meaning.specs.Lookups.Gathered.{before, gathered}
 use Rattle.cxx_reading.specs.Plain.{number_of_enumeration}
 use Rattle.cxx_reading.specs.TextOrder.{enumerators_of, is_enumerator_of}
-use Rattle.cxx_form.specs.Giving.{declared_or, enumerator_given, holder_by, if_held, named_by, named_or, AreDeclared, HasDeclared, HasNamed}
+use Rattle.cxx_form.specs.Giving.{declared_or, enumerator_given, holder_by, if_held, named_by, AreDeclared, AreFirst, HasDeclared, HasFirst, HasNamed}
 use Rattle.cxx_form.specs.Lines.{number_in, numbers_in}
+use Rattle.cxx_form.specs.Order.{class_in, named_or, number_of_class}
 use Rattle.cxx_form.specs.Slots.{slot_at}
 
 -- ---- where enumerations are declared
@@ -40,10 +41,13 @@ next_by n number place scope name rights (facts.friend class target) others = re
 next_named : (n number : ℕ) (fact : CxxFact) (others : List CxxFact) → number_of_enumeration n number (fact ∷ others) ≡ named_or n number (named_by fact.what) (number_of_enumeration n (number + 1) others)
 next_named n number fact others = next_by n number fact.place fact.scope fact.name fact.access fact.what others ∙ ap (λ m. named_or n number (named_by fact.what) (number_of_enumeration n m others)) (sym (add-one number))
 
-pub named_at : (types : List CxxType) (all : List Fact) (number : ℕ) (fact : Fact) (old new : List ℕ) (named : Option ℕ) → number < length all → slice_get (facts_at types all) number ≡ Some (fact_at types fact) → named ≡ named_by (fact_at types fact).what → HasNamed old new number named → HasDeclared old new number (facts_at types (drop number all)) (facts_at types (drop (number + 1) all))
-named_at types all number fact old new named within at is has n =
-    let rest : ℕ = number_of_enumeration n (number + 1) (facts_at types (drop (number + 1) all)) in
-    let first : number_of_enumeration n number (facts_at types (drop number all)) ≡ named_or n number (named_by (fact_at types fact).what) rest = ap (number_of_enumeration n number) (first_is types all number fact at ∙ ap (λ m. fact_at types fact ∷ facts_at types (drop m all)) (sym (add-one number))) ∙ next_named n number (fact_at types fact) (facts_at types (drop (number + 1) all)) in
+-- with one declaration more, by what it names
+named_on : (find : ℕ → ℕ → List CxxFact → ℕ) (by : Declares → Option ℕ) → ((n number : ℕ) (fact : CxxFact) (others : List CxxFact) → find n number (fact ∷ others) ≡ named_or n number (by fact.what) (find n (number + 1) others))
+    → (types : List CxxType) (all : List Fact) (number : ℕ) (fact : Fact) (old new : List ℕ) (named : Option ℕ) → slice_get (facts_at types all) number ≡ Some (fact_at types fact) → named ≡ by (fact_at types fact).what → HasNamed old new number named
+    → (n : ℕ) → declared_or (slot_at new n) (find n (number + 1) (facts_at types (drop (number + 1) all))) ≡ declared_or (slot_at old n) (find n number (facts_at types (drop number all)))
+named_on find by next types all number fact old new named at is has n =
+    let rest : ℕ = find n (number + 1) (facts_at types (drop (number + 1) all)) in
+    let first : find n number (facts_at types (drop number all)) ≡ named_or n number (by (fact_at types fact).what) rest = ap (find n number) (first_is types all number fact at ∙ ap (λ m. fact_at types fact ∷ facts_at types (drop m all)) (sym (add-one number))) ∙ next n number (fact_at types fact) (facts_at types (drop (number + 1) all)) in
     has n rest ∙ ap (λ o. declared_or (slot_at old n) (named_or n number o rest)) is ∙ ap (declared_or (slot_at old n)) (sym first)
   where
     first_is : (types : List CxxType) (all : List Fact) (number : ℕ) (fact : Fact) → slice_get (facts_at types all) number ≡ Some (fact_at types fact) → facts_at types (drop number all) ≡ fact_at types fact ∷ facts_at types (drop (suc number) all)
@@ -51,13 +55,32 @@ named_at types all number fact old new named within at is has n =
     first_is types (f ∷ fs) zero fact at = (let same : fact_at types f ≡ fact_at types fact = cc in ap (λ (x : CxxFact). x ∷ facts_at types fs) same)
     first_is types (f ∷ fs) (suc number) fact at = first_is types fs number fact at
 
+pub named_at : (types : List CxxType) (all : List Fact) (number : ℕ) (fact : Fact) (old new : List ℕ) (named : Option ℕ) → slice_get (facts_at types all) number ≡ Some (fact_at types fact) → named ≡ named_by (fact_at types fact).what → HasNamed old new number named → HasDeclared old new number (facts_at types (drop number all)) (facts_at types (drop (number + 1) all))
+named_at = named_on number_of_enumeration named_by next_named
+
 pub length_facts : (types : List CxxType) (all : List Fact) → length (facts_at types all) ≡ length all
 length_facts types [] = refl
 length_facts types (f ∷ fs) = ap (λ n. suc n) (length_facts types fs)
 
+-- behind the last one
+all_on : (find : ℕ → ℕ → List CxxFact → ℕ) → ((n number : ℕ) → find n number [] ≡ number) → (types : List CxxType) (all : List Fact) (number : ℕ) (slots : List ℕ) → length all ≡ number
+    → ((n : ℕ) → declared_or (slot_at slots n) (find n number (facts_at types (drop number all))) ≡ find n 0 (facts_at types all)) → (n : ℕ) → declared_or (slot_at slots n) (length (facts_at types all)) ≡ find n 0 (facts_at types all)
+all_on find ends types all number slots past are n =
+    ap (declared_or (slot_at slots n)) (length_facts types all ∙ past ∙ sym (at_drop_all (λ fs. find n number (facts_at types fs)) all number (omega arith) ∙ ends n number)) ∙ are n
+
 pub all_named : (types : List CxxType) (all : List Fact) (number : ℕ) (slots : List ℕ) → length all ≡ number → ((n : ℕ) → declared_or (slot_at slots n) (number_of_enumeration n number (facts_at types (drop number all))) ≡ number_of_enumeration n 0 (facts_at types all)) → AreDeclared (facts_at types all) slots
-all_named types all number slots past are n =
-    ap (declared_or (slot_at slots n)) (length_facts types all ∙ past ∙ sym (at_drop_all (λ fs. number_of_enumeration n number (facts_at types fs)) all number (omega arith))) ∙ are n
+all_named = all_on number_of_enumeration (λ n number. refl)
+
+-- ---- where classes are declared first
+
+next_class : (n number : ℕ) (fact : CxxFact) (others : List CxxFact) → number_of_class n number (fact ∷ others) ≡ named_or n number (class_in fact.what) (number_of_class n (number + 1) others)
+next_class n number fact others = ap (λ m. named_or n number (class_in fact.what) (number_of_class n m others)) (sym (add-one number))
+
+pub class_at : (types : List CxxType) (all : List Fact) (number : ℕ) (fact : Fact) (old new : List ℕ) (class : Option ℕ) → slice_get (facts_at types all) number ≡ Some (fact_at types fact) → class ≡ class_in (fact_at types fact).what → HasNamed old new number class → HasFirst old new number (facts_at types (drop number all)) (facts_at types (drop (number + 1) all))
+class_at = named_on number_of_class class_in next_class
+
+pub all_first : (types : List CxxType) (all : List Fact) (number : ℕ) (slots : List ℕ) → length all ≡ number → ((n : ℕ) → declared_or (slot_at slots n) (number_of_class n number (facts_at types (drop number all))) ≡ number_of_class n 0 (facts_at types all)) → AreFirst (facts_at types all) slots
+all_first = all_on number_of_class (λ n number. refl)
 
 -- ---- enumerators
 

@@ -1,11 +1,12 @@
 -- The lines of a plain form, one declaration after another.
-use Rattle.std.proofs.Common.{◌≡◌, Bool, true, false, ℕ, suc, ◌+◌, ◌<◌, ◌≤◌, List, [], ◌∷◌, ◌++◌, length, drop, get_or, map, Option, Some, None, option_map, refl, ap, sym, subst, ◌∙◌, append-nil, append_assoc, add-one}
+use Rattle.std.proofs.Common.{◌≡◌, Bool, true, false, ℕ, suc, ◌+◌, ◌-◌, ◌<◌, ◌≤◌, arith, List, [], ◌∷◌, ◌++◌, length, drop, get_or, map, Option, Some, None, option_map, refl, ap, sym, subst, ◌∙◌, append-nil, append_assoc, add-one}
 use Rattle.std.specs.Prelude.{flat_map, if◌then◌else◌}
 use Rattle.std.specs.List.{slice_get}
 use Rattle.std.proofs.lemmas.List.{at_drop_more, at_drop_all, map-append}
 use Rattle.cxx_model.specs.declared.facts.Access.{Access}
 use Rattle.cxx_model.specs.declared.facts.Fact.{Fact}
 use Rattle.cxx_model.specs.declared.place.Place.{Place}
+use Rattle.cxx_model.specs.declared.types.FactId.{FactId}
 use Rattle.cxx_model.specs.declared.types.TreeId.{TreeId}
 use Rattle.cxx_model.specs.Types.Trees.{CxxType}
 use Rattle.cxx_model.specs.Facts.Declarations as facts
@@ -18,11 +19,14 @@ use Rattle.cxx_form.specs.Order.{declarators_of, definitions_of, enumeration_of,
 use Rattle.cxx_reading.specs.Trees.{CxxTree}
 use Rattle.cxx_tree.specs.Arena.{tree_in, trees_in, AreTreesBelow}
 use Rattle.cxx_tree.specs.Held.{meaning, pieces_at, trees, Held}
+use Rattle.cxx_tree.proofs.Graphs.{length_classes}
 use Rattle.cxx_form.specs.declared.lines.Line.{Line}
 use Rattle.cxx_form.specs.declared.lines.Line.TheVariants as line
-use Rattle.cxx_form.specs.Giving.{enumeration_by, enumeration_given, function_by, function_given, given_at}
+use Rattle.cxx_form.specs.Giving.{declared_or, enumeration_by, enumeration_given, function_by, function_given, given_at, AreFirst}
 use Rattle.cxx_form.specs.Lines.{line_at, lines_at, object_line_by, AddsLines, AreLinesBelow, IsLineBelow}
+use Rattle.cxx_form.specs.Slots.{slot_at}
 use Rattle.cxx_form.specs.Views.{facts_in}
+use Rattle.cxx_form.proofs.Enumerated.{length_facts}
 use Rattle.cxx_form.proofs.Gathering.{fact_is, given_cut}
 use Rattle.cxx_form.proofs.InTrees.{child_below}
 
@@ -130,28 +134,53 @@ definition_on trees definitions i d first now new all below within so more =
     (at_drop_more (λ (ns : List TreeId). map text.definition_lines (trees_in trees ns)) definitions i d within) so
     (line_added trees now new (line.Definition (get_or definitions i d)) more (child_below (length trees) definitions i d below within))
 
+-- ---- the lines of classes
+
+-- where a class is declared first
+pub class_first : (held : Held) (slots : List ℕ) (n count place : ℕ) → AreFirst (facts_in held) slots → count ≡ length held.graph.facts → place ≡ declared_or (slot_at slots n) count → place ≡ text.number_of_class n 0 (facts_in held)
+class_first held slots n count place are all is = is ∙ ap (declared_or (slot_at slots n)) (all ∙ sym (length_facts held.types held.graph.facts)) ∙ are n
+
+class_cut : (all : List CxxFact) (n count : ℕ) → n < count → text.class_lines all n (count - n) ≡ text.class_line (text.number_of_class n 0 all) ∷ text.class_lines all (n + 1) (count - (n + 1))
+class_cut all n count within =
+    let left : count - n ≡ suc (count - (n + 1)) = omega (arith, within) in
+    ap (text.class_lines all n) left ∙ ap (λ m. text.class_line (text.number_of_class n 0 all) ∷ text.class_lines all m (count - (n + 1))) (sym (add-one n))
+
+pub class_on : (trees : List CxxTree) (all : List CxxFact) (count n : ℕ) (first now new : List Line) (number : FactId) (whole : List text.Line) → n < count → number.0 ≡ text.number_of_class n 0 all → SoFar trees first now (text.class_lines all n (count - n)) whole → new ≡ now ++ line.Class number ∷ [] → SoFar trees first new (text.class_lines all (n + 1) (count - (n + 1))) whole
+class_on trees all count n first now new number whole within is so more =
+    goes_on trees first now new (text.class_line (text.number_of_class n 0 all) ∷ []) (text.class_lines all (n + 1) (count - (n + 1))) (text.class_lines all n (count - n)) whole (class_cut all n count within) so
+    (adds_same trees now new (line_at trees (line.Class number) ∷ []) (text.class_line (text.number_of_class n 0 all) ∷ []) (ap (λ m. text.class_line m ∷ []) is) (line_added trees now new (line.Class number) more tt))
+
+pub classes_all : (trees : List CxxTree) (all : List CxxFact) (count n : ℕ) (first now : List Line) (whole : List text.Line) → count ≤ n → SoFar trees first now (text.class_lines all n (count - n)) whole → AddsLines trees first now whole
+classes_all trees all count n first now whole past so =
+    let none : count - n ≡ 0 = omega (arith, past) in
+    at_last trees first now (text.class_lines all n (count - n)) whole (ap (text.class_lines all n) none) so
+
 -- ---- all lines
 
 four : {A : Type 0} (ones twos threes fours : List A) → ((ones ++ twos) ++ threes) ++ fours ≡ ones ++ (twos ++ (threes ++ fours))
 four ones twos threes fours = append_assoc (ones ++ twos) threes fours ∙ append_assoc ones twos (threes ++ fours)
 
-pub all_lines : (trees : List CxxTree) (facts : List CxxFact) (found defined : List TreeId) (declarators definitions : List CxxTree) (none one two three last : List Line) → none ≡ [] → trees_in trees found ≡ declarators → trees_in trees defined ≡ definitions
-    → AddsLines trees none one (enumeration_lines 0 facts) → AddsLines trees one two (function_lines 0 facts) → AddsLines trees two three (object_lines facts (trees_in trees found)) → AddsLines trees three last (map text.definition_lines (trees_in trees defined))
-    → (lines_at trees last ≡ enumeration_lines 0 facts ++ (function_lines 0 facts ++ (object_lines facts declarators ++ map text.definition_lines definitions))) × AreLinesBelow (length trees) last
-all_lines trees facts found defined declarators definitions none one two three last empty are so first second third fourth =
+five : {A : Type 0} (ones twos threes fours fives : List A) → (((ones ++ twos) ++ threes) ++ fours) ++ fives ≡ ones ++ (twos ++ (threes ++ (fours ++ fives)))
+five ones twos threes fours fives = append_assoc ((ones ++ twos) ++ threes) fours fives ∙ four ones twos threes (fours ++ fives)
+
+pub all_lines : (trees : List CxxTree) (facts : List CxxFact) (count : ℕ) (found defined : List TreeId) (declarators definitions : List CxxTree) (none zero one two three last : List Line) → none ≡ [] → trees_in trees found ≡ declarators → trees_in trees defined ≡ definitions
+    → AddsLines trees none zero (text.class_lines facts 0 count) → AddsLines trees zero one (enumeration_lines 0 facts) → AddsLines trees one two (function_lines 0 facts) → AddsLines trees two three (object_lines facts (trees_in trees found)) → AddsLines trees three last (map text.definition_lines (trees_in trees defined))
+    → (lines_at trees last ≡ text.class_lines facts 0 count ++ (enumeration_lines 0 facts ++ (function_lines 0 facts ++ (object_lines facts declarators ++ map text.definition_lines definitions)))) × AreLinesBelow (length trees) last
+all_lines trees facts count found defined declarators definitions none zero one two three last empty are so classes first second third fourth =
+    let begins : List text.Line = text.class_lines facts 0 count in
     let objects : List text.Line = object_lines facts (trees_in trees found) in
     let bodies : List text.Line = map text.definition_lines (trees_in trees defined) in (
       fourth.is
-          ∙ ap (λ (xs : List text.Line). xs ++ bodies) (third.is ∙ ap (λ (xs : List text.Line). xs ++ objects) (second.is ∙ ap (λ (xs : List text.Line). xs ++ function_lines 0 facts) (first.is ∙ ap (λ (xs : List Line). lines_at trees xs ++ enumeration_lines 0 facts) empty)))
-          ∙ four (enumeration_lines 0 facts) (function_lines 0 facts) objects bodies
-          ∙ ap (λ (ts : List CxxTree). enumeration_lines 0 facts ++ (function_lines 0 facts ++ (object_lines facts ts ++ bodies))) are
-          ∙ ap (λ (ts : List CxxTree). enumeration_lines 0 facts ++ (function_lines 0 facts ++ (object_lines facts declarators ++ map text.definition_lines ts))) so,
-      fourth.below (third.below (second.below (first.below (subst (λ (xs : List Line). AreLinesBelow (length trees) xs) (sym empty) tt)))),
+          ∙ ap (λ (xs : List text.Line). xs ++ bodies) (third.is ∙ ap (λ (xs : List text.Line). xs ++ objects) (second.is ∙ ap (λ (xs : List text.Line). xs ++ function_lines 0 facts) (first.is ∙ ap (λ (xs : List text.Line). xs ++ enumeration_lines 0 facts) (classes.is ∙ ap (λ (xs : List Line). lines_at trees xs ++ begins) empty))))
+          ∙ five begins (enumeration_lines 0 facts) (function_lines 0 facts) objects bodies
+          ∙ ap (λ (ts : List CxxTree). begins ++ (enumeration_lines 0 facts ++ (function_lines 0 facts ++ (object_lines facts ts ++ bodies)))) are
+          ∙ ap (λ (ts : List CxxTree). begins ++ (enumeration_lines 0 facts ++ (function_lines 0 facts ++ (object_lines facts declarators ++ map text.definition_lines ts)))) so,
+      fourth.below (third.below (second.below (first.below (classes.below (subst (λ (xs : List Line). AreLinesBelow (length trees) xs) (sym empty) tt))))),
     )
 
-pub lines_are : (held : Held) (found : List Line) → lines_at (trees held) found ≡ enumeration_lines 0 (facts_in held) ++ (function_lines 0 (facts_in held) ++ (object_lines (facts_in held) (flat_map declarators_of (map part_tree (pieces_at (trees held) held.pieces))) ++ map text.definition_lines (flat_map definitions_of (map part_tree (pieces_at (trees held) held.pieces))))) → lines_at (trees held) found ≡ lines (meaning held)
+pub lines_are : (held : Held) (found : List Line) → lines_at (trees held) found ≡ text.class_lines (facts_in held) 0 (length held.graph.classes) ++ (enumeration_lines 0 (facts_in held) ++ (function_lines 0 (facts_in held) ++ (object_lines (facts_in held) (flat_map declarators_of (map part_tree (pieces_at (trees held) held.pieces))) ++ map text.definition_lines (flat_map definitions_of (map part_tree (pieces_at (trees held) held.pieces)))))) → lines_at (trees held) found ≡ lines (meaning held)
 unfolding meaning lines
-lines_are held found is = is
+lines_are held found is = is ∙ ap (λ (count : ℕ). text.class_lines (facts_in held) 0 count ++ (enumeration_lines 0 (facts_in held) ++ (function_lines 0 (facts_in held) ++ (object_lines (facts_in held) (flat_map declarators_of (map part_tree (pieces_at (trees held) held.pieces))) ++ map text.definition_lines (flat_map definitions_of (map part_tree (pieces_at (trees held) held.pieces))))))) (sym (length_classes held.types held.graph.classes))
 
 -- ---- the lines of enumerations, and of functions
 

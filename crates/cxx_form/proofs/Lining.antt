@@ -1,5 +1,5 @@
 -- The lines of a plain form, one after another.
-use Rattle.std.proofs.Common.{◌≡◌, ℕ, zero, suc, ◌<◌, List, [], ◌∷◌, length, get_or, map, Some, None, option_map, refl, ap, sym, ◌∙◌, arith}
+use Rattle.std.proofs.Common.{◌≡◌, false, ℕ, zero, suc, ◌<◌, List, [], ◌∷◌, length, get_or, map, Some, None, option_map, refl, ap, sym, ◌∙◌, arith}
 use Rattle.std.specs.List.{slice_get}
 use Rattle.cxx_model.specs.declared.base.Base.TheVariants.{Void}
 use Rattle.cxx_model.specs.declared.facts.Access.{Access}
@@ -9,10 +9,12 @@ use Rattle.cxx_model.specs.Facts.Declarations as facts
 use Rattle.cxx_model.specs.Facts.Declarations.{declares_at, fact_at, CxxFact, CxxName, Declares}
 use Rattle.cxx_model.specs.Types.Trees.{fundamental}
 use Rattle.cxx_reading.specs.Plain.{type_of_function}
+use Rattle.cxx_reading.specs.Specifiers.{class_key}
 use Rattle.cxx_tree.specs.Held.{Held}
 use Rattle.cxx_form.specs.declared.lines.Line.{Line}
 use Rattle.cxx_form.specs.Functions.{function_type_by}
 use Rattle.cxx_form.specs.Lines.{AreLinesBelow, IsLineBelow}
+use Rattle.cxx_form.specs.Text.{class_key_of}
 use Rattle.cxx_form.specs.Views.{facts_in}
 use Rattle.cxx_form.proofs.Gathering.{fact_is}
 
@@ -42,6 +44,12 @@ type_found held number fact is =
 
 pub no_type : (held : Held) (number : ℕ) → None ≡ slice_get held.graph.facts number → fundamental Void ≡ type_of_function (slice_get (facts_in held) number)
 no_type held number is = sym (ap type_of_function (fact_is held.types held.graph.facts number ∙ ap (option_map (fact_at held.types)) (sym is)))
+
+pub key_found : (held : Held) (number : ℕ) (fact : Fact) (key : List ℕ) → Some fact ≡ slice_get held.graph.facts number → key ≡ class_key_of (Some (fact_at held.types fact)) → key ≡ class_key_of (slice_get (facts_in held) number)
+key_found held number fact key is e = e ∙ sym (ap class_key_of (fact_is held.types held.graph.facts number ∙ ap (option_map (fact_at held.types)) (sym is)))
+
+pub no_key : (held : Held) (number : ℕ) → None ≡ slice_get held.graph.facts number → class_key false ≡ class_key_of (slice_get (facts_in held) number)
+no_key held number is = sym (ap class_key_of (fact_is held.types held.graph.facts number ∙ ap (option_map (fact_at held.types)) (sym is)))
 
 pub line_below : (count : ℕ) (lines : List Line) (i : ℕ) (d : Line) → AreLinesBelow count lines → i < length lines → IsLineBelow count (get_or lines i d)
 line_below count [] i d all within = absurd (omega arith)

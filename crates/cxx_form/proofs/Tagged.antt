@@ -1,4 +1,4 @@
--- The printed names of enumerations, and what is declared with them.
+-- The printed names of enumerations and classes, and what is declared with them.
 use Rattle.std.proofs.Common.{◌≡◌, ℕ, ◌+◌, ◌<◌, Bool, List, [], ◌∷◌, ◌++◌, length, drop, Some, None, option_map, refl, ap, sym, ◌∙◌}
 use Rattle.std.specs.Prelude.{if◌then◌else◌, codes}
 use Rattle.std.specs.List.{slice_get}
@@ -14,10 +14,10 @@ use Rattle.cxx_page.specs.Views.{text_or_none}
 use Rattle.cxx_reading.specs.Declarators.{no_cv}
 use Rattle.cxx_reading.specs.Plain.{number_of_enumeration}
 use Rattle.cxx_reading.specs.TextOrder.{name_stem, number_in, stem_of_fact, text_name}
-use Rattle.cxx_form.specs.Order.{text_order}
+use Rattle.cxx_form.specs.Order.{number_of_class, text_order}
 use Rattle.cxx_reading.specs.Words.{Tags, Word, ampersand_word, bound_words, close_bracket_word, close_word, cv_words, declared, declared_each, is_bracketed, one_word, open_bracket_word, open_word, separated, star_word, type_name_word, within}
 use Rattle.cxx_tree.specs.Held.{meaning, Held}
-use Rattle.cxx_form.specs.Giving.{declared_or, AreDeclared}
+use Rattle.cxx_form.specs.Giving.{declared_or, AreDeclared, AreFirst}
 use Rattle.cxx_form.specs.Names.{names_in}
 use Rattle.cxx_form.specs.Slots.{slot_at}
 use Rattle.cxx_form.specs.Views.{facts_in}
@@ -40,30 +40,39 @@ stem_found held number fact is = sym (ap stem_of_fact (fact_is held.types held.g
 pub stem_none : (held : Held) (number : ℕ) → None ≡ slice_get held.graph.facts number → [] ≡ stem_of_fact (slice_get (facts_in held) number)
 stem_none held number is = sym (ap stem_of_fact (fact_is held.types held.graph.facts number ∙ ap (option_map (fact_at held.types)) (sym is)))
 
--- ---- the name of an enumeration
+-- ---- the names of enumerations and classes
 
-pub tag_is : (held : Held) (slots : List ℕ) (n : ℕ) (text stem : List ℕ) (number place count : ℕ) → AreDeclared (facts_in held) slots → count ≡ length held.graph.facts → place ≡ declared_or (slot_at slots n) count → stem ≡ stem_of_fact (slice_get (facts_in held) place) → number ≡ number_in (text_order (meaning held)) place → text ≡ printed_name number stem → text ≡ (names_in held).tags.enumeration_name n
-unfolding names_in text_name
-tag_is held slots n text stem number place count are all is made numbered printed =
-    let at : place ≡ number_of_enumeration n 0 (facts_in held) = is ∙ ap (declared_or (slot_at slots n)) (all ∙ sym (length_facts held.types held.graph.facts)) ∙ are n in
+-- by where one is declared
+text_is : (held : Held) (slots : List ℕ) (n : ℕ) (text stem : List ℕ) (number place count first : ℕ) → declared_or (slot_at slots n) (length (facts_in held)) ≡ first → count ≡ length held.graph.facts → place ≡ declared_or (slot_at slots n) count → stem ≡ stem_of_fact (slice_get (facts_in held) place) → number ≡ number_in (text_order (meaning held)) place → text ≡ printed_name number stem → text ≡ text_name (facts_in held) (text_order (meaning held)) first
+unfolding text_name
+text_is held slots n text stem number place count first are all is made numbered printed =
+    let at : place ≡ first = is ∙ ap (declared_or (slot_at slots n)) (all ∙ sym (length_facts held.types held.graph.facts)) ∙ are in
     printed ∙ ap (λ m. printed_name m stem) numbered ∙ ap (printed_name (number_in (text_order (meaning held)) place)) made
     ∙ ap (λ m. printed_name (number_in (text_order (meaning held)) m) (stem_of_fact (slice_get (facts_in held) m))) at
 
+pub tag_is : (held : Held) (slots : List ℕ) (n : ℕ) (text stem : List ℕ) (number place count : ℕ) → AreDeclared (facts_in held) slots → count ≡ length held.graph.facts → place ≡ declared_or (slot_at slots n) count → stem ≡ stem_of_fact (slice_get (facts_in held) place) → number ≡ number_in (text_order (meaning held)) place → text ≡ printed_name number stem → text ≡ (names_in held).tags.enumeration_name n
+unfolding names_in
+tag_is held slots n text stem number place count are all is made numbered printed = text_is held slots n text stem number place count (number_of_enumeration n 0 (facts_in held)) (are n) all is made numbered printed
+
+pub class_tag_is : (held : Held) (slots : List ℕ) (n : ℕ) (text stem : List ℕ) (number place count : ℕ) → AreFirst (facts_in held) slots → count ≡ length held.graph.facts → place ≡ declared_or (slot_at slots n) count → stem ≡ stem_of_fact (slice_get (facts_in held) place) → number ≡ number_in (text_order (meaning held)) place → text ≡ printed_name number stem → text ≡ (names_in held).tags.class_name n
+unfolding names_in
+class_tag_is held slots n text stem number place count are all is made numbered printed = text_is held slots n text stem number place count (number_of_class n 0 (facts_in held)) (are n) all is made numbered printed
+
 -- the names of the first few
-pub record SoFar (held : Held) (texts : List (List ℕ)) (number : ℕ) : Type 0 where
+pub record SoFar (name : ℕ → List ℕ) (texts : List (List ℕ)) (number : ℕ) : Type 0 where
   pub count : length texts ≡ number
-  pub each : (n : ℕ) → n < number → text_or_none (slice_get texts n) ≡ (names_in held).tags.enumeration_name n
+  pub each : (n : ℕ) → n < number → text_or_none (slice_get texts n) ≡ name n
 
 -- ---- what is declared with one naming of classes and enumerations or another
 
 pub record AreSameTags (one two : Tags) (graph : Graph) : Type 0 where
-  pub classes : (n : ℕ) → one.class_name n ≡ two.class_name n
+  pub classes : (n : ℕ) → n < length graph.classes → one.class_name n ≡ two.class_name n
   pub enums : (n : ℕ) → n < enumerations graph.facts → one.enumeration_name n ≡ two.enumeration_name n
 
 mutual
   pub same_declared : (one two : Tags) (graph : Graph) → AreSameTags one two graph → (cv : Cv) (t : CxxType) (inner : List Word) → IsTypeInRange graph t → declared one cv t inner ≡ declared two cv t inner
   same_declared one two graph same cv (fundamental of) inner range = refl
-  same_declared one two graph same cv (class_type n) inner range = ap (λ (name : List ℕ). cv_words cv ++ type_name_word name ∷ inner) (same.classes n)
+  same_declared one two graph same cv (class_type n) inner range = ap (λ (name : List ℕ). cv_words cv ++ type_name_word name ∷ inner) (same.classes n range)
   same_declared one two graph same cv (enumeration n) inner range = ap (λ (name : List ℕ). cv_words cv ++ type_name_word name ∷ inner) (same.enums n range)
   same_declared one two graph same cv (pointer_to of) inner range = same_declared one two graph same no_cv of (within (is_bracketed of) (star_word ∷ cv_words cv ++ inner)) range
   same_declared one two graph same cv (reference_to of) inner range = same_declared one two graph same no_cv of (within (is_bracketed of) (ampersand_word ∷ inner)) range

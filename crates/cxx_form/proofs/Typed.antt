@@ -1,11 +1,11 @@
 -- Types are written with the printed names of enumerations.
-use Rattle.std.proofs.Common.{◌≡◌, ℕ, List, [], ◌∷◌, ◌++◌, length, Option, Some, None, refl, ap, sym, ◌∙◌}
+use Rattle.std.proofs.Common.{◌≡◌, ℕ, List, [], ◌∷◌, ◌++◌, length, Option, Some, None, ap, sym, ◌∙◌}
 use Rattle.std.specs.List.{slice_get}
 use Rattle.cxx_model.specs.declared.types.TypeId.{TypeId}
 use Rattle.cxx_model.specs.Facts.Fitted.{IsTypeNumberBelow}
 use Rattle.cxx_model.specs.Facts.Graph.{IsTypeInRange}
 use Rattle.cxx_page.specs.Sides.{back, front}
-use Rattle.cxx_page.specs.Views.{tags_of, text_or_none}
+use Rattle.cxx_page.specs.Views.{tags_of}
 use Rattle.cxx_page.proofs.Sides.{split}
 use Rattle.cxx_reading.specs.Declarators.{no_cv}
 use Rattle.cxx_reading.specs.Words.{declared, Word}
@@ -19,13 +19,9 @@ use Rattle.cxx_form.specs.Order.{text_order}
 use Rattle.cxx_tree.specs.Held.{meaning}
 use Rattle.cxx_form.proofs.Tagged.{same_declared, AreSameTags}
 
-no_class : (book : Book) (n : ℕ) → (names_of book).tags.class_name n ≡ []
-unfolding names_in
-no_class book n = refl
-
 same_tags : (book : Book) → IsBook book → AreSameTags (tags_of book.tags.now) (names_of book).tags book.state.now.graph
 same_tags book is = record {
-  classes = λ n. ap (λ (texts : List (List ℕ)). text_or_none (slice_get texts n)) is.classes ∙ sym (no_class book n);
+  classes = λ n within. is.classes n within;
   enums = λ n within. is.tagged n within;
 }
 

@@ -6,7 +6,7 @@ use Rattle.cxx_model.specs.Facts.Declarations.{CxxFact, Declares}
 use Rattle.cxx_meaning.specs.Lookups.Gathered.{before, gathered}
 use Rattle.cxx_reading.specs.Declaring.{is_object}
 use Rattle.cxx_reading.specs.Plain.{number_of_enumeration}
-use Rattle.cxx_form.specs.Order.{Line, enumeration_line, function_line}
+use Rattle.cxx_form.specs.Order.{Line, enumeration_line, function_line, named_or, number_of_class}
 use Rattle.cxx_form.specs.Rows.{row_at}
 use Rattle.cxx_form.specs.Slots.{slot_at}
 
@@ -88,20 +88,24 @@ AreObjects all rows = AreHeld scope_of_object all rows
 
 -- ---- where enumerations are declared
 
--- a number that was set to one more than where an enumeration is declared, or else what follows
+-- a number that was set to one more than where an enumeration or a class is declared, or else what follows
 abbrev pub declared_or : ℕ → ℕ → ℕ
 declared_or zero later = later
 declared_or (suc number) later = number
-
-abbrev pub named_or : ℕ → ℕ → Option ℕ → ℕ → ℕ
-named_or n number None later = later
-named_or n number (Some m) later = if nat_eq m n then number else later
 
 -- numbers that say where each enumeration is declared
 abbrev pub AreDeclared : List CxxFact → List ℕ → Type 0
 AreDeclared all slots = (n : ℕ) → declared_or (slot_at slots n) (length all) ≡ number_of_enumeration n 0 all
 
--- numbers with one enumeration more, where there is one
+-- numbers that say where each class is declared first
+abbrev pub AreFirst : List CxxFact → List ℕ → Type 0
+AreFirst all slots = (n : ℕ) → declared_or (slot_at slots n) (length all) ≡ number_of_class n 0 all
+
+-- numbers once the declaration with a number was looked at for a class: before it these are left, and behind it those
+abbrev pub HasFirst : List ℕ → List ℕ → ℕ → List CxxFact → List CxxFact → Type 0
+HasFirst old new number before behind = (n : ℕ) → declared_or (slot_at new n) (number_of_class n (number + 1) behind) ≡ declared_or (slot_at old n) (number_of_class n number before)
+
+-- numbers with one enumeration or class more, where there is one
 abbrev pub HasNamed : List ℕ → List ℕ → ℕ → Option ℕ → Type 0
 HasNamed old new number named = (n later : ℕ) → declared_or (slot_at new n) later ≡ declared_or (slot_at old n) (named_or n number named later)
 

@@ -9,6 +9,7 @@ use Rattle.cxx_form.specs.declared.lines.Line.{Line}
 use Rattle.cxx_form.specs.declared.lines.Line.TheVariants as line
 
 abbrev pub line_at : List CxxTree → Line → text.Line
+line_at trees (line.Class number) = text.class_line number.0
 line_at trees (line.Enumeration n number) = text.enumeration_line n.0 number.0
 line_at trees (line.Function number) = text.function_line number.0
 line_at trees (line.Object tree number) = text.object_line (tree_in trees tree.0) number.0

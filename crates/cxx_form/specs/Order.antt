@@ -1,9 +1,9 @@
 -- What the plain form of a reading with bodies declares, line by line, and the number of each declared name.
 --
--- Enumerations stand first, by the end of their lists, then functions, by their first declarations, then objects of
--- namespaces, each declaration of one in its place, then definitions of functions in the order of reading. A name has its
--- number by where it stands first in the text.
-use Rattle.std.specs.Prelude.{ℕ, zero, suc, Bool, false, not, ◌&&◌, ◌||◌, nat_eq, if◌then◌else◌, List, [], ◌∷◌, ◌++◌, flat_map, map, Option, Some, None}
+-- Classes stand first, by their numbers, then enumerations, by the end of their lists, then functions, by their first
+-- declarations, then objects of namespaces, each declaration of one in its place, then definitions of functions in the
+-- order of reading. A name has its number by where it stands first in the text.
+use Rattle.std.specs.Prelude.{ℕ, zero, suc, Bool, false, not, ◌&&◌, ◌||◌, nat_eq, if◌then◌else◌, List, [], ◌∷◌, ◌++◌, length, flat_map, map, Option, Some, None}
 use Rattle.std.specs.List.{slice_get}
 use Rattle.cxx_model.specs.Facts.Conflicts.{has_name}
 use Rattle.cxx_model.specs.Facts.Declarations as facts
@@ -18,16 +18,36 @@ use Rattle.cxx_reading.specs.Trees.{CxxTree, CxxTrees, no_trees, tree_then}
 use Rattle.cxx_statement_text.specs.Objects.{first_in, printed_in}
 use Rattle.cxx_statement_text.specs.Productions as statement
 
--- Lines of the plain form: of an enumeration, by its number and that of its declaration; of a function, by its first
--- declaration; of an object, by the tree of a declarator of it, and its first declaration; and those of the definition of a
--- function, by its tree.
+-- Lines of the plain form: of a class, by its first declaration; of an enumeration, by its number and that of its
+-- declaration; of a function, by its first declaration; of an object, by the tree of a declarator of it, and its first
+-- declaration; and those of the definition of a function, by its tree.
 pub data Line : Type 0 where
+  class_line : ℕ → Line
   enumeration_line : ℕ → ℕ → Line
   function_line : ℕ → Line
   object_line : CxxTree → ℕ → Line
   definition_lines : CxxTree → Line
 
 -- ---- lines
+
+-- the number of a declaration that names one, or else what follows
+abbrev pub named_or : ℕ → ℕ → Option ℕ → ℕ → ℕ
+named_or n number None later = later
+named_or n number (Some m) later = if nat_eq m n then number else later
+
+abbrev pub class_in : Declares → Option ℕ
+class_in (facts.class class is_union) = Some class.0
+class_in _ = None
+
+-- the first declaration of a class
+abbrev pub number_of_class : ℕ → ℕ → List CxxFact → ℕ
+number_of_class n number [] = number
+number_of_class n number (fact ∷ others) = named_or n number (class_in fact.what) (number_of_class n (suc number) others)
+
+-- so many classes, from one with a number on
+abbrev pub class_lines : List CxxFact → ℕ → ℕ → List Line
+class_lines all n zero = []
+class_lines all n (suc count) = class_line (number_of_class n zero all) ∷ class_lines all (suc n) count
 
 abbrev pub enumeration_of : ℕ → Declares → List Line
 enumeration_of number (facts.enumeration n) = enumeration_line n number ∷ []
@@ -98,10 +118,11 @@ definitions_of tree = found_of production.function_definition production.declara
 -- the lines of the plain form, in order
 unfoldable pub lines : CxxState → List Line
 lines state =
-    enumeration_lines zero state.graph.facts ++
+    class_lines state.graph.facts zero (length state.graph.classes) ++
+    (enumeration_lines zero state.graph.facts ++
     (function_lines zero state.graph.facts ++
     (object_lines state.graph.facts (flat_map declarators_of (map part_tree state.parts)) ++
-    map definition_lines (flat_map definitions_of (map part_tree state.parts))))
+    map definition_lines (flat_map definitions_of (map part_tree state.parts)))))
 
 -- ---- the parts of a definition (8.4)
 
@@ -170,6 +191,7 @@ locals_in all (Some body) = flat_map (declared_by all) (printed_in all body.chil
 
 -- what lines declare, by first declarations
 abbrev pub declared_on : List CxxFact → Line → List ℕ
+declared_on all (class_line number) = number ∷ []
 declared_on all (enumeration_line n number) = number ∷ enumerators_of n zero all
 declared_on all (function_line number) = number ∷ []
 declared_on all (object_line tree number) = number ∷ []
@@ -184,5 +206,5 @@ text_order state = with_each_new [] (flat_map (declared_on state.graph.facts) (l
 unfoldable pub names_of_text : CxxState → NamesOfText
 names_of_text state = record {
   name_of = name_by state.graph.facts (text_order state);
-  tags = record { class_name = λ n. []; enumeration_name = λ n. name_by state.graph.facts (text_order state) (number_of_enumeration n zero state.graph.facts) };
+  tags = record { class_name = λ n. name_by state.graph.facts (text_order state) (number_of_class n zero state.graph.facts); enumeration_name = λ n. name_by state.graph.facts (text_order state) (number_of_enumeration n zero state.graph.facts) };
 }

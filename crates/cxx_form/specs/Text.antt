@@ -1,9 +1,12 @@
 -- The plain form of a reading with expressions.
-use Rattle.std.specs.Prelude.{ℕ, if◌then◌else◌, List, [], ◌∷◌, ◌++◌, flat_map, map, codes}
-use Rattle.cxx_model.specs.Facts.Declarations.{CxxFact, CxxGraph}
+use Rattle.std.specs.Prelude.{ℕ, false, if◌then◌else◌, List, [], ◌∷◌, ◌++◌, flat_map, map, codes, Option, Some, None}
+use Rattle.std.specs.List.{slice_get}
+use Rattle.cxx_model.specs.Facts.Declarations as facts
+use Rattle.cxx_model.specs.Facts.Declarations.{CxxFact, CxxGraph, Declares}
 use Rattle.cxx_reading.specs.Declarators.{no_cv}
 use Rattle.cxx_reading.specs.Plain.{NamesOfText, NamedFunction, named_function, type_or_void, is_empty, enumeration_words, function_words}
 use Rattle.cxx_reading.specs.Productions as production
+use Rattle.cxx_reading.specs.Specifiers.{class_key}
 use Rattle.cxx_reading.specs.State.{CxxState}
 use Rattle.cxx_reading.specs.Trees.{CxxTree, CxxTrees}
 use Rattle.cxx_reading.specs.Units.{CxxReading}
@@ -11,7 +14,7 @@ use Rattle.cxx_reading.specs.Words.{Word, keyword_word, name_word, semicolon_wor
 use Rattle.cxx_phrase_text.specs.Calls.{CallOfText, calls_of}
 use Rattle.cxx_phrase_text.specs.Phrases as phrases
 use Rattle.cxx_form.specs.Definitions.{definition_calls, definition_words}
-use Rattle.cxx_form.specs.Order.{Line, enumeration_line, function_line, object_line, definition_lines, lines, names_of_text, parts_of_production}
+use Rattle.cxx_form.specs.Order.{Line, class_line, enumeration_line, function_line, object_line, definition_lines, lines, names_of_text, parts_of_production}
 
 -- the initializers among the parts of a declarator
 abbrev pub initializers_in : CxxTrees → List CxxTree
@@ -27,8 +30,21 @@ object_words names tree number =
     (if is_empty tree.label.spelling then [] else keyword_word (codes "extern") ∷ []) ++
     (declared names.tags no_cv (type_or_void tree.label.of) (name_word (names.name_of number) ∷ []) ++ (initializer_words names (initializers_in tree.children) ++ semicolon_word ∷ []))
 
+abbrev pub class_key_of : Option CxxFact → List ℕ
+class_key_of None = class_key false
+class_key_of (Some fact) = by fact.what
+  where
+    by : Declares → List ℕ
+    by (facts.class class is_union) = class_key is_union
+    by _ = class_key false
+
+-- 9.1
+abbrev pub class_words : NamesOfText → List CxxFact → ℕ → List Word
+class_words names all number = keyword_word (class_key_of (slice_get all number)) ∷ name_word (names.name_of number) ∷ semicolon_word ∷ []
+
 -- the words of each line
 abbrev pub words_on : NamesOfText → CxxGraph → Line → List (List Word)
+words_on names graph (class_line number) = class_words names graph.facts number ∷ []
 words_on names graph (enumeration_line n number) = enumeration_words names graph.facts n number ∷ []
 words_on names graph (function_line number) = function_words names graph.facts number ∷ []
 words_on names graph (object_line tree number) = object_words names tree number ∷ []

@@ -14,13 +14,12 @@ ghost use Rattle.cxx_form.specs.Text.{plain_text};
 use crate::book::Book;
 use crate::called::functions_text;
 use crate::calls::on_lines;
-use crate::enumerations::{declared, enumerators};
-use crate::lines::{Line, plain_lines};
-use crate::names::tags;
+use crate::enumerations::{classes, declared, enumerators};
+use crate::lines::{Line, lines_by};
+use crate::names::{class_tags, tags};
 use crate::order::numbering;
 use crate::scoped::objects;
 use crate::text::write_lines;
-use cxx_model::Listed;
 use cxx_page::{Page, PlainFault, Tags};
 use cxx_tree::State;
 use std::alloc::Global;
@@ -70,20 +69,21 @@ fn printed_by(alloc: Global, book: &Book<'_>, lines: &[Line]) -> Result<Printed,
     Ok(Printed { text, functions })
 }
 
-/// Prints the reading whose state this is. Its plain form has a line for each enumeration, each function and each
+/// Prints the reading whose state this is. Its plain form has a line for each class, each enumeration, each function and each
 /// declaration of an object, and the lines of each definition of a function, each name with a number and each conversion
 /// as a cast.
 pub fn print_reading(alloc: Global, state: &State) -> Result<Printed, PlainFault>
     ensures is { (options : Options) → IfOk result (IsPrinted (record { options = options; state = meaning state.now })) }
     ensures full { (options : Options) → result ≡ Err PlainFault.Limit → is_past_output (record { options = options; state = meaning state.now }) ≡ true }
 {
-    let found = plain_lines(state, alloc)?;
+    let firsts = classes(state, alloc)?;
+    let found = lines_by(state, &firsts, alloc)?;
     let rows = enumerators(state, alloc)?;
     let places = declared(state, alloc)?;
     let scoped = objects(state, alloc)?;
     let numbers = numbering(state, &rows, &scoped, found.as_slice(), alloc)?;
     let names = Tags {
-        classes: Listed::new(alloc),
+        classes: class_tags(state, &firsts, &numbers, alloc)?,
         enumerations: tags(state, &places, &numbers, alloc)?,
     };
     let book = Book {

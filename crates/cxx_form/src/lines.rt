@@ -4,17 +4,19 @@ ghost use Rattle.std.specs.List.{slice_get};
 ghost use Rattle.cxx_model.specs.Facts.Declarations.{declares_at};
 ghost use Rattle.cxx_model.specs.Types.Trees.{CxxType};
 ghost use Rattle.cxx_meaning.specs.Lookups.Gathered.{before};
-ghost use Rattle.cxx_form.specs.Order.{definition_lines, enumeration_lines, function_lines, is_of_namespace as is_of_a_namespace, is_written_out as is_written_out_by, lines as lines_of, object_by, object_lines, scope_of_fact};
+ghost use Rattle.cxx_form.specs.Order.{class_lines, definition_lines, enumeration_lines, function_lines, is_of_namespace as is_of_a_namespace, is_written_out as is_written_out_by, lines as lines_of, object_by, object_lines, scope_of_fact};
 ghost use Rattle.cxx_reading.specs.Trees.{CxxTree};
 ghost use Rattle.cxx_tree.specs.Arena.{tree_in, trees_in, AreTreesBelow};
 ghost use Rattle.cxx_tree.specs.Held.{meaning, trees};
-ghost use Rattle.cxx_form.specs.Giving.{enumeration_by, enumeration_given, function_by, function_given, given_at};
+ghost use Rattle.cxx_form.specs.Giving.{AreFirst, enumeration_by, enumeration_given, function_by, function_given, given_at};
 ghost use Rattle.cxx_form.specs.Lines.{number_in, line_at, lines_at, AddsLines, AreLinesBelow, IsGivenBelow};
 ghost use Rattle.cxx_form.specs.Views.{facts_in};
 
 use crate::defined::first_in;
+use crate::enumerations::{classes, declaration};
 use crate::facts::{fact, find};
 use crate::found::{declarators, definitions};
+use crate::slots::Slots;
 use cxx_model::{Entity, EnumId, FactId, ScopeId, TreeId};
 use cxx_tree::State;
 use std::alloc::{AllocError, Global};
@@ -22,6 +24,8 @@ use std::alloc::{AllocError, Global};
 /// A line of a plain form.
 #[derive(Clone, Copy)]
 pub enum Line {
+    /// The first declaration of a class (9.1).
+    Class(FactId),
     /// An enumeration, and where it is declared (7.2).
     Enumeration(EnumId, FactId),
     /// The first declaration of a function.
@@ -80,6 +84,19 @@ fn add_function(state: &State, number: u32, lines: &mut Vec<Line>) -> Result<(),
 {
     let fact = fact(state, FactId(number));
     add(state, lines, function_line(FactId(number), fact.what))?;
+    Ok(())
+}
+
+// Adds a line for each class.
+fn add_classes(state: &State, places: &Slots, lines: &mut Vec<Line>) -> Result<(), AllocError>
+    requires { AreFirst (facts_in state.now) places.now }
+    ensures { OnOk result (AddsLines (trees state.now) lines.old.items lines.new.items (class_lines (facts_in state.now) 0 (length (state.now).graph.classes))) }
+{
+    let count = state.graph().length();
+    for class in 0..state.graph().class_count() {
+        let number = declaration(places, class, count);
+        lines.push(Line::Class(number))?;
+    }
     Ok(())
 }
 
@@ -180,17 +197,32 @@ fn add_definitions(
     Ok(())
 }
 
-/// The lines of the plain form, in order.
-pub fn plain_lines(state: &State, alloc: Global) -> Result<Vec<Line>, AllocError>
+/// The lines of the plain form, in order, given where each class is declared first.
+pub(crate) fn lines_by(
+    state: &State,
+    places: &Slots,
+    alloc: Global,
+) -> Result<Vec<Line>, AllocError>
+    requires { AreFirst (facts_in state.now) places.now }
     ensures is { IfOk result (λ found. lines_at (trees state.now) found.items ≡ lines_of (meaning state.now)) }
     ensures below { IfOk result (λ found. AreLinesBelow (length (trees state.now)) found.items) }
 {
     let mut found = Vec::new(alloc);
     let declarators = declarators(state, alloc)?;
     let definitions = definitions(state, alloc)?;
+    add_classes(state, places, &mut found)?;
     add_enumerations(state, &mut found)?;
     add_functions(state, &mut found)?;
     add_objects(state, declarators.as_slice(), &mut found)?;
     add_definitions(state, definitions.as_slice(), &mut found)?;
     Ok(found)
+}
+
+/// The lines of the plain form, in order.
+pub fn plain_lines(state: &State, alloc: Global) -> Result<Vec<Line>, AllocError>
+    ensures is { IfOk result (λ found. lines_at (trees state.now) found.items ≡ lines_of (meaning state.now)) }
+    ensures below { IfOk result (λ found. AreLinesBelow (length (trees state.now)) found.items) }
+{
+    let places = classes(state, alloc)?;
+    lines_by(state, &places, alloc)
 }

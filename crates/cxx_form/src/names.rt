@@ -9,8 +9,8 @@ ghost use Rattle.cxx_model.specs.Types.Trees.{CxxType};
 ghost use Rattle.cxx_reading.specs.TextOrder.{name_stem as name_stem_of, stem_of_fact};
 ghost use Rattle.cxx_form.specs.Order.{is_named as is_named_of, text_order};
 ghost use Rattle.cxx_tree.specs.Held.{meaning};
-ghost use Rattle.cxx_form.specs.Giving.{AreDeclared};
-ghost use Rattle.cxx_form.specs.Names.{names_in, AreTags};
+ghost use Rattle.cxx_form.specs.Giving.{AreDeclared, AreFirst};
+ghost use Rattle.cxx_form.specs.Names.{names_in, AreClassTags, AreTags};
 ghost use Rattle.cxx_form.specs.Numbered.{IsNumbering};
 ghost use Rattle.cxx_form.specs.Views.{facts_in};
 
@@ -91,7 +91,7 @@ fn tag(
     requires numbered { IsNumbering (text_order (meaning state.now)) numbering.now.count numbering.now.slots }
     ensures { IfOk result (λ text. text ≡ (names_in state.now).tags.enumeration_name named.0) }
 {
-    let number = declaration(declared, named, state.graph().length());
+    let number = declaration(declared, named.0, state.graph().length());
     let text = print(stem_at(state, number), numbering.number(number.0), alloc)?;
     Ok(text)
 }
@@ -118,6 +118,42 @@ fn count(state: &State) -> u32
         total += 1;
     }
     total
+}
+
+// The printed name of a class.
+fn class_tag(
+    state: &State,
+    places: &Slots,
+    numbering: &Numbering,
+    class: u32,
+    alloc: Global,
+) -> Result<Text, AllocError>
+    requires places { AreFirst (facts_in state.now) places.now }
+    requires numbered { IsNumbering (text_order (meaning state.now)) numbering.now.count numbering.now.slots }
+    ensures { IfOk result (λ text. text ≡ (names_in state.now).tags.class_name class) }
+{
+    let number = declaration(places, class, state.graph().length());
+    let text = print(stem_at(state, number), numbering.number(number.0), alloc)?;
+    Ok(text)
+}
+
+/// The printed names of classes, by their numbers.
+pub(crate) fn class_tags(
+    state: &State,
+    places: &Slots,
+    numbering: &Numbering,
+    alloc: Global,
+) -> Result<Listed<Text>, AllocError>
+    requires places { AreFirst (facts_in state.now) places.now }
+    requires numbered { IsNumbering (text_order (meaning state.now)) numbering.now.count numbering.now.slots }
+    ensures { IfOk result (λ texts. AreClassTags state.now texts) }
+{
+    let mut texts = Vec::new(alloc);
+    for class in 0..state.graph().class_count() {
+        let text = class_tag(state, places, numbering, class, alloc)?;
+        texts.push(text)?;
+    }
+    Ok(Listed::from_vec(texts))
 }
 
 /// The printed names of enumerations, by their numbers.

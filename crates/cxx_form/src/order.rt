@@ -37,7 +37,7 @@ fn add_declared(
             found.extend_from_slice(rows.row(n.0))?;
             Ok(())
         }
-        Line::Function(number) | Line::Object(_, number) => {
+        Line::Class(number) | Line::Function(number) | Line::Object(_, number) => {
             found.push(number)?;
             Ok(())
         }

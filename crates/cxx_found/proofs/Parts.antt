@@ -13,7 +13,7 @@ use Rattle.cxx_model.specs.Facts.Declarations.{CxxGraph, CxxName, CxxSpecialisat
 use Rattle.cxx_model.specs.Facts.Graph.{Graph}
 use Rattle.cxx_model.specs.Facts.Pending.{is_defined_since, is_pending}
 use Rattle.cxx_model.specs.Types.Trees.{CxxType, fundamental, class_type, enumeration, pointer_to, reference_to, array_of, function_of, qualified, type_parameter, specialisation, nested_in}
-use Rattle.cxx_meaning.specs.Lookups.Associated.{Part, adl, associated, befriended, collected, declares_class, declares_template, first_scope, functions_among, of_base, of_type, own_classes, parts, scope_of_class, scope_of_pattern, scope_of_template, sets_of, space_at_scope, space_id, spaces_of, standing_in_each, target_by, target_of, template_scope_of, unless_pending, with_option, with_spaces}
+use Rattle.cxx_meaning.specs.Lookups.Associated.{Part, adl, associated, befriended, collected, declares_template, first_scope, functions_among, of_base, of_type, own_classes, parts, scope_of_pattern, scope_of_template, sets_of, space_at_scope, space_id, spaces_of, standing_in_each, target_by, target_of, template_scope_of, unless_pending, with_option, with_spaces}
 use Rattle.cxx_meaning.specs.Lookups.Gathered.{before, gathered}
 use Rattle.cxx_meaning.specs.Lookups.Scopes.{home}
 use Rattle.cxx_meaning.specs.Lookups.Sightings.{entities, standing}
@@ -34,11 +34,6 @@ outside : (fact : Fact) → IsPlainScope fact.what ⊎ IsPlain fact → IsOutsid
 outside fact (inl scope) = inl scope
 outside fact (inr plain) = inr plain.what
 
-no_class : (types : List CxxType) (n : ℕ) (what : Entity) → IsOutside what → declares_class n (declares_at types what) ≡ false
-no_class types n (entity.Class class is_union) (inl bad) = absurd bad
-no_class types n (entity.Class class is_union) (inr bad) = absurd bad
-no_class types n _ is = refl
-
 no_template : (types : List CxxType) (n : ℕ) (what : Entity) → IsOutside what → declares_template n (declares_at types what) ≡ false
 no_template types n (entity.Template template member defaults is_explicit first) (inl bad) = absurd bad
 no_template types n (entity.Template template member defaults is_explicit first) (inr bad) = absurd bad
@@ -54,9 +49,6 @@ first_none test types [] never plain = refl
 first_none test types (fact ∷ facts) never plain =
     ap (λ b. cond b (Some (record { 0 = (fact_at types fact).scope })) (first_scope test (facts_at types facts))) (never fact.what (outside fact plain.0))
     ∙ first_none test types facts never plain.1
-
-pub no_class_scope : (types : List CxxType) (graph : Graph) (n : ℕ) → ArePlain graph.facts → scope_of_class (graph_at types graph) n ≡ None
-no_class_scope types graph n plain = first_none (declares_class n) types graph.facts (no_class types n) plain
 
 no_template_scope : (types : List CxxType) (graph : Graph) (n : ℕ) → ArePlain graph.facts → scope_of_template (graph_at types graph) n ≡ None
 no_template_scope types graph n plain = first_none (declares_template n) types graph.facts (no_template types n) plain

@@ -22,14 +22,14 @@ use std::alloc::AllocError;
 impl Seeking<'_> {
     // ---- namespaces
 
-    // The scope in which a type is declared, where it is an enumeration.
+    // The scope in which a type is declared, where it is a class or an enumeration.
     fn scope_of_node(&self, node: &TypeNode) -> Option<ScopeId>
         requires { IsSeeking self.now }
         ensures { result ≡ scope_of_part (graph_of self.now) (of_type (type_over (types_of self.now) node.now)) }
     {
         match node {
             TypeNode::Enum(number) => self.names.scope_of_enumeration(self.looking.graph, *number),
-            TypeNode::Class(_) => None,
+            TypeNode::Class(class) => self.names.scope_of_class(self.looking.graph, *class),
             _ => None,
         }
     }
@@ -42,7 +42,7 @@ impl Seeking<'_> {
     {
         match part {
             Part::Type(of) => self.scope_of_node(self.looking.types.node(of)),
-            Part::Base(_) => None,
+            Part::Base(class) => self.names.scope_of_class(self.looking.graph, class),
         }
     }
 

@@ -275,7 +275,7 @@ impl Graph {
     pub fn pending(&self, class: ClassId) -> bool
         ensures { (types : List CxxType) → result ≡ is_pending (graph_at types self.now) class.0 }
     {
-        if class.0 as usize >= self.class_count() {
+        if class.0 >= self.class_count() {
             return false;
         }
         match self.specialisation(class) {
@@ -300,10 +300,10 @@ impl Graph {
     }
 
     /// How many classes are reserved.
-    pub fn class_count(&self) -> usize
+    pub fn class_count(&self) -> u32
         ensures { result ≡ length self.now.classes }
     {
-        self.classes.len()
+        self.classes.len() as u32
     }
 
     /// All templates, in order.

@@ -57,7 +57,7 @@ pub(crate) fn synonym(graph: &mut Graph) -> Result<FactId, AddFault> {
 fn has(graph: &Graph, class: ClassId) -> bool
     ensures { IsTrue result ↔ (class.0 < length graph.now.classes) }
 {
-    (class.0 as usize) < graph.class_count()
+    class.0 < graph.class_count()
 }
 
 // 9: the name of a class.

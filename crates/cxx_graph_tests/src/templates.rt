@@ -62,7 +62,7 @@ fn nested(alloc: Global, graph: &mut Graph) -> Result<(ClassId, ClassId, ClassId
 
 // Whether a class was reserved for the first template with a type.
 fn is_given(graph: &Graph, class: ClassId, of: TypeId) -> bool {
-    if class.0 as usize >= graph.class_count() {
+    if class.0 >= graph.class_count() {
         return false;
     }
     match graph.specialisation(class) {

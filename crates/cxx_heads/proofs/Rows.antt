@@ -42,6 +42,7 @@ user room = record {
   kind = λ path state. Ok (kind_of_word (last_part path.parts).word, state ++ (codes " " ++ name_of path));
   type_named = λ path state. Ok (fundamental base.Int, state);
   elaborated = λ path state. Ok (fundamental base.Int, state);
+  class_named = λ is_union is_all path state. Ok (fundamental base.Int, state);
   entered = λ path state. Ok (tt, state);
   enumeration = λ name place state. Ok (0, state);
   enumerator = λ number name value state. Ok (tt, state);

@@ -1,5 +1,6 @@
 -- What the readers of expressions ask, answered by the declarations so far (3.4, 5.19).
 use Rattle.std.specs.Prelude.{ℕ}
+use Rattle.cxx_reading.specs.Classes.{class_here}
 use Rattle.cxx_reading.specs.Declaring.{kind_here, type_here, elaborated_here, declare_enumeration, declare_enumerator, end_enumeration, enter_parameters, declare_parameter, leave_parameters}
 use Rattle.cxx_reading.specs.Members.{enter_member}
 use Rattle.cxx_reading.specs.State.{CxxState}
@@ -14,6 +15,7 @@ asking room = record {
     kind = kind_here;
     type_named = type_here;
     elaborated = elaborated_here;
+    class_named = class_here;
     entered = enter_member;
     enumeration = declare_enumeration;
     enumerator = declare_enumerator;

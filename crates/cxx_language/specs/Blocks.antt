@@ -17,7 +17,7 @@ use Rattle.cxx_reading.specs.State.{CxxState}
 use Rattle.cxx_reading.specs.Syntax.{declarator_at}
 use Rattle.cxx_reading.specs.Tokens.{is_punct, is_keyword, refused}
 use Rattle.cxx_reading.specs.Trees.{CxxTree, tree_of}
-use Rattle.cxx_reading.specs.Units.{Said, Listed, specifiers_tree, declarator_tree, name_in, declared_fits, declared_synonym, declarator_ended, give_trees, no_declarators, nothing_declared, said_by, simple_tree, synonym_ended}
+use Rattle.cxx_reading.specs.Units.{complete_object, Said, Listed, specifiers_tree, declarator_tree, name_in, declared_fits, declared_synonym, declarator_ended, give_trees, no_declarators, nothing_declared, said_by, simple_tree, synonym_ended}
 use Rattle.cxx_declare.specs.Functions.{declare_function}
 use Rattle.cxx_phrases.specs.Initializers.{Initializer, copy_at}
 use Rattle.cxx_phrases.specs.Phrases.{Phrases, Inner}
@@ -103,6 +103,7 @@ condition_value at inner state ahead = if is_punct punct.EQUALS (kind_ahead ahea
 
 unfoldable pub condition_part : Questions → Phrases CxxState → Inner CxxState → Lexeme → CxxType → ℕ → Reads CxxState (List CxxTree)
 condition_part q at inner name of number = do
+  whole ← complete_object name of
   from ← looked
   read ← condition_value at inner
   to ← looked

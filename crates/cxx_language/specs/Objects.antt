@@ -13,7 +13,7 @@ use Rattle.cxx_reading.specs.Reads.{Reads, Ahead, ◌>>=◌, got, give, ask, fau
 use Rattle.cxx_reading.specs.State.{CxxState}
 use Rattle.cxx_reading.specs.Tokens.{is_punct, refused}
 use Rattle.cxx_reading.specs.Trees.{CxxTree, tree_of}
-use Rattle.cxx_reading.specs.Units.{ends_declarator, uninitialized}
+use Rattle.cxx_reading.specs.Units.{complete_object, ends_declarator, uninitialized}
 use Rattle.cxx_phrases.specs.Initializers.{Initializer, initializer_at}
 use Rattle.cxx_phrases.specs.Phrases.{Phrases, Inner}
 use Rattle.cxx_expr.specs.Initializing.{initialize}
@@ -51,6 +51,7 @@ known_so_far number of state ahead = got (type_so_far state number of) state ahe
 -- from `=` or `(` on, of the object with a declaration
 unfoldable pub initialized_part : Questions → Phrases CxxState → Inner CxxState → Lexeme → CxxType → ℕ → Reads CxxState (List CxxTree)
 initialized_part q at inner name of number = do
+  whole ← complete_object name of
   from ← looked
   read ← initializer_at at inner
   to ← looked

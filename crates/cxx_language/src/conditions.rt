@@ -25,7 +25,7 @@ use cxx_reading::{Naming, SpecifierPlace};
 use cxx_syntax::{Cursor, Declarator, NameToken, Specifiers, declared, joined, node_from, push};
 use cxx_tree::State;
 use cxx_units::declared_fits;
-use cxx_units::ends::own_parameters;
+use cxx_units::ends::{complete_object, own_parameters};
 use cxx_units::said::{Said, said_by};
 use cxx_units::trees::{declarator_tree, listed_tree, one_tree, specifiers_tree, token_or};
 use cxx_units::types::is_function_type;
@@ -170,6 +170,7 @@ impl<D: Declares> Reader<'_, D> {
         requires { of.0 < length (state.old).types }
         ensures { IsRead trees_held AreTreesHeld state.old state.new cursor.new result (definition.condition_part answers (phrases_at self.now.room) (inner_at self.now.room).phrases (name_at name.now) (type_of state.old of) number.0 (meaning state.old) cursor.old) }
     {
+        complete_object(state, cursor, name, of)?;
         let from = cursor.mark();
         let read = self.declares.condition_value(state, cursor, self.room)?;
         let node = initializer_node(state, read, &from, cursor)?;

@@ -19,7 +19,7 @@ use cxx_answers::typed::type_so_far;
 use cxx_model::{FactId, FaultText, Listed, Stop, TreeId, TreeIdList, TypeId};
 use cxx_syntax::{Cursor, Declarator, NameToken, joined};
 use cxx_tree::State;
-use cxx_units::ends::{ends_declarator, synonym_ended, uninitialized};
+use cxx_units::ends::{complete_object, ends_declarator, synonym_ended, uninitialized};
 use cxx_units::said::Said;
 use cxx_units::trees::{declarator_tree, one_tree, token_or};
 
@@ -84,6 +84,7 @@ impl<D: Declares> Reader<'_, D> {
         requires { of.0 < length (state.old).types }
         ensures { IsRead trees_held AreTreesHeld state.old state.new cursor.new result (definition.initialized_part answers (phrases_at self.now.room) (inner_at self.now.room).phrases (name_at name.now) (type_of state.old of) number.0 (meaning state.old) cursor.old) }
     {
+        complete_object(state, cursor, name, of)?;
         let from = cursor.mark();
         let read = self.declares.initializer(state, cursor, self.room)?;
         let node = initializer_node(state, read, &from, cursor)?;

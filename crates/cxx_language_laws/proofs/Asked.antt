@@ -36,6 +36,7 @@ use Rattle.cxx_language.specs.Asked.{answers, asked, inner_at, phrases_at}
 use Rattle.cxx_language_laws.specs.Best.{IsClear, asked_word, functions_by_types, values_besides, values_of}
 use Rattle.cxx_language_laws.specs.Told.{IsFoundClear, IsUnitCall, called, called_by_types, operands, place_of_call, unknown_call}
 use Rattle.cxx_language_laws.proofs.CallsTell.{NothingTold, asked_for, call_asked_tells}
+use Rattle.cxx_language_laws.proofs.Classed.{class_tells}
 use Rattle.cxx_language_laws.proofs.Later.{IsLater, by_answer, later_same, later_is_kept, later_is_quiet, calmly, turned, parameter_answer_tells, enumeration_answer_tells, enumerator_answer_tells, enumerated_tells, kind_tells, type_tells}
 use Rattle.cxx_language_laws.proofs.Lists.{listed_tells}
 use Rattle.cxx_language_laws.proofs.PhrasesTell.{PhrasesTell, brackets_of}
@@ -92,6 +93,7 @@ kinds_tell room = record {
   kind = λ path. calmly later_is_told (kind_tells path);
   type_named = λ path. calmly later_is_told (type_tells path);
   elaborated = elaborated_tells;
+  class_named = class_tells;
   enumeration = λ name place. calmly later_is_told (enumeration_answer_tells name place);
   enumerator = λ number name value. calmly later_is_told (enumerator_answer_tells number name value);
   enumerated = λ number. calmly later_is_told (enumerated_tells number);

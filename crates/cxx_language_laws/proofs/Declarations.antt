@@ -1,7 +1,9 @@
 -- Where the reading of a declaration stops.
 use Rattle.std.proofs.Common.{arith, ◌≡◌, ◌<◌, refl, sym, subst}
-use Rattle.std.specs.Prelude.{ℕ, zero, suc, Bool, true, false, List, [], ◌∷◌, ◌++◌, Option, Some, None, length, Ok, Err}
+use Rattle.std.specs.Prelude.{ℕ, zero, suc, Bool, true, false, if◌then◌else◌, List, [], ◌∷◌, ◌++◌, Option, Some, None, length, Ok, Err}
+use Rattle.cxx_model.specs.declared.fault.FaultText.TheVariants as says
 use Rattle.cxx_model.specs.declared.keyword.TheConstants as keyword
+use Rattle.cxx_model.specs.declared.place.Place.{Place}
 use Rattle.cxx_model.specs.declared.punct.TheConstants as punct
 use Rattle.cxx_model.specs.declared.stop.LimitKind.TheVariants.{Nesting}
 use Rattle.cxx_model.specs.Stops.{Answer, Stopped, Limited}
@@ -11,7 +13,7 @@ use Rattle.cxx_reading.specs.declared.specifier.Naming.TheVariants as naming
 use Rattle.cxx_reading.specs.declared.specifier.SpecifierPlace.TheVariants as where_
 use Rattle.cxx_reading.specs.Declarators.{Declarator, declared_type, Specifiers, is_function_type, own_parameters}
 use Rattle.cxx_reading.specs.Declaring.{at_scope, begin_body, declare_object, define_object, define_declared, end_body, number_id, scope_count}
-use Rattle.cxx_reading.specs.Reads.{Ahead, Asks, Got, Reads, More, Done, ◌>>=◌, then_read, answered, ask, taken, give, count_ahead, kind_ahead, place_ahead, behind}
+use Rattle.cxx_reading.specs.Reads.{Ahead, Asks, Got, Reads, More, Done, ◌>>=◌, then_read, answered, ask, fault_at, taken, give, count_ahead, kind_ahead, place_ahead, behind}
 use Rattle.cxx_reading.specs.Members.{stand_in}
 use Rattle.cxx_reading.specs.Productions as unit_production
 use Rattle.cxx_reading.specs.Spaces.{close_space, open_space, open_unnamed}
@@ -19,11 +21,11 @@ use Rattle.cxx_reading.specs.State.{CxxState}
 use Rattle.cxx_reading.specs.Tokens.{is_keyword, is_name, is_punct, token_in}
 use Rattle.cxx_reading.specs.Labels.{label_from}
 use Rattle.cxx_reading.specs.Trees.{CxxTree, tree_of}
-use Rattle.cxx_reading.specs.Units.{specifiers_tree, declarator_tree, name_in as name_of_declarator, declared_fits, ends_declarator, give_trees, no_declarators, said_by, empty_tree, another_ahead, linkages_passed, linkage_list, inside_step, Said, Listed}
+use Rattle.cxx_reading.specs.Units.{specifiers_tree, declarator_tree, name_in as name_of_declarator, declared_fits, ends_declarator, is_incomplete, give_trees, no_declarators, said_by, empty_tree, another_ahead, linkages_passed, linkage_list, inside_step, Said, Listed}
 use Rattle.cxx_declare.specs.Functions.{declare_function}
 use Rattle.cxx_statements.specs.Productions as production
 use Rattle.cxx_statements.specs.Statements.{body_at}
-use Rattle.cxx_language.specs.Bodies.{function_body, result_of, statements_within}
+use Rattle.cxx_language.specs.Bodies.{complete_head, function_body, incomplete_among, result_of, whole_by, statements_within}
 use Rattle.cxx_language.specs.Made.{defined_object, extern_object}
 use Rattle.cxx_language.specs.Objects.{begins_initializer}
 use Rattle.cxx_language.specs.Spaces.{behind_namespace, give_part, namespace_at, part_tree, space_opened, space_or_alias}
@@ -78,14 +80,26 @@ statements_stop held (suc room) list number result between rest there later stan
 abbrev LeadsToBody : Part → CxxState → Ahead → ℕ → Lexeme → CxxType → ℕ → ℕ → CxxState → Ahead → Type 0
 LeadsToBody part state ahead room name of number list between rest = (less : ℕ) (defined begun : Unit {0} × CxxState) → room ≡ suc less → define_declared name number between ≡ Ok defined → begin_body list number (result_of of) defined.1 ≡ Ok begun → Leads part state ahead (a_body less) begun.1 (behind rest)
 
+-- 8.3.5: behind the test that the types of its head are complete
+head_held : {kept : CxxState → CxxState → Type 0} → IsHeld kept → {B : Type 0} {part : Part} {state : CxxState} {ahead : Ahead} (name : Lexeme) (of : CxxType) (list : ℕ) (between : CxxState) (rest : Ahead) (go : Unit {0} → Reads CxxState B)
+    → InsideBy kept part state ahead (go tt between rest) → InsideBy kept part state ahead (then_read (complete_head name of list between rest) go)
+unfolding complete_head
+head_held {kept = kept} held {part = part} {state = state} {ahead = ahead} name of list between rest go next = by (is_incomplete (result_of of)) (incomplete_among list between.graph.facts)
+  where
+    by : (b : Bool) (o : Option Place) → InsideBy kept part state ahead (then_read (if b then fault_at name.place says.IncompleteClass between rest else whole_by o between rest) go)
+    by true o = quiet_held refl
+    by false None = next
+    by false (Some place) = quiet_held refl
+
 function_body_stops : {kept : CxxState → CxxState → Type 0} → IsHeld kept → {part : Part} {state : CxxState} {ahead : Ahead} (room : ℕ) (name : Lexeme) (of : CxxType) (number list : ℕ) (between : CxxState) (rest : Ahead) → list < scope_count between.graph → kept state between → EndsIn ahead.tokens rest.tokens
     → LeadsToBody part state ahead room name of number list between rest → InsideBy kept part state ahead (function_body room name of number list between rest)
 unfolding function_body
 function_body_stops held room name of number list between rest there later stands leads =
     asked_held held _ (define_declared name number) (define_later_tells name number between rest) later (λ defined is keeps later.
     let more = count_more between defined.1 keeps.grown in
+    head_held held name of list defined.1 rest _ (
     then_held held (statements_stop held room list number (result_of of) defined.1 rest (omega (arith, there, more)) later stands (λ less begun is_more begins. leads less defined begun is_more is begins)) (λ statements state ahead.
-    then_in later_is_quiet (looked_in later_is_quiet state ahead) (λ to. give_in later_is_quiet (tree_of (record (label_from production.block [] rest to) { target = Some (length defined.1.graph.facts) }) statements))))
+    then_in later_is_quiet (looked_in later_is_quiet state ahead) (λ to. give_in later_is_quiet (tree_of (record (label_from production.block [] rest to) { target = Some (length defined.1.graph.facts) }) statements)))))
 
 behind_list_stops : {kept : CxxState → CxxState → Type 0} → IsHeld kept → {part : Part} {state : CxxState} {ahead : Ahead} (room : ℕ) (name : Lexeme) (of : CxxType) (number list : ℕ) (between : CxxState) (rest : Ahead) → list < scope_count between.graph → kept state between → EndsIn ahead.tokens rest.tokens
     → (is_punct punct.LEFT_BRACE (kind_ahead rest) ≡ true → LeadsToBody part state ahead room name of number list between rest) → InsideBy kept part state ahead (behind_list room name of number (Some list) between rest)

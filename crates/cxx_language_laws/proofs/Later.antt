@@ -7,6 +7,7 @@ use Rattle.std.proofs.lemmas.Option.{slice_get_within}
 use Rattle.cxx_model.specs.declared.place.Place.{Place}
 use Rattle.cxx_model.specs.declared.stop.LimitKind.TheVariants.{Facts}
 use Rattle.cxx_model.specs.declared.types.FactId.{FactId}
+use Rattle.cxx_model.specs.Facts.Conflicts.{scope_facts}
 use Rattle.cxx_model.specs.Facts.Declarations.{CxxFact, CxxGraph, CxxName, spelled}
 use Rattle.cxx_model.specs.Facts.Declarations as facts
 use Rattle.cxx_model.specs.Stops.{Answer, Stopped, Limited, ◌>>=◌}
@@ -26,7 +27,7 @@ use Rattle.cxx_tree.specs.Defaults.{with_given, without_offers}
 use Rattle.cxx_declare.specs.Functions.{declare_function, declare_with, free_if, function_by, given_as, is_linked_here, linked_if, given_before, not_given, not_given_by, offered_by, with_all_given}
 use Rattle.cxx_language_laws.specs.Best.{IsBestCall, AreBestCalls}
 use Rattle.cxx_language_laws.specs.Told.{IsGrown}
-use Rattle.cxx_language_laws.proofs.Scopes.{InScopes, IsFirstThere, IsSound, MayStand, may_stand, scopes_same, scopes_added}
+use Rattle.cxx_language_laws.proofs.Scopes.{InScopes, IsFirstThere, IsSound, MayStand, may_stand, scopes_put, scopes_same}
 use Rattle.cxx_language_laws.proofs.Tells.{IsQuiet, Quietly, quiet_is_told, IsTold, ToldBy, tells_answer, tells_refusal, Answers}
 
 -- ---- what a state keeps
@@ -43,21 +44,33 @@ pub record IsLater (old new : CxxState) : Type 0 where
   pub here : InScopes old → new.here.scope ≡ old.here.scope
 
 pub grown_by : (old new : CxxState) (own : List CxxFact) → new.graph ≡ with_facts own old.graph → IsGrown old new
-grown_by old new own declared = record { own = own; declared = declared }
+grown_by old new own declared = record {
+  own = own;
+  reserved = [];
+  declared = ap (λ (g : CxxGraph). g.facts) declared;
+  classes = ap (λ (g : CxxGraph). g.classes) declared ∙ sym (append-nil old.graph.classes);
+  patterns = ap (λ (g : CxxGraph). g.patterns) declared;
+}
 
 -- nothing more is declared
 pub grown_same : (old new : CxxState) → new.graph ≡ old.graph → IsGrown old new
 grown_same old new same = grown_by old new [] (same ∙ ap (λ fs. record old.graph { facts = fs }) (sym (append-nil old.graph.facts)))
 
 pub grown_later : (s t u : CxxState) → IsGrown s t → IsGrown t u → IsGrown s u
-grown_later s t u one two = grown_by s u (one.own ++ two.own) (two.declared ∙ (ap (with_facts two.own) one.declared ∙ ap (λ fs. record s.graph { facts = fs }) (append_assoc s.graph.facts one.own two.own)))
+grown_later s t u one two = record {
+  own = one.own ++ two.own;
+  reserved = one.reserved ++ two.reserved;
+  declared = two.declared ∙ (ap (λ fs. fs ++ two.own) one.declared ∙ append_assoc s.graph.facts one.own two.own);
+  classes = two.classes ∙ (ap (λ cs. cs ++ two.reserved) one.classes ∙ append_assoc s.graph.classes one.reserved two.reserved);
+  patterns = two.patterns ∙ one.patterns;
+}
 
 -- more declarations behind a call make no difference to it
 widened : (old new : CxxState) → IsGrown old new → (call : CxxCall) → IsBestCall old call → IsBestCall new call
 widened old new grown call best = record {
   before = best.before;
   later = best.later ++ grown.own;
-  stands = ap (λ (g : CxxGraph). g.facts) grown.declared ∙ (ap (λ fs. fs ++ grown.own) best.stands ∙ append_assoc best.before.facts best.later grown.own);
+  stands = grown.declared ∙ (ap (λ fs. fs ++ grown.own) best.stands ∙ append_assoc best.before.facts best.later grown.own);
   scope = best.scope;
   path = best.path;
   is_open = best.is_open;
@@ -148,14 +161,26 @@ MayBeAdded state fact = InScopes state → MayStand state.graph.facts fact
 pub may_be_added : (state : CxxState) (fact : CxxFact) → space_in fact.what ≡ None → IsSound state.graph.facts fact.what → MayBeAdded state fact
 may_be_added state fact none is scopes = may_stand state.graph.facts fact none is
 
+-- a fact behind a state, in a scope that there is
+pub added_behind : (s t : CxxState) (ahead : Ahead) (fact : CxxFact) → IsLater s t → (InScopes s → fact.scope < length (scope_facts t.graph.facts)) → (InScopes s → MayStand t.graph.facts fact) → ToldBy IsLater Quietly s ahead (added fact t)
+unfolding added
+added_behind s t ahead fact later there may = by (nat_eq (length t.graph.facts + length t.graph.classes) most_facts)
+  where
+    behind_it : IsLater s (with_fact fact t)
+    behind_it = record {
+      grown = grown_later s t (with_fact fact t) later.grown (grown_by t (with_fact fact t) (fact ∷ []) refl);
+      scopes = λ is. scopes_put t fact (there is) (may is) (later.scopes is);
+      best = λ all. same_calls t (with_fact fact t) (grown_by t (with_fact fact t) (fact ∷ []) refl) refl (later.best all);
+      here = λ is. later.here is;
+    }
+
+    by : (b : Bool) → ToldBy IsLater Quietly s ahead (if b then Err (Limited Facts) else Ok (length t.graph.facts, with_fact fact t))
+    by true = quietly s ahead (Limited Facts) refl
+    by false = tells_answer (length t.graph.facts, with_fact fact t) behind_it
+
 -- a fact in the scope where the reader stands
 pub added_tells : (fact : CxxFact) (state : CxxState) (ahead : Ahead) → fact.scope ≡ state.here.scope → MayBeAdded state fact → ToldBy IsLater Quietly state ahead (added fact state)
-unfolding added
-added_tells fact state ahead here may = by (nat_eq (length state.graph.facts + length state.graph.classes) most_facts)
-  where
-    by : (b : Bool) → ToldBy IsLater Quietly state ahead (if b then Err (Limited Facts) else Ok (length state.graph.facts, with_fact fact state))
-    by true = quietly state ahead (Limited Facts) refl
-    by false = tells_answer _ (later_by state (with_fact fact state) (grown_by state (with_fact fact state) (fact ∷ []) refl) (λ is. scopes_added state fact here (may is) is) refl refl)
+added_tells fact state ahead here may = added_behind state state ahead fact (later_same state state refl refl refl) (λ is. subst (λ (n : ℕ). n < length (scope_facts state.graph.facts)) (sym here) is.within) may
 
 pub declare_tells : (fact : CxxFact) (word : List ℕ) (state : CxxState) (ahead : Ahead) → fact.scope ≡ state.here.scope → MayBeAdded state fact → ToldBy IsLater Quietly state ahead (declare fact word state)
 unfolding declare

@@ -27,6 +27,7 @@ pub mod Lists
 pub mod CallsTell
 pub mod TellsValues
 pub mod TellsDefaults
+pub mod Classed
 pub mod Asked
 pub mod Both
 pub mod Begun

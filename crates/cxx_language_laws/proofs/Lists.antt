@@ -7,7 +7,7 @@ use Rattle.cxx_model.specs.declared.facts.ScopeKind.{ScopeKind}
 use Rattle.cxx_model.specs.declared.facts.ScopeKind.TheVariants as scope_kind
 use Rattle.cxx_model.specs.declared.stop.LimitKind.TheVariants.{Facts}
 use Rattle.cxx_model.specs.Facts.Conflicts.{scope_facts}
-use Rattle.cxx_model.specs.Facts.Declarations.{CxxFact, CxxGraph}
+use Rattle.cxx_model.specs.Facts.Declarations.{CxxFact}
 use Rattle.cxx_model.specs.Facts.Entities.{scope_kinds}
 use Rattle.cxx_model.specs.Stops.{Answer, Stopped, Limited, ◌>>=◌}
 use Rattle.cxx_reading.specs.Declarators.{ParameterTypes}
@@ -38,7 +38,7 @@ round_it kind state own =
 
 parent_is : (kind : ScopeKind) (state t : CxxState) → IsGrown (entered kind state) t → t.here.scope ≡ scope_count state.graph → parent_of t.graph t.here.scope ≡ state.here.scope
 parent_is kind state t grown here =
-    let by_graph : parent_of t.graph t.here.scope ≡ scope_of_option t.here.scope (slice_get (scope_facts ((state.graph.facts ++ scope_within kind state ∷ []) ++ grown.own)) t.here.scope) = ap (λ (g : CxxGraph). parent_of g t.here.scope) grown.declared in
+    let by_graph : parent_of t.graph t.here.scope ≡ scope_of_option t.here.scope (slice_get (scope_facts ((state.graph.facts ++ scope_within kind state ∷ []) ++ grown.own)) t.here.scope) = ap (λ (fs : List CxxFact). scope_of_option t.here.scope (slice_get (scope_facts fs) t.here.scope)) grown.declared in
     let by_scope : slice_get (scope_facts ((state.graph.facts ++ scope_within kind state ∷ []) ++ grown.own)) t.here.scope ≡ Some (scope_within kind state) = ap (slice_get (scope_facts ((state.graph.facts ++ scope_within kind state ∷ []) ++ grown.own))) here ∙ round_it kind state grown.own in
     by_graph ∙ ap (scope_of_option t.here.scope) by_scope
 

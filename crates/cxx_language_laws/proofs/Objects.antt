@@ -4,7 +4,7 @@ use Rattle.std.specs.Prelude.{ℕ, ◌||◌, length, List, [], ◌∷◌, Option
 use Rattle.std.specs.List.{slice_get}
 use Rattle.std.proofs.lemmas.List.{length-append}
 use Rattle.cxx_model.specs.Facts.Declarations as facts
-use Rattle.cxx_model.specs.Facts.Declarations.{CxxFact, CxxGraph, Declares, spelled}
+use Rattle.cxx_model.specs.Facts.Declarations.{CxxFact, Declares, spelled}
 use Rattle.cxx_model.specs.Stops.{Answer, Stopped}
 use Rattle.cxx_model.specs.Text.Lexemes.{Lexeme}
 use Rattle.cxx_model.specs.Types.Trees.{CxxType}
@@ -19,6 +19,7 @@ use Rattle.cxx_language.specs.Objects.{initialized_part, initializer_tree, is_em
 use Rattle.cxx_language.specs.Asked.{answers, inner_at, phrases_at}
 use Rattle.cxx_language_laws.proofs.Asked.{phrases_tell}
 use Rattle.cxx_language_laws.proofs.Both.{both_tell}
+use Rattle.cxx_language_laws.proofs.Declared.{complete_tells}
 use Rattle.cxx_language_laws.proofs.Later.{IsLater, added_tells, by_answer, calm_by, later_is_quiet}
 use Rattle.cxx_language_laws.proofs.QuestionsTell.{if_by, same_by}
 use Rattle.cxx_language_laws.proofs.Reached.{Told, later_is_told}
@@ -35,7 +36,7 @@ HasNumber number state = number < length state.graph.facts
 
 pub number_later : (number : ℕ) (s t : CxxState) → IsLater s t → HasNumber number s → HasNumber number t
 number_later number s t later is =
-    let more = ap (λ (g : CxxGraph). length g.facts) later.grown.declared in
+    let more = ap (λ (fs : List CxxFact). length fs) later.grown.declared in
     let count = length-append s.graph.facts later.grown.own in
     omega (arith, more, count, is)
 
@@ -76,6 +77,7 @@ some_elements_tell name of state ahead = if_in (is_empty_array of) (quiet_in lat
 pub initialized_tells : (room : ℕ) (name : Lexeme) (of : CxxType) (number : ℕ) (state : CxxState) (ahead : Ahead) → HasNumber number state → ToldIn IsLater Told state ahead (initialized_part answers (phrases_at room) (inner_at room).phrases name of number state ahead)
 unfolding initialized_part
 initialized_tells room name of number state ahead there =
+    then_there later_is_told number there (complete_tells later_is_told name of state ahead) (λ whole state ahead there.
     then_there later_is_told number there (looked_in later_is_told state ahead) (λ from state ahead there.
     then_there later_is_told number there (initializer_tells later_is_told (phrases_tell room (both_tell room).types) (both_tell room).phrases state ahead) (λ read state ahead there.
     then_there later_is_told number there (looked_in later_is_told state ahead) (λ to state ahead there.
@@ -83,4 +85,4 @@ initialized_tells room name of number state ahead there =
     then_there later_is_told number there (ask_in ahead (initialize_tells later_is_told answers known (initializer_tree read from to) state ahead)) (λ tree state ahead there.
     then_there later_is_told number there (some_elements_tell name (type_known known tree) state ahead) (λ fits state ahead there.
     then_in later_is_told (ask_in ahead (calm_by later_is_told (note_tells name number known tree state ahead there))) (λ noted.
-    give_in later_is_told (tree ∷ []))))))))
+    give_in later_is_told (tree ∷ [])))))))))

@@ -33,11 +33,13 @@ pub record IsRound (scope : ℕ) (graph : CxxGraph) (inner : ℕ) : Type 0 where
 
 round_grown : (scope : ℕ) (s t : CxxState) (inner : ℕ) → IsGrown s t → IsRound scope s.graph inner → IsRound scope t.graph inner
 round_grown scope s t inner grown is =
-    let all = ap (λ (g : CxxGraph). g.facts) grown.declared in
     let more = ap (λ (fs : List CxxFact). length fs) (scopes_beside s.graph.facts grown.own) in
     let count = length-append (scope_facts s.graph.facts) (scope_facts grown.own) in
     let there = is.within in
-    subst (λ (g : CxxGraph). IsRound scope g inner) (sym grown.declared) (record { within = omega (arith, more, count, there); round = round_still s.graph.facts grown.own inner is.within ∙ is.round })
+    record {
+      within = subst (λ (fs : List CxxFact). inner < length (scope_facts fs)) (sym grown.declared) (omega (arith, more, count, there));
+      round = subst (λ (fs : List CxxFact). round_of fs inner ≡ scope) (sym grown.declared) (round_still s.graph.facts grown.own inner is.within ∙ is.round);
+    }
 
 -- 7.3.1: the reader stands in a namespace, of the scope where it stood
 pub record InSpace (old new : CxxState) : Type 0 where

@@ -2,7 +2,7 @@
 use Rattle.std.proofs.Common.{arith, ◌≡◌, ◌≤◌, ◌⊎◌, ◌∙◌, ◌++◌, ◌∷◌, length, refl, sym, subst, inl, inr}
 use Rattle.std.specs.Prelude.{ℕ, List, []}
 use Rattle.cxx_model.specs.Facts.Declarations as facts
-use Rattle.cxx_model.specs.Facts.Declarations.{CxxFact, CxxGraph, Declares}
+use Rattle.cxx_model.specs.Facts.Declarations.{CxxFact, Declares}
 use Rattle.cxx_model.specs.Facts.Entities.{scope_kinds}
 use Rattle.cxx_reading.specs.Declaring.{scope_count}
 use Rattle.cxx_model.specs.declared.stop.Fault.{Fault}
@@ -48,7 +48,7 @@ scopes_more (x ∷ xs) ys = by x.what (scopes_more xs ys)
     by _ e = e
 
 pub count_more : (old new : CxxState) → IsGrown old new → scope_count old.graph ≤ scope_count new.graph
-count_more old new grown = subst (λ (g : CxxGraph). scope_count old.graph ≤ scope_count g) (sym grown.declared) (scopes_more old.graph.facts grown.own)
+count_more old new grown = subst (λ (fs : List CxxFact). scope_count old.graph ≤ length (scope_kinds fs)) (sym grown.declared) (scopes_more old.graph.facts grown.own)
 
 scope_later : (s t u : CxxState) → IsGrown s t → IsScopeFrom s t → IsScopeFrom t u → IsScopeFrom s u
 scope_later s t u grown (inl one) (inl two) = inl (two ∙ one)

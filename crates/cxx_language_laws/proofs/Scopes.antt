@@ -81,11 +81,12 @@ abbrev pub IsFirstThere : ℕ → Option FactId → Type 0
 IsFirstThere count None = Unit {0}
 IsFirstThere count (Some first) = first.0 < count
 
--- nothing is declared but what is read so far: no class, template or friend
+-- nothing is declared but what is read so far: no member of a class, template or friend
 abbrev pub IsSound : List CxxFact → Declares → Type 0
 IsSound all (facts.scope parent kind) = IsPlain kind
 IsSound all (facts.object of member is_mutable value first) = IsFirstThere (length all) first
 IsSound all (facts.function of member flags defaults first) = IsFirstThere (length all) first
+IsSound all (facts.class n is_union) = Unit {0}
 IsSound all (facts.enumeration n) = Unit {0}
 IsSound all (facts.enumerator n value) = Unit {0}
 IsSound all (facts.synonym of) = Unit {0}
@@ -111,6 +112,7 @@ sound_still : (xs : List CxxFact) (x : CxxFact) (what : Declares) → IsSound xs
 sound_still xs x (facts.scope parent kind) is = is
 sound_still xs x (facts.object of member is_mutable value first) is = first_still (length xs) (length (xs ++ x ∷ [])) (length_more xs x) first is
 sound_still xs x (facts.function of member flags defaults first) is = first_still (length xs) (length (xs ++ x ∷ [])) (length_more xs x) first is
+sound_still xs x (facts.class n is_union) is = tt
 sound_still xs x (facts.enumeration n) is = tt
 sound_still xs x (facts.enumerator n value) is = tt
 sound_still xs x (facts.synonym of) is = tt
@@ -120,7 +122,6 @@ sound_still xs x (facts.using target) is = let more = length_more xs x in omega 
 sound_still xs x (facts.template _ _ _ _ _) is = absurd is
 sound_still xs x (facts.value_parameter _ _ _) is = absurd is
 sound_still xs x (facts.injected _) is = absurd is
-sound_still xs x (facts.class _ _) is = absurd is
 sound_still xs x (facts.complete _) is = absurd is
 sound_still xs x (facts.passed _) is = absurd is
 sound_still xs x (facts.ancestor _ _ _ _) is = absurd is
@@ -316,19 +317,23 @@ unnamed_more all fact sound may are n inner one e no_name space = elim (last_or_
     stands none (inl is) = is
     stands none (inr further) = absurd (no_both (sym none ∙ further.named))
 
--- a fact in the scope where the reader stands
-pub scopes_added : (state : CxxState) (fact : CxxFact) → fact.scope ≡ state.here.scope → MayStand state.graph.facts fact → InScopes state → InScopes (with_fact fact state)
-scopes_added state fact here may is =
+-- a fact in a scope
+pub scopes_put : (state : CxxState) (fact : CxxFact) → fact.scope < length (scope_facts state.graph.facts) → MayStand state.graph.facts fact → InScopes state → InScopes (with_fact fact state)
+scopes_put state fact there may is =
     let all = state.graph.facts in
     let within = is.within in
     let more = scopes_length all fact in
     record {
       within = omega (arith, within, more);
-      held = held_more all fact (subst (λ (n : ℕ). n < length (scope_facts all)) (sym here) is.within) is.held;
+      held = held_more all fact there is.held;
       sound = sound_more all fact is.sound may.sound;
       opened = opened_more all fact is.sound may is.opened;
       unnamed = unnamed_more all fact is.sound may is.unnamed;
     }
+
+-- one in the scope where the reader stands
+pub scopes_added : (state : CxxState) (fact : CxxFact) → fact.scope ≡ state.here.scope → MayStand state.graph.facts fact → InScopes state → InScopes (with_fact fact state)
+scopes_added state fact here may is = scopes_put state fact (subst (λ (n : ℕ). n < length (scope_facts state.graph.facts)) (sym here) is.within) may is
 
 -- 3.3.2: a scope of parameters, or a block, where the reader stands
 abbrev pub scope_within : ScopeKind → CxxState → CxxFact

@@ -31,7 +31,7 @@ mapped_in f (y ∷ ys) x m = elim (first_or_later y ys x m) [
 ]
 
 -- what is looked for is one of a list, or not there
-find_in : {A : Type 0} (test : A → Bool) (xs : List A) (x : A) → find test xs ≡ Some x → Contains xs x
+pub find_in : {A : Type 0} (test : A → Bool) (xs : List A) (x : A) → find test xs ≡ Some x → Contains xs x
 find_in test [] x e = absurd cc
 find_in {A = A} test (y ∷ ys) x e = by (test y) e (find_in test ys x)
   where

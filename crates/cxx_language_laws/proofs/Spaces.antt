@@ -1,7 +1,7 @@
 -- What namespaces' other names, using-declarations and directives keep of the state, and what stops them (7.3.2, 7.3.3,
 -- 7.3.4, 3.4.6).
-use Rattle.std.proofs.Common.{arith, ◌≡◌, inr, ◌∙◌, refl, sym, ap}
-use Rattle.std.specs.Prelude.{ℕ, ◌+◌, nat_eq, length, Bool, true, false, if◌then◌else◌, List, [], ◌∷◌, Option, Some, None, Ok, Err}
+use Rattle.std.proofs.Common.{arith, ◌≡◌, inr, ◌∙◌, refl, sym, ap, subst}
+use Rattle.std.specs.Prelude.{ℕ, ◌<◌, length, Bool, true, false, if◌then◌else◌, List, [], ◌∷◌, Option, Some, None, Ok, Err}
 use Rattle.std.specs.List.{AllByRecursion}
 use Rattle.std.proofs.lemmas.List.{length-append}
 use Rattle.std.proofs.lemmas.Option.{same_Some}
@@ -10,18 +10,18 @@ use Rattle.cxx_model.specs.declared.lookup.Found.{Found}
 use Rattle.cxx_model.specs.declared.lookup.Found.TheVariants as sought
 use Rattle.cxx_model.specs.declared.place.Place.{Place}
 use Rattle.cxx_model.specs.declared.punct.TheConstants as punct
-use Rattle.cxx_model.specs.declared.stop.LimitKind.TheVariants.{Facts}
 use Rattle.cxx_model.specs.declared.types.FactId.{FactId}
 use Rattle.cxx_model.specs.declared.types.ScopeId.{ScopeId}
-use Rattle.cxx_model.specs.Facts.Declarations.{CxxFact, CxxGraph, spelled}
-use Rattle.cxx_model.specs.Stops.{Answer, Stopped, Limited, ◌>>=◌ as then_answer}
+use Rattle.cxx_model.specs.Facts.Conflicts.{scope_facts}
+use Rattle.cxx_model.specs.Facts.Declarations.{CxxFact, spelled}
+use Rattle.cxx_model.specs.Stops.{Answer, Stopped, ◌>>=◌ as then_answer}
 use Rattle.cxx_model.specs.Text.Lexemes.{Lexeme}
 use Rattle.cxx_meaning.specs.Lookups.Qualified.{brought_by, sightings_of}
 use Rattle.cxx_meaning.specs.Lookups.Sightings.{Sighting, entities}
 use Rattle.cxx_meaning.specs.Lookups.Wanted.{any_name, namespaces_only}
 use Rattle.cxx_reading.specs.declared.region.Region.{Region}
 use Rattle.cxx_reading.specs.declared.region.Region.TheVariants as region
-use Rattle.cxx_reading.specs.Declaring.{added, declare, most_facts, with_fact}
+use Rattle.cxx_reading.specs.Declaring.{added, declare}
 use Rattle.cxx_reading.specs.Paths.{first_space, name_in, region_of, sought_in, space_region_of}
 use Rattle.cxx_reading.specs.Productions as production
 use Rattle.cxx_reading.specs.Reads.{Ahead, Got, Reads, ◌>>=◌, then_read, answered, ask, give, got, tokens, kind_ahead, behind}
@@ -35,11 +35,11 @@ use Rattle.cxx_language.specs.Spaces.{NamedSpace, alias_at, alias_or_not, brough
 use Rattle.cxx_language_laws.specs.Best.{IsClear}
 use Rattle.cxx_language_laws.specs.Stopping.{Leads, Part, a_using, an_alias}
 use Rattle.cxx_language_laws.specs.Told.{EndsIn, IsGrown}
-use Rattle.cxx_language_laws.proofs.Later.{IsLater, MayBeAdded, added_tells, by_answer, by_then, calm_by, declare_tells, free_quiet, grown_by, grown_later, later_is_quiet, may_be_added, same_calls}
+use Rattle.cxx_language_laws.proofs.Later.{IsLater, MayBeAdded, added_behind, added_tells, by_answer, by_then, calm_by, declare_tells, free_quiet, later_is_quiet, may_be_added}
 use Rattle.cxx_language_laws.proofs.Outward.{OfNumber}
 use Rattle.cxx_language_laws.proofs.Reached.{Told, later_is_told}
 use Rattle.cxx_language_laws.proofs.Regions.{IsOfSpace, IsSpaceOf, last_ahead, nothing_ahead, region_inside, region_told, set_space, space_region_there, space_region_told, space_twofold_ahead, space_unknown_ahead, twofold_ahead}
-use Rattle.cxx_language_laws.proofs.Scopes.{InScopes, MayStand, may_stand, opened_within, scopes_added}
+use Rattle.cxx_language_laws.proofs.Scopes.{InScopes, MayStand, may_stand, opened_within}
 use Rattle.cxx_language_laws.proofs.Sought.{IsThere, brought_there, fitting, no_space_sought}
 use Rattle.cxx_language_laws.proofs.Stopping.{Inside, Stops, calm, innermost_stops, leads_in, later_here, which_in}
 use Rattle.cxx_language_laws.proofs.Tells.{Quietly, ToldBy, tells_answer, tells_refusal, ToldIn, tells_stop, Tells, ask_from, ask_in, behind_stands, ends_later, from_in, give_in, if_in, looked_in, name_stands, path_then, punct_in, quiet_in, taken_in, then_in, tokens_in, unit_is_told}
@@ -146,25 +146,13 @@ directive_tells state ahead =
 
 -- what is declared behind a state, in which the targets are declared
 declared_behind : (s t : CxxState) (ahead : Ahead) (fact : CxxFact) (word : List ℕ) → IsLater s t → fact.scope ≡ t.here.scope → (InScopes s → MayStand t.graph.facts fact) → ToldBy IsLater Quietly s ahead (declare fact word t)
-unfolding declare added
-declared_behind s t ahead fact word later here may = by_then s ahead (λ is_free. added fact t) (free_quiet t fact word) (λ is_free. by (nat_eq (length t.graph.facts + length t.graph.classes) most_facts))
-  where
-    behind_it : IsLater s (with_fact fact t)
-    behind_it = record {
-      grown = grown_later s t (with_fact fact t) later.grown (grown_by t (with_fact fact t) (fact ∷ []) refl);
-      scopes = λ is. scopes_added t fact here (may is) (later.scopes is);
-      best = λ all. same_calls t (with_fact fact t) (grown_by t (with_fact fact t) (fact ∷ []) refl) refl (later.best all);
-      here = λ is. later.here is;
-    }
-
-    by : (b : Bool) → ToldBy IsLater Quietly s ahead (if b then Err (Limited Facts) else Ok (length t.graph.facts, with_fact fact t))
-    by true = tells_refusal (Limited Facts) refl
-    by false = tells_answer (length t.graph.facts, with_fact fact t) behind_it
+unfolding declare
+declared_behind s t ahead fact word later here may = by_then s ahead (λ is_free. added fact t) (free_quiet t fact word) (λ is_free. added_behind s t ahead fact later (λ is. subst (λ (n : ℕ). n < length (scope_facts t.graph.facts)) (sym here) (later.scopes is).within) may)
 
 -- what there is among some facts, there is among more
 still_there : (s t : CxxState) (number : ℕ) → IsGrown s t → IsThere s.graph number → IsThere t.graph number
 still_there s t number grown there =
-    let all = ap (λ (g : CxxGraph). length g.facts) grown.declared in
+    let all = ap (λ (fs : List CxxFact). length fs) grown.declared in
     let more = length-append s.graph.facts grown.own in
     omega (arith, all, more, there)
 

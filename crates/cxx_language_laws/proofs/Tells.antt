@@ -207,6 +207,8 @@ pub record KindsTell {S : Type 0} (kept : S → S → Type 0) (told : S → Ahea
   pub type_named : (path : CxxPath) → Answers kept told (asks.type_named path)
   -- 3.4.4: of a name that is ahead
   pub elaborated : (state : S) (ahead : Ahead) → begins_name ahead ≡ true → is_whole_name ahead ≡ true → ToldBy kept told state ahead (asks.elaborated (path_ahead ahead) state)
+  -- 3.3.1, 3.4.4: of a name behind `class`, `struct` or `union`
+  pub class_named : (is_union is_all : Bool) (state : S) (ahead : Ahead) → begins_name ahead ≡ true → is_whole_name ahead ≡ true → ToldBy kept told state ahead (asks.class_named is_union is_all (path_ahead ahead) state)
   pub enumeration : (name : Option Lexeme) (place : Place) → Answers kept told (asks.enumeration name place)
   pub enumerator : (number : ℕ) (name : Lexeme) (value : Option ℤ) → Answers kept told (asks.enumerator number name value)
   pub enumerated : (number : ℕ) → Answers kept told (asks.enumerated number)

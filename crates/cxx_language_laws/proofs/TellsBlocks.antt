@@ -18,7 +18,7 @@ use Rattle.cxx_language.specs.Known.{type_known}
 use Rattle.cxx_language.specs.Objects.{begins_initializer, initializer_tree}
 use Rattle.cxx_language_laws.proofs.Asked.{phrases_tell}
 use Rattle.cxx_language_laws.proofs.Both.{both_tell}
-use Rattle.cxx_language_laws.proofs.Declared.{synonym_ended_tells}
+use Rattle.cxx_language_laws.proofs.Declared.{complete_tells, synonym_ended_tells}
 use Rattle.cxx_language_laws.proofs.Later.{IsLater, calm_by, function_answer_tells, later_is_quiet, later_same, linked_object_tells}
 use Rattle.cxx_language_laws.proofs.Objects.{HasNumber, note_tells, some_elements_tell, then_there}
 use Rattle.cxx_language_laws.proofs.Reached.{Told, later_is_told}
@@ -33,13 +33,14 @@ condition_value_tells room state ahead = if_in (is_punct punct.EQUALS (kind_ahea
 pub condition_part_tells : (room : ℕ) (name : Lexeme) (of : CxxType) (number : ℕ) (state : CxxState) (ahead : Ahead) → HasNumber number state → ToldIn IsLater Told state ahead (condition_part answers (phrases_at room) (inner_at room).phrases name of number state ahead)
 unfolding condition_part
 condition_part_tells room name of number state ahead there =
+    then_there later_is_told number there (complete_tells later_is_told name of state ahead) (λ whole state ahead there.
     then_there later_is_told number there (looked_in later_is_told state ahead) (λ from state ahead there.
     then_there later_is_told number there (condition_value_tells room state ahead) (λ read state ahead there.
     then_there later_is_told number there (looked_in later_is_told state ahead) (λ to state ahead there.
     then_there later_is_told number there (ask_in ahead (initialize_tells later_is_told answers of (initializer_tree read from to) state ahead)) (λ tree state ahead there.
     then_there later_is_told number there (some_elements_tell name (type_known of tree) state ahead) (λ fits state ahead there.
     then_in later_is_told (ask_in ahead (calm_by later_is_told (note_tells name number of tree state ahead there))) (λ noted.
-    give_in later_is_told (tree ∷ [])))))))
+    give_in later_is_told (tree ∷ []))))))))
 
 pub keep_tested_tells : {told : CxxState → Ahead → Stopped → Type 0} → (number : ℕ) → Answers IsLater told (keep_tested number)
 unfolding keep_tested

@@ -1,10 +1,11 @@
 -- What operators and casts keep of the state, and what stops them.
 use Rattle.std.proofs.Common.{refl}
-use Rattle.std.specs.Prelude.{ℕ, Bool, true, false, ◌||◌, bytes_eq, codes, List, [], ◌∷◌, Option, Some, None, Ok, Err}
+use Rattle.std.specs.Prelude.{ℕ, Bool, true, false, ◌||◌, if◌then◌else◌, bytes_eq, codes, List, [], ◌∷◌, Option, Some, None, Ok, Err}
 use Rattle.cxx_model.specs.declared.base.Base.TheVariants as base
+use Rattle.cxx_model.specs.declared.fault.FaultText.TheVariants as says
 use Rattle.cxx_model.specs.declared.place.Place.{Place}
-use Rattle.cxx_model.specs.Stops.{Stopped}
-use Rattle.cxx_model.specs.Types.Trees.{fundamental}
+use Rattle.cxx_model.specs.Stops.{Stopped, fault, not_built_at}
+use Rattle.cxx_model.specs.Types.Trees.{CxxType, fundamental}
 use Rattle.cxx_meaning.specs.Conversions.Asking.{Asked}
 use Rattle.cxx_meaning.specs.Conversions.BuiltIn.{CxxBuiltIn, bool_type, built_in_result}
 use Rattle.cxx_meaning.specs.Conversions.Casts as casts
@@ -16,12 +17,13 @@ use Rattle.cxx_reading.specs.Initializers.{operand_of, value_operand}
 use Rattle.cxx_reading.specs.Reads.{Ahead, Asks}
 use Rattle.cxx_reading.specs.State.{CxxState}
 use Rattle.cxx_reading.specs.Trees.{CxxTree, children_of}
-use Rattle.cxx_expr.specs.Casts.{explicit_tree, found_at, explicit_by, explicit_built, needs_class, explicit, cast_over, named_by, static_by, static_built, static_cast_of, constant, reinterpreted, cast_as, split_last, cast_of, cast, has_zero, zero_tree, zero, several, functional_of, functional, target_of}
+use Rattle.cxx_reading.specs.Units.{is_incomplete}
+use Rattle.cxx_expr.specs.Casts.{class_needed_at, explicit_tree, found_at, explicit_by, explicit_built, needs_class, explicit, cast_over, named_by, static_by, static_built, static_cast_of, constant, reinterpreted, cast_as, split_last, cast_of, cast, has_zero, zero_tree, zero, several, functional_of, functional, target_of}
 use Rattle.cxx_expr.specs.Operands.{all_three, asks_operator, both, built_operand, given_over, judged_beside, judged_to, only}
 use Rattle.cxx_expr.specs.Operators.{misshapen, operator_in, meaning_at, with_meaning, built, built_by, prefix_built, prefix_of, prefix, step_built, step_of, step, operand_beside, binary_built, binary_of, binary_by, arms_built, arms, conditional_built, any_class, is_test, conditional_of, conditional}
 use Rattle.cxx_expr.specs.Questions.{Questions}
 use Rattle.cxx_language_laws.proofs.QuestionsTell.{quiet_by, same_by, if_by, then_by, give_by}
-use Rattle.cxx_language_laws.proofs.Tells.{IsTold, Answers}
+use Rattle.cxx_language_laws.proofs.Tells.{IsQuiet, IsTold, Answers}
 use Rattle.cxx_language_laws.proofs.TellsConversions.{convert_tells, convert_each_tells}
 
 pub misshapen_tells : {kept : CxxState → CxxState → Type 0} {told : CxxState → Ahead → Stopped → Type 0} → IsTold kept told → (tree : CxxTree) → Answers kept told (misshapen tree)
@@ -104,9 +106,16 @@ explicit_by_tells is tree front one (Ok (Some found)) state ahead = same_by is (
 explicit_by_tells is tree front one (Ok None) state ahead = quiet_by is refl
 explicit_by_tells is tree front one (Err class) state ahead = quiet_by is refl
 
+needed_is_quiet : (of : CxxType) (place : Place) → IsQuiet (class_needed_at of place)
+needed_is_quiet of place = by (is_incomplete of)
+  where
+    by : (b : Bool) → IsQuiet (if b then fault place says.IncompleteClass else not_built_at place)
+    by true = refl
+    by false = refl
+
 explicit_tells : {kept : CxxState → CxxState → Type 0} {told : CxxState → Ahead → Stopped → Type 0} → IsTold kept told → (q : Questions) (tree : CxxTree) (front : List CxxTree) (one : CxxTree) → Answers kept told (explicit q tree front one)
 unfolding explicit explicit_built
-explicit_tells is q tree front one state ahead = if_by (needs_class tree one) (quiet_by is refl) (explicit_by_tells is tree front one (casts.cast state.graph false (judged_to q (target_of tree) one state) (target_of tree)) state ahead)
+explicit_tells is q tree front one state ahead = if_by (needs_class tree one) (quiet_by is (needed_is_quiet (target_of tree) tree.label.place)) (explicit_by_tells is tree front one (casts.cast state.graph false (judged_to q (target_of tree) one state) (target_of tree)) state ahead)
 
 named_by_tells : {kept : CxxState → CxxState → Type 0} {told : CxxState → Ahead → Stopped → Type 0} → IsTold kept told → (word : List ℕ) (tree : CxxTree) (front : List CxxTree) (one : CxxTree) (allowed : Bool) → Answers kept told (named_by word tree front one allowed)
 named_by_tells is word tree front one true state ahead = same_by is (cast_over word (target_of tree) tree front one) state ahead
@@ -118,7 +127,7 @@ static_by_tells is tree front one (Err class) state ahead = quiet_by is refl
 
 static_tells : {kept : CxxState → CxxState → Type 0} {told : CxxState → Ahead → Stopped → Type 0} → IsTold kept told → (q : Questions) (tree : CxxTree) (front : List CxxTree) (one : CxxTree) → Answers kept told (static_cast_of q tree front one)
 unfolding static_cast_of static_built
-static_tells is q tree front one state ahead = if_by (needs_class tree one) (quiet_by is refl) (static_by_tells is tree front one (casts.static_cast state.graph false (judged_to q (target_of tree) one state) (target_of tree)) state ahead)
+static_tells is q tree front one state ahead = if_by (needs_class tree one) (quiet_by is (needed_is_quiet (target_of tree) tree.label.place)) (static_by_tells is tree front one (casts.static_cast state.graph false (judged_to q (target_of tree) one state) (target_of tree)) state ahead)
 
 cast_as_tells : {kept : CxxState → CxxState → Type 0} {told : CxxState → Ahead → Stopped → Type 0} → IsTold kept told → (q : Questions) (tree : CxxTree) (front : List CxxTree) (one : CxxTree) → Answers kept told (cast_as q tree front one)
 unfolding cast_as constant reinterpreted

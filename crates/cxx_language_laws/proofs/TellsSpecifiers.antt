@@ -1,8 +1,10 @@
 -- What the readers of specifiers keep of the state, and what stops them.
 use Rattle.std.proofs.Common.{◌≡◌, refl}
-use Rattle.std.specs.Prelude.{ℕ, true, [], ◌∷◌, ◌++◌, Option, Some, None}
-use Rattle.cxx_model.specs.Stops.{Stopped}
-use Rattle.cxx_reading.specs.Tokens.{begins_name, behind_name, path_ahead}
+use Rattle.std.specs.Prelude.{ℕ, Bool, true, [], ◌∷◌, ◌++◌, Option, Some, None, ◌==◌, codes}
+use Rattle.cxx_model.specs.declared.keyword.TheConstants as keyword
+use Rattle.cxx_model.specs.declared.fault.FaultText.TheVariants as says
+use Rattle.cxx_model.specs.Stops.{Stopped, fault}
+use Rattle.cxx_reading.specs.Tokens.{begins_name, behind_name, is_whole_name, path_ahead}
 use Rattle.cxx_model.specs.declared.token.TokenKind.{TokenKind}
 use Rattle.cxx_model.specs.declared.token.TokenKind.TheVariants.{Name, Keyword, Punct, Integer, Character, Text, End}
 use Rattle.cxx_model.specs.declared.tree.Kind.{Kind}
@@ -12,10 +14,10 @@ use Rattle.cxx_model.specs.Types.Trees.{enumeration}
 use Rattle.cxx_reading.specs.declared.specifier.SpecifierPlace.{SpecifierPlace}
 use Rattle.cxx_reading.specs.declared.specifier.StorageWord.{StorageWord}
 use Rattle.cxx_reading.specs.declared.specifier.TypeWords.{TypeWords}
-use Rattle.cxx_reading.specs.Declarators.{Specifiers, TypeWord, type_word, with_word}
+use Rattle.cxx_reading.specs.Declarators.{Specifiers, TypeWord, has_type, type_word, with_word}
 use Rattle.cxx_reading.specs.Kinds.{Kinds, Readers}
-use Rattle.cxx_reading.specs.Reads.{Ahead, Reads, More, kind_ahead}
-use Rattle.cxx_reading.specs.Specifiers.{elaborated_tree, enumeration_tree, storage_word, storage_step, inline_step, const_step, volatile_step, word_step, worded, named_step, named_by, type_name_step, elaborated_step, defined_step, enumeration_body, list_step, named_list_step, key_step, enumeration_step, class_step, other_step, stored_by, worded_by, keyword_step, step_by, specifier_step, typed, specifiers_at}
+use Rattle.cxx_reading.specs.Reads.{Ahead, Reads, More, kind_ahead, place_ahead}
+use Rattle.cxx_reading.specs.Specifiers.{elaborated_tree, enumeration_tree, storage_word, storage_step, inline_step, const_step, volatile_step, word_step, worded, named_step, named_by, type_name_step, elaborated_step, defined_step, enumeration_body, list_step, named_list_step, key_step, enumeration_step, class_key, class_named_step, class_behind, class_name_step, class_key_step, class_step, other_step, stored_by, worded_by, keyword_step, step_by, specifier_step, typed, specifiers_at}
 use Rattle.cxx_language_laws.proofs.Tells.{IsTold, Tells, ToldIn, quiet_in, KindsTell, ReadersTell, if_in, when_in, if_reads, past_in, then_in, ask_from, ask_in, same_in, next_in, repeat_tells, taken_in, looked_in, give_in, kind_tells, name_stands, name_told, path_then, token_told}
 
 pub storage_tells : {S : Type 0} {kept : S → S → Type 0} {told : S → Ahead → Stopped → Type 0} → IsTold kept told → (place : SpecifierPlace) (word : StorageWord) (so_far : Specifiers) → Tells kept told (storage_step {S = S} place word so_far)
@@ -60,7 +62,7 @@ named_tells is {asks = a} asks so_far state ahead = if_in _ (same_in is _ state 
 pub elaborated_tells : {S : Type 0} {kept : S → S → Type 0} {told : S → Ahead → Stopped → Type 0} → IsTold kept told → {asks : Kinds S} → KindsTell kept told asks → (from : Ahead) (so_far : Specifiers) (state : S) (ahead : Ahead) → begins_name ahead ≡ true
     → ToldIn kept told state ahead (elaborated_step asks from so_far state ahead)
 unfolding elaborated_step
-elaborated_tells is asks from so_far state ahead begins = path_then is _ state ahead (λ whole. then_in is (ask_from (behind_name ahead) (name_stands ahead) (asks.elaborated state ahead begins whole)) (λ of state rest. then_in is (looked_in is state rest) (λ to. give_in is (More (record so_far { named = Some of; parts = so_far.parts ++ elaborated_tree (path_ahead ahead) of from to ∷ [] })))))
+elaborated_tells is asks from so_far state ahead begins = path_then is _ state ahead (λ whole. then_in is (ask_from (behind_name ahead) (name_stands ahead) (asks.elaborated state ahead begins whole)) (λ of state rest. then_in is (looked_in is state rest) (λ to. give_in is (More (record so_far { named = Some of; parts = so_far.parts ++ elaborated_tree (codes "enum") (path_ahead ahead) of from to ∷ [] })))))
 
 pub body_tells : {S : Type 0} {kept : S → S → Type 0} {told : S → Ahead → Stopped → Type 0} → IsTold kept told → {asks : Kinds S} → KindsTell kept told asks → {inner : Readers S} → ReadersTell kept told inner → (number : ℕ) → Tells kept told (enumeration_body asks inner number)
 unfolding enumeration_body
@@ -68,7 +70,7 @@ body_tells is asks inner number state ahead = then_in is (taken_in is state ahea
 
 pub defined_tells : {S : Type 0} {kept : S → S → Type 0} {told : S → Ahead → Stopped → Type 0} → IsTold kept told → {asks : Kinds S} → KindsTell kept told asks → {inner : Readers S} → ReadersTell kept told inner → (from : Ahead) (name : Option Lexeme) (so_far : Specifiers) → Tells kept told (defined_step asks inner from name so_far)
 unfolding defined_step
-defined_tells is asks inner from name so_far state ahead = then_in is (ask_in ahead (asks.enumeration _ _ state ahead)) (λ number state ahead. then_in is (body_tells is asks inner number state ahead) (λ values state ahead. then_in is (looked_in is state ahead) (λ to. give_in is (More (record so_far { named = Some (enumeration number); is_enumeration = true; parts = so_far.parts ++ enumeration_tree name number values from to ∷ [] })))))
+defined_tells is asks inner from name so_far state ahead = then_in is (ask_in ahead (asks.enumeration _ _ state ahead)) (λ number state ahead. then_in is (body_tells is asks inner number state ahead) (λ values state ahead. then_in is (looked_in is state ahead) (λ to. give_in is (More (record so_far { named = Some (enumeration number); stands_alone = true; parts = so_far.parts ++ enumeration_tree name number values from to ∷ [] })))))
 
 pub list_tells : {S : Type 0} {kept : S → S → Type 0} {told : S → Ahead → Stopped → Type 0} → IsTold kept told → {asks : Kinds S} → KindsTell kept told asks → {inner : Readers S} → ReadersTell kept told inner → (place : SpecifierPlace) (from : Ahead) (name : Option Lexeme) (so_far : Specifiers) → Tells kept told (list_step asks inner place from name so_far)
 unfolding list_step
@@ -86,13 +88,35 @@ pub enumeration_tells : {S : Type 0} {kept : S → S → Type 0} {told : S → A
 unfolding enumeration_step
 enumeration_tells is asks inner place so_far state ahead = if_in _ (quiet_in is refl) (past_in is (key_tells is asks inner place ahead so_far state _))
 
-pub class_tells : {S : Type 0} {kept : S → S → Type 0} {told : S → Ahead → Stopped → Type 0} → IsTold kept told → (so_far : Specifiers) → Tells kept told (class_step {S = S} so_far)
+class_named_tells : {S : Type 0} {kept : S → S → Type 0} {told : S → Ahead → Stopped → Type 0} → IsTold kept told → {asks : Kinds S} → KindsTell kept told asks → (is_union is_all : Bool) (from : Ahead) (so_far : Specifiers) (state : S) (ahead : Ahead) → begins_name ahead ≡ true → is_whole_name ahead ≡ true
+    → ToldIn kept told state ahead (class_named_step asks is_union is_all from (path_ahead ahead) so_far state (behind_name ahead))
+unfolding class_named_step
+class_named_tells is asks is_union is_all from so_far state ahead begins whole = then_in is (ask_from (behind_name ahead) (name_stands ahead) (asks.class_named is_union is_all state ahead begins whole)) (λ of state rest. then_in is (looked_in is state rest) (λ to. give_in is (More (record so_far { named = Some of; stands_alone = true; parts = so_far.parts ++ elaborated_tree (class_key is_union) (path_ahead ahead) of from to ∷ [] }))))
+
+class_behind_tells : {S : Type 0} {kept : S → S → Type 0} {told : S → Ahead → Stopped → Type 0} → IsTold kept told → {asks : Kinds S} → KindsTell kept told asks → (is_union : Bool) (place : SpecifierPlace) (from : Ahead) (so_far : Specifiers) (state : S) (ahead : Ahead) → begins_name ahead ≡ true → is_whole_name ahead ≡ true
+    → ToldIn kept told state ahead (class_behind asks is_union place from (path_ahead ahead) so_far state (behind_name ahead))
+unfolding class_behind
+class_behind_tells is asks is_union place from so_far state ahead begins whole = if_in _ (quiet_in is refl) (class_named_tells is asks is_union _ from so_far state ahead begins whole)
+
+class_name_tells : {S : Type 0} {kept : S → S → Type 0} {told : S → Ahead → Stopped → Type 0} → IsTold kept told → {asks : Kinds S} → KindsTell kept told asks → (is_union : Bool) (place : SpecifierPlace) (from : Ahead) (so_far : Specifiers) (state : S) (ahead : Ahead) → begins_name ahead ≡ true
+    → ToldIn kept told state ahead (class_name_step asks is_union place from so_far state ahead)
+unfolding class_name_step
+class_name_tells is asks is_union place from so_far state ahead begins = path_then is _ state ahead (λ whole. class_behind_tells is asks is_union place from so_far state ahead begins whole)
+
+class_key_tells : {S : Type 0} {kept : S → S → Type 0} {told : S → Ahead → Stopped → Type 0} → IsTold kept told → {asks : Kinds S} → KindsTell kept told asks → (is_union : Bool) (place : SpecifierPlace) (from : Ahead) (so_far : Specifiers) → Tells kept told (class_key_step asks is_union place from so_far)
+unfolding class_key_step
+class_key_tells is asks is_union place from so_far state ahead = when_in (begins_name ahead) (λ begins. class_name_tells is asks is_union place from so_far state ahead begins) (if_in _ (quiet_in is refl) (quiet_in is refl))
+
+pub class_tells : {S : Type 0} {kept : S → S → Type 0} {told : S → Ahead → Stopped → Type 0} → IsTold kept told → {asks : Kinds S} → KindsTell kept told asks → (place : SpecifierPlace) (n : ℕ) (so_far : Specifiers) → Tells kept told (class_step asks place n so_far)
 unfolding class_step
-class_tells is so_far state ahead = if_in _ (quiet_in is refl) (quiet_in is refl)
+class_tells is asks place n so_far state ahead =
+    if_in (has_type so_far) (quiet_in is {why = fault (place_ahead ahead) says.SyntaxError} refl)
+    (if_in (n == keyword.TYPENAME) (quiet_in is {why = fault (place_ahead ahead) says.NotBuilt} refl)
+    (past_in is (class_key_tells is asks (n == keyword.UNION) place ahead so_far state _)))
 
 pub other_tells : {S : Type 0} {kept : S → S → Type 0} {told : S → Ahead → Stopped → Type 0} → IsTold kept told → {asks : Kinds S} → KindsTell kept told asks → {inner : Readers S} → ReadersTell kept told inner → (place : SpecifierPlace) (n : ℕ) (so_far : Specifiers) → Tells kept told (other_step asks inner place n so_far)
 unfolding other_step
-other_tells is asks inner place n so_far state ahead = if_in _ (const_tells is so_far state ahead) (if_in _ (volatile_tells is so_far state ahead) (if_in _ (inline_tells is place so_far state ahead) (if_in _ (enumeration_tells is asks inner place so_far state ahead) (if_in _ (class_tells is so_far state ahead) (if_in _ (quiet_in is refl) (same_in is _ state _))))))
+other_tells is asks inner place n so_far state ahead = if_in _ (const_tells is so_far state ahead) (if_in _ (volatile_tells is so_far state ahead) (if_in _ (inline_tells is place so_far state ahead) (if_in _ (enumeration_tells is asks inner place so_far state ahead) (if_in _ (class_tells is asks place n so_far state ahead) (if_in _ (quiet_in is refl) (same_in is _ state _))))))
 
 worded_by_tells : {S : Type 0} {kept : S → S → Type 0} {told : S → Ahead → Stopped → Type 0} → IsTold kept told → (word : Option TypeWord) (others : Reads S _) → Tells kept told others → (so_far : Specifiers) → Tells kept told (worded_by word others so_far)
 worded_by_tells is (Some word) others keeps so_far state ahead = word_tells is word so_far state ahead

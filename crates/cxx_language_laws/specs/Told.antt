@@ -1,5 +1,5 @@
 -- What is true of the fault with which the reading of a unit stops, where that is one of a call (13.3) or of a name (3.4).
-use Rattle.std.specs.Prelude.{ℕ, ◌≤◌, ◌<◌, ◌≡◌, ◌⊎◌, Bool, List, [], ◌∷◌, ◌++◌, length, Ok, Err, true, false}
+use Rattle.std.specs.Prelude.{ℕ, ◌≤◌, ◌<◌, ◌≡◌, ◌⊎◌, Bool, List, [], ◌∷◌, ◌++◌, length, Option, Ok, Err, true, false}
 use Rattle.std.specs.List.{Contains}
 use Rattle.cxx_model.specs.declared.evidence.Evidence.TheVariants as evidence
 use Rattle.cxx_model.specs.declared.fault.FaultText.{FaultText}
@@ -12,7 +12,7 @@ use Rattle.cxx_model.specs.declared.punct.TheConstants as punct
 use Rattle.cxx_model.specs.declared.stop.Fault.{Fault}
 use Rattle.cxx_model.specs.declared.types.FactId.{FactId}
 use Rattle.cxx_model.specs.declared.types.ScopeId.{ScopeId}
-use Rattle.cxx_model.specs.Facts.Declarations.{CxxFact, CxxGraph, CxxName, spelled}
+use Rattle.cxx_model.specs.Facts.Declarations.{CxxFact, CxxGraph, CxxName, CxxSpecialisation, spelled}
 use Rattle.cxx_model.specs.Stops.{Faulty}
 use Rattle.cxx_model.specs.Text.Lexemes.{Lexeme, first_place}
 use Rattle.cxx_meaning.specs.Conversions.Standard.{CxxOperand}
@@ -219,10 +219,14 @@ pub record StopsIn (tokens : List Lexeme) (fault : Fault) : Type 0 where
   pub goes_on : is_end (kind_ahead ahead) ≡ false
   pub stops : declaration_at limits.MOST_NESTING before ahead ≡ Err (Faulty fault)
 
--- what is declared in a state is what is declared in another, and behind that some more
+-- what is declared in a state is what is declared in another, and behind that some more, and so are the classes that are
+-- reserved
 pub record IsGrown (before at : CxxState) : Type 0 where
   pub own : List CxxFact
-  pub declared : at.graph ≡ record before.graph { facts = before.graph.facts ++ own }
+  pub reserved : List (Option CxxSpecialisation)
+  pub declared : at.graph.facts ≡ before.graph.facts ++ own
+  pub classes : at.graph.classes ≡ before.graph.classes ++ reserved
+  pub patterns : at.graph.patterns ≡ before.graph.patterns
 
 -- 3.4.1, 8.3: a state stands in the namespace that the qualifiers of a name ahead of another state mean
 pub record IsInside (before : CxxState) (from : Ahead) (at : CxxState) : Type 0 where

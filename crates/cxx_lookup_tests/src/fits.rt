@@ -13,7 +13,7 @@ use cxx_model::{ClassId, Entity, Fact, FactId, Name, ScopeId, ScopeKind, TypeId}
 pub(crate) fn is_class(graph: &Graph, class: ClassId) -> bool
     ensures { IsTrue result → class.0 < length graph.now.classes }
 {
-    (class.0 as usize) < graph.class_count()
+    class.0 < graph.class_count()
 }
 
 fn is_fact(graph: &Graph, number: FactId) -> bool

@@ -5,6 +5,7 @@ pub mod Known
 pub mod Looking
 pub mod Meanings
 pub mod Noting
+pub mod Outer
 pub mod Openings
 pub mod Pairs
 pub mod Plain

@@ -13,6 +13,7 @@ use Rattle.cxx_model.specs.Facts.Declarations.{CxxFact, CxxGraph, CxxName, Decla
 use Rattle.cxx_model.specs.Facts.Graph.{Graph}
 use Rattle.cxx_model.specs.Types.Trees.{CxxType}
 use Rattle.cxx_meaning.specs.Lookups.Wanted.{hides_types, names_space, names_type}
+use Rattle.cxx_reading.specs.Classes.{ClassNamed, class_by, first_class, or_other}
 use Rattle.cxx_reading.specs.Declaring.{enumeration_in, first_function, first_object, is_object, is_same_function}
 use Rattle.cxx_names.specs.Meant.{first_named, first_or, or_void}
 use Rattle.cxx_reading.specs.Seen.{type_in, type_named_by, Numbered, any_hides, any_space, any_type, declared_from, declared_in, declares_in, fact_numbers, numbered_at, numbered_by, parent_of}
@@ -190,6 +191,20 @@ enumeration_more types facts number numbers = by (slice_get facts number.0)
     by : (o : Option Fact) → enumeration_in (seen_by types number (looked_up types facts numbers) o) ≡ first_enumeration_or (enumeration_in (seen_by types number [] o)) (enumeration_in (looked_up types facts numbers))
     by None = refl
     by (Some fact) = enumeration_head (record { number = number.0; fact = fact_at types fact }) (looked_up types facts numbers)
+
+-- ---- the first class
+
+class_once : (o later : Option ClassNamed) → or_other o later ≡ or_other (or_other o None) later
+class_once None later = refl
+class_once (Some one) later = refl
+
+pub class_more : (types : List CxxType) (facts : List Fact) (number : FactId) (numbers : List FactId)
+    → first_class (looked_up types facts (number ∷ numbers)) ≡ or_other (first_class (looked_up types facts (number ∷ []))) (first_class (looked_up types facts numbers))
+class_more types facts number numbers = by (slice_get facts number.0)
+  where
+    by : (o : Option Fact) → first_class (seen_by types number (looked_up types facts numbers) o) ≡ or_other (first_class (seen_by types number [] o)) (first_class (looked_up types facts numbers))
+    by None = refl
+    by (Some fact) = class_once (class_by (fact_at types fact).what) (first_class (looked_up types facts numbers))
 
 -- ---- the types that names mean
 

@@ -17,7 +17,7 @@ use Rattle.cxx_model.specs.Facts.Declarations as facts
 use Rattle.cxx_model.specs.Facts.Declarations.{CxxGraph, CxxPattern, declares_at, fact_at, name_at}
 use Rattle.cxx_model.specs.Facts.Entities.{of_space, of_type}
 use Rattle.cxx_model.specs.Types.Same.{same_type}
-use Rattle.cxx_model.specs.Types.Trees.{CxxType, enumeration}
+use Rattle.cxx_model.specs.Types.Trees.{CxxType, class_type, enumeration}
 use Rattle.cxx_meaning.specs.Lookups.Wanted.{is_of_functions}
 use Rattle.cxx_names.specs.Clashes.{IsPlain, IsPlainEntity, IsPlainName, same_spelled}
 
@@ -103,6 +103,17 @@ template_enumeration closed graph template kind defaults is_explicit first numbe
     by None = refl
     by (Some pattern) = of_pattern pattern pattern.of
 
+pub template_class : (closed : Bool) (graph : CxxGraph) (template : TemplateId) (kind : MemberKind) (defaults : ℕ) (is_explicit : Bool) (first : Option FactId) (number : ℕ) (is_union : Bool) → may_stand closed (standing graph (facts.template template kind defaults is_explicit first)) (a_hidden_name (of_type (class_type number)) (Some is_union)) ≡ is_of_functions (slice_get graph.patterns template.0)
+template_class closed graph template kind defaults is_explicit first number is_union = by (slice_get graph.patterns template.0)
+  where
+    of_pattern : (pattern : CxxPattern) (o : Option CxxType) → may_stand closed (standing_by template kind (Some (record pattern { of = o }))) (a_hidden_name (of_type (class_type number)) (Some is_union)) ≡ is_of_functions (Some (record pattern { of = o }))
+    of_pattern pattern None = refl
+    of_pattern pattern (Some t) = refl
+
+    by : (o : Option CxxPattern) → may_stand closed (standing_by template kind o) (a_hidden_name (of_type (class_type number)) (Some is_union)) ≡ is_of_functions o
+    by None = refl
+    by (Some pattern) = of_pattern pattern pattern.of
+
 pub template_name : (closed : Bool) (graph : CxxGraph) (template : TemplateId) (kind : MemberKind) (defaults : ℕ) (is_explicit : Bool) (first : Option FactId) (of : CxxType) → may_stand closed (standing graph (facts.template template kind defaults is_explicit first)) (a_name (of_type of)) ≡ false
 template_name closed graph template kind defaults is_explicit first of = by (slice_get graph.patterns template.0)
   where
@@ -164,6 +175,7 @@ spelled_alike types name.Destructor name.Destructor plain = absurd plain
 pub plain_free : (types : List CxxType) (what : Entity) → IsPlainEntity what → is_constructor (declares_at types what) ≡ false
 plain_free types (entity.Object of m is_mutable value first) plain = refl
 plain_free types (entity.Function of m flags defaults first) plain = (let f : MemberKind → Bool = λ k. is_constructor (facts.function (type_at types of.0) k flags defaults first) in ap f plain)
+plain_free types (entity.Class class is_union) plain = refl
 plain_free types (entity.Enumeration number) plain = refl
 plain_free types (entity.Enumerator number value) plain = refl
 plain_free types (entity.Synonym of) plain = refl

@@ -70,11 +70,12 @@ is_class_in (Some noted) = by noted.kind
 
 -- ---- declarations outside classes
 
--- an object or a function that is no member, an enumeration or an enumerator, another name of a type, a namespace, a
--- using-directive or a using-declaration
+-- an object or a function that is no member, a class, an enumeration or an enumerator, another name of a type, a namespace,
+-- a using-directive or a using-declaration
 abbrev pub IsPlainEntity : Entity → Type 0
 IsPlainEntity (entity.Object of member is_mutable value first) = member ≡ Free
 IsPlainEntity (entity.Function of member flags defaults first) = member ≡ Free
+IsPlainEntity (entity.Class class is_union) = Unit {0}
 IsPlainEntity (entity.Enumeration number) = Unit {0}
 IsPlainEntity (entity.Enumerator number value) = Unit {0}
 IsPlainEntity (entity.Synonym of) = Unit {0}

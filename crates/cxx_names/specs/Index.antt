@@ -8,6 +8,7 @@ use Rattle.cxx_model.specs.declared.facts.Name.{Name}
 use Rattle.cxx_model.specs.declared.facts.Name.TheVariants as name
 use Rattle.cxx_model.specs.declared.facts.ScopeKind.{ScopeKind}
 use Rattle.cxx_model.specs.declared.facts.ScopeKind.TheVariants as kind
+use Rattle.cxx_model.specs.declared.types.ClassId.{ClassId}
 use Rattle.cxx_model.specs.declared.types.EnumId.{EnumId}
 use Rattle.cxx_model.specs.declared.types.FactId.{FactId}
 use Rattle.cxx_model.specs.declared.types.ScopeId.{ScopeId}
@@ -32,6 +33,9 @@ same_scope one two = nat_eq one.0 two.0
 
 abbrev pub same_enumeration : EnumId → EnumId → Bool
 same_enumeration one two = nat_eq one.0 two.0
+
+abbrev pub same_class : ClassId → ClassId → Bool
+same_class one two = nat_eq one.0 two.0
 
 -- ---- what is kept of one fact
 
@@ -61,6 +65,11 @@ block_by number (Some noted) = if is_outermost_kind noted.kind then Some (noted.
 abbrev pub enumeration_by : ScopeId → Entity → Option ScopeId
 enumeration_by scope (entity.Enumeration number) = Some scope
 enumeration_by scope _ = None
+
+-- 9.1: the scope in which a class is declared, under the class
+abbrev pub class_by : ScopeId → Entity → Option (ClassId × ScopeId)
+class_by scope (entity.Class class is_union) = Some (class, scope)
+class_by scope _ = None
 
 -- 7.3.4: the namespace that a directive nominates, under the scope of the directive
 abbrev pub directive_by : ScopeId → Entity → Option (ScopeId × ScopeId)
@@ -110,6 +119,16 @@ abbrev pub enumeration_scopes : List Fact → List ScopeId
 enumeration_scopes [] = []
 enumeration_scopes (fact ∷ facts) = option_to_list (enumeration_by fact.scope fact.what) ++ enumeration_scopes facts
 
+-- 9.1: the scopes in which classes are declared, under them
+abbrev pub class_scopes : List Fact → List (ClassId × ScopeId)
+class_scopes [] = []
+class_scopes (fact ∷ facts) = option_to_list (class_by fact.scope fact.what) ++ class_scopes facts
+
+-- those of one class, in order
+abbrev pub of_class : ClassId → List (ClassId × ScopeId) → List ScopeId
+of_class class [] = []
+of_class class (one ∷ others) = if same_class one.0 class then one.1 ∷ of_class class others else of_class class others
+
 -- 3.3.2: the outermost blocks of functions that a scope holds, where the first scope of a list has a number
 abbrev pub blocks_from : ℕ → ℕ → List Noted → List ScopeId
 blocks_from number scope [] = []
@@ -134,6 +153,7 @@ pub record Keeps (kept : Kept) (facts : List Fact) : Type 0 where
   pub blocks : (scope : ScopeId) → row same_scope kept.blocks.rows.entries scope ≡ blocks_from zero scope.0 (scopes_of facts)
   pub enumerations : kept.enumerations.items ≡ enumeration_scopes facts
   pub values : (number : EnumId) (types : List CxxType) → row same_enumeration kept.values.rows.entries number ≡ values_in number.0 (facts_at types facts)
+  pub classes : (class : ClassId) → row same_class kept.classes.rows.entries class ≡ of_class class (class_scopes facts)
   pub spaces : KeepsSpaces kept.spaces facts
 
 -- Exactly these facts were noted.
@@ -159,6 +179,7 @@ pub record HasKept (old new : Kept) (one : Entry) : Type 0 where
   pub blocks : IsMoreBy same_scope old.blocks.rows.entries new.blocks.rows.entries one.block
   pub enumerations : new.enumerations.items ≡ old.enumerations.items ++ option_to_list one.enumeration
   pub values : IsMoreBy same_enumeration old.values.rows.entries new.values.rows.entries one.value
+  pub classes : IsMoreBy same_class old.classes.rows.entries new.classes.rows.entries one.class
   pub spaces : HasSpaces old.spaces new.spaces one.space
 
 -- The same is kept.
@@ -167,6 +188,7 @@ pub record AreSameKept (old new : Kept) : Type 0 where
   pub blocks : AreSame same_scope old.blocks.rows.entries new.blocks.rows.entries
   pub enumerations : new.enumerations.items ≡ old.enumerations.items
   pub values : AreSame same_enumeration old.values.rows.entries new.values.rows.entries
+  pub classes : AreSame same_class old.classes.rows.entries new.classes.rows.entries
   pub spaces : AreSameSpaces old.spaces new.spaces
 
 pub record HasNoted (old new : Names) (one : Entry) : Type 0 where

@@ -1,15 +1,17 @@
 -- Declarations that are named by their numbers.
-use Rattle.std.specs.Prelude.{ℕ, Bool, false, List, [], ◌∷◌, Option, Some, None, option_map}
+use Rattle.std.specs.Prelude.{ℕ, Bool, true, false, List, [], ◌∷◌, Option, Some, None, option_map}
 use Rattle.std.specs.List.{slice_get}
 use Rattle.cxx_model.specs.declared.facts.Fact.{Fact}
 use Rattle.cxx_model.specs.declared.types.EnumId.{EnumId}
 use Rattle.cxx_model.specs.declared.types.FactId.{FactId}
 use Rattle.cxx_model.specs.declared.types.ScopeId.{ScopeId}
-use Rattle.cxx_model.specs.Facts.Declarations.{CxxFact, fact_at}
-use Rattle.cxx_model.specs.Facts.Entities.{is_space}
+use Rattle.cxx_model.specs.Facts.Declarations.{CxxFact, CxxGraph, fact_at}
+use Rattle.cxx_model.specs.Facts.Entities.{is_space, scope_kinds}
 use Rattle.cxx_model.specs.Types.Trees.{CxxType}
 use Rattle.cxx_reading.specs.Seen.{Numbered}
+use Rattle.cxx_reading.specs.Classes.{ClassNamed, is_open}
 use Rattle.cxx_names.specs.declared.entry.Noted.{Noted}
+use Rattle.cxx_names.specs.declared.looked.NamedClass.{NamedClass}
 
 abbrev pub seen_by : List CxxType → FactId → List Numbered → Option Fact → List Numbered
 seen_by types number later None = later
@@ -28,6 +30,10 @@ holder_in scope (Some noted) = noted.parent
 abbrev pub enumeration_number : EnumId → ℕ
 enumeration_number number = number.0
 
+-- a class that a declaration declares
+abbrev pub class_named_at : NamedClass → ClassNamed
+class_named_at one = record { number = one.class.0; is_union = one.is_union }
+
 abbrev pub scope_number : ScopeId → ℕ
 scope_number scope = scope.0
 
@@ -39,6 +45,13 @@ outer_in (Some noted) = noted.parent.0
 abbrev pub is_space_in : Option Noted → Bool
 is_space_in None = false
 is_space_in (Some noted) = is_space (Some noted.kind)
+
+abbrev pub is_open_in : Option Noted → Bool
+is_open_in None = true
+is_open_in (Some noted) = is_open (Some noted.kind)
+
+abbrev pub is_open_at : CxxGraph → ℕ → Bool
+is_open_at graph scope = is_open (slice_get (scope_kinds graph.facts) scope)
 
 -- the declaration with a number, if there is one
 abbrev pub first_at : List CxxType → List Fact → Option FactId → Option CxxFact

@@ -5,6 +5,7 @@ ghost use Rattle.cxx_model.specs.Facts.Conflicts.{agree as agree_of, array_parts
 ghost use Rattle.cxx_model.specs.Types.Numbers.{AreTypesBelow, bound_at, type_at, types_at};
 ghost use Rattle.cxx_model.specs.Types.Same.{same_bool as same_bool_of, same_cv as same_cv_of, same_type, same_types as same_types_of};
 ghost use Rattle.cxx_model.specs.Types.Trees.{CxxType, class_type, enumeration};
+ghost use Rattle.cxx_reading.specs.Units.{is_incomplete as is_incomplete_of};
 ghost use Rattle.std.specs.Prelude.{List};
 
 use cxx_model::{Bound, ClassId, Cv, EnumId, TypeId, TypeNode};
@@ -128,6 +129,19 @@ pub(crate) fn is_enumeration(types: &TypeTable, of: TypeId, number: EnumId) -> b
 {
     match types.node(of) {
         TypeNode::Enum(other) => other.0 == number.0,
+        _ => false,
+    }
+}
+
+/// Whether a type is a class whose end was not read, or an array of such (9.2); the end of none is read yet.
+pub fn is_incomplete(types: &TypeTable, of: TypeId) -> bool
+    requires { of.0 < length types.now }
+    ensures { result ≡ is_incomplete_of (type_at types.now of.0) }
+{
+    match types.node(of) {
+        TypeNode::Class(_) => true,
+        TypeNode::Array(element, _) => is_incomplete(types, *element),
+        TypeNode::Qualified(_, of) => is_incomplete(types, *of),
         _ => false,
     }
 }

@@ -3,10 +3,10 @@ ghost use Rattle.std.specs.Option.{option_copied};
 ghost use Rattle.cxx_model.specs.Facts.Conflicts.{declares_name as declares_a_name};
 ghost use Rattle.cxx_model.specs.Facts.Declarations.{declares_at};
 ghost use Rattle.cxx_model.specs.Types.Trees.{CxxType};
-ghost use Rattle.cxx_names.specs.Index.{block_by, directive_by, enumeration_by, filed_by, is_outermost_kind, noted_by, opening_by, unnamed_by, unnamed_space, value_by};
+ghost use Rattle.cxx_names.specs.Index.{block_by, class_by, directive_by, enumeration_by, filed_by, is_outermost_kind, noted_by, opening_by, unnamed_by, unnamed_space, value_by};
 ghost use Rattle.cxx_names.specs.Words.{word_declared_by};
 
-use cxx_model::{Entity, EnumId, Fact, FactId, Name, ScopeId, ScopeKind};
+use cxx_model::{ClassId, Entity, EnumId, Fact, FactId, Name, ScopeId, ScopeKind};
 
 /// A spelled name in a scope, by the number of its spelling among those that were met.
 #[derive(Clone, Copy, PartialEq, Eq, Hash)]
@@ -43,6 +43,8 @@ pub(crate) struct Entry {
     pub(crate) value: Option<(EnumId, i128)>,
     // 7.2: the scope of an enumeration.
     pub(crate) enumeration: Option<ScopeId>,
+    // 9.1: the scope in which a class is declared, under the class.
+    pub(crate) class: Option<(ClassId, ScopeId)>,
     pub(crate) space: SpaceEntry,
 }
 
@@ -120,6 +122,15 @@ fn enumeration_in(scope: ScopeId, what: Entity) -> Option<ScopeId>
     }
 }
 
+fn class_in(scope: ScopeId, what: Entity) -> Option<(ClassId, ScopeId)>
+    ensures { result ≡ class_by scope what }
+{
+    match what {
+        Entity::Class { class, .. } => Some((class, scope)),
+        _ => None,
+    }
+}
+
 /// What is filed of a declaration with a number.
 pub(crate) fn filed_name(name: Option<Spelling>, number: FactId) -> Option<(Spelling, FactId)>
     ensures { result ≡ filed_by number name }
@@ -188,6 +199,7 @@ impl Entry {
         ensures block { result.block ≡ block_by scopes (noted_by fact.now.scope fact.now.what) }
         ensures value { result.value ≡ value_by fact.now.what }
         ensures enumeration { result.enumeration ≡ enumeration_by fact.now.scope fact.now.what }
+        ensures class { result.class ≡ class_by fact.now.scope fact.now.what }
         ensures directive { result.space.directive ≡ directive_by fact.now.scope fact.now.what }
         ensures opening { result.space.opening ≡ opening_by number fact.now.what }
         ensures unnamed { result.space.unnamed ≡ unnamed_by fact.now.scope fact.now.name fact.now.what }
@@ -199,6 +211,7 @@ impl Entry {
             block: block_in(ScopeId(scopes), noted),
             value: value_in(fact.what),
             enumeration: enumeration_in(fact.scope, fact.what),
+            class: class_in(fact.scope, fact.what),
             space: SpaceEntry::of(fact, number),
         }
     }

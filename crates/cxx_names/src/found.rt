@@ -9,21 +9,23 @@ ghost use Rattle.cxx_model.specs.Facts.Fitted.{IsGraphBelow};
 ghost use Rattle.cxx_model.specs.Types.Numbers.{type_at};
 ghost use Rattle.cxx_model.specs.Types.Trees.{CxxType};
 ghost use Rattle.cxx_meaning.specs.Conversions.Enumerations.{values_in};
-ghost use Rattle.cxx_meaning.specs.Lookups.Associated.{scope_of_enumeration as scope_of_one};
+ghost use Rattle.cxx_meaning.specs.Lookups.Associated.{scope_of_class as scope_of_a_class, scope_of_enumeration as scope_of_one};
 ghost use Rattle.cxx_reading.specs.Declaring.{enumeration_in, first_function as first_function_by, first_object as first_object_by};
 ghost use Rattle.cxx_reading.specs.Seen.{fact_numbers, kind_of_found as kind_of_all, declared_in as declared_by, numbered_at, parent_of};
 ghost use Rattle.cxx_reading.specs.Paths.{first_space as first_space_by};
 ghost use Rattle.cxx_names.specs.Index.{Notes, numbers_in};
-ghost use Rattle.cxx_names.specs.Looked.{enumeration_number, looked_up, scope_number};
+ghost use Rattle.cxx_reading.specs.Classes.{first_class as first_class_by};
+ghost use Rattle.cxx_names.specs.Looked.{class_named_at, enumeration_number, looked_up, scope_number};
 ghost use Rattle.cxx_names.specs.Words.{IsMetAs};
 
 use crate::looked::{
-    first_enumeration_of, first_function_of, first_object_of, first_space_of, kind_of,
+    NamedClass, first_class_of, first_enumeration_of, first_function_of, first_object_of,
+    first_space_of, kind_of,
 };
 use crate::names::Names;
 use crate::words::MetWord;
 use cxx_graph::Graph;
-use cxx_model::{EnumId, FactId, Kind, ScopeId, TypeId};
+use cxx_model::{ClassId, EnumId, FactId, Kind, ScopeId, TypeId};
 use cxx_types::TypeTable;
 
 /// What declarations that were found are to a reader (3.3.7).
@@ -63,6 +65,14 @@ pub fn first_enumeration(graph: &Graph, numbers: &[FactId]) -> Option<EnumId>
     ensures { (types : List CxxType) → option_map enumeration_number result ≡ enumeration_in (numbered_at (graph_at types graph.now) (fact_numbers numbers.now)) }
 {
     first_enumeration_of(graph, numbers)
+}
+
+/// The first class among declarations that were found (7.1.5.3).
+#[tactic(auto, using(crate::proofs::Looking::numbered_is))]
+pub fn first_class(graph: &Graph, numbers: &[FactId]) -> Option<NamedClass>
+    ensures { (types : List CxxType) → option_map class_named_at result ≡ first_class_by (numbered_at (graph_at types graph.now) (fact_numbers numbers.now)) }
+{
+    first_class_of(graph, numbers)
 }
 
 /// The first namespace among declarations that were found (3.4.6).
@@ -144,6 +154,16 @@ impl Names {
     {
         graph.in_range();
         self.kept.scope_of(number)
+    }
+
+    /// The scope in which a class is declared first (9.1).
+    #[tactic(auto, using(crate::proofs::Outer::class_scope_is))]
+    pub fn scope_of_class(&self, graph: &Graph, class: ClassId) -> Option<ScopeId>
+        requires { Notes self.now graph.now.facts }
+        ensures { (types : List CxxType) → result ≡ scope_of_a_class (graph_at types graph.now) class.0 }
+    {
+        let _ = graph;
+        self.kept.scope_of_class(class)
     }
 
     /// The first declaration of the object that has a name in a scope (3).

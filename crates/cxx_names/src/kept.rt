@@ -2,15 +2,16 @@ ghost use Rattle.std.specs.Prelude.{◌≡◌, ◌++◌, List, [], OnOk, OnErr};
 ghost use Rattle.std.specs.List.{slice_get};
 ghost use Rattle.std.specs.Option.{option_to_list};
 ghost use Rattle.cxx_names.specs.Clashes.{are_parameters_in, is_block_in, is_class_in, is_one_scope_in, holder_of_block as holder_of_a_block};
-ghost use Rattle.cxx_names.specs.Index.{AreSameKept, HasKept, Keeps};
-ghost use Rattle.cxx_names.specs.Looked.{is_space_in, outer_in};
+ghost use Rattle.cxx_names.specs.Filed.{row};
+ghost use Rattle.cxx_names.specs.Index.{AreSameKept, HasKept, Keeps, same_class};
+ghost use Rattle.cxx_names.specs.Looked.{is_open_in, is_space_in, outer_in};
 ghost use Rattle.cxx_names.specs.declared.kept.Kept.{Kept as KeptBefore};
 
 use crate::entry::{Entry, Noted, is_outermost};
 use crate::filed::Filed;
 use crate::spaces::Spaces;
 use cxx_hash::Key;
-use cxx_model::{EnumId, OutOfMemory, ScopeId, ScopeKind};
+use cxx_model::{ClassId, EnumId, OutOfMemory, ScopeId, ScopeKind};
 use std::alloc::Global;
 
 /// The scopes and the enumerations of a unit.
@@ -23,6 +24,8 @@ pub(crate) struct Kept {
     pub(crate) enumerations: Vec<ScopeId>,
     // The values of the enumerators of each enumeration.
     pub(crate) values: Filed<EnumId, i128>,
+    // The scopes in which each class is declared.
+    pub(crate) classes: Filed<ClassId, ScopeId>,
     pub(crate) spaces: Spaces,
 }
 
@@ -53,6 +56,7 @@ impl Kept {
             blocks: Filed::new(alloc, key),
             enumerations: Vec::new(alloc),
             values: Filed::new(alloc, key),
+            classes: Filed::new(alloc, key),
             spaces: Spaces::new(alloc, key),
         }
     }
@@ -72,6 +76,16 @@ impl Kept {
         ensures { result ≡ slice_get self.now.enumerations.items number.0 }
     {
         match self.enumerations.get(number.0 as usize) {
+            Some(scope) => Some(*scope),
+            None => None,
+        }
+    }
+
+    /// The scope in which a class is declared first (9.1).
+    pub(crate) fn scope_of_class(&self, class: ClassId) -> Option<ScopeId>
+        ensures { result ≡ slice_get (row same_class self.now.classes.rows.entries class) 0 }
+    {
+        match self.classes.row(&class).get(0) {
             Some(scope) => Some(*scope),
             None => None,
         }
@@ -100,6 +114,20 @@ impl Kept {
                 _ => false,
             },
             None => false,
+        }
+    }
+
+    /// Whether a scope is that of no class and of no parameters (3.3.1).
+    pub(crate) fn is_open(&self, scope: ScopeId) -> bool
+        ensures { result ≡ is_open_in (slice_get self.now.scopes.items scope.0) }
+    {
+        match self.noted(scope) {
+            Some(noted) => match noted.kind {
+                ScopeKind::Class(_) => false,
+                ScopeKind::Parameters => false,
+                _ => true,
+            },
+            None => true,
         }
     }
 
@@ -169,7 +197,14 @@ impl Kept {
             pop_some(&mut self.scopes, one.noted);
             return Err(fault);
         }
+        if let Err(fault) = self.classes.add(one.class) {
+            self.values.take_back(one.value);
+            self.blocks.take_back(one.block);
+            pop_some(&mut self.scopes, one.noted);
+            return Err(fault);
+        }
         if let Err(fault) = self.spaces.note(one.space) {
+            self.classes.take_back(one.class);
             self.values.take_back(one.value);
             self.blocks.take_back(one.block);
             pop_some(&mut self.scopes, one.noted);
@@ -177,6 +212,7 @@ impl Kept {
         }
         if let Err(fault) = push_some(&mut self.enumerations, one.enumeration) {
             self.spaces.take_back(one.space);
+            self.classes.take_back(one.class);
             self.values.take_back(one.value);
             self.blocks.take_back(one.block);
             pop_some(&mut self.scopes, one.noted);
@@ -192,6 +228,7 @@ impl Kept {
         pop_some(&mut self.scopes, one.noted);
         self.blocks.take_back(one.block);
         self.values.take_back(one.value);
+        self.classes.take_back(one.class);
         self.spaces.take_back(one.space);
         pop_some(&mut self.enumerations, one.enumeration);
     }

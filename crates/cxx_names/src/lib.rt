@@ -16,8 +16,11 @@ mod pair;
 mod spaces;
 mod words;
 
-pub use alike::agree;
-pub use found::{first_enumeration, first_function, first_object, first_space, kind_of_found};
+pub use alike::{agree, is_incomplete};
+pub use found::{
+    first_class, first_enumeration, first_function, first_object, first_space, kind_of_found,
+};
+pub use looked::NamedClass;
 pub use named::type_in;
 pub use names::Names;
 pub use words::{MetWord, Words};

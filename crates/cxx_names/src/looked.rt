@@ -11,12 +11,22 @@ ghost use Rattle.cxx_meaning.specs.Lookups.Wanted.{hides_types as hides_a_type, 
 ghost use Rattle.cxx_reading.specs.Declaring.{enumeration_in, first_function, first_object, is_object as is_an_object, is_same_function as is_one_function};
 ghost use Rattle.cxx_reading.specs.Seen.{any_hides, any_type, kind_of_found};
 ghost use Rattle.cxx_reading.specs.Paths.{first_space};
-ghost use Rattle.cxx_names.specs.Looked.{enumeration_number, looked_up, scope_number};
+ghost use Rattle.cxx_reading.specs.Classes.{first_class};
+ghost use Rattle.cxx_names.specs.Looked.{class_named_at, enumeration_number, looked_up, scope_number};
 
 use crate::alike::same_parameters;
 use cxx_graph::Graph;
-use cxx_model::{Entity, EnumId, Fact, FactId, Kind, Pattern, ScopeId, TemplateId, TypeId};
+use cxx_model::{
+    ClassId, Entity, EnumId, Fact, FactId, Kind, Pattern, ScopeId, TemplateId, TypeId,
+};
 use cxx_types::TypeTable;
+
+/// A class that a declaration declares (9.1).
+#[derive(Clone, Copy)]
+pub struct NamedClass {
+    pub class: ClassId,
+    pub is_union: bool,
+}
 
 pub(crate) fn fact_of(graph: &Graph, number: FactId) -> Option<&Fact>
     ensures { option_copied result ≡ slice_get graph.now.facts number.0 }
@@ -235,6 +245,31 @@ pub(crate) fn first_enumeration_of(graph: &Graph, numbers: &[FactId]) -> Option<
 {
     for number in numbers {
         if let Some(found) = enumeration_at(graph, *number) {
+            return Some(found);
+        }
+    }
+    None
+}
+
+fn class_at(graph: &Graph, number: FactId) -> Option<NamedClass>
+    ensures { (types : List CxxType) → option_map class_named_at result ≡ first_class (looked_up types graph.now.facts (number ∷ [])) }
+{
+    match fact_of(graph, number) {
+        Some(fact) => match fact.what {
+            Entity::Class { class, is_union } => Some(NamedClass { class, is_union }),
+            _ => None,
+        },
+        None => None,
+    }
+}
+
+/// The first class among some declarations.
+#[tactic(auto, using(crate::proofs::Looking::class_more))]
+pub(crate) fn first_class_of(graph: &Graph, numbers: &[FactId]) -> Option<NamedClass>
+    ensures { (types : List CxxType) → option_map class_named_at result ≡ first_class (looked_up types graph.now.facts numbers.now) }
+{
+    for number in numbers {
+        if let Some(found) = class_at(graph, *number) {
             return Some(found);
         }
     }

@@ -16,7 +16,7 @@ use cxx_model::{EnumId, Fact, FactId, OutOfMemory, ScopeId};
 use std::alloc::Global;
 
 /// How many facts and reserved classes there may be together.
-const LIMIT: usize = 2_097_152;
+const LIMIT: u32 = 2_097_152;
 
 /// What is kept beside the facts of a graph, so that no question about names goes over them all.
 #[derive(Drop)]
@@ -101,7 +101,7 @@ impl Names {
         ensures limit { (result ≡ Err AddFault.Limit) ↔ (length graph.old.facts + length graph.old.classes ≡ 2097152) }
     {
         let length = graph.length();
-        if (length as usize).saturating_add(graph.class_count()) == LIMIT {
+        if length.saturating_add(graph.class_count()) == LIMIT {
             return Err(AddFault::Limit);
         }
         let name = self.meet(graph, &fact)?;

@@ -5,10 +5,11 @@ ghost use Rattle.cxx_model.specs.Facts.Conflicts.{same_name};
 ghost use Rattle.cxx_model.specs.Facts.Declarations.{facts_at, graph_at, name_at, spelled};
 ghost use Rattle.cxx_model.specs.Types.Trees.{CxxType};
 ghost use Rattle.cxx_meaning.specs.Lookups.Directives.{nominated};
+ghost use Rattle.cxx_reading.specs.Classes.{open_of};
 ghost use Rattle.cxx_reading.specs.Linked.{home_of, is_space_at};
 ghost use Rattle.cxx_reading.specs.Spaces.{first_opening, is_original_by, opened_among, opened_before as opened_by, unnamed_before as unnamed_by};
 ghost use Rattle.cxx_names.specs.Index.{Notes};
-ghost use Rattle.cxx_names.specs.Looked.{first_at, looked_up, scope_number};
+ghost use Rattle.cxx_names.specs.Looked.{first_at, is_open_at, looked_up, scope_number};
 
 use crate::looked::fact_of;
 use crate::names::Names;
@@ -83,6 +84,37 @@ impl Names {
             now = self.kept.outer(now);
         }
         if self.is_space(graph, now) {
+            return now;
+        }
+        ScopeId(0)
+    }
+
+    // Whether a scope is that of no class and of no parameters.
+    #[tactic(auto, using(crate::proofs::Outer::open_is))]
+    fn is_open(&self, graph: &Graph, scope: ScopeId) -> bool
+        requires { Notes self.now graph.now.facts }
+        ensures { (types : List CxxType) → result ≡ is_open_at (graph_at types graph.now) scope.0 }
+    {
+        let _ = graph;
+        self.kept.is_open(scope)
+    }
+
+    /// The innermost scope round another one, or itself, that is that of no class and of no parameters (3.3.1).
+    pub fn open_scope(&self, graph: &Graph, scope: ScopeId) -> ScopeId
+        requires { Notes self.now graph.now.facts }
+        ensures { (types : List CxxType) → result.0 ≡ open_of (graph_at types graph.now) scope.0 }
+    {
+        let mut now = scope;
+        for _turn in 0..scope.0 {
+            if self.is_open(graph, now) {
+                return now;
+            }
+            if now.0 == 0 {
+                return now;
+            }
+            now = self.kept.outer(now);
+        }
+        if self.is_open(graph, now) {
             return now;
         }
         ScopeId(0)

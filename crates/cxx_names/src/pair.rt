@@ -1,14 +1,15 @@
 //! Whether two declarations of one name may stand in one scope (3.3, 3.3.7, 7.1.3, 7.3.1, 7.3.3, 13.1), where the later one
 //! is no member of a class.
 
-ghost use Rattle.std.specs.Prelude.{◌≡◌, ◌<◌, ◌&&◌, Bool, List, None, length};
+ghost use Rattle.std.specs.Prelude.{◌≡◌, ◌<◌, ◌&&◌, Bool, List, None, Some, length};
 ghost use Rattle.cxx_model.specs.declared.facts.MemberKind.TheVariants.{Free as FreeKind};
 ghost use Rattle.cxx_model.specs.Facts.Conflicts.{a_function, a_hidden_name, a_name, an_enumerator, an_object, are_overloads as are_overloads_by, brought_may_stand, functions_agree as functions_agree_by, is_function as is_function_by, is_static as is_static_kind, may_stand, objects_agree as objects_agree_by, of_one_name as of_one_name_by, one_hides as one_hides_by, same_member, standing};
 ghost use Rattle.cxx_model.specs.Facts.Declarations.{CxxGraph, declares_at, fact_at, graph_at};
 ghost use Rattle.cxx_model.specs.Facts.Entities.{entity_by, of_space, of_type, same_entity};
 ghost use Rattle.cxx_model.specs.Facts.Fitted.{IsEntityBelow, IsGraphBelow};
 ghost use Rattle.cxx_model.specs.Types.Numbers.{type_at};
-ghost use Rattle.cxx_model.specs.Types.Trees.{CxxType, enumeration};
+ghost use Rattle.cxx_model.specs.Types.Same.{same_bool as same_bool_of};
+ghost use Rattle.cxx_model.specs.Types.Trees.{CxxType, class_type, enumeration};
 ghost use Rattle.cxx_meaning.specs.Lookups.Wanted.{is_hideable as is_a_hideable};
 ghost use Rattle.cxx_names.specs.Clashes.{IsNoTemplate, IsPlain, IsPlainEntity, NoTemplates, same_spelled, stand_in};
 
@@ -17,7 +18,7 @@ use crate::entry::declares_name;
 use crate::looked::{hides_types, is_function, is_of_functions};
 use crate::meant::{Meaning, identity_of, is_using, meant, meant_plain, same_identity};
 use cxx_graph::Graph;
-use cxx_model::{Entity, EnumId, Fact, MemberKind, Name, ScopeId, TypeId};
+use cxx_model::{ClassId, Entity, EnumId, Fact, MemberKind, Name, ScopeId, TypeId};
 use cxx_types::TypeTable;
 
 fn is_static(member: MemberKind) -> bool
@@ -128,6 +129,39 @@ fn enumeration_stands(graph: &Graph, types: &TypeTable, old: Entity, number: Enu
     }
 }
 
+fn same_bool(one: bool, two: bool) -> bool
+    ensures { result ≡ same_bool_of one two }
+{
+    if one { two } else { !two }
+}
+
+// Others hide the name of a class (3.3.7), and one that is declared as a union is no other class (7.1.5.3).
+#[tactic(auto, using(crate::proofs::Pairs::template_class))]
+fn class_stands(
+    graph: &Graph,
+    types: &TypeTable,
+    old: Entity,
+    class: ClassId,
+    is_union: bool,
+) -> bool
+    requires { IsEntityBelow (length types.now) old }
+    ensures { (closed : Bool) → result ≡ may_stand closed (standing (graph_at types.now graph.now) (declares_at types.now old)) (a_hidden_name (of_type (class_type class.0)) (Some is_union)) }
+{
+    match old {
+        Entity::Function { .. } => true,
+        Entity::Template { template, .. } => is_of_functions(graph, template),
+        Entity::Object { .. } => true,
+        Entity::Enumerator { .. } => true,
+        Entity::Class {
+            class: other,
+            is_union: any,
+        } => other.0 == class.0 && same_bool(any, is_union),
+        Entity::Injected { class: other } => other.0 == class.0,
+        Entity::Synonym { of } => is_class(types, of, class),
+        _ => false,
+    }
+}
+
 #[tactic(auto, using(crate::proofs::Pairs::template_name))]
 fn name_stands(types: &TypeTable, old: Entity, of: TypeId) -> bool
     requires old { IsEntityBelow (length types.now) old }
@@ -166,6 +200,7 @@ fn stand(graph: &Graph, types: &TypeTable, old: Entity, new: Entity) -> bool
         Entity::Function { of, .. } => function_stands(graph, types, old, of),
         Entity::Object { of, .. } => object_stands(types, old, of),
         Entity::Enumerator { .. } => enumerator_stands(old),
+        Entity::Class { class, is_union } => class_stands(graph, types, old, class, is_union),
         Entity::Enumeration { number } => enumeration_stands(graph, types, old, number),
         Entity::Synonym { of } => name_stands(types, old, of),
         Entity::Namespace { inner } => space_stands(types, old, inner),

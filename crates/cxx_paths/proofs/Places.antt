@@ -8,9 +8,8 @@ use Rattle.cxx_model.specs.Facts.Declarations.{CxxFact, fact_at, facts_at, graph
 use Rattle.cxx_model.specs.Facts.Graph.{Graph}
 use Rattle.cxx_model.specs.Text.Lexemes.{nowhere}
 use Rattle.cxx_model.specs.Types.Trees.{CxxType}
-use Rattle.cxx_paths.specs.Asked.{first_place}
 use Rattle.cxx_reading.specs.Paths.{place_in, place_of_fact}
-use Rattle.cxx_reading.specs.Seen.{numbered_at, numbered_by}
+use Rattle.cxx_reading.specs.Seen.{numbered_at, numbered_by, place_of_first}
 
 pub fact_seen : (types : List CxxType) (facts : List Fact) (n : ℕ) → slice_get (facts_at types facts) n ≡ option_map (fact_at types) (slice_get facts n)
 fact_seen types [] n = refl
@@ -24,8 +23,8 @@ pub place_none : (types : List CxxType) (graph : Graph) (n : ℕ) → slice_get 
 place_none types graph n at = sym (ap place_in (fact_seen types graph.facts n ∙ ap (option_map (fact_at types)) at))
 
 -- where the first of some declarations stands
-pub place_more : (types : List CxxType) (graph : Graph) (n : ℕ) (others : List ℕ) → slice_get graph.facts n ≡ None → first_place (numbered_at (graph_at types graph) (n ∷ others)) ≡ first_place (numbered_at (graph_at types graph) others)
-place_more types graph n others e = ap (λ (o : Option CxxFact). first_place (numbered_by n o (numbered_at (graph_at types graph) others))) (fact_seen types graph.facts n ∙ ap (option_map (fact_at types)) e)
+pub place_more : (types : List CxxType) (graph : Graph) (n : ℕ) (others : List ℕ) → slice_get graph.facts n ≡ None → place_of_first (numbered_at (graph_at types graph) (n ∷ others)) ≡ place_of_first (numbered_at (graph_at types graph) others)
+place_more types graph n others e = ap (λ (o : Option CxxFact). place_of_first (numbered_by n o (numbered_at (graph_at types graph) others))) (fact_seen types graph.facts n ∙ ap (option_map (fact_at types)) e)
 
-pub place_first : (types : List CxxType) (graph : Graph) (n : ℕ) (others : List ℕ) (fact : Fact) → slice_get graph.facts n ≡ Some fact → first_place (numbered_at (graph_at types graph) (n ∷ others)) ≡ Some fact.place
-place_first types graph n others fact e = ap (λ (o : Option CxxFact). first_place (numbered_by n o (numbered_at (graph_at types graph) others))) (fact_seen types graph.facts n ∙ ap (option_map (fact_at types)) e)
+pub place_first : (types : List CxxType) (graph : Graph) (n : ℕ) (others : List ℕ) (fact : Fact) → slice_get graph.facts n ≡ Some fact → place_of_first (numbered_at (graph_at types graph) (n ∷ others)) ≡ Some fact.place
+place_first types graph n others fact e = ap (λ (o : Option CxxFact). place_of_first (numbered_by n o (numbered_at (graph_at types graph) others))) (fact_seen types graph.facts n ∙ ap (option_map (fact_at types)) e)

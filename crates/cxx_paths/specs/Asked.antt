@@ -1,5 +1,5 @@
 -- What is answered of names that are looked up.
-use Rattle.std.specs.Prelude.{ℕ, ◌≡◌, ◌<◌, List, [], ◌∷◌, Option, Some, None}
+use Rattle.std.specs.Prelude.{ℕ, ◌≡◌, ◌<◌, List, Option, Some, None}
 use Rattle.cxx_model.specs.declared.place.Place.{Place}
 use Rattle.cxx_model.specs.declared.stop.Stop.{Stop}
 use Rattle.cxx_model.specs.declared.stop.Stop.TheVariants as stop
@@ -8,18 +8,12 @@ use Rattle.cxx_model.specs.Facts.Graph.{scopes}
 use Rattle.cxx_model.specs.Stops.{Faulty, Limited, Stopped, undeclared_at}
 use Rattle.cxx_reading.specs.declared.region.Region.{Region}
 use Rattle.cxx_reading.specs.Paths.{scope_of_region, wrong_kind_at}
-use Rattle.cxx_reading.specs.Seen.{Numbered}
 use Rattle.cxx_reading.specs.Trees.{CxxPathPart}
 use Rattle.cxx_tree.specs.Held.{Held}
 
 -- a name that stands alone
 abbrev pub part_of : Place → List ℕ → CxxPathPart
 part_of place word = record { word = word; place = place; arguments = None }
-
--- where the first of some declarations stands
-abbrev pub first_place : List Numbered → Option Place
-first_place [] = None
-first_place (one ∷ others) = Some one.fact.place
 
 -- a name means nothing of what is wanted, given where the first of its declarations stands
 abbrev pub not_wanted_at : CxxPathPart → Option Place → Stopped

@@ -8,9 +8,9 @@ ghost use Rattle.cxx_model.specs.declared.fault.FaultText.TheVariants as says;
 ghost use Rattle.cxx_model.specs.Facts.Declarations.{graph_at};
 ghost use Rattle.cxx_model.specs.Stops.{Faulty, undeclared_at};
 ghost use Rattle.cxx_model.specs.Types.Trees.{CxxType};
-ghost use Rattle.cxx_paths.specs.Asked.{IsStop, first_place as first_place_in, not_wanted_at, part_of};
+ghost use Rattle.cxx_paths.specs.Asked.{IsStop, not_wanted_at, part_of};
 ghost use Rattle.cxx_reading.specs.Paths.{ambiguous_at, place_of_fact, wrong_kind_at};
-ghost use Rattle.cxx_reading.specs.Seen.{fact_numbers, numbered_at};
+ghost use Rattle.cxx_reading.specs.Seen.{fact_numbers, numbered_at, place_of_first};
 ghost use Rattle.cxx_reading.specs.Trees.{last_part};
 ghost use Rattle.cxx_tree.specs.Arena.{path_at};
 ghost use Rattle.cxx_tree.specs.Held.{meaning};
@@ -40,7 +40,7 @@ pub fn place_of(graph: &Graph, number: FactId) -> Place
 
 // Where the first of some declarations stands.
 fn first_place(graph: &Graph, numbers: &[FactId]) -> Option<Place>
-    ensures { (types : List CxxType) → result ≡ first_place_in (numbered_at (graph_at types graph.now) (fact_numbers numbers.now)) }
+    ensures { (types : List CxxType) → result ≡ place_of_first (numbered_at (graph_at types graph.now) (fact_numbers numbers.now)) }
 {
     for number in numbers {
         if let Some(fact) = fact_of(graph, *number) {
@@ -53,7 +53,7 @@ fn first_place(graph: &Graph, numbers: &[FactId]) -> Option<Place>
 /// Where the first of some declarations stands.
 #[tactic(auto, unfolding(cxx_tree::specs::Held::meaning))]
 pub fn place_among(state: &State, numbers: &[FactId]) -> Option<Place>
-    ensures { result ≡ first_place_in (numbered_at (meaning state.now).graph (fact_numbers numbers.now)) }
+    ensures { result ≡ place_of_first (numbered_at (meaning state.now).graph (fact_numbers numbers.now)) }
 {
     first_place(state.graph(), numbers)
 }

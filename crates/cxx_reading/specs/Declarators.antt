@@ -141,12 +141,12 @@ pub record Specifiers : Type 0 where
   pub words : TypeWords
   -- a type that a name or an enumeration gives
   pub named : Option CxxType
-  -- 7.2: whether an enumeration is defined among them
-  pub is_enumeration : Bool
+  -- clause 7: whether a declaration of them alone stands: an enumeration is defined among them, or a class is named
+  pub stands_alone : Bool
   pub parts : List CxxTree
 
 abbrev pub no_specifiers : Specifiers
-no_specifiers = record { storage = None; is_inline = false; cv = no_cv; words = no_words; named = None; is_enumeration = false; parts = [] }
+no_specifiers = record { storage = None; is_inline = false; cv = no_cv; words = no_words; named = None; stands_alone = false; parts = [] }
 
 abbrev pub of_base : Option Base → Option CxxType
 of_base None = None

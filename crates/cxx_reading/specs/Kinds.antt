@@ -18,6 +18,9 @@ pub record Kinds (S : Type 0) : Type 0 where
   pub type_named : CxxPath → Asks S CxxType
   -- 3.4.4, 7.1.5.3: the type that a name behind `enum` names
   pub elaborated : CxxPath → Asks S CxxType
+  -- 3.3.1, 3.4.4, 7.1.5.3: the class that a name behind `class`, `struct` or `union` means, by whether the key is that of a
+  -- union, and whether the key and the name are all of their declaration, which declares the class then
+  pub class_named : Bool → Bool → CxxPath → Asks S CxxType
   -- 8.3: The name of a declarator has these qualifiers: it declares a member of their namespace, and what stands behind the
   -- name is read there.
   pub entered : CxxPath → Asks S (Unit {0})

@@ -18,6 +18,7 @@ pub mod Declaring
 pub mod Spaces
 pub mod Usings
 pub mod Members
+pub mod Classes
 pub mod Givers
 pub mod Choosing
 pub mod Initializers

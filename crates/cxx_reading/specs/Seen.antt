@@ -4,6 +4,7 @@ use Rattle.std.specs.List.{slice_get, list_any}
 use Rattle.cxx_model.specs.declared.base.Base.TheVariants.{Void}
 use Rattle.cxx_model.specs.declared.lookup.Found.{Found}
 use Rattle.cxx_model.specs.declared.lookup.Found.TheVariants as looked
+use Rattle.cxx_model.specs.declared.place.Place.{Place}
 use Rattle.cxx_model.specs.declared.tree.Kind.{Kind}
 use Rattle.cxx_model.specs.declared.tree.Kind.TheVariants as kind
 use Rattle.cxx_model.specs.declared.types.FactId.{FactId}
@@ -80,6 +81,11 @@ sought_from graph wanted scope name = found_or_none (ordinary graph wanted (reco
 abbrev pub set_in : CxxGraph → Found → List Numbered
 set_in graph (looked.Set facts) = numbered_at graph (fact_numbers facts)
 set_in graph _ = []
+
+-- where the first of some declarations stands
+abbrev pub place_of_first : List Numbered → Option Place
+place_of_first [] = None
+place_of_first (one ∷ others) = Some one.fact.place
 
 -- The entities that a name means in a scope, by their first declarations; none where it is not declared or ambiguous.
 unfoldable pub found : CxxGraph → ℕ → CxxName → List Numbered

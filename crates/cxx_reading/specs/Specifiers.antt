@@ -1,5 +1,6 @@
 -- How specifiers are read (7.1).
 use Rattle.std.specs.Prelude.{ℕ, Bool, true, false, not, ◌&&◌, ◌||◌, if◌then◌else◌, ◌==◌, List, [], ◌∷◌, ◌++◌, Option, Some, None, codes}
+use Rattle.cxx_model.specs.declared.fault.FaultText.TheVariants as says
 use Rattle.cxx_model.specs.declared.keyword.TheConstants as keyword
 use Rattle.cxx_model.specs.declared.place.Place.{Place}
 use Rattle.cxx_model.specs.declared.punct.TheConstants as punct
@@ -18,9 +19,9 @@ use Rattle.cxx_reading.specs.declared.specifier.TypeWords.{TypeWords}
 use Rattle.cxx_reading.specs.Declarators.{Specifiers, no_specifiers, has_type, type_word, TypeWord, with_word}
 use Rattle.cxx_reading.specs.Kinds.{Kinds, Readers}
 use Rattle.cxx_reading.specs.Productions as production
-use Rattle.cxx_reading.specs.Reads.{Reads, Ahead, Turn, More, Done, ◌>>=◌, got, give, ask, looked, taken, kind_ahead, place_ahead, count_ahead, behind, repeat}
+use Rattle.cxx_reading.specs.Reads.{Reads, Ahead, Turn, More, Done, ◌>>=◌, got, give, ask, fault_at, looked, taken, kind_ahead, place_ahead, count_ahead, behind, repeat}
 use Rattle.cxx_reading.specs.Tokens.{is_punct, is_keyword, is_name, begins_name, kind_of_name, name_taken, path_ahead, path_taken, token_taken, refused, not_built}
-use Rattle.cxx_reading.specs.Trees.{CxxTree, CxxPath, last_part, tree_of}
+use Rattle.cxx_reading.specs.Trees.{CxxTree, CxxPath, is_plain_path, last_part, tree_of}
 use Rattle.cxx_reading.specs.Labels.{label_from}
 
 -- ---- single words
@@ -59,7 +60,7 @@ is_some_storage (Some word) = true
 abbrev pub is_of_members : ℕ → Bool
 is_of_members n = n == keyword.FRIEND || (n == keyword.VIRTUAL || (n == keyword.EXPLICIT || n == keyword.MUTABLE))
 
--- 7.1.5.3, 14.6: a type begins that is not read yet
+-- 7.1.5.3, 14.6: a class begins, or a type that a template gives
 abbrev pub begins_class : ℕ → Bool
 begins_class n = n == keyword.CLASS || (n == keyword.STRUCT || (n == keyword.UNION || n == keyword.TYPENAME))
 
@@ -138,16 +139,16 @@ abbrev pub place_or : Place → Option Lexeme → Place
 place_or place None = place
 place_or place (Some name) = name.place
 
--- 7.1.5.3: `enum` and a name
-abbrev pub elaborated_tree : CxxPath → CxxType → Ahead → Ahead → CxxTree
-elaborated_tree path of from to = tree_of (record (label_from production.elaborated (codes "enum") from to) { place = (last_part path.parts).place; path = Some path; of = Some of }) []
+-- 7.1.5.3: a key and a name
+abbrev pub elaborated_tree : List ℕ → CxxPath → CxxType → Ahead → Ahead → CxxTree
+elaborated_tree key path of from to = tree_of (record (label_from production.elaborated key from to) { place = (last_part path.parts).place; path = Some path; of = Some of }) []
 
 unfoldable pub elaborated_step : {S : Type 0} → Kinds S → Ahead → Specifiers → Reads S (Turn Specifiers Specifiers)
 elaborated_step asks from so_far = do
   path ← path_taken
   of ← ask (asks.elaborated path)
   to ← looked
-  give (More (record so_far { named = Some of; parts = so_far.parts ++ elaborated_tree path of from to ∷ [] }))
+  give (More (record so_far { named = Some of; parts = so_far.parts ++ elaborated_tree (codes "enum") path of from to ∷ [] }))
 
 abbrev pub enumeration_tree : Option Lexeme → ℕ → List CxxTree → Ahead → Ahead → CxxTree
 enumeration_tree name number values from to = tree_of (record (label_from production.enumeration_list [] from to) { place = place_or (place_ahead from) name; path = path_of_option name; of = Some (enumeration number) }) values
@@ -166,7 +167,7 @@ defined_step asks inner from name so_far = do
   number ← ask (asks.enumeration name (place_or (place_ahead from) name))
   values ← enumeration_body asks inner number
   to ← looked
-  give (More (record so_far { named = Some (enumeration number); is_enumeration = true; parts = so_far.parts ++ enumeration_tree name number values from to ∷ [] }))
+  give (More (record so_far { named = Some (enumeration number); stands_alone = true; parts = so_far.parts ++ enumeration_tree name number values from to ∷ [] }))
 
 -- 8.3.5, 5.3.3: no enumeration is defined among parameters and in a type that is named
 unfoldable pub list_step : {S : Type 0} → Kinds S → Readers S → SpecifierPlace → Ahead → Option Lexeme → Specifiers → Reads S (Turn Specifiers Specifiers)
@@ -194,9 +195,51 @@ enumeration_step asks inner place so_far state ahead =
 
 -- ---- all specifiers
 
--- 7.1.5.3, 14.6: a class is not read yet
-unfoldable pub class_step : {S : Type 0} → Specifiers → Reads S (Turn Specifiers Specifiers)
-class_step so_far state ahead = if has_type so_far then refused state ahead else not_built state ahead
+-- ---- classes (7.1.5.3, 9.1)
+
+abbrev pub class_key : Bool → List ℕ
+class_key true = codes "union"
+class_key false = codes "struct"
+
+-- no specifier stands before
+abbrev pub is_first : Specifiers → Bool
+is_first so_far = not (is_some_storage so_far.storage) && (not so_far.is_inline && (not so_far.cv.is_const && not so_far.cv.is_volatile))
+
+-- 3.3.1: the key and the name are all of their declaration, where this is ahead behind them
+abbrev pub is_all : SpecifierPlace → Specifiers → CxxPath → TokenKind → Bool
+is_all place so_far path kind = is_declaration place && (is_first so_far && (is_plain_path path && is_punct punct.SEMICOLON kind))
+
+unfoldable pub class_named_step : {S : Type 0} → Kinds S → Bool → Bool → Ahead → CxxPath → Specifiers → Reads S (Turn Specifiers Specifiers)
+class_named_step asks is_union all from path so_far = do
+  of ← ask (asks.class_named is_union all path)
+  to ← looked
+  give (More (record so_far { named = Some of; stands_alone = true; parts = so_far.parts ++ elaborated_tree (class_key is_union) path of from to ∷ [] }))
+
+-- 9, 10: bases or members, which are not read yet
+abbrev pub begins_members : TokenKind → Bool
+begins_members kind = is_punct punct.LEFT_BRACE kind || is_punct punct.COLON kind
+
+unfoldable pub class_behind : {S : Type 0} → Kinds S → Bool → SpecifierPlace → Ahead → CxxPath → Specifiers → Reads S (Turn Specifiers Specifiers)
+class_behind asks is_union place from path so_far state ahead =
+    if begins_members (kind_ahead ahead) then fault_at (place_ahead from) says.NotBuilt state ahead else
+    class_named_step asks is_union (is_all place so_far path (kind_ahead ahead)) from path so_far state ahead
+
+unfoldable pub class_name_step : {S : Type 0} → Kinds S → Bool → SpecifierPlace → Ahead → Specifiers → Reads S (Turn Specifiers Specifiers)
+class_name_step asks is_union place from so_far = path_taken >>= λ path. class_behind asks is_union place from path so_far
+
+-- behind `class`, `struct` or `union`
+unfoldable pub class_key_step : {S : Type 0} → Kinds S → Bool → SpecifierPlace → Ahead → Specifiers → Reads S (Turn Specifiers Specifiers)
+class_key_step asks is_union place from so_far state ahead =
+    if begins_name ahead then class_name_step asks is_union place from so_far state ahead else (
+    if begins_members (kind_ahead ahead) then fault_at (place_ahead from) says.NotBuilt state ahead else
+    refused state ahead)
+
+-- 14.6: `typename` is not read yet
+unfoldable pub class_step : {S : Type 0} → Kinds S → SpecifierPlace → ℕ → Specifiers → Reads S (Turn Specifiers Specifiers)
+class_step asks place n so_far state ahead =
+    if has_type so_far then refused state ahead else (
+    if n == keyword.TYPENAME then not_built state ahead else
+    class_key_step asks (n == keyword.UNION) place ahead so_far state (behind ahead))
 
 -- a keyword that is no storage word and no word of a type
 unfoldable pub other_step : {S : Type 0} → Kinds S → Readers S → SpecifierPlace → ℕ → Specifiers → Reads S (Turn Specifiers Specifiers)
@@ -205,7 +248,7 @@ other_step asks inner place n so_far state ahead =
     if n == keyword.VOLATILE then volatile_step so_far state ahead else (
     if n == keyword.INLINE then inline_step place so_far state ahead else (
     if n == keyword.ENUM then enumeration_step asks inner place so_far state ahead else (
-    if begins_class n then class_step so_far state ahead else (
+    if begins_class n then class_step asks place n so_far state ahead else (
     if is_of_members n then refused state ahead else
     got (Done so_far) state ahead)))))
 

@@ -10,7 +10,7 @@ use Rattle.cxx_model.specs.declared.token.TokenKind.TheVariants.{Keyword, Text, 
 use Rattle.cxx_model.specs.Facts.Conflicts.{is_unknown}
 use Rattle.cxx_model.specs.Stops.{Answer}
 use Rattle.cxx_model.specs.Text.Lexemes.{Lexeme, nowhere}
-use Rattle.cxx_model.specs.Types.Trees.{CxxType, array_of, qualified}
+use Rattle.cxx_model.specs.Types.Trees.{CxxType, array_of, class_type, qualified}
 use Rattle.cxx_reading.specs.declared.specifier.StorageWord.{StorageWord}
 use Rattle.cxx_reading.specs.declared.specifier.StorageWord.TheVariants as storage
 use Rattle.cxx_reading.specs.Declarators.{Specifiers, type_of_specifiers, Declarator, declared_type, refused_in, is_refused, is_void, is_reference}
@@ -84,9 +84,20 @@ abbrev pub is_unbounded : CxxType → Bool
 is_unbounded (array_of of bound) = is_unknown bound || is_unbounded of
 is_unbounded _ = false
 
+-- 9.2: a class whose end was not read, or an array of such; the end of none is read yet
+abbrev pub is_incomplete : CxxType → Bool
+is_incomplete (class_type n) = true
+is_incomplete (array_of of bound) = is_incomplete of
+is_incomplete (qualified cv of) = is_incomplete of
+is_incomplete _ = false
+
+-- 3.9: an object is of a complete type
+unfoldable pub complete_object : Lexeme → CxxType → Reads CxxState (Unit {0})
+complete_object name of state ahead = if is_incomplete of then fault_at name.place says.IncompleteClass state ahead else got tt state ahead
+
 unfoldable pub uninitialized : Lexeme → CxxType → Reads CxxState (List CxxTree)
 uninitialized name of state ahead =
-    if is_unbounded of then fault_at name.place says.IncompleteClass state ahead else (
+    if is_unbounded of || is_incomplete of then fault_at name.place says.IncompleteClass state ahead else (
     if is_reference of || is_const_type of then fault_at name.place says.NoConversion state ahead else
     got [] state ahead)
 
@@ -132,10 +143,10 @@ abbrev pub is_some_storage : Option StorageWord → Bool
 is_some_storage None = false
 is_some_storage (Some word) = true
 
--- clause 7: without a declarator a declaration has to declare or name an enumeration
+-- clause 7: without a declarator a declaration has to define an enumeration or to name a class
 unfoldable pub nothing_declared : Specifiers → Reads CxxState (List CxxTree)
 nothing_declared specifiers state ahead =
-    if specifiers.is_enumeration && not (is_some_storage specifiers.storage) then got [] state (behind ahead) else refused state ahead
+    if specifiers.stands_alone && not (is_some_storage specifiers.storage) then got [] state (behind ahead) else refused state ahead
 
 abbrev pub is_typedef_word : Option StorageWord → Bool
 is_typedef_word (Some storage.Typedef) = true

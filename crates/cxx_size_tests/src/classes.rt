@@ -128,7 +128,7 @@ pub fn is_derived_from(
     base: ClassId,
 ) -> Result<bool, Stopped> {
     let count = unit.graph.class_count();
-    if (class.0 as usize) < count && (base.0 as usize) < count {
+    if class.0 < count && base.0 < count {
         Ok(is_derived(alloc, &unit.graph, &unit.types, class, base)?)
     } else {
         Err(Stopped::Range)
@@ -141,7 +141,7 @@ pub fn size_of(unit: Unit, class: ClassId) -> Result<Option<u64>, Stopped>
     requires { IsSound unit }
 {
     let mut unit = unit;
-    if (class.0 as usize) >= unit.graph.class_count() {
+    if class.0 >= unit.graph.class_count() {
         return Err(Stopped::Range);
     }
     let of = unit.types.class(class)?;

@@ -133,7 +133,7 @@ pub fn order_of(
 {
     let mut unit = unit;
     let count = unit.graph.class_count();
-    if (class.0 as usize) >= count || (one.0 as usize) >= count || (two.0 as usize) >= count {
+    if class.0 >= count || one.0 >= count || two.0 >= count {
         return Err(Stopped::Range);
     }
     order(alloc, &unit.graph, &mut unit.types, class, one, two)

@@ -41,19 +41,18 @@ fn is_in_range(graph: &Graph, scope: ScopeId, what: &Entity) -> bool
 {
     let count = graph.class_count();
     match what {
-        Entity::Class { class, .. } => (class.0 as usize) < count,
-        Entity::Complete { class } => (class.0 as usize) < count,
+        Entity::Class { class, .. } => class.0 < count,
+        Entity::Complete { class } => class.0 < count,
         Entity::Object { first: None, .. } => true,
         Entity::Function { first: None, .. } => true,
         Entity::Ancestor { class, parent, .. } => {
-            (class.0 as usize) < count
-                && ((parent.0 as usize) < count
-                    && (graph.complete(*parent) && !graph.complete(*class)))
+            class.0 < count
+                && (parent.0 < count && (graph.complete(*parent) && !graph.complete(*class)))
         }
         Entity::Scope {
             parent: Some(parent),
             kind: ScopeKind::Class(class),
-        } => { parent.0 == scope.0 && (class.0 as usize) < count }
+        } => { parent.0 == scope.0 && class.0 < count }
         _ => false,
     }
 }

@@ -48,7 +48,7 @@ IsTurn more done (turn.Done y) = done y
 -- ---- specifiers
 
 abbrev pub specifiers_of : Held → Specifiers → definition.Specifiers
-specifiers_of held s = record { storage = s.storage; is_inline = s.is_inline; cv = s.cv; words = s.words; named = type_of_option held.types s.named; is_enumeration = s.is_enumeration; parts = trees_in (trees held) s.parts }
+specifiers_of held s = record { storage = s.storage; is_inline = s.is_inline; cv = s.cv; words = s.words; named = type_of_option held.types s.named; stands_alone = s.stands_alone; parts = trees_in (trees held) s.parts }
 
 pub record AreSpecifiers (held : Held) (s : Specifiers) : Type 0 where
   pub named : IsTypeNumberBelow (length held.types) s.named

@@ -4,11 +4,12 @@ ghost use Rattle.cxx_reading.specs.State.{CxxState};
 ghost use Rattle.cxx_reading.specs.Tokens.{path_ahead};
 ghost use Rattle.cxx_syntax.specs.Asking.{AnyKnown, IsAsked, IsConstantKnown, IsEnumeration, IsTypeKnown, enumeration_number, itself, scope_number};
 ghost use Rattle.cxx_syntax.specs.Views.{lexeme_at, name_of_option};
+ghost use Rattle.cxx_tree.specs.Arena.{path_at};
 ghost use Rattle.cxx_tree.specs.Held.{meaning, tree, trees, type_of};
 
 use crate::cursor::{Cursor, Spelled};
 use crate::name::NameToken;
-use cxx_model::{EnumId, Kind, Place, ScopeId, Stop, TreeId, TypeId};
+use cxx_model::{EnumId, Kind, Path, Place, ScopeId, Stop, TreeId, TypeId};
 use cxx_tree::State;
 
 /// What a reader of tokens asks of its user. `asks` is the definition that the answers follow; it may depend on how many
@@ -32,6 +33,19 @@ pub trait Kinds {
     fn elaborated(&self, state: &mut State, ahead: &Cursor<'_>, room: u32) -> Result<TypeId, Stop>
         requires { is_ready self.now }
         ensures { IsAsked type_of IsTypeKnown state.old state.new result ((asks self.now room).elaborated (path_ahead ahead.now) (meaning state.old)) };
+
+    /// The class that a name behind `class`, `struct` or `union` means (3.4.4, 7.1.5.3), by whether the key is that of a
+    /// union, and whether the key and the name are all of their declaration, which declares the class then (3.3.1).
+    fn class_named(
+        &self,
+        state: &mut State,
+        path: &Path,
+        is_union: bool,
+        is_all: bool,
+        room: u32,
+    ) -> Result<TypeId, Stop>
+        requires { is_ready self.now }
+        ensures { IsAsked type_of IsTypeKnown state.old state.new result ((asks self.now room).class_named is_union is_all (path_at path.now) (meaning state.old)) };
 
     /// A declarator has a name with qualifiers: it declares a member of their namespace, and what stands behind the name is
     /// read there (8.3).

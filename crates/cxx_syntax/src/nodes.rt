@@ -133,19 +133,20 @@ pub fn push(state: &mut State, node: Node) -> Result<TreeId, Stop>
     }
 }
 
-/// `enum` and a name (7.1.5.3).
+/// A key and a name (7.1.5.3).
 pub(crate) fn elaborated_tree(
     alloc: Global,
     state: &mut State,
+    key: &[u8],
     path: Path,
     of: TypeId,
     from: &Cursor<'_>,
     to: &Cursor<'_>,
 ) -> Result<TreeId, Stop>
     requires { of.0 < length (state.old).types }
-    ensures { GrowsTree state.old state.new result (definition.elaborated_tree (path_at path) (type_of state.old of) from.now to.now) }
+    ensures { GrowsTree state.old state.new result (definition.elaborated_tree key.now (path_at path) (type_of state.old of) from.now to.now) }
 {
-    let spelling = Text::from_slice(alloc, b"enum")?;
+    let spelling = Text::from_slice(alloc, key)?;
     let mut node = node_from(
         production::ELABORATED,
         spelling,

@@ -8,9 +8,9 @@ pub struct Specifiers {
     pub is_inline: bool,
     pub cv: Cv,
     pub words: TypeWords,
-    /// A type that a name or an enumeration gives.
+    /// A type that a name, an enumeration or a class gives.
     pub named: Option<TypeId>,
-    /// Whether an enumeration is defined among them (7.2).
-    pub is_enumeration: bool,
+    /// Whether a declaration of them alone stands: an enumeration is defined among them, or a class is named (clause 7).
+    pub stands_alone: bool,
     pub parts: TreeIdList,
 }

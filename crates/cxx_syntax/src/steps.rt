@@ -8,6 +8,7 @@ ghost use Rattle.cxx_syntax.specs.Asking.{AnyKnown, itself};
 ghost use Rattle.cxx_syntax.specs.Reading.{IsRead};
 ghost use Rattle.cxx_syntax.specs.Words.{word_of};
 ghost use Rattle.cxx_syntax.specs.Views.{AreSpecifiers, AreTreesHeld, IsSpecifiersTurn, name_of_option, specifiers_of, specifiers_turn, trees_held};
+ghost use Rattle.cxx_tree.specs.Arena.{path_at};
 ghost use Rattle.cxx_tree.specs.Held.{meaning};
 
 use crate::cursor::{Cursor, is_keyword, is_name, is_punct};
@@ -20,10 +21,10 @@ use crate::specifiers::Specifiers;
 use crate::turn::Turn;
 use crate::words::{TypeWord, base_of_words, storage_word, type_word, with_word};
 use cxx_model::{
-    Cv, EnumId, Kind, Listed, Stop, TokenKind, TreeId, TreeIdList, TypeId, keyword, punct,
+    Cv, EnumId, Kind, Listed, Path, Stop, TokenKind, TreeId, TreeIdList, TypeId, keyword, punct,
 };
 use cxx_reading::{SpecifierPlace, StorageWord, TypeWords};
-use cxx_tree::State;
+use cxx_tree::{State, is_plain_path};
 use std::alloc::Global;
 
 // Which storage words may stand there (7.1.1).
@@ -177,20 +178,40 @@ pub(crate) fn has_type(state: &State, so_far: &Specifiers) -> bool
     }
 }
 
-// A class is not read yet (7.1.5.3, 14.6).
-#[tactic(auto, unfolding(cxx_reading::specs::Specifiers::class_step))]
-fn class_step(
-    state: &State,
-    cursor: &mut Cursor<'_>,
-    so_far: Specifiers,
-) -> Result<Turn<Specifiers, Specifiers>, Stop>
-    requires { AreSpecifiers state.now so_far }
-    ensures { IsRead specifiers_turn IsSpecifiersTurn state.now state.now cursor.new result (definition.class_step (specifiers_of state.now so_far) (meaning state.now) cursor.old) }
+fn class_key(is_union: bool) -> &'static [u8]
+    ensures { result.now ≡ definition.class_key is_union }
 {
-    if has_type(state, &so_far) {
-        return Err(Stop::Fault(cursor.refused()?));
-    }
-    Err(Stop::Fault(cursor.not_built()?))
+    if is_union { b"union" } else { b"struct" }
+}
+
+// No specifier stands before.
+fn is_first(state: &State, so_far: &Specifiers) -> bool
+    ensures { result ≡ definition.is_first (specifiers_of state.now so_far.now) }
+{
+    let _ = state;
+    so_far.storage.is_none()
+        && (!so_far.is_inline && (!so_far.cv.is_const && !so_far.cv.is_volatile))
+}
+
+// The key and the name of a class are all of their declaration (3.3.1).
+fn is_all(
+    state: &State,
+    place: SpecifierPlace,
+    so_far: &Specifiers,
+    path: &Path,
+    kind: TokenKind,
+) -> bool
+    ensures { result ≡ definition.is_all place (specifiers_of state.now so_far.now) (path_at path.now) kind }
+{
+    is_declaration(place)
+        && (is_first(state, so_far) && (is_plain_path(path) && is_punct(punct::SEMICOLON, kind)))
+}
+
+// Bases or members, which are not read yet (9, 10).
+fn begins_members(kind: TokenKind) -> bool
+    ensures { result ≡ definition.begins_members kind }
+{
+    is_punct(punct::LEFT_BRACE, kind) || is_punct(punct::COLON, kind)
 }
 
 pub(crate) fn is_of_members(number: u8) -> bool
@@ -229,21 +250,21 @@ fn with_tree(so_far: Specifiers, of: TypeId, tree: TreeId) -> Result<Specifiers,
     Ok(so_far)
 }
 
-// The same, with the tree that defines an enumeration.
-fn with_enumeration(so_far: Specifiers, of: TypeId, tree: TreeId) -> Result<Specifiers, Stop>
-    ensures is { IfOk result (λ specifiers. specifiers ≡ record so_far { named = Some of; is_enumeration = true; parts = so_far.parts ++ tree ∷ [] }) }
+// The same, with the tree that defines an enumeration or names a class.
+fn with_declared(so_far: Specifiers, of: TypeId, tree: TreeId) -> Result<Specifiers, Stop>
+    ensures is { IfOk result (λ specifiers. specifiers ≡ record so_far { named = Some of; stands_alone = true; parts = so_far.parts ++ tree ∷ [] }) }
     ensures memory { IfErr result (λ why. why ≡ stop.OutOfMemory) }
 {
     let mut so_far = so_far;
     so_far.named = Some(of);
-    so_far.is_enumeration = true;
+    so_far.stands_alone = true;
     so_far.parts.push(tree)?;
     Ok(so_far)
 }
 
 // No specifier was read yet.
 fn no_specifiers_yet(alloc: Global) -> Specifiers
-    ensures { result ≡ record { storage = None; is_inline = false; cv = no_cv; words = no_words; named = None; is_enumeration = false; parts = [] } }
+    ensures { result ≡ record { storage = None; is_inline = false; cv = no_cv; words = no_words; named = None; stands_alone = false; parts = [] } }
 {
     Specifiers {
         storage: None,
@@ -258,7 +279,7 @@ fn no_specifiers_yet(alloc: Global) -> Specifiers
             size: None,
         },
         named: None,
-        is_enumeration: false,
+        stands_alone: false,
         parts: Listed::new(alloc),
     }
 }
@@ -337,7 +358,7 @@ impl<K: Kinds, N: Nested> Reader<'_, K, N> {
         let name = cursor.mark();
         let path = cursor.path_taken(state)?;
         let of = self.kinds.elaborated(state, &name, self.room)?;
-        let tree = elaborated_tree(cursor.alloc(), state, path, of, from, cursor)?;
+        let tree = elaborated_tree(cursor.alloc(), state, b"enum", path, of, from, cursor)?;
         Ok(Turn::More(with_tree(so_far, of, tree)?))
     }
 
@@ -378,7 +399,7 @@ impl<K: Kinds, N: Nested> Reader<'_, K, N> {
         let both = self.kinds.enumeration(state, name, place, self.room)?;
         let values = self.enumeration_body(state, cursor, both.0)?;
         let tree = enumeration_tree(cursor.alloc(), state, name, both, values, from, cursor)?;
-        Ok(Turn::More(with_enumeration(so_far, both.1, tree)?))
+        Ok(Turn::More(with_declared(so_far, both.1, tree)?))
     }
 
     // No enumeration is defined among parameters and in a type that is named (8.3.5, 5.3.3).
@@ -471,6 +492,128 @@ impl<K: Kinds, N: Nested> Reader<'_, K, N> {
         self.key_step(state, cursor, place, &from, so_far)
     }
 
+    // The class that a name means (7.1.5.3).
+    #[tactic(auto, using(crate::proofs::Kept::trees_kept, crate::proofs::Kept::trees_later, crate::proofs::Kept::trees_append, crate::proofs::Kept::trees_below_append, crate::proofs::Kept::named_kept, crate::proofs::Kept::named_later, crate::proofs::Kept::type_kept, crate::proofs::Kept::type_later, crate::proofs::Kept::later_trans, crate::proofs::Kept::later_refl), unfolding(cxx_reading::specs::Specifiers::class_named_step))]
+    fn class_named_step(
+        &self,
+        state: &mut State,
+        cursor: &Cursor<'_>,
+        is_union: bool,
+        is_all: bool,
+        from: &Cursor<'_>,
+        path: Path,
+        so_far: Specifiers,
+    ) -> Result<Turn<Specifiers, Specifiers>, Stop>
+        requires known { AreSpecifiers state.old so_far }
+        requires ready { K.is_ready self.now.kinds.now }
+        ensures { IsRead specifiers_turn IsSpecifiersTurn state.old state.new cursor.now result (definition.class_named_step (K.asks self.now.kinds.now self.now.room) is_union is_all from.now (path_at path) (specifiers_of state.old so_far) (meaning state.old) cursor.now) }
+    {
+        let of = self
+            .kinds
+            .class_named(state, &path, is_union, is_all, self.room)?;
+        let key = class_key(is_union);
+        let tree = elaborated_tree(cursor.alloc(), state, key, path, of, from, cursor)?;
+        Ok(Turn::More(with_declared(so_far, of, tree)?))
+    }
+
+    // Behind the name of a class.
+    #[tactic(auto, using(crate::proofs::Kept::trees_kept, crate::proofs::Kept::trees_later, crate::proofs::Kept::trees_append, crate::proofs::Kept::trees_below_append, crate::proofs::Kept::named_kept, crate::proofs::Kept::named_later, crate::proofs::Kept::type_kept, crate::proofs::Kept::type_later, crate::proofs::Kept::later_trans, crate::proofs::Kept::later_refl), unfolding(cxx_reading::specs::Specifiers::class_behind))]
+    fn class_behind(
+        &self,
+        state: &mut State,
+        cursor: &Cursor<'_>,
+        is_union: bool,
+        place: SpecifierPlace,
+        from: &Cursor<'_>,
+        path: Path,
+        so_far: Specifiers,
+    ) -> Result<Turn<Specifiers, Specifiers>, Stop>
+        requires known { AreSpecifiers state.old so_far }
+        requires ready { K.is_ready self.now.kinds.now }
+        ensures { IsRead specifiers_turn IsSpecifiersTurn state.old state.new cursor.now result (definition.class_behind (K.asks self.now.kinds.now self.now.room) is_union place from.now (path_at path) (specifiers_of state.old so_far) (meaning state.old) cursor.now) }
+    {
+        if begins_members(cursor.kind()) {
+            return Err(Stop::Fault(from.not_built()?));
+        }
+        let is_all = is_all(state, place, &so_far, &path, cursor.kind());
+        self.class_named_step(state, cursor, is_union, is_all, from, path, so_far)
+    }
+
+    // The name of a class.
+    #[tactic(auto, using(crate::proofs::Kept::trees_kept, crate::proofs::Kept::trees_later, crate::proofs::Kept::trees_append, crate::proofs::Kept::trees_below_append, crate::proofs::Kept::named_kept, crate::proofs::Kept::named_later, crate::proofs::Kept::type_kept, crate::proofs::Kept::type_later, crate::proofs::Kept::later_trans, crate::proofs::Kept::later_refl), unfolding(cxx_reading::specs::Specifiers::class_name_step))]
+    fn class_name_step(
+        &self,
+        state: &mut State,
+        cursor: &mut Cursor<'_>,
+        is_union: bool,
+        place: SpecifierPlace,
+        from: &Cursor<'_>,
+        so_far: Specifiers,
+    ) -> Result<Turn<Specifiers, Specifiers>, Stop>
+        requires known { AreSpecifiers state.old so_far }
+        requires ready { K.is_ready self.now.kinds.now }
+        ensures { IsRead specifiers_turn IsSpecifiersTurn state.old state.new cursor.new result (definition.class_name_step (K.asks self.now.kinds.now self.now.room) is_union place from.now (specifiers_of state.old so_far) (meaning state.old) cursor.old) }
+    {
+        let path = cursor.path_taken(state)?;
+        self.class_behind(state, cursor, is_union, place, from, path, so_far)
+    }
+
+    // Behind `class`, `struct` or `union`.
+    #[tactic(auto, using(crate::proofs::Kept::trees_kept, crate::proofs::Kept::trees_later, crate::proofs::Kept::trees_append, crate::proofs::Kept::trees_below_append, crate::proofs::Kept::named_kept, crate::proofs::Kept::named_later, crate::proofs::Kept::type_kept, crate::proofs::Kept::type_later, crate::proofs::Kept::later_trans, crate::proofs::Kept::later_refl), unfolding(cxx_reading::specs::Specifiers::class_key_step))]
+    fn class_key_step(
+        &self,
+        state: &mut State,
+        cursor: &mut Cursor<'_>,
+        is_union: bool,
+        place: SpecifierPlace,
+        from: &Cursor<'_>,
+        so_far: Specifiers,
+    ) -> Result<Turn<Specifiers, Specifiers>, Stop>
+        requires known { AreSpecifiers state.old so_far }
+        requires ready { K.is_ready self.now.kinds.now }
+        ensures { IsRead specifiers_turn IsSpecifiersTurn state.old state.new cursor.new result (definition.class_key_step (K.asks self.now.kinds.now self.now.room) is_union place from.now (specifiers_of state.old so_far) (meaning state.old) cursor.old) }
+    {
+        if cursor.begins_name() {
+            return self.class_name_step(state, cursor, is_union, place, from, so_far);
+        }
+        if begins_members(cursor.kind()) {
+            return Err(Stop::Fault(from.not_built()?));
+        }
+        Err(Stop::Fault(cursor.refused()?))
+    }
+
+    // A class (7.1.5.3, 9.1); `typename` is not read yet (14.6).
+    #[tactic(auto, using(crate::proofs::Kept::trees_kept, crate::proofs::Kept::trees_later, crate::proofs::Kept::trees_append, crate::proofs::Kept::trees_below_append, crate::proofs::Kept::named_kept, crate::proofs::Kept::named_later, crate::proofs::Kept::type_kept, crate::proofs::Kept::type_later, crate::proofs::Kept::later_trans, crate::proofs::Kept::later_refl), unfolding(cxx_reading::specs::Specifiers::class_step))]
+    fn class_step(
+        &self,
+        state: &mut State,
+        cursor: &mut Cursor<'_>,
+        place: SpecifierPlace,
+        number: u8,
+        so_far: Specifiers,
+    ) -> Result<Turn<Specifiers, Specifiers>, Stop>
+        requires known { AreSpecifiers state.old so_far }
+        requires ready { K.is_ready self.now.kinds.now }
+        ensures { IsRead specifiers_turn IsSpecifiersTurn state.old state.new cursor.new result (definition.class_step (K.asks self.now.kinds.now self.now.room) place number (specifiers_of state.old so_far) (meaning state.old) cursor.old) }
+    {
+        if has_type(state, &so_far) {
+            return Err(Stop::Fault(cursor.refused()?));
+        }
+        if number == keyword::TYPENAME {
+            return Err(Stop::Fault(cursor.not_built()?));
+        }
+        let from = cursor.mark();
+        cursor.advance();
+        self.class_key_step(
+            state,
+            cursor,
+            number == keyword::UNION,
+            place,
+            &from,
+            so_far,
+        )
+    }
+
     // A keyword that is no storage word and no word of a type.
     #[tactic(auto, using(crate::proofs::Kept::trees_kept, crate::proofs::Kept::trees_later, crate::proofs::Kept::trees_append, crate::proofs::Kept::trees_below_append, crate::proofs::Kept::named_kept, crate::proofs::Kept::named_later, crate::proofs::Kept::type_kept, crate::proofs::Kept::type_later, crate::proofs::Kept::later_trans, crate::proofs::Kept::later_refl), unfolding(cxx_reading::specs::Specifiers::other_step))]
     fn other_step(
@@ -499,7 +642,7 @@ impl<K: Kinds, N: Nested> Reader<'_, K, N> {
             return self.enumeration_step(state, cursor, place, so_far);
         }
         if begins_class(number) {
-            return class_step(state, cursor, so_far);
+            return self.class_step(state, cursor, place, number, so_far);
         }
         if is_of_members(number) {
             return Err(Stop::Fault(cursor.refused()?));

@@ -1,5 +1,7 @@
+pub mod Alone
 pub mod Arenas
 pub mod Calls
+pub mod Classes
 pub mod Graphs
 pub mod Giving
 pub mod Homes

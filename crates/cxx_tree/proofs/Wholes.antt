@@ -215,7 +215,7 @@ no_place place (entity.Scope parent kind) ok = absurd ok
 no_place place (entity.Template number member defaults is_explicit first) ok = absurd ok
 no_place place (entity.Parameter depth index of) ok = absurd ok
 no_place place (entity.Injected number) ok = absurd ok
-no_place place (entity.Class number is_union) ok = absurd ok
+no_place place (entity.Class number is_union) ok = refl
 no_place place (entity.Complete number) ok = absurd ok
 no_place place (entity.Passed number) ok = absurd ok
 no_place place (entity.Ancestor number parent index access) ok = absurd ok
@@ -532,6 +532,7 @@ plain_untemplated (entity.Synonym of) ok = tt
 plain_untemplated (entity.Namespace inner) ok = tt
 plain_untemplated (entity.Directive nominated) ok = tt
 plain_untemplated (entity.Using target) ok = tt
+plain_untemplated (entity.Class number is_union) ok = tt
 plain_untemplated _ ok = absurd ok
 
 scope_untemplated : (what : Entity) → IsPlainScope what → IsNoTemplate what

@@ -1,6 +1,7 @@
 -- What a call of the state does, in the terms of the definitions.
 use Rattle.std.specs.Prelude.{ℕ, ◌≡◌, ◌<◌, length, Option, Some, None, Result, Ok, Err}
 use Rattle.cxx_model.specs.declared.stop.Stop.{Stop}
+use Rattle.cxx_model.specs.declared.types.ClassId.{ClassId}
 use Rattle.cxx_model.specs.declared.types.FactId.{FactId}
 use Rattle.cxx_model.specs.declared.types.ScopeId.{ScopeId}
 use Rattle.cxx_model.specs.Facts.Graph.{scopes}
@@ -32,6 +33,9 @@ fact_number held number = number.0
 abbrev pub scope_number : Held → ScopeId → ℕ
 scope_number held scope = scope.0
 
+abbrev pub class_number : Held → ClassId → ℕ
+class_number held class = class.0
+
 -- the number of a scope, where there is one
 abbrev pub scope_of_option : Option ScopeId → Option ℕ
 scope_of_option None = None
@@ -39,6 +43,9 @@ scope_of_option (Some scope) = Some scope.0
 
 abbrev pub IsFactKnown : Held → FactId → Type 0
 IsFactKnown held number = number.0 < length held.graph.facts
+
+abbrev pub IsClassKnown : Held → ClassId → Type 0
+IsClassKnown held class = class.0 < length held.graph.classes
 
 abbrev pub IsScopeKnown : Held → ScopeId → Type 0
 IsScopeKnown held scope = scope.0 < scopes held.graph.facts

@@ -10,6 +10,7 @@ mod given;
 mod kept;
 mod linked;
 mod maker;
+mod paths;
 mod spaces;
 mod state;
 mod trees;
@@ -19,5 +20,6 @@ pub use kept::{
     Offer, OfferList, Piece, PieceList,
 };
 pub use maker::MakesTypes;
+pub use paths::is_plain_path;
 pub use state::State;
 pub use trees::Trees;

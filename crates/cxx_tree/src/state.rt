@@ -1,9 +1,9 @@
-ghost use Rattle.std.specs.Prelude.{ℕ, List, ◌≡◌, ◌<◌, ◌+◌, take, ◌++◌, length, Ok, Err, Some, [], ◌∷◌, true, false, is_ok, is_some, IsTrue, IfOk, IfSome, OnOk, OnErr, option_map};
+ghost use Rattle.std.specs.Prelude.{ℕ, List, ◌≡◌, ◌<◌, ◌+◌, ◌↔◌, take, ◌++◌, length, Ok, Err, Some, None, [], ◌∷◌, true, false, is_ok, is_some, IsTrue, IfOk, IfSome, OnOk, OnErr, option_map};
 ghost use Rattle.std.specs.List.{slice_get};
 ghost use Rattle.std.specs.Option.{option_copied};
 ghost use Rattle.cxx_model.specs.Facts.Declarations.{fact_at, graph_at};
 ghost use Rattle.cxx_model.specs.Facts.Fitted.{Fitted, IsFactBelow};
-ghost use Rattle.cxx_model.specs.Facts.Graph.{IsKindInRange, IsUnitScope, MayFollow, appended, enumerations, scopes};
+ghost use Rattle.cxx_model.specs.Facts.Graph.{IsKindInRange, IsUnitScope, MayFollow, appended, enumerations, scopes, with_class};
 ghost use Rattle.cxx_model.specs.Types.Numbers.{AreTypesBelow, IsBoundBelow, bound_at, type_at, types_at};
 ghost use Rattle.cxx_model.specs.Types.Trees as definition;
 ghost use Rattle.cxx_model.specs.Types.Trees.{CxxType, decayed, fundamental};
@@ -16,11 +16,12 @@ ghost use Rattle.cxx_types.specs.Parameters.{adjusted_types};
 ghost use Rattle.cxx_reading.specs.Declarators.{no_cv};
 ghost use Rattle.cxx_reading.specs.Declaring as declaring;
 ghost use Rattle.cxx_reading.specs.Declaring.{added, at_scope, in_enumeration, with_definition, with_linked};
+ghost use Rattle.cxx_reading.specs.Classes.{reserved};
 ghost use Rattle.cxx_reading.specs.Initializers.{with_call};
 ghost use Rattle.cxx_reading.specs.Seen.{fact_numbers, numbered_at, type_in};
 ghost use Rattle.cxx_reading.specs.State.{first_state};
 ghost use Rattle.cxx_reading.specs.Units.{with_part};
-ghost use Rattle.cxx_tree.specs.Answered.{AnyKnown, IsAnswered, IsFactKnown, fact_number, scope_number};
+ghost use Rattle.cxx_tree.specs.Answered.{AnyKnown, IsAnswered, IsClassKnown, IsFactKnown, class_number, fact_number, scope_number};
 ghost use Rattle.cxx_tree.specs.Arena.{AreNodesBelow, AreTreesBelow, HaveEarlierChildren, IsNodeBelow, bound_of, tree_over};
 ghost use Rattle.cxx_tree.specs.Defaults.{first_given as first_given_of, with_given, with_offer, within_default, without_offers};
 ghost use Rattle.cxx_tree.specs.Held.{AreCallsBelow, AreFallbacksBelow, AreOffersBelow, ArePiecesBelow, call_at, enumeration_of_option, fallback_at, meaning, numbers_at, tree, tree as tree_of, trees};
@@ -44,7 +45,7 @@ use cxx_graph::{AddFault, Graph};
 use cxx_hash::Key;
 use cxx_linked::Linkages;
 use cxx_model::{
-    Access, Base, Bound, Cv, Entity, EnumId, Fact, FactId, LimitKind, Listed, Name, Node,
+    Access, Base, Bound, ClassId, Cv, Entity, EnumId, Fact, FactId, LimitKind, Listed, Name, Node,
     OutOfMemory, Place, ScopeId, ScopeKind, Stop, TreeId, TypeId,
 };
 use cxx_names::{Names, type_in as type_of_found};
@@ -119,6 +120,28 @@ fn stopped(added: Result<FactId, AddFault>) -> Result<FactId, Stop>
         Err(AddFault::Limit) => Err(Stop::Limit(LimitKind::Facts)),
         Err(AddFault::OutOfMemory) => Err(Stop::OutOfMemory),
     }
+}
+
+fn stopped_class(reserved: Result<ClassId, AddFault>) -> Result<ClassId, Stop>
+    ensures { result ≡ stopped_as reserved }
+{
+    match reserved {
+        Ok(number) => Ok(number),
+        Err(AddFault::Limit) => Err(Stop::Limit(LimitKind::Facts)),
+        Err(AddFault::OutOfMemory) => Err(Stop::OutOfMemory),
+    }
+}
+
+// One more class, which is no specialisation.
+#[tactic(auto, using(crate::proofs::Classes::one_more))]
+fn one_class(graph: &mut Graph, alloc: Global) -> Result<ClassId, AddFault>
+    ensures grown { OnOk result (graph.new ≡ with_class graph.old None) }
+    ensures number { IfOk result (λ class. class.0 ≡ length graph.old.classes) }
+    ensures unchanged { OnErr result (graph.new ≡ graph.old) }
+    ensures limit { (result ≡ Err AddFault.Limit) ↔ (length graph.old.facts + length graph.old.classes ≡ 2097152) }
+{
+    let none = Listed::new(alloc);
+    graph.reserve_class(None, &none)
 }
 
 // The first fact of a graph.
@@ -400,6 +423,16 @@ impl State {
         let layouts = self.layouts.take();
         self.layouts = noted(layouts, &self.graph, &self.types, number);
         Ok(number)
+    }
+
+    /// One more class (9), where there is room for one: its number.
+    pub fn reserve_class(&mut self) -> Result<ClassId, Stop>
+        ensures answered { IsAnswered class_number IsClassKnown self.old self.new result (reserved (meaning self.old)) }
+        ensures held { OnOk result (self.new ≡ record self.old { graph = with_class (self.old).graph None }) }
+        ensures number { IfOk result (λ class. class.0 ≡ length (self.old).graph.classes) }
+        ensures unchanged { OnErr result (self.new ≡ self.old) }
+    {
+        stopped_class(one_class(&mut self.graph, self.alloc))
     }
 
     // Adds a scope of a kind, at a place, in the scope where the reader stands.
@@ -698,6 +731,15 @@ impl State {
         ensures { MakesType self.old self.new result (definition.enumeration number.0) }
     {
         self.types.enumeration(number)
+    }
+
+    /// A class (9).
+    pub fn class_type(&mut self, class: ClassId) -> Result<TypeId, OutOfMemory>
+        requires { class.0 < length (self.old).graph.classes }
+        ensures made { MakesType self.old self.new result (definition.class_type class.0) }
+        ensures graph { self.new.graph ≡ self.old.graph }
+    {
+        self.types.class(class)
     }
 
     /// The type that declarations that were found name (7.1.3); `void` where they name none.

@@ -17,6 +17,7 @@ use crate::types::{is_const_type, is_reference, is_unbounded};
 use cxx_model::{
     Fault, FaultText, LeftOut, Listed, ScopeId, Stop, TokenKind, TreeIdList, TypeId, keyword, punct,
 };
+use cxx_names::is_incomplete;
 use cxx_reading::StorageWord;
 use cxx_syntax::{Cursor, Layer, LayerList, NameToken, Specifiers, is_punct};
 use cxx_tree::State;
@@ -52,6 +53,24 @@ pub fn own_parameters(state: &State, layers: &LayerList) -> Option<ScopeId>
     }
 }
 
+/// An object is of a complete type (3.9).
+#[tactic(auto, using(cxx_syntax::proofs::Kept::later_refl), unfolding(cxx_reading::specs::Units::complete_object))]
+pub fn complete_object(
+    state: &State,
+    cursor: &Cursor<'_>,
+    name: &NameToken,
+    of: TypeId,
+) -> Result<(), Stop>
+    requires { of.0 < length (state.now).types }
+    ensures { IsRead itself AnyKnown state.now state.now cursor.now result (definition.complete_object (name_at name.now) (type_of state.now of) (meaning state.now) cursor.now) }
+{
+    if is_incomplete(state.types(), of) {
+        let fault = faulty(cursor.alloc(), name.place, FaultText::IncompleteClass)?;
+        return Err(Stop::Fault(fault));
+    }
+    Ok(())
+}
+
 /// An object without an initializer that has to have one (8.5).
 #[tactic(auto, using(cxx_syntax::proofs::Kept::later_refl), unfolding(cxx_reading::specs::Units::uninitialized))]
 pub fn uninitialized(
@@ -64,7 +83,7 @@ pub fn uninitialized(
     ensures { IsRead trees_held AreTreesHeld state.now state.now cursor.now result (definition.uninitialized (name_at name.now) (type_of state.now of) (meaning state.now) cursor.now) }
 {
     let types = state.types();
-    if is_unbounded(types, of) {
+    if is_unbounded(types, of) || is_incomplete(types, of) {
         let fault = faulty(cursor.alloc(), name.place, FaultText::IncompleteClass)?;
         return Err(Stop::Fault(fault));
     }
@@ -81,7 +100,7 @@ fn is_some_storage(word: Option<StorageWord>) -> bool
     word.is_some()
 }
 
-/// Without a declarator a declaration has to declare or name an enumeration (clause 7).
+/// Without a declarator a declaration has to define an enumeration or to name a class (clause 7).
 #[tactic(auto, using(cxx_syntax::proofs::Kept::later_refl), unfolding(cxx_reading::specs::Units::nothing_declared))]
 pub fn nothing_declared(
     state: &State,
@@ -91,7 +110,7 @@ pub fn nothing_declared(
     ensures { IsRead trees_held AreTreesHeld state.now state.now cursor.new result (definition.nothing_declared (specifiers_of state.now specifiers.now) (meaning state.now) cursor.old) }
 {
     let _ = state;
-    if specifiers.is_enumeration && !is_some_storage(specifiers.storage) {
+    if specifiers.stands_alone && !is_some_storage(specifiers.storage) {
         cursor.advance();
         return Ok(Listed::new(cursor.alloc()));
     }

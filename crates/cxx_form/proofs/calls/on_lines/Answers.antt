@@ -5,4 +5,4 @@ use Rattle.cxx_form.proofs.Lining.{line_below}
 use Rattle.cxx_form.proofs.calls.on_lines.Goals as goal
 
 pub add_calls_on-requires : goal.add_calls_on-requires
-add_calls_on-requires c = line_below (length (trees c.args.state.now)) c.args.lines.now c.loop-line.line-index (line.Enumeration (record { 0 = 0 }) (record { 0 = 0 })) c.requires c.loop-line-test.true
+add_calls_on-requires c = line_below (length (trees c.args.state.now)) c.args.lines.now c.loop-line.line-index (line.Class (record { 0 = 0 })) c.requires c.loop-line-test.true

@@ -1,9 +1,7 @@
-use Rattle.std.specs.Prelude.{option_map}
-use Rattle.cxx_form.specs.Lines.{enumeration_in}
 use Rattle.cxx_form.proofs.Enumerated.{named_at}
 use Rattle.cxx_form.proofs.enumerations.note_at.Goals as goal
 
 pub returns : goal.returns
 returns c =
     let held = c.args.state.now in
-    named_at held.types held.graph.facts c.args.number c.fact-fact.result.now c.args.slots.now c.note.new.slots (option_map enumeration_in c.named.result) c.requires.there c.fact-fact.ensures.is (c.named.ensures held.types) c.in_ok-note.ensures
+    named_at held.types held.graph.facts c.args.number c.fact-fact.result.now c.args.slots.now c.note.new.slots c.named.result c.fact-fact.ensures.is (c.named.ensures held.types) c.in_ok-note.ensures

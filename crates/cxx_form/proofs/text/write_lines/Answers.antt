@@ -11,7 +11,7 @@ use Rattle.cxx_statement_text.proofs.Lining.{lines_end, lines_on, no_lines_on}
 use Rattle.cxx_form.proofs.text.write_lines.Goals as goal
 
 abbrev none : Line
-none = line.Enumeration (record { 0 = 0 }) (record { 0 = 0 })
+none = line.Class (record { 0 = 0 })
 
 pub write_line-requires-clause-below : goal.write_line-requires-clause-below
 write_line-requires-clause-below c = line_below (length (trees_of c.args.book.now)) c.args.lines.now c.loop-line.line-index none c.requires.below c.loop-line-test.true

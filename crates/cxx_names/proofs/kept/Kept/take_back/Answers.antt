@@ -6,5 +6,6 @@ returns c = λ before has. record {
   blocks = c.take_back.ensures before.blocks.rows.entries has.blocks;
   enumerations = c.pop_some-2.ensures before.enumerations.items has.enumerations;
   values = c.take_back-2.ensures before.values.rows.entries has.values;
-  spaces = c.take_back-3.ensures before.spaces has.spaces;
+  classes = c.take_back-3.ensures before.classes.rows.entries has.classes;
+  spaces = c.take_back-4.ensures before.spaces has.spaces;
 }
