@@ -9,6 +9,7 @@ pub mod Outer
 pub mod Openings
 pub mod Pairs
 pub mod Plain
+pub mod Sampling
 pub mod Templates
 pub mod Types
 pub mod Wordless

@@ -27,9 +27,11 @@ use Rattle.cxx_names.specs.Filed.{row, those_in, IsMoreBy}
 use Rattle.cxx_names.specs.declared.words.Words.{Words}
 use Rattle.cxx_names.specs.Words.{same_spelling, number_among, numbered_row, is_text, word_declared_by, IsNumbered, HasMet, HasWord}
 use Rattle.cxx_names.proofs.Known.{one_name, sound_met, row_met, sound_more}
+use Rattle.cxx_names.specs.Roles.{AreBelow, representative_by, representatives, role_by}
+use Rattle.cxx_names.proofs.Sampling.{below_noted, sampled_noted}
 use Rattle.cxx_names.specs.declared.entry.SpaceEntry.{SpaceEntry}
 use Rattle.cxx_names.specs.declared.spaces.Spaces.{Spaces}
-use Rattle.cxx_names.specs.Index.{class_by, class_scopes, of_class, same_class, under, enumeration_by, enumeration_scopes, directive_by, directives_of, opening_by, openings_from, unnamed_by, unnamed_of, KeepsSpaces, HasSpaces, same_scope, same_enumeration, filed_by, noted_by, value_by, is_outermost_kind, block_by, scopes_of, blocks_from, numbers_in, Keeps, Notes, HasKept, HasNoted}
+use Rattle.cxx_names.specs.Index.{class_by, class_scopes, of_class, same_class, under, enumeration_by, enumeration_scopes, directive_by, directives_of, opening_by, openings_from, unnamed_by, unnamed_of, KeepsSpaces, HasSpaces, same_scope, same_enumeration, filed_by, noted_by, value_by, is_outermost_kind, block_by, scopes_of, blocks_from, numbers_in, Keeps, Notes, AreSameKept, HasKept, HasNoted}
 
 -- ---- declarations of a name
 
@@ -280,6 +282,16 @@ keeps_more old new one facts fact number n noted block value counts class direct
   spaces = spaces_more old.spaces new.spaces one.space facts fact number n directive opening unnamed kept.spaces has.spaces;
 }
 
+pub same_kept : (kept : Kept) → AreSameKept kept kept
+same_kept kept = record {
+  scopes = refl;
+  blocks = λ scope. refl;
+  enumerations = refl;
+  values = λ number. refl;
+  classes = λ class. refl;
+  spaces = record { directives = λ scope. refl; openings = λ scope. refl; unnamed = λ scope. refl };
+}
+
 -- ---- all of it
 
 -- more spellings were met
@@ -287,18 +299,22 @@ pub notes_met : (old : Names) (words : Words) (facts : List Fact) → Notes old 
 notes_met old words facts notes met = record {
   sound = sound_met old.words words notes.sound met;
   words = λ scope word types. row_met old.words words notes.sound met scope word ∙ notes.words scope word types;
+  below = λ key. subst (λ es. AreBelow (length facts) (row same_spelling es key)) (sym met.rows) (notes.below key);
+  representatives = λ key. notes.representatives key ∙ ap (λ es. representatives facts [] (row same_spelling es key)) (sym met.rows);
   kept = notes.kept;
 }
 
 pub notes_more : (old new : Names) (one : Entry) (facts : List Fact) (fact : Fact) (name : Option Spelling) (number : FactId) (scopes : ℕ) → number.0 ≡ length facts → scopes ≡ length (scopes_of facts) → IsNumbered old.words.spellings.keys fact name
-    → one.name ≡ filed_by number name
+    → one.name ≡ filed_by number name → one.representative ≡ representative_by facts old.representatives.rows.entries (role_by number.0 fact.what) number name
     → one.noted ≡ noted_by fact.scope fact.what → one.block ≡ block_by scopes (noted_by fact.scope fact.what) → one.value ≡ value_by fact.what → one.enumeration ≡ enumeration_by fact.scope fact.what → one.class ≡ class_by fact.scope fact.what
     → one.space.directive ≡ directive_by fact.scope fact.what → one.space.opening ≡ opening_by number fact.what → one.space.unnamed ≡ unnamed_by fact.scope fact.name fact.what
     → Notes old facts → HasNoted old new one → Notes new (facts ++ fact ∷ [])
-notes_more old new one facts fact name number scopes n m is filed noted block value counts class directive opening unnamed notes has =
+notes_more old new one facts fact name number scopes n m is filed chosen noted block value counts class directive opening unnamed notes has =
     let has_word : HasWord old.words new.words (filed_by number name) = subst (λ o. HasWord old.words new.words o) filed has.words in
     record {
       sound = sound_more old.words new.words fact.scope (word_declared_by fact) name number notes.sound is has_word;
       words = λ scope word types. ap (λ ks. numbered_row new.words.rows.rows.entries scope (number_among ks word)) has_word.spellings ∙ names_noted types old.words.spellings.keys old.words.rows.rows.entries new.words.rows.rows.entries facts fact name number n is (λ s w. notes.words s w types) has_word.rows scope word;
+      below = below_noted facts fact number n old.words.rows.rows.entries new.words.rows.rows.entries notes.below name has_word.rows;
+      representatives = sampled_noted facts fact number n old.words.rows.rows.entries new.words.rows.rows.entries notes.below old.representatives.rows.entries new.representatives.rows.entries notes.representatives name has_word.rows (subst (λ o. IsMoreBy same_spelling old.representatives.rows.entries new.representatives.rows.entries o) chosen has.representatives);
       kept = keeps_more old.kept new.kept one facts fact number n noted (block ∙ ap (λ k. block_by k (noted_by fact.scope fact.what)) m) value counts class directive opening unnamed notes.kept has.kept;
     }

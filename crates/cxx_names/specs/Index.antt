@@ -1,5 +1,5 @@
 -- What is kept of the facts of a graph, and how it follows from them.
-use Rattle.std.specs.Prelude.{ℕ, zero, suc, ℤ, ◌≡◌, Bool, true, false, ◌&&◌, if◌then◌else◌, nat_eq, List, [], ◌∷◌, ◌++◌, map, Option, Some, None}
+use Rattle.std.specs.Prelude.{ℕ, zero, suc, ℤ, ◌≡◌, Bool, true, false, ◌&&◌, if◌then◌else◌, nat_eq, List, [], ◌∷◌, ◌++◌, length, map, Option, Some, None}
 use Rattle.std.specs.Option.{option_to_list}
 use Rattle.cxx_model.specs.declared.facts.Entity.{Entity}
 use Rattle.cxx_model.specs.declared.facts.Entity.TheVariants as entity
@@ -17,7 +17,8 @@ use Rattle.cxx_model.specs.Types.Trees.{CxxType}
 use Rattle.cxx_meaning.specs.Conversions.Enumerations.{values_in}
 use Rattle.cxx_reading.specs.Seen.{Numbered, declared_from}
 use Rattle.cxx_names.specs.Filed.{row, AreSame, IsMoreBy}
-use Rattle.cxx_names.specs.Words.{AreSameWords, HasWord, IsSound, word_row}
+use Rattle.cxx_names.specs.Roles.{AreBelow, representatives}
+use Rattle.cxx_names.specs.Words.{AreSameWords, HasWord, IsSound, same_spelling, word_row}
 use Rattle.cxx_names.specs.declared.entry.Entry.{Entry}
 use Rattle.cxx_names.specs.declared.entry.Noted.{Noted}
 use Rattle.cxx_names.specs.declared.entry.Spelling.{Spelling}
@@ -160,6 +161,8 @@ pub record Keeps (kept : Kept) (facts : List Fact) : Type 0 where
 pub record Notes (names : Names) (facts : List Fact) : Type 0 where
   pub sound : IsSound names.words
   pub words : (scope : ScopeId) (word : List ℕ) (types : List CxxType) → word_row names.words scope word ≡ numbers_in (declared_from scope.0 (spelled word) zero (facts_at types facts))
+  pub below : (key : Spelling) → AreBelow (length facts) (row same_spelling names.words.rows.rows.entries key)
+  pub representatives : (key : Spelling) → row same_spelling names.representatives.rows.entries key ≡ representatives facts [] (row same_spelling names.words.rows.rows.entries key)
   pub kept : Keeps names.kept facts
 
 -- ---- what one more fact changes
@@ -193,8 +196,10 @@ pub record AreSameKept (old new : Kept) : Type 0 where
 
 pub record HasNoted (old new : Names) (one : Entry) : Type 0 where
   pub words : HasWord old.words new.words one.name
+  pub representatives : IsMoreBy same_spelling old.representatives.rows.entries new.representatives.rows.entries one.representative
   pub kept : HasKept old.kept new.kept one
 
 pub record AreSameNames (old new : Names) : Type 0 where
   pub words : AreSameWords old.words new.words
+  pub representatives : AreSame same_spelling old.representatives.rows.entries new.representatives.rows.entries
   pub kept : AreSameKept old.kept new.kept

@@ -4,4 +4,5 @@ pub mod Index
 pub mod Looked
 pub mod Meant
 pub mod Plain
+pub mod Roles
 pub mod Words

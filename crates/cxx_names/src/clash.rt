@@ -1,11 +1,12 @@
 //! The first declaration with which a new one conflicts (3.3), among those of its name.
 
-ghost use Rattle.std.specs.Prelude.{◌≡◌, ◌&&◌, ◌||◌, not, [], ◌∷◌, length, None, Some, option_map, if◌then◌else◌};
+ghost use Rattle.std.specs.Prelude.{◌≡◌, ◌&&◌, ◌||◌, not, [], ◌∷◌, length, None, Some, option_map, if◌then◌else◌, List};
 ghost use Rattle.std.specs.Option.{option_to_list};
 ghost use Rattle.cxx_model.specs.declared.facts.Name.TheVariants.{Spelled as SpelledName};
 ghost use Rattle.cxx_model.specs.Facts.Conflicts.{conflicts, first_conflict as first_conflict_of};
-ghost use Rattle.cxx_model.specs.Facts.Declarations.{fact_at, graph_at, spelled};
+ghost use Rattle.cxx_model.specs.Facts.Declarations.{CxxFact, fact_at, graph_at, spelled};
 ghost use Rattle.cxx_model.specs.Facts.Fitted.{IsFactBelow, IsGraphBelow};
+ghost use Rattle.cxx_model.specs.Types.Trees.{CxxType};
 ghost use Rattle.cxx_reading.specs.Linked.{clash_among, rescoped};
 ghost use Rattle.cxx_reading.specs.Seen.{declared_in as declared_by, fact_numbers, numbered_at};
 ghost use Rattle.cxx_names.specs.Clashes.{IsPlain, NoTemplates, conflict_in, conflict_in_scopes, number_in, sooner as sooner_of};
@@ -182,6 +183,15 @@ impl Names {
         None
     }
 
+    // Declarations of a name in a scope, with which the same declarations conflict as with all of them.
+    fn representatives_in(&self, graph: &Graph, scope: ScopeId, word: &[u8]) -> &[FactId]
+        requires { Notes self.now graph.now.facts }
+        ensures { (types : List CxxType) (new : CxxFact) → conflict_in (graph_at types graph.now) new (looked_up types graph.now.facts result.now) ≡ conflict_in (graph_at types graph.now) new (declared_by (graph_at types graph.now) scope.0 (spelled word.now)) }
+    {
+        let _ = graph;
+        self.words.met_as(word).row_in(&self.representatives, scope)
+    }
+
     // The sooner of a declaration and the first one of a name in a scope with which a new one conflicts.
     fn sooner_in(
         &self,
@@ -199,7 +209,7 @@ impl Names {
         requires templates { NoTemplates graph.now.facts }
         ensures { option_map number_in result ≡ sooner_of (option_map number_in best) (conflict_in (graph_at types.now graph.now) (fact_at types.now new.now) (declared_by (graph_at types.now graph.now) scope.0 (spelled word.now))) }
     {
-        let here = self.declared_in(graph, scope, word);
+        let here = self.representatives_in(graph, scope, word);
         let first = self.first_of(graph, types, here, new);
         sooner(best, first)
     }

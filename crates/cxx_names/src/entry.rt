@@ -37,6 +37,8 @@ pub(crate) struct SpaceEntry {
 #[derive(Clone, Copy)]
 pub(crate) struct Entry {
     pub(crate) name: Option<(Spelling, FactId)>,
+    // The same, but where an earlier declaration stands for it.
+    pub(crate) representative: Option<(Spelling, FactId)>,
     pub(crate) noted: Option<Noted>,
     // The outermost block of a function, under the scope that holds it.
     pub(crate) block: Option<(ScopeId, ScopeId)>,
@@ -192,9 +194,17 @@ impl SpaceEntry {
 }
 
 impl Entry {
-    /// What is kept of a fact with a number, which declares a spelled name or none, where there are so many scopes.
-    pub(crate) fn of(fact: &Fact, name: Option<Spelling>, number: FactId, scopes: u32) -> Entry
+    /// What is kept of a fact with a number, which declares a spelled name or none and stands for itself under a name or
+    /// does not, where there are so many scopes.
+    pub(crate) fn of(
+        fact: &Fact,
+        name: Option<Spelling>,
+        representative: Option<(Spelling, FactId)>,
+        number: FactId,
+        scopes: u32,
+    ) -> Entry
         ensures name { result.name ≡ filed_by number name }
+        ensures representative { result.representative ≡ representative }
         ensures noted { result.noted ≡ noted_by fact.now.scope fact.now.what }
         ensures block { result.block ≡ block_by scopes (noted_by fact.now.scope fact.now.what) }
         ensures value { result.value ≡ value_by fact.now.what }
@@ -207,6 +217,7 @@ impl Entry {
         let noted = noted_in(fact.scope, fact.what);
         Entry {
             name: filed_name(name, number),
+            representative,
             noted,
             block: block_in(ScopeId(scopes), noted),
             value: value_in(fact.what),

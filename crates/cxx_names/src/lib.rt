@@ -13,6 +13,7 @@ mod named;
 mod names;
 mod opened;
 mod pair;
+mod role;
 mod spaces;
 mod words;
 

@@ -93,7 +93,8 @@ pub(crate) fn meant_plain(graph: &Graph, types: &TypeTable, number: FactId, what
     }
 }
 
-fn first_of(number: FactId, first: Option<FactId>) -> FactId
+/// The first declaration of an entity, by one of its declarations.
+pub(crate) fn first_of(number: FactId, first: Option<FactId>) -> FactId
     ensures { result.0 ≡ first_or number.0 first }
 {
     match first {

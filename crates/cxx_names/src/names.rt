@@ -4,15 +4,18 @@ ghost use Rattle.cxx_model.specs.Facts.Graph.{InRange, appended, enumerations as
 ghost use Rattle.cxx_model.specs.Types.Trees.{CxxType};
 ghost use Rattle.cxx_reading.specs.Declaring.{enumeration_count, scope_count};
 ghost use Rattle.cxx_names.specs.Index.{AreSameNames, HasNoted, Notes};
+ghost use Rattle.cxx_names.specs.Roles.{representative_by, role_by};
 ghost use Rattle.cxx_names.specs.Words.{IsNumbered};
 ghost use Rattle.cxx_names.specs.declared.names.Names.{Names as NamesBefore};
 
 use crate::entry::{Entry, Spelling};
+use crate::filed::Filed;
 use crate::kept::Kept;
+use crate::role::{has_role, role_of};
 use crate::words::Words;
 use cxx_graph::{AddFault, Graph};
 use cxx_hash::Key;
-use cxx_model::{EnumId, Fact, FactId, OutOfMemory, ScopeId};
+use cxx_model::{Entity, EnumId, Fact, FactId, OutOfMemory, ScopeId};
 use std::alloc::Global;
 
 /// How many facts and reserved classes there may be together.
@@ -22,6 +25,8 @@ const LIMIT: u32 = 2_097_152;
 #[derive(Drop)]
 pub struct Names {
     pub(crate) words: Words,
+    // Of the declarations of each name in each scope those that stand for all of them where conflicts are looked for.
+    pub(crate) representatives: Filed<Spelling, FactId>,
     pub(crate) kept: Kept,
 }
 
@@ -32,6 +37,7 @@ impl Names {
     {
         Names {
             words: Words::new(alloc, key),
+            representatives: Filed::new(alloc, key),
             kept: Kept::new(alloc, key),
         }
     }
@@ -42,7 +48,12 @@ impl Names {
         ensures same { OnErr result (AreSameNames self.old self.new) }
     {
         self.words.add(one.name)?;
+        if let Err(fault) = self.representatives.add(one.representative) {
+            self.words.take_back(one.name);
+            return Err(fault);
+        }
         if let Err(fault) = self.kept.note(one) {
+            self.representatives.take_back(one.representative);
             self.words.take_back(one.name);
             return Err(fault);
         }
@@ -54,6 +65,7 @@ impl Names {
         ensures { (before : NamesBefore) → HasNoted before self.old one → AreSameNames before self.new }
     {
         self.words.take_back(one.name);
+        self.representatives.take_back(one.representative);
         self.kept.take_back(one);
     }
 
@@ -90,6 +102,29 @@ impl Names {
         self.words.meet(fact)
     }
 
+    // What is filed of a declaration where conflicts are looked for: nothing if an earlier one stands for it.
+    fn representative(
+        &self,
+        graph: &Graph,
+        what: Entity,
+        number: FactId,
+        name: Option<Spelling>,
+    ) -> Option<(Spelling, FactId)>
+        ensures { result ≡ representative_by graph.now.facts self.now.representatives.rows.entries (role_by number.0 what) number name }
+    {
+        match name {
+            Some(spelling) => {
+                let earlier = self.representatives.row(&spelling);
+                if has_role(graph, earlier, role_of(number, what)) {
+                    None
+                } else {
+                    Some((spelling, number))
+                }
+            }
+            None => None,
+        }
+    }
+
     /// Appends a fact to a graph, and keeps what is to be kept of it. An `Err` changes nothing.
     pub fn add(&mut self, graph: &mut Graph, fact: Fact) -> Result<FactId, AddFault>
         requires range { InRange (appended graph.old fact) }
@@ -105,7 +140,9 @@ impl Names {
             return Err(AddFault::Limit);
         }
         let name = self.meet(graph, &fact)?;
-        let one = Entry::of(&fact, name, FactId(length), self.scopes(graph).0);
+        let number = FactId(length);
+        let representative = self.representative(graph, fact.what, number, name);
+        let one = Entry::of(&fact, name, representative, number, self.scopes(graph).0);
         self.note(one)?;
         match graph.add(fact) {
             Ok(number) => Ok(number),

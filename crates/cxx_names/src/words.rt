@@ -1,6 +1,6 @@
 ghost use Rattle.std.specs.Prelude.{ℕ, ◌≡◌, List, [], Some, true, IfOk, OnOk, OnErr};
 ghost use Rattle.cxx_model.specs.declared.types.ScopeId.{ScopeId as ScopeNumber};
-ghost use Rattle.cxx_names.specs.Words.{AreSameRows, AreSameWords, Files, HasMet, HasWord, IsMetAs, IsNumberOf, IsNumbered, IsSound, KnowsMore, number_among, spelled_word, word_row};
+ghost use Rattle.cxx_names.specs.Words.{AreSameRows, AreSameWords, Files, HasMet, HasWord, IsMetAs, IsNumberOf, IsNumbered, IsSound, KnowsMore, number_among, numbered_row, spelled_word, word_row};
 ghost use Rattle.cxx_names.specs.declared.words.Words.{Words as WordsBefore};
 
 use crate::entry::{Spelling, declared_word, filed_name};
@@ -42,6 +42,18 @@ fn meet(
     Ok(number)
 }
 
+impl MetWord {
+    /// What is filed under the word in a scope.
+    pub(crate) fn row_in(self, rows: &Filed<Spelling, FactId>, scope: ScopeId) -> &[FactId]
+        ensures { result.now ≡ numbered_row rows.now.rows.entries scope self.number }
+    {
+        match self.number {
+            Some(number) => rows.row(&Spelling { scope, number }),
+            None => &[],
+        }
+    }
+}
+
 impl Words {
     /// Of no declarations. What is looked up is hashed by the key.
     pub fn new(alloc: Global, key: Key) -> Words
@@ -71,10 +83,7 @@ impl Words {
         ensures { result.now ≡ word_row self.now scope word.now }
     {
         let _ = word;
-        match met.number {
-            Some(number) => self.rows.row(&Spelling { scope, number }),
-            None => &[],
-        }
+        met.row_in(&self.rows, scope)
     }
 
     /// The declarations of a name in a scope, in order.
