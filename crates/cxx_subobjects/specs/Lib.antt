@@ -1,0 +1,6 @@
+pub mod Direct
+pub mod Laws
+pub mod Paths
+pub mod Reached
+pub mod Steps
+pub mod Table
