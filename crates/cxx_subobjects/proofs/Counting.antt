@@ -42,7 +42,7 @@ is_path graph base (suc n) class path m =
           let further = is_path graph base n t.parent.0 t.rest t.further in
           let goes = Goes t.one t.derived t.parent t.index t.access (record { path = t.rest; holder = record { 0 = base } }) (get_is_in graph.facts n t.one t.there) t.is further in
           subst (λ (p : List ℕ). IsPathTo graph class base p) t.whole (subst (λ (k : ℕ). IsPathTo graph k base (t.index ∷ t.rest)) t.same goes)
-        )
+          )
     ]
 
 pub each_is_path : EachIsPath
@@ -100,12 +100,12 @@ settled all base k class order ended (suc n) le = elim (cases_eq (suc n) k) [
   | inr other ↦ (
       let paths : ℕ → List (List ℕ) = λ parent. base_paths_before all n parent base in
       let none : through_fact paths class.0 (slice_get all n) ≡ [] = through_nothing paths class.0 (slice_get all n) (λ one derived parent index access there is same.
-        let open_one : is_ended (take n all) derived ≡ false = (stands all n one derived parent index access order there is).1 in
-        let here : is_ended (take n all) class ≡ true = ended_later all class k n (omega arith) ended in
-        let closed : is_ended (take n all) derived ≡ true = subst (λ (i : ℕ). is_ended (take n all) (record { 0 = i }) ≡ true) (sym same) here in
-        false≢true (sym open_one ∙ closed)) in
+      let open_one : is_ended (take n all) derived ≡ false = (stands all n one derived parent index access order there is).1 in
+      let here : is_ended (take n all) class ≡ true = ended_later all class k n (omega arith) ended in
+      let closed : is_ended (take n all) derived ≡ true = subst (λ (i : ℕ). is_ended (take n all) (record { 0 = i }) ≡ true) (sym same) here in
+      false≢true (sym open_one ∙ closed)) in
       ap (λ (more : List (List ℕ)). paths class.0 ++ more) none ∙ append-nil (paths class.0) ∙ settled all base k class order ended n (omega arith)
-    )
+      )
 ]
 
 -- ---- each path is counted
@@ -238,7 +238,7 @@ ended_base all base (suc n) class order h =
             | inl itself ↦ record { k = n; below = omega arith; ended = subst (λ (i : ℕ). is_ended (take n all) (record { 0 = i }) ≡ true) (eqb-true t.parent.0 base itself) both.0; open_one = denied }
             | inr further ↦ (let r = ended_base all base n t.parent.0 order further in record { k = n; below = omega arith; ended = ended_later all (record { 0 = base }) r.k n (omega (arith, r.below)) r.ended; open_one = denied })
           ]
-        )
+          )
       | inr before ↦ (let r = ended_base all base n class order before in record { k = r.k; below = omega (arith, r.below); ended = r.ended; open_one = r.open_one })
     ]
 

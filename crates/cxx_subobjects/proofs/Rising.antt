@@ -13,11 +13,13 @@ use Rattle.cxx_subobjects.proofs.Elements.{first_of, in_map, in_through, none_in
 
 in_order_both : (xs ys : List (List ℕ)) → AreInOrder xs → AreInOrder ys → ((path other : List ℕ) → Contains xs path → Contains ys other → Precedes path other) → AreInOrder (xs ++ ys)
 in_order_both [] ys one two cross = two
-in_order_both (x ∷ xs) ys one two cross =
-    ((λ other m. elim (Contains-append_cases xs ys other m) [
-      | inl near ↦ one.0 other near
-      | inr far ↦ cross x other (first_of x xs) far
-    ]), in_order_both xs ys one.1 two (λ path other m k. cross path other (Contains-append_right (x ∷ []) xs path m) k))
+in_order_both (x ∷ xs) ys one two cross = (
+  (λ other m. elim (Contains-append_cases xs ys other m) [
+    | inl near ↦ one.0 other near
+    | inr far ↦ cross x other (first_of x xs) far
+  ]),
+  in_order_both xs ys one.1 two (λ path other m k. cross path other (Contains-append_right (x ∷ []) xs path m) k),
+)
 
 in_order_behind : (index : ℕ) (xs : List (List ℕ)) → AreInOrder xs → AreInOrder (behind_all index xs)
 in_order_behind index [] one = tt
@@ -65,7 +67,7 @@ begins all base (suc n) class first path m =
           let t = in_through paths class (slice_get all n) (first ∷ path) here in
           let e : t.index ≡ first = head t.index first t.rest path t.whole in
           record { k = n; below = omega arith; one = t.one; derived = t.derived; parent = t.parent; access = t.access; there = t.there; is = t.is ∙ ap (λ (i : ℕ). facts.ancestor t.derived t.parent i t.access) e; same = t.same }
-        )
+          )
     ]
   where
     head : (x y : ℕ) (xs ys : List ℕ) → x ∷ xs ≡ y ∷ ys → x ≡ y

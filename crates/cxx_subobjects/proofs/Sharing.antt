@@ -48,10 +48,10 @@ pub grows_one : (steps new : List Step) (step : Step) → new ≡ steps ++ step 
 grows_one steps new step is = record {
   more = (let e : length new ≡ length steps + 1 = ap length is ∙ length_push steps step in omega arith);
   same = λ n le. (
-    let e : length (paths_of steps) ≡ length steps + 1 = length_of steps in
-    let lt : n < length (paths_of steps) = omega arith in
-    ap (λ (xs : List Step). path_at (paths_of xs) n) is ∙ ap (λ (ps : List (List ℕ)). path_at ps n) (pushed steps step) ∙ get_or_append_left (paths_of steps) (next_path (paths_of steps) step ∷ []) [] n lt
-  );
+      let e : length (paths_of steps) ≡ length steps + 1 = length_of steps in
+      let lt : n < length (paths_of steps) = omega arith in
+      ap (λ (xs : List Step). path_at (paths_of xs) n) is ∙ ap (λ (ps : List (List ℕ)). path_at ps n) (pushed steps step) ∙ get_or_append_left (paths_of steps) (next_path (paths_of steps) step ∷ []) [] n lt
+      );
 }
 
 -- ---- the path with a number

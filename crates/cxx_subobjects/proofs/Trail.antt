@@ -117,11 +117,11 @@ along_is types facts base test closed (suc m) (k ∷ ks) rest class noted = elim
       let is : test m ≡ true = subst (λ (i : ℕ). test i ≡ true) same (rest.passes k (has_first k ks)) in
       let of_base : (direct : DirectBase) → direct_base_at facts m ≡ Some direct → along facts base ks direct.parent.0 ≡ paths direct.parent.0 = λ direct at. along_is types facts base test closed m ks left direct.parent.0 (followed_at facts test m direct at (closed m is)) in
       ap (λ (i : ℕ). along facts base ks class ++ through_base (along facts base ks) class (direct_base_at facts i)) same ∙ ap (λ (before : List (List ℕ)). before ++ through_base (along facts base ks) class (direct_base_at facts m)) own ∙ ap (λ (more : List (List ℕ)). paths class ++ more) (through_same (along facts base ks) paths class (direct_base_at facts m) of_base ∙ sym (through_at types facts paths class m))
-    )
+      )
   | inr other ↦ (
       let apart : has (k ∷ ks) m ≡ true → ⊥ = not_first test m k ks rest other in
       along_is types facts base test closed m (k ∷ ks) (rest_other test m (k ∷ ks) rest apart) class (λ j lt. noted j (omega arith)) ∙ sym (before_none types facts base m class (no_base facts test m class (k ∷ ks) rest noted apart))
-    )
+      )
 ]
 
 length_kept : (types : List CxxType) (facts : List Fact) → length (facts_at types facts) ≡ length facts

@@ -107,9 +107,9 @@ has_pushed : (order : List ℕ) (n j : ℕ) → has (order ++ n ∷ []) j ≡ tr
 has_pushed order n j h denied = elim (or_cases (has order j) (has (n ∷ []) j) (sym (list_any-append (nat_eq j) order (n ∷ [])) ∙ h)) [
   | inl there ↦ absurd (denied there)
   | inr here ↦ elim (or_cases (nat_eq j n) false here) [
-      | inl is ↦ eqb-true j n is
-      | inr none ↦ absurd (false≢true none)
-    ]
+    | inl is ↦ eqb-true j n is
+    | inr none ↦ absurd (false≢true none)
+  ]
 ]
 
 -- a number in a longer list is the last one, or was there before

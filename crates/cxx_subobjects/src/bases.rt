@@ -41,12 +41,7 @@ fn count(table: &mut Table, graph: &Graph, number: u32) -> Result<(), OutOfMemor
 }
 
 // The first two paths of each class, by the facts of some bases, of which the last one comes first.
-fn counted(
-    alloc: Global,
-    graph: &Graph,
-    base: ClassId,
-    order: &[u32],
-) -> Result<Table, OutOfMemory>
+fn counted(alloc: Global, graph: &Graph, base: ClassId, order: &[u32]) -> Result<Table, OutOfMemory>
     ensures base { IfOk result (λ table. table.base ≡ base) }
     ensures known { IfOk result (λ table. AreKnown table.steps.items (get nat_cmp table.known)) }
     ensures table { IfOk result (λ table. IsTable base.0 table.steps.items (get nat_cmp table.known) (along graph.now.facts base.0 order.now)) }

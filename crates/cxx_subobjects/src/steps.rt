@@ -30,11 +30,7 @@ pub(crate) fn lengthened(
 }
 
 /// The path with a number.
-pub(crate) fn path(
-    alloc: Global,
-    steps: &[Step],
-    number: usize,
-) -> Result<NumberList, AllocError>
+pub(crate) fn path(alloc: Global, steps: &[Step], number: usize) -> Result<NumberList, AllocError>
     requires earlier { AreEarlier steps.now }
     requires known { number ≤ length steps.now }
     ensures { IfOk result (λ path. path ≡ path_at (paths_of steps.now) number) }
