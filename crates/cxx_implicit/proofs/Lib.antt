@@ -1,0 +1,5 @@
+mod Counted
+mod Rowed
+mod Noting
+mod Implying
+mod Joining

@@ -1,0 +1,4 @@
+pub mod Members
+pub mod Makes
+pub mod Noted
+pub mod Rows
