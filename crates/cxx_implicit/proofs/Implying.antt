@@ -1,5 +1,5 @@
 -- What is kept says which members a class declares by itself.
-use Rattle.std.specs.Prelude.{ℕ, ◌≡◌, Bool, not, List, Option, refl}
+use Rattle.std.specs.Prelude.{ℕ, ◌≡◌, Bool, not, List, Option}
 use Rattle.std.specs.List.{list_all}
 use Rattle.std.proofs.Math.Path.{fun_ext}
 use Rattle.std.proofs.Common.{ap, ◌∙◌}

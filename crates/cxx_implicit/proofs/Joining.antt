@@ -2,7 +2,7 @@
 use Rattle.std.specs.Prelude.{ℕ, ◌≡◌, ◌+◌, ◌<◌, ◌≤◌, ◌++◌, List, [], ◌∷◌, length, Option, Some, None, Result, Ok, Err, IfOk, option_map, refl}
 use Rattle.std.specs.Option.{option_to_list}
 use Rattle.std.specs.Global.{Vec}
-use Rattle.std.proofs.Common.{ap, sym, subst, ◌∙◌, arith, length-append}
+use Rattle.std.proofs.Common.{ap, sym, subst, ◌∙◌, arith}
 use Rattle.cxx_model.specs.declared.facts.Entity.{Entity}
 use Rattle.cxx_model.specs.declared.facts.Entity.TheVariants as entity
 use Rattle.cxx_model.specs.declared.facts.Fact.{Fact}
@@ -12,11 +12,11 @@ use Rattle.cxx_model.specs.declared.memory.OutOfMemory.{OutOfMemory}
 use Rattle.cxx_model.specs.declared.place.Place.{Place}
 use Rattle.cxx_model.specs.declared.types.ScopeId.{ScopeId}
 use Rattle.cxx_model.specs.Facts.Declarations.{CxxFact, CxxGraph, fact_at, facts_at, graph_at}
-use Rattle.cxx_model.specs.Facts.Fitted.{AreFactsBelow, Fitted, IsEntityBelow, IsFactBelow, IsNameBelow}
-use Rattle.cxx_model.specs.Facts.Graph.{EachMayFollow, Graph, IsEntityInRange, IsTypeInRange, MayFollow, scopes}
+use Rattle.cxx_model.specs.Facts.Fitted.{AreFactsBelow, Fitted, IsEntityBelow, IsNameBelow}
+use Rattle.cxx_model.specs.Facts.Graph.{EachMayFollow, Graph, IsEntityInRange, MayFollow, scopes}
 use Rattle.cxx_model.specs.Types.Trees.{CxxType}
-use Rattle.cxx_model.specs.Types.Numbers.{type_at, Keeps}
-use Rattle.cxx_model.proofs.TypeTrees.{Keeps-refl, Keeps-trans}
+use Rattle.cxx_model.specs.Types.Numbers.{Keeps}
+use Rattle.cxx_model.proofs.TypeTrees.{Keeps-trans}
 use Rattle.cxx_graph.proofs.Fitting.{fact-kept, fitted-table, graph-kept}
 use Rattle.cxx_types.specs.Makes.{AreInRange}
 use Rattle.cxx_implicit.specs.declared.deciding.Implied.{Implied}

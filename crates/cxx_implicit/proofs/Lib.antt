@@ -3,3 +3,4 @@ mod Rowed
 mod Noting
 mod Implying
 mod Joining
+mod Cases

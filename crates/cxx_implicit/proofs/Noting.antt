@@ -1,6 +1,6 @@
 -- What one more fact changes.
 use Rattle.std.specs.Prelude.{ℕ, zero, suc, ◌≡◌, ◌+◌, ◌<◌, ◌≤◌, ◌||◌, Bool, true, false, if◌then◌else◌, List, [], ◌∷◌, ◌++◌, filter, length, nat_eq, take, Option, Some, None, Result, Ok, Err, OnOk, OnErr, refl}
-use Rattle.std.specs.List.{filter_map, list_any, slice_get}
+use Rattle.std.specs.List.{list_any, slice_get}
 use Rattle.std.specs.Option.{option_map}
 use Rattle.std.proofs.Common.{ap, sym, subst, ◌∙◌, arith, append_assoc, append-nil, length-append}
 use Rattle.std.proofs.lemmas.Bool.{eqb-true, eq-eqb}
@@ -19,12 +19,12 @@ use Rattle.cxx_model.specs.Facts.Entities.{scope_kinds}
 use Rattle.cxx_model.specs.Facts.Fitted.{AreFactsBelow, IsEntityBelow}
 use Rattle.cxx_model.specs.Facts.Graph.{EachMayFollow, Graph, InRange, MayFollow, IsUnitScope, count, counted, scopes}
 use Rattle.cxx_model.specs.Types.Trees.{CxxType}
-use Rattle.cxx_meaning.specs.Lookups.Member.{class_of_scope, is_of_class, same_class}
+use Rattle.cxx_meaning.specs.Lookups.Member.{class_of_scope, is_of_class}
 use Rattle.cxx_implicit.specs.declared.index.SpecialMembers.{SpecialMembers}
 use Rattle.cxx_implicit.specs.declared.specials.Special.{Special}
 use Rattle.cxx_implicit.specs.Members.{concerned, declarations_of, is_constructor, is_copy_assignment, is_copy_assignment_of_const, is_copy_constructor, is_copy_constructor_of_const, is_said_of, part_in}
-use Rattle.cxx_implicit.specs.Noted.{AreSameKept, AreScoped, ArePartsNoted, IsNoted, IsSaid, Notes, class_in_kind, kinds_in, parts_in, said_class, special_in, special_of, with_fact}
-use Rattle.cxx_implicit.specs.Rows.{row_at, AreSameRows, IsRowMore}
+use Rattle.cxx_implicit.specs.Noted.{AreSameKept, AreScoped, ArePartsNoted, IsNoted, Notes, class_in_kind, kinds_in, parts_in, said_class, special_in, special_of, with_fact}
+use Rattle.cxx_implicit.specs.Rows.{row_at}
 
 -- ---- tests
 
@@ -124,14 +124,14 @@ one_if fact true = fact ∷ []
 one_if fact false = []
 
 module _ (before : List CxxFact) (fact : CxxFact) (scoped : AreScoped (length (scope_kinds before)) before) where
-  abbrev all : List CxxFact
-  all = before ++ fact ∷ []
+  abbrev whole : List CxxFact
+  whole = before ++ fact ∷ []
 
-  same_holder : (scope : ScopeId) → scope.0 < length (scope_kinds before) → class_of_scope all scope ≡ class_of_scope before scope
+  same_holder : (scope : ScopeId) → scope.0 < length (scope_kinds before) → class_of_scope whole scope ≡ class_of_scope before scope
   same_holder scope less =
-      class_by_kind all scope ∙ ap (λ (ks : List ScopeKind). class_in_kind (slice_get ks scope.0)) (kinds_last before fact) ∙ ap class_in_kind (get_front (scope_kinds before) (kinds_in fact.what) scope.0 less) ∙ sym (class_by_kind before scope)
+      class_by_kind whole scope ∙ ap (λ (ks : List ScopeKind). class_in_kind (slice_get ks scope.0)) (kinds_last before fact) ∙ ap class_in_kind (get_front (scope_kinds before) (kinds_in fact.what) scope.0 less) ∙ sym (class_by_kind before scope)
 
-  said_same : (class : ℕ) (one : CxxFact) → one.scope < length (scope_kinds before) → is_said_of all class one ≡ is_said_of before class one
+  said_same : (class : ℕ) (one : CxxFact) → one.scope < length (scope_kinds before) → is_said_of whole class one ≡ is_said_of before class one
   said_same class one less = ap (λ (o : Option ClassId). is_of_class (record { 0 = class }) (concerned o one.what)) (same_holder (record { 0 = one.scope }) less)
 
   filter_one : (p : CxxFact → Bool) → filter p (fact ∷ []) ≡ one_if fact (p fact)
@@ -141,11 +141,11 @@ module _ (before : List CxxFact) (fact : CxxFact) (scoped : AreScoped (length (s
       by true is = rw is refl
       by false is = rw is refl
 
-  declarations_more : (class : ℕ) → declarations_of all class ≡ declarations_of before class ++ one_if fact (is_said_of all class fact)
+  declarations_more : (class : ℕ) → declarations_of whole class ≡ declarations_of before class ++ one_if fact (is_said_of whole class fact)
   declarations_more class =
-      filter-append (is_said_of all class) before (fact ∷ [])
-      ∙ ap (λ (xs : List CxxFact). xs ++ filter (is_said_of all class) (fact ∷ [])) (filter_same (is_said_of all class) (is_said_of before class) (length (scope_kinds before)) before (said_same class) scoped)
-      ∙ ap (λ (xs : List CxxFact). declarations_of before class ++ xs) (filter_one (is_said_of all class))
+      filter-append (is_said_of whole class) before (fact ∷ [])
+      ∙ ap (λ (xs : List CxxFact). xs ++ filter (is_said_of whole class) (fact ∷ [])) (filter_same (is_said_of whole class) (is_said_of before class) (length (scope_kinds before)) before (said_same class) scoped)
+      ∙ ap (λ (xs : List CxxFact). declarations_of before class ++ xs) (filter_one (is_said_of whole class))
 
 -- ---- scopes that are there
 

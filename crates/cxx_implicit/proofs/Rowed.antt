@@ -1,8 +1,7 @@
 -- What becomes of rows of numbers at each step.
-use Rattle.std.specs.Prelude.{ℕ, zero, suc, ◌≡◌, ◌<◌, Bool, true, false, List, [], ◌∷◌, ◌++◌, length, map, nat_eq, refl, Option, Some, None, IsSome, ◌↔◌, Result, Ok, Err, OnErr}
+use Rattle.std.specs.Prelude.{ℕ, zero, suc, ◌≡◌, ◌<◌, Bool, true, false, List, [], ◌∷◌, ◌++◌, length, map, nat_eq, refl, Result, Ok, Err, OnErr}
 use Rattle.std.specs.Global.{Vec}
-use Rattle.std.specs.Option.{option_to_list}
-use Rattle.std.proofs.Common.{ap, sym, subst, ◌∙◌, arith, length-append, vec_len, set, get_or, get_or-set_other, get_or-set_same}
+use Rattle.std.proofs.Common.{ap, sym, subst, ◌∙◌, arith, set, get_or, get_or-set_other, get_or-set_same}
 use Rattle.std.proofs.Math.ListN.{length-map}
 use Rattle.std.proofs.lemmas.Bool.{eqb-true, eq-eqb}
 use Rattle.std.proofs.lemmas.List.{get_or-map}

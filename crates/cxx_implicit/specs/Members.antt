@@ -1,5 +1,5 @@
 -- The members that a class declares by itself at its end (12.1, 12.8).
-use Rattle.std.specs.Prelude.{ℕ, Bool, true, false, not, ◌||◌, ◌&&◌, nat_eq, nat_le, if◌then◌else◌, List, [], ◌∷◌, ◌++◌, ◌+◌, filter, Option, Some, None}
+use Rattle.std.specs.Prelude.{ℕ, Bool, true, false, not, ◌&&◌, nat_eq, nat_le, if◌then◌else◌, List, ◌++◌, ◌+◌, filter, Option, Some, None}
 use Rattle.std.specs.List.{list_all, list_any, filter_map}
 use Rattle.std.specs.Option.{option_to_list}
 use Rattle.cxx_model.specs.declared.base.Base.TheVariants.{Void}

@@ -1,8 +1,6 @@
-use Rattle.std.specs.Prelude.{◌++◌, List, Option, Ok}
+use Rattle.std.specs.Prelude.{◌++◌}
 use Rattle.std.specs.Option.{option_to_list}
-use Rattle.cxx_model.specs.declared.facts.Fact.{Fact}
 use Rattle.cxx_model.specs.Facts.Declarations.{graph_at}
-use Rattle.cxx_model.specs.Types.Numbers.{Keeps}
 use Rattle.cxx_implicit.proofs.Joining.{all_at, all_ready, below_listed, fitted_one, fitted_three, fitted_two, follow_listed, keeps_all, members_listed}
 use Rattle.cxx_implicit.proofs.making.implicit_members.Goals as goal
 
