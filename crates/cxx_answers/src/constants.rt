@@ -7,7 +7,7 @@ ghost use Rattle.cxx_constant.specs.Known.{IsFaultBelow, IsValueBelow, fault_at 
 ghost use Rattle.cxx_model.specs.Stops.{Faulty};
 ghost use Rattle.cxx_reading.specs.Trees.{CxxTree};
 ghost use Rattle.cxx_sizes.specs.Noted.{Notes};
-ghost use Rattle.cxx_syntax.specs.Asking.{IsAsked, IsConstantKnown, itself};
+ghost use Rattle.cxx_cursor.specs.Asking.{IsAsked, IsConstantKnown, itself};
 ghost use Rattle.cxx_tree.specs.Held.{meaning, tree, trees};
 
 use cxx_constant::{ConstantFault, constant};
@@ -90,7 +90,7 @@ fn is_held(value: i128) -> bool
 }
 
 // What is answered, given the value.
-#[tactic(auto, using(cxx_syntax::proofs::Kept::later_refl))]
+#[tactic(auto, using(cxx_cursor::proofs::Kept::later_refl))]
 fn constant_by(
     alloc: Global,
     state: &State,
@@ -116,7 +116,7 @@ fn constant_by(
 
 /// The value of an integral constant expression (5.19). It stops where the expression is none, and where no type holds the
 /// value.
-#[tactic(auto, using(cxx_syntax::proofs::Kept::later_refl), unfolding(crate::specs::Answers::constant_here))]
+#[tactic(auto, using(cxx_cursor::proofs::Kept::later_refl), unfolding(crate::specs::Answers::constant_here))]
 pub fn constant_here(alloc: Global, state: &mut State, number: TreeId) -> Result<i128, Stop>
     requires { number.0 < length (trees state.old) }
     ensures { IsAsked itself IsConstantKnown state.old state.new result (definition.constant_here (tree state.old number) (meaning state.old)) }

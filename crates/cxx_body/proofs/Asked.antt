@@ -3,7 +3,7 @@ use Rattle.std.specs.Prelude.{Result, Ok, Err}
 use Rattle.cxx_model.specs.declared.stop.Stop.{Stop}
 use Rattle.cxx_model.specs.Stops.{Answer}
 use Rattle.cxx_reading.specs.State.{CxxState}
-use Rattle.cxx_syntax.specs.Asking.{IsAsked}
+use Rattle.cxx_cursor.specs.Asking.{IsAsked}
 use Rattle.cxx_tree.specs.Answered.{IsAnswered}
 use Rattle.cxx_tree.specs.Held.{Held}
 

@@ -1,7 +1,7 @@
 //! Who reads what the statements of a body are made of.
 
 ghost use Rattle.cxx_answers.specs.Answers.{constant_here as constant_here_of};
-ghost use Rattle.cxx_syntax.specs.Asking.{AnyKnown, IsAsked, IsTreeKnown, itself};
+ghost use Rattle.cxx_cursor.specs.Asking.{AnyKnown, IsAsked, IsTreeKnown, itself};
 ghost use Rattle.cxx_tree.specs.Held.{meaning, tree};
 
 use crate::expressions::expression_for;
@@ -9,10 +9,10 @@ use crate::heads::statement_head;
 use crate::phrasing::Phrasing;
 use crate::values::converted;
 use cxx_answers::constant_here;
+use cxx_cursor::Cursor;
 use cxx_language::read_local_declaration;
 use cxx_model::{Stop, TreeId};
 use cxx_statements::{Head, Parts, Purpose, Target};
-use cxx_syntax::Cursor;
 use cxx_tree::State;
 
 /// A body is read by those who read its expressions and declarations.

@@ -2,16 +2,16 @@
 
 ghost use Rattle.std.specs.Prelude.{◌≡◌, ◌<◌, length};
 ghost use Rattle.cxx_language.specs.Statements as definition;
-ghost use Rattle.cxx_syntax.specs.Asking.{AnyKnown, IsAsked, IsTreeKnown, itself};
-ghost use Rattle.cxx_syntax.specs.Reading.{IsRead};
+ghost use Rattle.cxx_cursor.specs.Asking.{AnyKnown, IsAsked, IsTreeKnown, itself};
+ghost use Rattle.cxx_cursor.specs.Reading.{IsRead};
 ghost use Rattle.cxx_tree.specs.Held.{meaning, tree};
 
 use crate::phrasing::Phrasing;
+use cxx_cursor::Cursor;
 use cxx_language::read_declared_condition;
 use cxx_model::{Stop, TreeId};
 use cxx_phrases::Level;
 use cxx_statements::Purpose;
-use cxx_syntax::Cursor;
 use cxx_tree::State;
 
 #[tactic(auto, unfolding(cxx_language::specs::Statements::set_in_step))]
@@ -23,7 +23,7 @@ fn set_in_step(state: &mut State, inside: bool) -> Result<(), Stop>
 }
 
 // What a `for` does behind each turn (6.5.3).
-#[tactic(auto, using(cxx_expr::proofs::Kept::tree_kept, cxx_expr::proofs::Kept::tree_later, cxx_syntax::proofs::Kept::later_refl, cxx_syntax::proofs::Kept::later_trans), unfolding(cxx_language::specs::Statements::step_at))]
+#[tactic(auto, using(cxx_expr::proofs::Kept::tree_kept, cxx_expr::proofs::Kept::tree_later, cxx_cursor::proofs::Kept::later_refl, cxx_cursor::proofs::Kept::later_trans), unfolding(cxx_language::specs::Statements::step_at))]
 fn step_at<P: Phrasing>(
     phrasing: &P,
     state: &mut State,
@@ -39,7 +39,7 @@ fn step_at<P: Phrasing>(
 }
 
 // An expression, or a declaration of one object (6.4).
-#[tactic(auto, using(cxx_syntax::proofs::Kept::later_refl, cxx_syntax::proofs::Kept::later_trans), unfolding(cxx_language::specs::Statements::condition_at))]
+#[tactic(auto, using(cxx_cursor::proofs::Kept::later_refl, cxx_cursor::proofs::Kept::later_trans), unfolding(cxx_language::specs::Statements::condition_at))]
 fn condition_at<P: Phrasing>(
     phrasing: &P,
     state: &mut State,

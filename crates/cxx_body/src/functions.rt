@@ -14,15 +14,16 @@ ghost use Rattle.cxx_reading.specs.Declaring as declaring;
 ghost use Rattle.cxx_reading.specs.Labels.{label_from};
 ghost use Rattle.cxx_reading.specs.Trees.{tree_of};
 ghost use Rattle.cxx_statements.specs.Productions as statement;
-ghost use Rattle.cxx_syntax.specs.Asking.{AnyKnown, IsAsked, IsTreeKnown, itself};
-ghost use Rattle.cxx_syntax.specs.Making.{GrowsTree};
-ghost use Rattle.cxx_syntax.specs.Reading.{IsRead};
-ghost use Rattle.cxx_syntax.specs.Views.{AreTreesHeld, name_at, trees_held};
+ghost use Rattle.cxx_cursor.specs.Asking.{AnyKnown, IsAsked, IsTreeKnown, itself};
+ghost use Rattle.cxx_cursor.specs.Making.{GrowsTree};
+ghost use Rattle.cxx_cursor.specs.Reading.{IsRead};
+ghost use Rattle.cxx_cursor.specs.Views.{AreTreesHeld, name_at, trees_held};
 ghost use Rattle.cxx_tree.specs.Held.{meaning, tree, type_of};
 ghost use Rattle.cxx_expr.specs.Making.{GrowsType};
 
 use crate::body::Body;
 use crate::phrasing::Phrasing;
+use cxx_cursor::{Cursor, NameToken, node_from, push};
 use cxx_declare as declare;
 use cxx_expr::faults::fault;
 use cxx_expr::operands::plain_type;
@@ -33,7 +34,6 @@ use cxx_model::{
 };
 use cxx_names::is_incomplete;
 use cxx_statements::read_body;
-use cxx_syntax::{Cursor, NameToken, node_from, push};
 use cxx_tree::State;
 use cxx_types::TypeTable;
 
@@ -55,7 +55,7 @@ fn is_declaration(graph: &Graph, number: FactId) -> bool
 }
 
 // A body begins in the scope of the parameters of its function.
-#[tactic(auto, using(crate::proofs::Asked::asked, cxx_syntax::proofs::Kept::later_refl))]
+#[tactic(auto, using(crate::proofs::Asked::asked, cxx_cursor::proofs::Kept::later_refl))]
 fn begin_body(state: &mut State, list: ScopeId, number: FactId, of: TypeId) -> Result<(), Stop>
     requires { of.0 < length (state.old).types }
     ensures { IsAsked itself AnyKnown state.old state.new result (declaring.begin_body list.0 number.0 (type_of state.old of) (meaning state.old)) }
@@ -68,7 +68,7 @@ fn begin_body(state: &mut State, list: ScopeId, number: FactId, of: TypeId) -> R
 }
 
 // Behind it the reader stands in a scope again.
-#[tactic(auto, using(cxx_syntax::proofs::Kept::later_refl))]
+#[tactic(auto, using(cxx_cursor::proofs::Kept::later_refl))]
 fn end_body(state: &mut State, scope: ScopeId) -> Result<(), Stop>
     ensures { IsAsked itself AnyKnown state.old state.new result (declaring.end_body scope.0 (meaning state.old)) }
 {
@@ -89,7 +89,7 @@ fn standing(state: &State) -> ScopeId
 }
 
 // From the `{` on, where there is room for it.
-#[tactic(auto, using(cxx_syntax::proofs::Kept::trees_kept, cxx_syntax::proofs::Kept::trees_later, cxx_syntax::proofs::Kept::later_refl, cxx_syntax::proofs::Kept::later_trans))]
+#[tactic(auto, using(cxx_cursor::proofs::Kept::trees_kept, cxx_cursor::proofs::Kept::trees_later, cxx_cursor::proofs::Kept::later_refl, cxx_cursor::proofs::Kept::later_trans))]
 fn statements_opened<P: Phrasing>(
     phrasing: &P,
     state: &mut State,
@@ -112,7 +112,7 @@ fn statements_opened<P: Phrasing>(
 }
 
 // From the `{` on, which counts for the nesting.
-#[tactic(auto, using(crate::proofs::Within::within_zero, crate::proofs::Within::within_more, cxx_syntax::proofs::Kept::later_refl))]
+#[tactic(auto, using(crate::proofs::Within::within_zero, crate::proofs::Within::within_more, cxx_cursor::proofs::Kept::later_refl))]
 fn statements_within<P: Phrasing>(
     phrasing: &P,
     state: &mut State,
@@ -151,7 +151,7 @@ fn returned(types: &TypeTable, of: TypeId) -> Option<TypeId>
 }
 
 // What a function returns (8.3.5).
-#[tactic(auto, using(cxx_syntax::proofs::Kept::later_refl))]
+#[tactic(auto, using(cxx_cursor::proofs::Kept::later_refl))]
 fn result_of(state: &mut State, of: TypeId) -> Result<TypeId, Stop>
     requires { of.0 < length (state.old).types }
     ensures { GrowsType state.old state.new result (definition.result_of (type_of state.old of)) }
@@ -241,7 +241,7 @@ fn returns_incomplete(types: &TypeTable, of: TypeId) -> bool
 }
 
 // What a function that is defined returns, and its parameters, are of complete types (8.3.5).
-#[tactic(auto, using(cxx_syntax::proofs::Kept::later_refl), unfolding(cxx_language::specs::Bodies::complete_head, cxx_tree::specs::Held::meaning))]
+#[tactic(auto, using(cxx_cursor::proofs::Kept::later_refl), unfolding(cxx_language::specs::Bodies::complete_head, cxx_tree::specs::Held::meaning))]
 fn complete_head(
     state: &State,
     cursor: &Cursor<'_>,
@@ -267,7 +267,7 @@ fn complete_head(
 
 /// The body of the function with a declaration, whose list of parameters has a scope, from its `{` on (8.4), with room for
 /// so many more brackets and statements inside one another.
-#[tactic(auto, using(cxx_syntax::proofs::Kept::type_kept, cxx_syntax::proofs::Kept::type_later, cxx_syntax::proofs::Kept::trees_kept, cxx_syntax::proofs::Kept::trees_later, cxx_syntax::proofs::Kept::later_refl, cxx_syntax::proofs::Kept::later_trans), unfolding(cxx_language::specs::Bodies::function_body))]
+#[tactic(auto, using(cxx_cursor::proofs::Kept::type_kept, cxx_cursor::proofs::Kept::type_later, cxx_cursor::proofs::Kept::trees_kept, cxx_cursor::proofs::Kept::trees_later, cxx_cursor::proofs::Kept::later_refl, cxx_cursor::proofs::Kept::later_trans), unfolding(cxx_language::specs::Bodies::function_body))]
 pub fn read_function_body<P: Phrasing>(
     phrasing: &P,
     state: &mut State,

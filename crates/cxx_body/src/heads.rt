@@ -2,15 +2,15 @@
 
 ghost use Rattle.std.specs.Prelude.{◌≡◌, None};
 ghost use Rattle.cxx_language.specs.Statements as definition;
-ghost use Rattle.cxx_syntax.specs.Asking.{AnyKnown, itself};
-ghost use Rattle.cxx_syntax.specs.Reading.{IsRead};
+ghost use Rattle.cxx_cursor.specs.Asking.{AnyKnown, itself};
+ghost use Rattle.cxx_cursor.specs.Reading.{IsRead};
 ghost use Rattle.cxx_tree.specs.Held.{meaning};
 
 use crate::phrasing::Phrasing;
+use cxx_cursor::Cursor;
 use cxx_heads as heads;
 use cxx_model::{FaultText, LeftOut, Stop, TokenKind, keyword};
 use cxx_statements::Head;
-use cxx_syntax::Cursor;
 use cxx_tree::State;
 
 // A statement that is left out begins with its keyword (6.6.4, 7.4, 15).
@@ -39,7 +39,7 @@ fn left_out(kind: TokenKind) -> Option<FaultText>
 }
 
 // A label that is a name is left out, which `goto` alone uses (6.1).
-#[tactic(auto, using(cxx_syntax::proofs::Kept::later_refl))]
+#[tactic(auto, using(cxx_cursor::proofs::Kept::later_refl))]
 fn head_as(state: &State, cursor: &Cursor<'_>, found: heads::Head) -> Result<Head, Stop>
     ensures { IsRead itself AnyKnown state.now state.now cursor.now result (definition.head_as found (meaning state.now) cursor.now) }
 {
@@ -56,7 +56,7 @@ fn head_as(state: &State, cursor: &Cursor<'_>, found: heads::Head) -> Result<Hea
     }
 }
 
-#[tactic(auto, using(cxx_syntax::proofs::Kept::later_refl, cxx_syntax::proofs::Kept::later_trans))]
+#[tactic(auto, using(cxx_cursor::proofs::Kept::later_refl, cxx_cursor::proofs::Kept::later_trans))]
 fn some_head<P: Phrasing>(
     phrasing: &P,
     state: &mut State,
@@ -70,7 +70,7 @@ fn some_head<P: Phrasing>(
 }
 
 /// How the statement ahead begins. No token is taken.
-#[tactic(auto, using(cxx_syntax::proofs::Kept::later_refl), unfolding(cxx_language::specs::Statements::statement_head))]
+#[tactic(auto, using(cxx_cursor::proofs::Kept::later_refl), unfolding(cxx_language::specs::Statements::statement_head))]
 pub(crate) fn statement_head<P: Phrasing>(
     phrasing: &P,
     state: &mut State,

@@ -1,15 +1,15 @@
 ghost use Rattle.cxx_heads.specs.Heads.{head_at, is_declared_condition};
 ghost use Rattle.cxx_language.specs.Asked.{asked, inner_at, phrases_at};
 ghost use Rattle.cxx_phrases.specs.Initializers.{expression_at};
-ghost use Rattle.cxx_syntax.specs.Asking.{AnyKnown, IsTreeKnown, itself};
-ghost use Rattle.cxx_syntax.specs.Reading.{IsRead};
+ghost use Rattle.cxx_cursor.specs.Asking.{AnyKnown, IsTreeKnown, itself};
+ghost use Rattle.cxx_cursor.specs.Reading.{IsRead};
 ghost use Rattle.cxx_tree.specs.Held.{meaning, tree};
 
+use cxx_cursor::Cursor;
 use cxx_heads::Head;
 use cxx_language::Declares;
 use cxx_model::{Stop, TreeId};
 use cxx_phrases::Level;
-use cxx_syntax::Cursor;
 use cxx_tree::State;
 
 /// Who reads expressions, and tells how a statement begins. What a reader takes is room for so many brackets inside one

@@ -8,7 +8,7 @@ ghost use Rattle.cxx_model.specs.Facts.Declarations.{type_of_option};
 ghost use Rattle.cxx_model.specs.Facts.Fitted.{IsTypeNumberBelow};
 ghost use Rattle.cxx_model.specs.Types.Trees.{fundamental};
 ghost use Rattle.cxx_statements.specs.Views.{IsTarget, target_of};
-ghost use Rattle.cxx_syntax.specs.Asking.{IsAsked, IsTreeKnown};
+ghost use Rattle.cxx_cursor.specs.Asking.{IsAsked, IsTreeKnown};
 ghost use Rattle.cxx_tree.specs.Held.{meaning, tree, trees, type_of};
 
 use crate::kinds::{condition_place, gives_void, integer_type, is_test, is_void, start_of};
@@ -34,7 +34,7 @@ fn convert_to(state: &mut State, place: Place, of: TypeId, number: TreeId) -> Re
 }
 
 // The same, to a fundamental type.
-#[tactic(auto, using(cxx_expr::proofs::Kept::tree_kept, cxx_expr::proofs::Kept::tree_later, cxx_syntax::proofs::Kept::later_refl, cxx_syntax::proofs::Kept::later_trans))]
+#[tactic(auto, using(cxx_expr::proofs::Kept::tree_kept, cxx_expr::proofs::Kept::tree_later, cxx_cursor::proofs::Kept::later_refl, cxx_cursor::proofs::Kept::later_trans))]
 fn convert_to_plain(
     state: &mut State,
     place: Place,
@@ -49,7 +49,7 @@ fn convert_to_plain(
 }
 
 // A condition (6.4, 6.5).
-#[tactic(auto, using(cxx_syntax::proofs::Kept::later_refl), unfolding(cxx_language::specs::Statements::tested))]
+#[tactic(auto, using(cxx_cursor::proofs::Kept::later_refl), unfolding(cxx_language::specs::Statements::tested))]
 fn tested(state: &mut State, number: TreeId) -> Result<TreeId, Stop>
     requires { number.0 < length (trees state.old) }
     ensures { IsAsked tree IsTreeKnown state.old state.new result (definition.tested answers (tree state.old number) (meaning state.old)) }
@@ -65,7 +65,7 @@ fn tested(state: &mut State, number: TreeId) -> Result<TreeId, Stop>
 }
 
 // What is promoted, given its integral type.
-#[tactic(auto, using(cxx_syntax::proofs::Kept::later_refl))]
+#[tactic(auto, using(cxx_cursor::proofs::Kept::later_refl))]
 fn promoted_by(state: &mut State, number: TreeId, of: Option<Base>) -> Result<TreeId, Stop>
     requires { number.0 < length (trees state.old) }
     ensures { IsAsked tree IsTreeKnown state.old state.new result (definition.promoted_by answers (tree state.old number) of (meaning state.old)) }
@@ -78,7 +78,7 @@ fn promoted_by(state: &mut State, number: TreeId, of: Option<Base>) -> Result<Tr
 }
 
 // What is switched over (6.4.2).
-#[tactic(auto, using(cxx_syntax::proofs::Kept::later_refl), unfolding(cxx_language::specs::Statements::switched))]
+#[tactic(auto, using(cxx_cursor::proofs::Kept::later_refl), unfolding(cxx_language::specs::Statements::switched))]
 fn switched(state: &mut State, number: TreeId) -> Result<TreeId, Stop>
     requires { number.0 < length (trees state.old) }
     ensures { IsAsked tree IsTreeKnown state.old state.new result (definition.switched answers (tree state.old number) (meaning state.old)) }
@@ -92,7 +92,7 @@ fn switched(state: &mut State, number: TreeId) -> Result<TreeId, Stop>
 }
 
 // The constant of a label, by the type of its switch (6.4.2).
-#[tactic(auto, using(cxx_syntax::proofs::Kept::later_refl), unfolding(cxx_language::specs::Statements::labelled))]
+#[tactic(auto, using(cxx_cursor::proofs::Kept::later_refl), unfolding(cxx_language::specs::Statements::labelled))]
 fn labelled(state: &mut State, of: TypeId, number: TreeId) -> Result<TreeId, Stop>
     requires of { of.0 < length (state.old).types }
     requires number { number.0 < length (trees state.old) }
@@ -115,7 +115,7 @@ fn result_here(state: &State) -> Option<TypeId>
 }
 
 // What a function answers that returns a type.
-#[tactic(auto, using(cxx_syntax::proofs::Kept::later_refl))]
+#[tactic(auto, using(cxx_cursor::proofs::Kept::later_refl))]
 fn returned_as(state: &mut State, of: TypeId, number: TreeId) -> Result<TreeId, Stop>
     requires of { of.0 < length (state.old).types }
     requires number { number.0 < length (trees state.old) }
@@ -132,7 +132,7 @@ fn returned_as(state: &mut State, of: TypeId, number: TreeId) -> Result<TreeId, 
 }
 
 // The same, where no body is read.
-#[tactic(auto, using(cxx_syntax::proofs::Kept::later_refl))]
+#[tactic(auto, using(cxx_cursor::proofs::Kept::later_refl))]
 fn returned_by(state: &mut State, of: Option<TypeId>, number: TreeId) -> Result<TreeId, Stop>
     requires of { IsTypeNumberBelow (length (state.old).types) of }
     requires number { number.0 < length (trees state.old) }

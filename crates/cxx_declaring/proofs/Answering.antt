@@ -12,8 +12,8 @@ use Rattle.cxx_reading.specs.Specifiers.{path_of}
 use Rattle.cxx_reading.specs.State.{CxxState}
 use Rattle.cxx_reading.specs.Tokens.{is_plain_name, path_ahead, token_in}
 use Rattle.cxx_reading.specs.Trees.{CxxPath}
-use Rattle.cxx_syntax.specs.Asking.{AnyKnown, IsAsked}
-use Rattle.cxx_syntax.proofs.Names.{plain_path}
+use Rattle.cxx_cursor.specs.Asking.{AnyKnown, IsAsked}
+use Rattle.cxx_cursor.proofs.Names.{plain_path}
 use Rattle.cxx_tree.specs.Answered.{IsAnswered}
 use Rattle.cxx_tree.specs.Held.{Held, meaning}
 

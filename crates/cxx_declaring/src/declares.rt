@@ -5,6 +5,7 @@ ghost use Rattle.cxx_defined.specs.Defined.{IsOwn};
 use crate::declaring::Declaring;
 use crate::phrases::condition_value;
 use cxx_answers::Answering;
+use cxx_cursor::{Cursor, Declarator, NameToken, Specifiers, Spelled};
 use cxx_declare as declare;
 use cxx_graph::Graph;
 use cxx_initialize::initialize;
@@ -13,7 +14,6 @@ use cxx_language::{Declares, constant_value};
 use cxx_model::{Entity, FactId, Node, OutOfMemory, Path, Place, ScopeId, Stop, TreeId, TypeId};
 use cxx_phrases::Initializer;
 use cxx_reading::{Naming, SpecifierPlace};
-use cxx_syntax::{Cursor, Declarator, NameToken, Specifiers, Spelled};
 use cxx_tree::State;
 
 // Whether a number is that of a declaration of an object, a function or a template.
@@ -127,7 +127,7 @@ impl Declares for Declaring {
         declare::define_object(state, name.place, name.spelling.as_slice(), of)
     }
 
-    #[tactic(auto, using(cxx_syntax::proofs::Kept::later_refl))]
+    #[tactic(auto, using(cxx_cursor::proofs::Kept::later_refl))]
     fn define_declared(
         &self,
         state: &mut State,
@@ -180,7 +180,7 @@ impl Declares for Declaring {
         declare::agree_here(state, is_typedef, name.place, name.spelling.as_slice(), of)
     }
 
-    #[tactic(auto, using(crate::proofs::Answering::asked, cxx_syntax::proofs::Kept::later_refl))]
+    #[tactic(auto, using(crate::proofs::Answering::asked, cxx_cursor::proofs::Kept::later_refl))]
     fn stand_in(&self, state: &mut State, scope: ScopeId) -> Result<(), Stop> {
         // The reader stood in it.
         if scope.0 >= state.names().scopes(state.graph()).0 {

@@ -4,16 +4,17 @@ ghost use Rattle.cxx_declare.specs.Made.{IsNameOf};
 ghost use Rattle.cxx_names.specs.Clashes.{IsPlainName};
 ghost use Rattle.cxx_reading.specs.Declaring.{kind_here, type_here};
 ghost use Rattle.cxx_reading.specs.Tokens.{is_plain_name, path_ahead};
-ghost use Rattle.cxx_syntax.specs.Asking.{AnyKnown, IsAsked, IsEnumeration, IsTypeKnown, enumeration_number, itself};
-ghost use Rattle.cxx_syntax.specs.Views.{name_of_option};
+ghost use Rattle.cxx_cursor.specs.Asking.{AnyKnown, IsAsked, IsEnumeration, IsTypeKnown, enumeration_number, itself};
+ghost use Rattle.cxx_cursor.specs.Views.{name_of_option};
 ghost use Rattle.cxx_tree.specs.Held.{meaning, type_of};
 
 use cxx_answers::{Answering, begin_default, constant_here, end_default};
+use cxx_cursor::{Cursor, NameToken, Spelled};
 use cxx_declare as declare;
 use cxx_elaborate::whole;
 use cxx_knot::Asking;
 use cxx_model::{EnumId, Kind, Name, Node, Path, Place, ScopeId, Stop, TreeId, TypeId, Word};
-use cxx_syntax::{Cursor, Kinds, NameToken, Spelled};
+use cxx_syntax::Kinds;
 use cxx_tree::State;
 use std::alloc::{AllocError, Global};
 
@@ -32,7 +33,7 @@ fn name_of(alloc: Global, name: &Option<NameToken>) -> Result<Name, AllocError>
 }
 
 // The type of an enumeration that begins.
-#[tactic(auto, using(cxx_syntax::proofs::Kept::later_trans))]
+#[tactic(auto, using(cxx_cursor::proofs::Kept::later_trans))]
 fn begun(state: &mut State, number: EnumId) -> Result<(EnumId, TypeId), Stop>
     requires { number.0 < enumerations (state.old).graph.facts }
     ensures { IsAsked enumeration_number IsEnumeration state.old state.new result (Ok (number.0, meaning state.old)) }
@@ -52,7 +53,7 @@ fn kind_of_word(state: &State, ahead: &Cursor<'_>) -> Result<Kind, Stop>
 }
 
 // The same with its qualifiers (3.4.3).
-#[tactic(auto, using(crate::proofs::Answering::asked, cxx_syntax::proofs::Kept::later_refl))]
+#[tactic(auto, using(crate::proofs::Answering::asked, cxx_cursor::proofs::Kept::later_refl))]
 fn kind_of_path(state: &State, ahead: &Cursor<'_>) -> Result<Kind, Stop>
     ensures { IsAsked itself AnyKnown state.now state.now result (kind_here (path_ahead ahead.now) (meaning state.now)) }
 {
@@ -69,7 +70,7 @@ fn type_of_word(state: &mut State, ahead: &Cursor<'_>) -> Result<TypeId, Stop>
 }
 
 // The same with its qualifiers.
-#[tactic(auto, using(crate::proofs::Answering::asked, cxx_syntax::proofs::Kept::later_refl))]
+#[tactic(auto, using(crate::proofs::Answering::asked, cxx_cursor::proofs::Kept::later_refl))]
 fn type_of_path(state: &mut State, ahead: &Cursor<'_>) -> Result<TypeId, Stop>
     ensures { IsAsked type_of IsTypeKnown state.old state.new result (type_here (path_ahead ahead.now) (meaning state.old)) }
 {
@@ -105,7 +106,7 @@ impl Kinds for Declaring {
         type_of_path(state, ahead)
     }
 
-    #[tactic(auto, using(crate::proofs::Answering::asked, cxx_syntax::proofs::Kept::later_refl), unfolding(cxx_language::specs::Answers::asking))]
+    #[tactic(auto, using(crate::proofs::Answering::asked, cxx_cursor::proofs::Kept::later_refl), unfolding(cxx_language::specs::Answers::asking))]
     fn elaborated(
         &self,
         state: &mut State,
@@ -116,7 +117,7 @@ impl Kinds for Declaring {
         declare::elaborated(state, &path)
     }
 
-    #[tactic(auto, using(crate::proofs::Answering::asked, cxx_syntax::proofs::Kept::later_refl), unfolding(cxx_language::specs::Answers::asking))]
+    #[tactic(auto, using(crate::proofs::Answering::asked, cxx_cursor::proofs::Kept::later_refl), unfolding(cxx_language::specs::Answers::asking))]
     fn class_named(
         &self,
         state: &mut State,
@@ -128,13 +129,13 @@ impl Kinds for Declaring {
         declare::class_here(state, path, is_union, is_all)
     }
 
-    #[tactic(auto, using(crate::proofs::Answering::asked, cxx_syntax::proofs::Kept::later_refl), unfolding(cxx_language::specs::Answers::asking))]
+    #[tactic(auto, using(crate::proofs::Answering::asked, cxx_cursor::proofs::Kept::later_refl), unfolding(cxx_language::specs::Answers::asking))]
     fn entered(&self, state: &mut State, ahead: &Cursor<'_>, _room: u32) -> Result<(), Stop> {
         let path = ahead.path()?;
         declare::enter_member(state, &path)
     }
 
-    #[tactic(auto, using(crate::proofs::Answering::asked, cxx_syntax::proofs::Kept::later_refl, cxx_syntax::proofs::Kept::later_trans), unfolding(cxx_language::specs::Answers::asking))]
+    #[tactic(auto, using(crate::proofs::Answering::asked, cxx_cursor::proofs::Kept::later_refl, cxx_cursor::proofs::Kept::later_trans), unfolding(cxx_language::specs::Answers::asking))]
     fn enumeration(
         &self,
         state: &mut State,
@@ -147,7 +148,7 @@ impl Kinds for Declaring {
         begun(state, number)
     }
 
-    #[tactic(auto, using(crate::proofs::Answering::asked, cxx_syntax::proofs::Kept::later_refl), unfolding(cxx_language::specs::Answers::asking))]
+    #[tactic(auto, using(crate::proofs::Answering::asked, cxx_cursor::proofs::Kept::later_refl), unfolding(cxx_language::specs::Answers::asking))]
     fn enumerator(
         &self,
         state: &mut State,
@@ -168,7 +169,7 @@ impl Kinds for Declaring {
         declare::end_enumeration(state, number)
     }
 
-    #[tactic(auto, using(cxx_syntax::proofs::Kept::later_refl), unfolding(cxx_language::specs::Answers::asking))]
+    #[tactic(auto, using(cxx_cursor::proofs::Kept::later_refl), unfolding(cxx_language::specs::Answers::asking))]
     fn constant(&self, state: &mut State, number: TreeId, _room: u32) -> Result<i128, Stop> {
         constant_here(state.alloc(), state, number)
     }
@@ -178,7 +179,7 @@ impl Kinds for Declaring {
         state.enter_parameters()
     }
 
-    #[tactic(auto, using(crate::proofs::Answering::asked, cxx_syntax::proofs::Kept::later_refl), unfolding(cxx_language::specs::Answers::asking))]
+    #[tactic(auto, using(crate::proofs::Answering::asked, cxx_cursor::proofs::Kept::later_refl), unfolding(cxx_language::specs::Answers::asking))]
     fn parameter(
         &self,
         state: &mut State,

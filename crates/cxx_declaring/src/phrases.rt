@@ -4,19 +4,19 @@ ghost use Rattle.cxx_language.specs.Asked.{inner_at, phrases_at};
 ghost use Rattle.cxx_language.specs.Blocks as blocks;
 ghost use Rattle.cxx_phrases.specs.Initializers.{copy_at, expression_at};
 ghost use Rattle.cxx_phrases.specs.Views.{IsInitializer, initializer_of};
-ghost use Rattle.cxx_syntax.specs.Asking.{IsTreeKnown};
-ghost use Rattle.cxx_syntax.specs.Reading.{IsRead};
+ghost use Rattle.cxx_cursor.specs.Asking.{IsTreeKnown};
+ghost use Rattle.cxx_cursor.specs.Reading.{IsRead};
 ghost use Rattle.cxx_tree.specs.Held.{meaning, tree};
 
 use crate::declaring::Declaring;
 use cxx_body::{Phrasing, read_function_body};
+use cxx_cursor::{Cursor, NameToken, Spelled, is_punct};
 use cxx_declare as declare;
 use cxx_heads::Head;
 use cxx_knot::{condition_ahead, head_ahead, read_phrase};
 use cxx_model::{FactId, Form, Listed, Place, ScopeId, Stop, TreeId, TypeId, punct};
 use cxx_phrases::{Initializer, Level};
 use cxx_space::Defines;
-use cxx_syntax::{Cursor, NameToken, Spelled, is_punct};
 use cxx_tree::State;
 
 #[tactic(auto, unfolding(cxx_language::specs::Answers::asking))]
@@ -33,7 +33,7 @@ fn phrase(
 }
 
 // The value of an object, behind `=` (8.5).
-#[tactic(auto, using(cxx_syntax::proofs::Kept::later_refl), unfolding(cxx_phrases::specs::Initializers::copy_at))]
+#[tactic(auto, using(cxx_cursor::proofs::Kept::later_refl), unfolding(cxx_phrases::specs::Initializers::copy_at))]
 fn value_behind(
     declaring: &Declaring,
     state: &mut State,
@@ -52,7 +52,7 @@ fn value_behind(
 }
 
 /// The value of the object that a condition declares, from its `=` on (6.4).
-#[tactic(auto, using(cxx_syntax::proofs::Kept::later_refl), unfolding(cxx_language::specs::Blocks::condition_value))]
+#[tactic(auto, using(cxx_cursor::proofs::Kept::later_refl), unfolding(cxx_language::specs::Blocks::condition_value))]
 pub(crate) fn condition_value(
     declaring: &Declaring,
     state: &mut State,

@@ -6,7 +6,7 @@ use Rattle.cxx_model.specs.Stops.{Answer}
 use Rattle.cxx_reading.specs.State.{CxxState}
 use Rattle.cxx_reading.specs.Trees.{CxxTree}
 use Rattle.cxx_expr.specs.Making.{IsTreeKnown}
-use Rattle.cxx_syntax.specs.Asking.{IsAsked, IsTreeKnown as IsKnown}
+use Rattle.cxx_cursor.specs.Asking.{IsAsked, IsTreeKnown as IsKnown}
 use Rattle.cxx_tree.specs.Answered.{IsAnswered}
 use Rattle.cxx_tree.specs.Held.{Held, tree}
 

@@ -2,7 +2,7 @@
 
 ghost use Rattle.std.specs.Prelude.{◌<◌, length};
 ghost use Rattle.cxx_expr.specs.Elaborating as definition;
-ghost use Rattle.cxx_syntax.specs.Asking.{IsAsked, IsTreeKnown};
+ghost use Rattle.cxx_cursor.specs.Asking.{IsAsked, IsTreeKnown};
 ghost use Rattle.cxx_tree.specs.Arena.{AreTreesBelow, IsNodeBelow, tree_over};
 ghost use Rattle.cxx_tree.specs.Held.{meaning, tree, trees};
 

@@ -2,16 +2,17 @@
 
 ghost use Rattle.std.specs.Prelude.{◌≡◌};
 ghost use Rattle.cxx_heads.specs.Heads as definition;
-ghost use Rattle.cxx_syntax.specs.Asking.{AnyKnown, itself};
-ghost use Rattle.cxx_syntax.specs.Outlines.{run_in};
-ghost use Rattle.cxx_syntax.specs.Reading.{IsRead, Takes};
-ghost use Rattle.cxx_syntax.specs.Views.{turn_at};
+ghost use Rattle.cxx_cursor.specs.Asking.{AnyKnown, itself};
+ghost use Rattle.cxx_cursor.specs.Outlines.{run_in};
+ghost use Rattle.cxx_cursor.specs.Reading.{IsRead, Takes};
+ghost use Rattle.cxx_cursor.specs.Views.{turn_at};
 ghost use Rattle.cxx_tree.specs.Held.{meaning};
 
 use crate::names::name_passed;
 use crate::suffixes::suffixes_passed;
+use cxx_cursor::{Cursor, Run, Turn, is_punct};
 use cxx_model::{Stop, TokenKind, keyword, punct};
-use cxx_syntax::{Cursor, Kinds, Nested, Reader, Run, Turn, is_punct};
+use cxx_syntax::{Kinds, Nested, Reader};
 use cxx_tree::State;
 
 // A specifier that is no part of a type, `const` and `volatile` aside.
@@ -54,7 +55,7 @@ fn type_word_step(cursor: &mut Cursor<'_>) -> Result<Turn<(), bool>, Stop>
 }
 
 // Whether so many tokens are all parts of a type.
-#[tactic(auto, using(cxx_syntax::proofs::Loops::turn, cxx_syntax::proofs::Loops::no_turn), unfolding(crate::specs::Heads::types_alone))]
+#[tactic(auto, using(cxx_cursor::proofs::Loops::turn, cxx_cursor::proofs::Loops::no_turn), unfolding(crate::specs::Heads::types_alone))]
 fn types_alone(cursor: &mut Cursor<'_>, count: u32) -> Result<bool, Stop>
     ensures { Takes (λ x. x) cursor.new result (definition.types_alone count tt cursor.old) }
 {
@@ -68,7 +69,7 @@ fn types_alone(cursor: &mut Cursor<'_>, count: u32) -> Result<bool, Stop>
 }
 
 // Whether a declarator with a name stands ahead, and `=` behind all of it.
-#[tactic(auto, using(cxx_syntax::proofs::Kept::later_trans, cxx_syntax::proofs::Kept::later_refl), unfolding(crate::specs::Heads::initializer_follows))]
+#[tactic(auto, using(cxx_cursor::proofs::Kept::later_trans, cxx_cursor::proofs::Kept::later_refl), unfolding(crate::specs::Heads::initializer_follows))]
 fn initializer_follows<K: Kinds, N: Nested>(
     reader: &Reader<'_, K, N>,
     state: &mut State,
@@ -89,7 +90,7 @@ fn initializer_follows<K: Kinds, N: Nested>(
     }
 }
 
-#[tactic(auto, using(cxx_syntax::proofs::Kept::later_trans, cxx_syntax::proofs::Kept::later_refl))]
+#[tactic(auto, using(cxx_cursor::proofs::Kept::later_trans, cxx_cursor::proofs::Kept::later_refl))]
 fn typed_by<K: Kinds, N: Nested>(
     reader: &Reader<'_, K, N>,
     state: &mut State,
@@ -111,7 +112,7 @@ fn typed_by<K: Kinds, N: Nested>(
 }
 
 // Behind specifiers, which began at an earlier token.
-#[tactic(auto, using(cxx_syntax::proofs::Kept::later_trans, cxx_syntax::proofs::Kept::later_refl))]
+#[tactic(auto, using(cxx_cursor::proofs::Kept::later_trans, cxx_cursor::proofs::Kept::later_refl))]
 fn conditioned_by<K: Kinds, N: Nested>(
     reader: &Reader<'_, K, N>,
     state: &mut State,
@@ -127,7 +128,7 @@ fn conditioned_by<K: Kinds, N: Nested>(
     typed_by(reader, state, cursor, run, alone)
 }
 
-#[tactic(auto, using(cxx_syntax::proofs::Kept::later_trans, cxx_syntax::proofs::Kept::later_refl), unfolding(crate::specs::Heads::condition_begins))]
+#[tactic(auto, using(cxx_cursor::proofs::Kept::later_trans, cxx_cursor::proofs::Kept::later_refl), unfolding(crate::specs::Heads::condition_begins))]
 fn condition_begins<K: Kinds, N: Nested>(
     reader: &Reader<'_, K, N>,
     state: &mut State,
@@ -143,7 +144,7 @@ fn condition_begins<K: Kinds, N: Nested>(
 }
 
 /// Whether a declaration of an object with `=` stands ahead in a condition (6.4). All else is an expression.
-#[tactic(auto, using(cxx_syntax::proofs::Kept::later_trans, cxx_syntax::proofs::Kept::later_refl), unfolding(crate::specs::Heads::is_declared_condition))]
+#[tactic(auto, using(cxx_cursor::proofs::Kept::later_trans, cxx_cursor::proofs::Kept::later_refl), unfolding(crate::specs::Heads::is_declared_condition))]
 pub fn is_declared_condition<K: Kinds, N: Nested>(
     reader: &Reader<'_, K, N>,
     state: &mut State,

@@ -2,20 +2,21 @@
 
 ghost use Rattle.std.specs.Prelude.{◌≡◌};
 ghost use Rattle.cxx_heads.specs.Heads as definition;
-ghost use Rattle.cxx_syntax.specs.Asking.{AnyKnown, itself};
-ghost use Rattle.cxx_syntax.specs.Outlines.{run_in};
-ghost use Rattle.cxx_syntax.specs.Reading.{IsRead};
+ghost use Rattle.cxx_cursor.specs.Asking.{AnyKnown, itself};
+ghost use Rattle.cxx_cursor.specs.Outlines.{run_in};
+ghost use Rattle.cxx_cursor.specs.Reading.{IsRead};
 ghost use Rattle.cxx_tree.specs.Held.{meaning};
 
 use crate::head::Head;
 use crate::names::name_passed;
 use crate::suffixes::{bounds_passed, closed_passed};
+use cxx_cursor::{Cursor, Run, is_keyword, is_name, is_punct};
 use cxx_model::{Stop, TokenKind, keyword, punct};
-use cxx_syntax::{Cursor, Kinds, Nested, Reader, Run, is_keyword, is_name, is_punct};
+use cxx_syntax::{Kinds, Nested, Reader};
 use cxx_tree::State;
 
 // Whether a declarator with a name stands ahead, and behind it what a declaration goes on with.
-#[tactic(auto, using(cxx_syntax::proofs::Kept::later_trans, cxx_syntax::proofs::Kept::later_refl), unfolding(crate::specs::Heads::declarator_begins))]
+#[tactic(auto, using(cxx_cursor::proofs::Kept::later_trans, cxx_cursor::proofs::Kept::later_refl), unfolding(crate::specs::Heads::declarator_begins))]
 fn declarator_begins<K: Kinds, N: Nested>(
     reader: &Reader<'_, K, N>,
     state: &mut State,
@@ -44,7 +45,7 @@ fn begins_list(cursor: &Cursor<'_>) -> bool
         || (is_name(cursor.kind()) && is_punct(punct::LEFT_BRACE, cursor.kind_behind()))
 }
 
-#[tactic(auto, using(cxx_syntax::proofs::Kept::later_trans, cxx_syntax::proofs::Kept::later_refl))]
+#[tactic(auto, using(cxx_cursor::proofs::Kept::later_trans, cxx_cursor::proofs::Kept::later_refl))]
 fn specified_by<K: Kinds, N: Nested>(
     reader: &Reader<'_, K, N>,
     state: &mut State,
@@ -61,7 +62,7 @@ fn specified_by<K: Kinds, N: Nested>(
     }
 }
 
-#[tactic(auto, using(cxx_syntax::proofs::Kept::later_trans, cxx_syntax::proofs::Kept::later_refl), unfolding(crate::specs::Heads::specifiers_begin))]
+#[tactic(auto, using(cxx_cursor::proofs::Kept::later_trans, cxx_cursor::proofs::Kept::later_refl), unfolding(crate::specs::Heads::specifiers_begin))]
 fn specifiers_begin<K: Kinds, N: Nested>(
     reader: &Reader<'_, K, N>,
     state: &mut State,
@@ -104,7 +105,7 @@ fn begins_declaration(kind: TokenKind) -> bool
 
 /// Whether a declaration of objects, functions and types stands ahead where a statement begins (6.8). What is no such
 /// declaration, no `using` and no `namespace` is an expression.
-#[tactic(auto, using(cxx_syntax::proofs::Kept::later_trans, cxx_syntax::proofs::Kept::later_refl), unfolding(crate::specs::Heads::is_declaration))]
+#[tactic(auto, using(cxx_cursor::proofs::Kept::later_trans, cxx_cursor::proofs::Kept::later_refl), unfolding(crate::specs::Heads::is_declaration))]
 pub fn is_declaration<K: Kinds, N: Nested>(
     reader: &Reader<'_, K, N>,
     state: &mut State,
@@ -122,7 +123,7 @@ pub fn is_declaration<K: Kinds, N: Nested>(
 }
 
 /// What stands ahead where a statement begins with none of its keywords (6).
-#[tactic(auto, using(cxx_syntax::proofs::Kept::later_trans, cxx_syntax::proofs::Kept::later_refl), unfolding(crate::specs::Heads::head_at))]
+#[tactic(auto, using(cxx_cursor::proofs::Kept::later_trans, cxx_cursor::proofs::Kept::later_refl), unfolding(crate::specs::Heads::head_at))]
 pub fn head_at<K: Kinds, N: Nested>(
     reader: &Reader<'_, K, N>,
     state: &mut State,

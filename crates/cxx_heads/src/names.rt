@@ -2,12 +2,12 @@
 
 ghost use Rattle.std.specs.Prelude.{◌≡◌, ◌<◌, ◌≤◌, ◌+◌, ◌^◌, IfOk};
 ghost use Rattle.cxx_heads.specs.Heads as definition;
-ghost use Rattle.cxx_syntax.specs.Reading.{Takes};
-ghost use Rattle.cxx_syntax.specs.Views.{IsTurn, turn_at};
+ghost use Rattle.cxx_cursor.specs.Reading.{Takes};
+ghost use Rattle.cxx_cursor.specs.Views.{IsTurn, turn_at};
 
 use crate::shape::Shape;
+use cxx_cursor::{Cursor, Turn, is_keyword, is_punct};
 use cxx_model::{Stop, TokenKind, keyword, punct};
-use cxx_syntax::{Cursor, Turn, is_keyword, is_punct};
 
 pub(crate) fn is_cv_word(kind: TokenKind) -> bool
     ensures { result ≡ definition.is_cv_word kind }
@@ -59,7 +59,7 @@ fn name_step(cursor: &mut Cursor<'_>, shape: Shape) -> Result<Turn<Shape, Option
 }
 
 /// Passes the name of a declarator and all that stands before it, and answers what is open round it.
-#[tactic(auto, using(cxx_syntax::proofs::Loops::turn, cxx_syntax::proofs::Loops::no_turn), unfolding(crate::specs::Heads::name_passed))]
+#[tactic(auto, using(cxx_cursor::proofs::Loops::turn, cxx_cursor::proofs::Loops::no_turn), unfolding(crate::specs::Heads::name_passed))]
 pub(crate) fn name_passed(cursor: &mut Cursor<'_>) -> Result<Option<Shape>, Stop>
     ensures { Takes (λ x. x) cursor.new result (definition.name_passed tt cursor.old) }
 {

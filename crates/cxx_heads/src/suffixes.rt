@@ -2,19 +2,20 @@
 
 ghost use Rattle.std.specs.Prelude.{◌≡◌};
 ghost use Rattle.cxx_heads.specs.Heads as definition;
-ghost use Rattle.cxx_syntax.specs.Asking.{AnyKnown, itself};
-ghost use Rattle.cxx_syntax.specs.Reading.{IsRead, Takes};
-ghost use Rattle.cxx_syntax.specs.Views.{turn_at};
+ghost use Rattle.cxx_cursor.specs.Asking.{AnyKnown, itself};
+ghost use Rattle.cxx_cursor.specs.Reading.{IsRead, Takes};
+ghost use Rattle.cxx_cursor.specs.Views.{turn_at};
 ghost use Rattle.cxx_tree.specs.Held.{meaning};
 
 use crate::names::is_cv_word;
 use crate::shape::Shape;
+use cxx_cursor::{Cursor, Turn, is_keyword, is_punct};
 use cxx_model::{Stop, TokenKind, keyword, punct};
-use cxx_syntax::{Cursor, Kinds, Nested, Reader, Turn, brackets_passed, is_keyword, is_punct};
+use cxx_syntax::{Kinds, Nested, Reader, brackets_passed};
 use cxx_tree::State;
 
 // Brackets, behind which cv words may stand or not.
-#[tactic(auto, using(cxx_syntax::proofs::Kept::later_refl))]
+#[tactic(auto, using(cxx_cursor::proofs::Kept::later_refl))]
 fn gone_past(
     state: &State,
     cursor: &mut Cursor<'_>,
@@ -32,7 +33,7 @@ fn gone_past(
 }
 
 // A list that holds parameters (8.2).
-#[tactic(auto, using(cxx_syntax::proofs::Kept::later_trans, cxx_syntax::proofs::Kept::later_refl), unfolding(crate::specs::Heads::list_step))]
+#[tactic(auto, using(cxx_cursor::proofs::Kept::later_trans, cxx_cursor::proofs::Kept::later_refl), unfolding(crate::specs::Heads::list_step))]
 fn list_step<K: Kinds, N: Nested>(
     reader: &Reader<'_, K, N>,
     state: &mut State,
@@ -51,7 +52,7 @@ fn list_step<K: Kinds, N: Nested>(
 }
 
 // Behind `throw` (15.4).
-#[tactic(auto, using(cxx_syntax::proofs::Kept::later_refl), unfolding(crate::specs::Heads::exceptions_step))]
+#[tactic(auto, using(cxx_cursor::proofs::Kept::later_refl), unfolding(crate::specs::Heads::exceptions_step))]
 fn exceptions_step(
     state: &State,
     cursor: &mut Cursor<'_>,
@@ -66,7 +67,7 @@ fn exceptions_step(
 }
 
 // Parameters with the words behind them, a bound, or an end of brackets.
-#[tactic(auto, using(cxx_syntax::proofs::Kept::later_trans, cxx_syntax::proofs::Kept::later_refl), unfolding(crate::specs::Heads::suffix_step))]
+#[tactic(auto, using(cxx_cursor::proofs::Kept::later_trans, cxx_cursor::proofs::Kept::later_refl), unfolding(crate::specs::Heads::suffix_step))]
 fn suffix_step<K: Kinds, N: Nested>(
     reader: &Reader<'_, K, N>,
     state: &mut State,
@@ -102,7 +103,7 @@ fn suffix_step<K: Kinds, N: Nested>(
 }
 
 /// Passes all that may stand behind the name of a declarator.
-#[tactic(auto, using(cxx_syntax::proofs::Loops::turn, cxx_syntax::proofs::Loops::no_turn, cxx_syntax::proofs::Kept::later_trans, cxx_syntax::proofs::Kept::later_refl), unfolding(crate::specs::Heads::suffixes_passed))]
+#[tactic(auto, using(cxx_cursor::proofs::Loops::turn, cxx_cursor::proofs::Loops::no_turn, cxx_cursor::proofs::Kept::later_trans, cxx_cursor::proofs::Kept::later_refl), unfolding(crate::specs::Heads::suffixes_passed))]
 pub(crate) fn suffixes_passed<K: Kinds, N: Nested>(
     reader: &Reader<'_, K, N>,
     state: &mut State,
@@ -123,7 +124,7 @@ pub(crate) fn suffixes_passed<K: Kinds, N: Nested>(
 }
 
 // The same inside of the brackets round the name.
-#[tactic(auto, using(cxx_syntax::proofs::Kept::later_trans, cxx_syntax::proofs::Kept::later_refl), unfolding(crate::specs::Heads::closing_step))]
+#[tactic(auto, using(cxx_cursor::proofs::Kept::later_trans, cxx_cursor::proofs::Kept::later_refl), unfolding(crate::specs::Heads::closing_step))]
 fn closing_step<K: Kinds, N: Nested>(
     reader: &Reader<'_, K, N>,
     state: &mut State,
@@ -140,7 +141,7 @@ fn closing_step<K: Kinds, N: Nested>(
 }
 
 /// Passes the brackets round the name of a declarator, and answers whether they close.
-#[tactic(auto, using(cxx_syntax::proofs::Loops::turn, cxx_syntax::proofs::Loops::no_turn, cxx_syntax::proofs::Kept::later_trans, cxx_syntax::proofs::Kept::later_refl), unfolding(crate::specs::Heads::closed_passed))]
+#[tactic(auto, using(cxx_cursor::proofs::Loops::turn, cxx_cursor::proofs::Loops::no_turn, cxx_cursor::proofs::Kept::later_trans, cxx_cursor::proofs::Kept::later_refl), unfolding(crate::specs::Heads::closed_passed))]
 pub(crate) fn closed_passed<K: Kinds, N: Nested>(
     reader: &Reader<'_, K, N>,
     state: &mut State,
@@ -181,7 +182,7 @@ fn bound_step(cursor: &mut Cursor<'_>) -> Result<Turn<(), bool>, Stop>
 }
 
 /// Passes bounds, and answers whether a declaration goes on behind them.
-#[tactic(auto, using(cxx_syntax::proofs::Loops::turn, cxx_syntax::proofs::Loops::no_turn), unfolding(crate::specs::Heads::bounds_passed))]
+#[tactic(auto, using(cxx_cursor::proofs::Loops::turn, cxx_cursor::proofs::Loops::no_turn), unfolding(crate::specs::Heads::bounds_passed))]
 pub(crate) fn bounds_passed(cursor: &mut Cursor<'_>) -> Result<bool, Stop>
     ensures { Takes (λ x. x) cursor.new result (definition.bounds_passed tt cursor.old) }
 {

@@ -15,9 +15,9 @@ use Rattle.cxx_reading.specs.Reads.{Ahead, Asks}
 use Rattle.cxx_reading.specs.State.{CxxState}
 use Rattle.cxx_reading.specs.Syntax.{no_parameters}
 use Rattle.cxx_reading.specs.Trees.{CxxTree}
-use Rattle.cxx_syntax.specs.Asking.{IsTreeKnown}
-use Rattle.cxx_syntax.specs.Reading.{IsRead}
-use Rattle.cxx_syntax.specs.Views.{AreParameters, AreTreesHeld, IsDeclarator, IsValue, declarator_of, parameters_of, trees_held, value_of}
+use Rattle.cxx_cursor.specs.Asking.{IsTreeKnown}
+use Rattle.cxx_cursor.specs.Reading.{IsRead}
+use Rattle.cxx_cursor.specs.Views.{AreParameters, AreTreesHeld, IsDeclarator, IsValue, declarator_of, parameters_of, trees_held, value_of}
 use Rattle.cxx_tree.specs.Arena.{tree_in}
 use Rattle.cxx_tree.specs.Held.{Held, meaning, tree, trees}
 use Rattle.cxx_knot.specs.declared.behind.Entrance.{Entrance}

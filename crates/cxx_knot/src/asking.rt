@@ -3,7 +3,7 @@ ghost use Rattle.cxx_knot.specs.Readers.{Offering};
 ghost use Rattle.cxx_reading.specs.Reads.{Asks};
 ghost use Rattle.cxx_reading.specs.State.{CxxState};
 ghost use Rattle.cxx_reading.specs.Trees.{CxxTree};
-ghost use Rattle.cxx_syntax.specs.Asking.{AnyKnown, IsAsked, IsTreeKnown, itself};
+ghost use Rattle.cxx_cursor.specs.Asking.{AnyKnown, IsAsked, IsTreeKnown, itself};
 ghost use Rattle.cxx_tree.specs.Arena.{AreTreesBelow, IsNodeBelow, tree_over};
 ghost use Rattle.cxx_tree.specs.Held.{meaning, tree, trees, type_of};
 

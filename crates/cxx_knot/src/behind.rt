@@ -1,10 +1,12 @@
 //! What stands behind a bracket or an operator is read by a function value.
 
 use crate::asking::Asking;
+use crate::types::type_id_at;
+use cxx_cursor::{Cursor, Declarator, ParameterTypes};
 use cxx_model::{EnumId, Kind, Node, Stop, TreeId, TreeIdList, TypeId};
-use cxx_phrases::{Level, Phrases, TypeShape, type_id_at};
+use cxx_phrases::{Level, Phrases, TypeShape};
 use cxx_reading::Naming;
-use cxx_syntax::{Cursor, Declarator, Nested, ParameterTypes, Reader};
+use cxx_syntax::{Nested, Reader};
 use cxx_tree::State;
 
 /// What stands behind a bracket or an operator that was taken.

@@ -1,6 +1,5 @@
 //! The readers tied together: what stands behind a bracket is read by the same readers, with one room less.
 
-ghost use Rattle.std.specs.Prelude.{◌≡◌};
 ghost use Rattle.cxx_heads.specs.Heads as heads;
 ghost use Rattle.cxx_knot.specs.Knot.{Follows, Nests, asking_by};
 ghost use Rattle.cxx_knot.specs.Readers.{both, both_by, here, too_deep as too_deep_readers};
@@ -8,26 +7,28 @@ ghost use Rattle.cxx_phrases.specs.Initializers.{expression_at, initializer_at};
 ghost use Rattle.cxx_phrases.specs.Views.{IsInitializer, initializer_of};
 ghost use Rattle.cxx_reading.specs.Specifiers.{specifiers_at};
 ghost use Rattle.cxx_reading.specs.Syntax.{declarator_at};
-ghost use Rattle.cxx_syntax.specs.Asking.{AnyKnown, IsTreeKnown, itself};
-ghost use Rattle.cxx_syntax.specs.Reading.{IsRead};
-ghost use Rattle.cxx_syntax.specs.Views.{AreSpecifiers, IsDeclarator, declarator_of, specifiers_of};
+ghost use Rattle.cxx_cursor.specs.Asking.{AnyKnown, IsTreeKnown, itself};
+ghost use Rattle.cxx_cursor.specs.Reading.{IsRead};
+ghost use Rattle.cxx_cursor.specs.Views.{AreSpecifiers, IsDeclarator, declarator_of, specifiers_of};
 ghost use Rattle.cxx_tree.specs.Held.{meaning, tree};
 
 use crate::asking::Asking;
 use crate::behind::{Behind, Entrance, Found};
+use crate::types::{type_id_at, type_passed_at};
 use crate::values::Values;
+use cxx_cursor::{Cursor, Declarator, Specifiers};
 use cxx_heads::{Head, head_at, is_declared_condition};
 use cxx_model::{LimitKind, Stop, TreeId};
 use cxx_phrases::{
     Initializer, Level, TypeShape, read_expression, read_initializer as initializer_behind,
-    read_sized, type_id_at, type_passed_at,
+    read_sized,
 };
 use cxx_reading::{Naming, SpecifierPlace};
-use cxx_syntax::{Cursor, Declarator, Reader, Specifiers};
+use cxx_syntax::Reader;
 use cxx_tree::State;
 
 // Where there is no room for a bracket.
-#[tactic(auto, using(cxx_syntax::proofs::Kept::later_refl))]
+#[tactic(auto, using(cxx_cursor::proofs::Kept::later_refl))]
 pub(crate) fn too_deep(state: &State, cursor: &Cursor<'_>, what: Entrance) -> Result<Found, Stop>
     ensures { Follows too_deep_readers what state.now cursor.now result state.now cursor.now }
 {

@@ -5,6 +5,7 @@
 mod asking;
 mod behind;
 mod knot;
+mod types;
 mod values;
 
 pub use asking::Asking;

@@ -5,14 +5,15 @@ ghost use Rattle.cxx_knot.specs.Knot.{asking_by};
 ghost use Rattle.cxx_knot.specs.Readers as definition;
 ghost use Rattle.cxx_reading.specs.Reads.{count_ahead, give, repeat};
 ghost use Rattle.cxx_reading.specs.Syntax as syntax;
-ghost use Rattle.cxx_syntax.specs.Reading.{IsRead};
-ghost use Rattle.cxx_syntax.specs.Views.{AreTreesHeld, IsTreesTurn, IsValue, lexeme_at, trees_held, trees_turn, value_of};
+ghost use Rattle.cxx_cursor.specs.Reading.{IsRead};
+ghost use Rattle.cxx_cursor.specs.Views.{AreTreesHeld, IsTreesTurn, IsValue, lexeme_at, trees_held, trees_turn, value_of};
 ghost use Rattle.cxx_tree.specs.Held.{meaning, type_of};
 
 use crate::asking::Asking;
+use cxx_cursor::{Cursor, Spelled, Turn, is_name, is_punct, joined};
 use cxx_model::{EnumId, Listed, Stop, TreeId, TreeIdList, TypeId, punct};
 use cxx_phrases::{Level, Phrases, read_expression};
-use cxx_syntax::{Cursor, Defaults, Spelled, Turn, is_name, is_punct, joined};
+use cxx_syntax::Defaults;
 use cxx_tree::State;
 use std::alloc::{AllocError, Global};
 
@@ -34,7 +35,7 @@ fn one_tree(alloc: Global, number: TreeId) -> Result<TreeIdList, AllocError>
 }
 
 // Behind an enumerator.
-#[tactic(auto, using(cxx_syntax::proofs::Kept::later_refl), unfolding(cxx_reading::specs::Syntax::enumerator_ended))]
+#[tactic(auto, using(cxx_cursor::proofs::Kept::later_refl), unfolding(cxx_reading::specs::Syntax::enumerator_ended))]
 fn enumerator_ended(
     state: &State,
     cursor: &mut Cursor<'_>,
@@ -57,7 +58,7 @@ fn enumerator_ended(
 
 impl<K: Asking, P: Phrases> Values<'_, K, P> {
     // A constant expression, with its value, which is asked before what follows is looked at (5.19).
-    #[tactic(auto, using(cxx_syntax::proofs::Kept::trees_kept, cxx_syntax::proofs::Kept::trees_later, cxx_syntax::proofs::Kept::trees_append, cxx_syntax::proofs::Kept::trees_below_append, cxx_syntax::proofs::Kept::later_trans, cxx_syntax::proofs::Kept::later_refl), unfolding(crate::specs::Readers::valued))]
+    #[tactic(auto, using(cxx_cursor::proofs::Kept::trees_kept, cxx_cursor::proofs::Kept::trees_later, cxx_cursor::proofs::Kept::trees_append, cxx_cursor::proofs::Kept::trees_below_append, cxx_cursor::proofs::Kept::later_trans, cxx_cursor::proofs::Kept::later_refl), unfolding(crate::specs::Readers::valued))]
     fn valued(
         &self,
         state: &mut State,
@@ -73,7 +74,7 @@ impl<K: Asking, P: Phrases> Values<'_, K, P> {
     }
 
     // The value of a bound, and its end.
-    #[tactic(auto, using(cxx_syntax::proofs::Kept::trees_kept, cxx_syntax::proofs::Kept::trees_later, cxx_syntax::proofs::Kept::trees_append, cxx_syntax::proofs::Kept::trees_below_append, cxx_syntax::proofs::Kept::later_trans, cxx_syntax::proofs::Kept::later_refl), unfolding(crate::specs::Readers::bound_value))]
+    #[tactic(auto, using(cxx_cursor::proofs::Kept::trees_kept, cxx_cursor::proofs::Kept::trees_later, cxx_cursor::proofs::Kept::trees_append, cxx_cursor::proofs::Kept::trees_below_append, cxx_cursor::proofs::Kept::later_trans, cxx_cursor::proofs::Kept::later_refl), unfolding(crate::specs::Readers::bound_value))]
     fn bound_value(
         &self,
         state: &mut State,
@@ -89,7 +90,7 @@ impl<K: Asking, P: Phrases> Values<'_, K, P> {
     }
 
     // Behind `[` (8.3.4).
-    #[tactic(auto, using(cxx_syntax::proofs::Kept::trees_kept, cxx_syntax::proofs::Kept::trees_later, cxx_syntax::proofs::Kept::trees_append, cxx_syntax::proofs::Kept::trees_below_append, cxx_syntax::proofs::Kept::later_trans, cxx_syntax::proofs::Kept::later_refl), unfolding(crate::specs::Readers::bound_at))]
+    #[tactic(auto, using(cxx_cursor::proofs::Kept::trees_kept, cxx_cursor::proofs::Kept::trees_later, cxx_cursor::proofs::Kept::trees_append, cxx_cursor::proofs::Kept::trees_below_append, cxx_cursor::proofs::Kept::later_trans, cxx_cursor::proofs::Kept::later_refl), unfolding(crate::specs::Readers::bound_at))]
     pub fn bound_at(
         &self,
         state: &mut State,
@@ -111,7 +112,7 @@ impl<K: Asking, P: Phrases> Values<'_, K, P> {
     }
 
     // The value of an enumerator, where one is written.
-    #[tactic(auto, using(cxx_syntax::proofs::Kept::trees_kept, cxx_syntax::proofs::Kept::trees_later, cxx_syntax::proofs::Kept::trees_append, cxx_syntax::proofs::Kept::trees_below_append, cxx_syntax::proofs::Kept::later_trans, cxx_syntax::proofs::Kept::later_refl), unfolding(crate::specs::Readers::value_at, cxx_reading::specs::Syntax::no_value))]
+    #[tactic(auto, using(cxx_cursor::proofs::Kept::trees_kept, cxx_cursor::proofs::Kept::trees_later, cxx_cursor::proofs::Kept::trees_append, cxx_cursor::proofs::Kept::trees_below_append, cxx_cursor::proofs::Kept::later_trans, cxx_cursor::proofs::Kept::later_refl), unfolding(crate::specs::Readers::value_at, cxx_reading::specs::Syntax::no_value))]
     fn value_at(
         &self,
         state: &mut State,
@@ -129,7 +130,7 @@ impl<K: Asking, P: Phrases> Values<'_, K, P> {
     }
 
     // An enumerator, which is declared before what follows is looked at (7.2).
-    #[tactic(auto, using(cxx_syntax::proofs::Kept::trees_kept, cxx_syntax::proofs::Kept::trees_later, cxx_syntax::proofs::Kept::trees_append, cxx_syntax::proofs::Kept::trees_below_append, cxx_syntax::proofs::Kept::later_trans, cxx_syntax::proofs::Kept::later_refl), unfolding(crate::specs::Readers::enumerator_at))]
+    #[tactic(auto, using(cxx_cursor::proofs::Kept::trees_kept, cxx_cursor::proofs::Kept::trees_later, cxx_cursor::proofs::Kept::trees_append, cxx_cursor::proofs::Kept::trees_below_append, cxx_cursor::proofs::Kept::later_trans, cxx_cursor::proofs::Kept::later_refl), unfolding(crate::specs::Readers::enumerator_at))]
     fn enumerator_at(
         &self,
         state: &mut State,
@@ -150,7 +151,7 @@ impl<K: Asking, P: Phrases> Values<'_, K, P> {
     }
 
     // An enumerator, and what separates it from the next.
-    #[tactic(auto, using(cxx_syntax::proofs::Kept::trees_kept, cxx_syntax::proofs::Kept::trees_later, cxx_syntax::proofs::Kept::trees_append, cxx_syntax::proofs::Kept::trees_below_append, cxx_syntax::proofs::Kept::later_trans, cxx_syntax::proofs::Kept::later_refl), unfolding(crate::specs::Readers::enumerator_step))]
+    #[tactic(auto, using(cxx_cursor::proofs::Kept::trees_kept, cxx_cursor::proofs::Kept::trees_later, cxx_cursor::proofs::Kept::trees_append, cxx_cursor::proofs::Kept::trees_below_append, cxx_cursor::proofs::Kept::later_trans, cxx_cursor::proofs::Kept::later_refl), unfolding(crate::specs::Readers::enumerator_step))]
     fn enumerator_step(
         &self,
         state: &mut State,
@@ -172,7 +173,7 @@ impl<K: Asking, P: Phrases> Values<'_, K, P> {
     }
 
     // Behind the `{` of an enumeration (7.2).
-    #[tactic(auto, using(cxx_syntax::proofs::Kept::trees_kept, cxx_syntax::proofs::Kept::trees_later, cxx_syntax::proofs::Kept::trees_append, cxx_syntax::proofs::Kept::trees_below_append, cxx_syntax::proofs::Kept::later_trans, cxx_syntax::proofs::Kept::later_refl), unfolding(crate::specs::Readers::enumerators_at))]
+    #[tactic(auto, using(cxx_cursor::proofs::Kept::trees_kept, cxx_cursor::proofs::Kept::trees_later, cxx_cursor::proofs::Kept::trees_append, cxx_cursor::proofs::Kept::trees_below_append, cxx_cursor::proofs::Kept::later_trans, cxx_cursor::proofs::Kept::later_refl), unfolding(crate::specs::Readers::enumerators_at))]
     pub fn enumerators_at(
         &self,
         state: &mut State,
@@ -191,7 +192,7 @@ impl<K: Asking, P: Phrases> Values<'_, K, P> {
     }
 
     // One enumerator after another.
-    #[tactic(auto, using(cxx_syntax::proofs::Loops::turn, cxx_syntax::proofs::Loops::no_turn, cxx_syntax::proofs::Kept::later_trans, cxx_syntax::proofs::Kept::later_refl))]
+    #[tactic(auto, using(cxx_cursor::proofs::Loops::turn, cxx_cursor::proofs::Loops::no_turn, cxx_cursor::proofs::Kept::later_trans, cxx_cursor::proofs::Kept::later_refl))]
     fn enumerators_run(
         &self,
         state: &mut State,
@@ -213,7 +214,7 @@ impl<K: Asking, P: Phrases> Values<'_, K, P> {
     }
 
     // A default argument, from its `=` on, as it is converted to the type of its parameter (8.3.6).
-    #[tactic(auto, using(cxx_syntax::proofs::Kept::type_kept, cxx_syntax::proofs::Kept::type_later, cxx_syntax::proofs::Kept::later_trans, cxx_syntax::proofs::Kept::later_refl), unfolding(crate::specs::Readers::fallback_at))]
+    #[tactic(auto, using(cxx_cursor::proofs::Kept::type_kept, cxx_cursor::proofs::Kept::type_later, cxx_cursor::proofs::Kept::later_trans, cxx_cursor::proofs::Kept::later_refl), unfolding(crate::specs::Readers::fallback_at))]
     fn fallback_at(
         &self,
         state: &mut State,

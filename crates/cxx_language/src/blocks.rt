@@ -2,17 +2,18 @@
 
 ghost use Rattle.std.specs.Prelude.{false};
 ghost use Rattle.cxx_language.specs.Blocks as definition;
-ghost use Rattle.cxx_syntax.specs.Asking.{IsTreeKnown};
-ghost use Rattle.cxx_syntax.specs.Reading.{IsRead};
-ghost use Rattle.cxx_syntax.specs.Views.{AreSpecifiers, AreTreesHeld, IsDeclarator, declarator_of, specifiers_of, trees_held};
+ghost use Rattle.cxx_cursor.specs.Asking.{IsTreeKnown};
+ghost use Rattle.cxx_cursor.specs.Reading.{IsRead};
+ghost use Rattle.cxx_cursor.specs.Views.{AreSpecifiers, AreTreesHeld, IsDeclarator, declarator_of, specifiers_of, trees_held};
 ghost use Rattle.cxx_tree.specs.Held.{meaning, tree};
 ghost use Rattle.cxx_units.specs.Said.{IsDeclared, IsListed, IsListedTurn, IsSaid, listed_of, listed_turn, said_of};
 
 use crate::declares::{Declares, Reader};
 use crate::spaces::{local_alias_at, using_at};
+use cxx_cursor::{Cursor, Declarator, Specifiers, Turn, is_keyword, is_punct};
 use cxx_model::{Stop, TreeId, TreeIdList, TypeId, keyword, punct};
 use cxx_reading::{Naming, SpecifierPlace};
-use cxx_syntax::{Cursor, Declarator, Specifiers, Turn, declared, is_keyword, is_punct};
+use cxx_syntax::declared;
 use cxx_tree::State;
 use cxx_units::ends::nothing_declared;
 use cxx_units::said::{Listed as ListedTrees, Said, said_by};
@@ -21,7 +22,7 @@ use cxx_units::{declaration_tree, declarator_ended, declared_fits, no_declarator
 
 impl<D: Declares> Reader<'_, D> {
     // What a declarator in a block declares.
-    #[tactic(auto, using(cxx_syntax::proofs::Kept::later_refl, cxx_syntax::proofs::Kept::later_trans))]
+    #[tactic(auto, using(cxx_cursor::proofs::Kept::later_refl, cxx_cursor::proofs::Kept::later_trans))]
     fn locally_declared(
         &self,
         state: &mut State,
@@ -47,7 +48,7 @@ impl<D: Declares> Reader<'_, D> {
     }
 
     // A declarator that fits, with the type that it declares.
-    #[tactic(auto, using(cxx_syntax::proofs::Kept::layers_kept, cxx_syntax::proofs::Kept::layers_later, cxx_syntax::proofs::Kept::trees_kept, cxx_syntax::proofs::Kept::trees_later, cxx_syntax::proofs::Kept::type_kept, cxx_syntax::proofs::Kept::type_later, cxx_syntax::proofs::Kept::later_refl, cxx_syntax::proofs::Kept::later_trans))]
+    #[tactic(auto, using(cxx_cursor::proofs::Kept::layers_kept, cxx_cursor::proofs::Kept::layers_later, cxx_cursor::proofs::Kept::trees_kept, cxx_cursor::proofs::Kept::trees_later, cxx_cursor::proofs::Kept::type_kept, cxx_cursor::proofs::Kept::type_later, cxx_cursor::proofs::Kept::later_refl, cxx_cursor::proofs::Kept::later_trans))]
     fn locally_declared_as(
         &self,
         state: &mut State,
@@ -66,7 +67,7 @@ impl<D: Declares> Reader<'_, D> {
         }
     }
 
-    #[tactic(auto, using(cxx_syntax::proofs::Kept::type_kept, cxx_syntax::proofs::Kept::type_later, cxx_syntax::proofs::Kept::later_refl, cxx_syntax::proofs::Kept::later_trans), unfolding(crate::specs::Blocks::local_declarator_at))]
+    #[tactic(auto, using(cxx_cursor::proofs::Kept::type_kept, cxx_cursor::proofs::Kept::type_later, cxx_cursor::proofs::Kept::later_refl, cxx_cursor::proofs::Kept::later_trans), unfolding(crate::specs::Blocks::local_declarator_at))]
     fn local_declarator_at(
         &self,
         state: &mut State,
@@ -85,7 +86,7 @@ impl<D: Declares> Reader<'_, D> {
     }
 
     // A declarator, and what separates it from the next.
-    #[tactic(auto, using(cxx_syntax::proofs::Kept::trees_kept, cxx_syntax::proofs::Kept::trees_later, cxx_syntax::proofs::Kept::later_refl, cxx_syntax::proofs::Kept::later_trans), unfolding(crate::specs::Blocks::local_step))]
+    #[tactic(auto, using(cxx_cursor::proofs::Kept::trees_kept, cxx_cursor::proofs::Kept::trees_later, cxx_cursor::proofs::Kept::later_refl, cxx_cursor::proofs::Kept::later_trans), unfolding(crate::specs::Blocks::local_step))]
     fn local_step(
         &self,
         state: &mut State,
@@ -102,7 +103,7 @@ impl<D: Declares> Reader<'_, D> {
     }
 
     // All declarators, with the end of their declaration.
-    #[tactic(auto, using(cxx_syntax::proofs::Loops::turn, cxx_syntax::proofs::Loops::no_turn, cxx_syntax::proofs::Kept::type_kept, cxx_syntax::proofs::Kept::type_later, cxx_syntax::proofs::Kept::later_refl, cxx_syntax::proofs::Kept::later_trans), unfolding(crate::specs::Blocks::local_declarators_at))]
+    #[tactic(auto, using(cxx_cursor::proofs::Loops::turn, cxx_cursor::proofs::Loops::no_turn, cxx_cursor::proofs::Kept::type_kept, cxx_cursor::proofs::Kept::type_later, cxx_cursor::proofs::Kept::later_refl, cxx_cursor::proofs::Kept::later_trans), unfolding(crate::specs::Blocks::local_declarators_at))]
     fn local_declarators_at(
         &self,
         state: &mut State,
@@ -122,7 +123,7 @@ impl<D: Declares> Reader<'_, D> {
         Ok(so_far.trees)
     }
 
-    #[tactic(auto, using(cxx_syntax::proofs::Kept::later_refl, cxx_syntax::proofs::Kept::later_trans), unfolding(crate::specs::Blocks::local_declarators_of))]
+    #[tactic(auto, using(cxx_cursor::proofs::Kept::later_refl, cxx_cursor::proofs::Kept::later_trans), unfolding(crate::specs::Blocks::local_declarators_of))]
     fn local_declarators_of(
         &self,
         state: &mut State,
@@ -139,7 +140,7 @@ impl<D: Declares> Reader<'_, D> {
         self.local_declarators_at(state, cursor, said)
     }
 
-    #[tactic(auto, using(cxx_syntax::proofs::Kept::named_kept, cxx_syntax::proofs::Kept::named_later, cxx_syntax::proofs::Kept::trees_kept, cxx_syntax::proofs::Kept::trees_later, cxx_syntax::proofs::Kept::later_refl, cxx_syntax::proofs::Kept::later_trans), unfolding(crate::specs::Blocks::simple_local_at))]
+    #[tactic(auto, using(cxx_cursor::proofs::Kept::named_kept, cxx_cursor::proofs::Kept::named_later, cxx_cursor::proofs::Kept::trees_kept, cxx_cursor::proofs::Kept::trees_later, cxx_cursor::proofs::Kept::later_refl, cxx_cursor::proofs::Kept::later_trans), unfolding(crate::specs::Blocks::simple_local_at))]
     fn simple_local_at(&self, state: &mut State, cursor: &mut Cursor<'_>) -> Result<TreeId, Stop>
         ensures { IsRead tree IsTreeKnown state.old state.new cursor.new result (definition.simple_local_at self.now.room (meaning state.old) cursor.old) }
     {

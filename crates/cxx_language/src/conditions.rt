@@ -10,19 +10,20 @@ ghost use Rattle.cxx_reading.specs.Trees.{tree_of};
 ghost use Rattle.cxx_reading.specs.Units.{specifiers_tree as specifiers_tree_of};
 ghost use Rattle.cxx_standard.specs.Views.{operand_at};
 ghost use Rattle.cxx_statements.specs.Productions as statement;
-ghost use Rattle.cxx_syntax.specs.Asking.{AnyKnown, IsAsked, IsTreeKnown, itself};
-ghost use Rattle.cxx_syntax.specs.Making.{GrowsTree};
-ghost use Rattle.cxx_syntax.specs.Reading.{IsRead};
-ghost use Rattle.cxx_syntax.specs.Views.{AreSpecifiers, AreTreesHeld, IsDeclarator, declarator_of, name_at, specifiers_of, trees_held};
+ghost use Rattle.cxx_cursor.specs.Asking.{AnyKnown, IsAsked, IsTreeKnown, itself};
+ghost use Rattle.cxx_cursor.specs.Making.{GrowsTree};
+ghost use Rattle.cxx_cursor.specs.Reading.{IsRead};
+ghost use Rattle.cxx_cursor.specs.Views.{AreSpecifiers, AreTreesHeld, IsDeclarator, declarator_of, name_at, specifiers_of, trees_held};
 ghost use Rattle.cxx_tree.specs.Held.{meaning, tree, trees, type_of};
 ghost use Rattle.cxx_units.specs.Said.{IsDeclared, IsSaid, said_of};
 
 use crate::declares::{Declares, Reader};
 use crate::initializers::initializer_node;
+use cxx_cursor::{Cursor, Declarator, NameToken, Specifiers, joined, node_from, push};
 use cxx_expr::operands::referred;
 use cxx_model::{ConstantKind, FactId, Listed, Operand, Place, Stop, TreeId, TreeIdList, TypeId};
 use cxx_reading::{Naming, SpecifierPlace};
-use cxx_syntax::{Cursor, Declarator, NameToken, Specifiers, declared, joined, node_from, push};
+use cxx_syntax::declared;
 use cxx_tree::State;
 use cxx_units::declared_fits;
 use cxx_units::ends::{complete_object, own_parameters};
@@ -108,7 +109,7 @@ fn object_tree(
 }
 
 // The declaration of one declarator.
-#[tactic(auto, using(cxx_syntax::proofs::Kept::trees_kept, cxx_syntax::proofs::Kept::trees_later, cxx_syntax::proofs::Kept::type_kept, cxx_syntax::proofs::Kept::type_later, cxx_expr::proofs::Kept::operand_kept, cxx_expr::proofs::Kept::tree_kept, cxx_expr::proofs::Kept::tree_later, cxx_syntax::proofs::Kept::later_refl, cxx_syntax::proofs::Kept::later_trans))]
+#[tactic(auto, using(cxx_cursor::proofs::Kept::trees_kept, cxx_cursor::proofs::Kept::trees_later, cxx_cursor::proofs::Kept::type_kept, cxx_cursor::proofs::Kept::type_later, cxx_expr::proofs::Kept::operand_kept, cxx_expr::proofs::Kept::tree_kept, cxx_expr::proofs::Kept::tree_later, cxx_cursor::proofs::Kept::later_refl, cxx_cursor::proofs::Kept::later_trans))]
 fn condition_tree(
     state: &mut State,
     other: TypeId,
@@ -137,7 +138,7 @@ fn condition_tree(
 }
 
 // The same with the tree of the specifiers.
-#[tactic(auto, using(cxx_syntax::proofs::Kept::type_kept, cxx_syntax::proofs::Kept::type_later, cxx_expr::proofs::Kept::tree_kept, cxx_expr::proofs::Kept::tree_later, cxx_syntax::proofs::Kept::later_refl, cxx_syntax::proofs::Kept::later_trans))]
+#[tactic(auto, using(cxx_cursor::proofs::Kept::type_kept, cxx_cursor::proofs::Kept::type_later, cxx_expr::proofs::Kept::tree_kept, cxx_expr::proofs::Kept::tree_later, cxx_cursor::proofs::Kept::later_refl, cxx_cursor::proofs::Kept::later_trans))]
 fn declared_tree(
     state: &mut State,
     other: TypeId,
@@ -158,7 +159,7 @@ fn declared_tree(
 
 impl<D: Declares> Reader<'_, D> {
     // Behind the declarator of a condition.
-    #[tactic(auto, using(cxx_syntax::proofs::Kept::trees_kept, cxx_syntax::proofs::Kept::trees_later, cxx_syntax::proofs::Kept::type_kept, cxx_syntax::proofs::Kept::type_later, cxx_syntax::proofs::Kept::later_refl, cxx_syntax::proofs::Kept::later_trans), unfolding(crate::specs::Blocks::condition_part))]
+    #[tactic(auto, using(cxx_cursor::proofs::Kept::trees_kept, cxx_cursor::proofs::Kept::trees_later, cxx_cursor::proofs::Kept::type_kept, cxx_cursor::proofs::Kept::type_later, cxx_cursor::proofs::Kept::later_refl, cxx_cursor::proofs::Kept::later_trans), unfolding(crate::specs::Blocks::condition_part))]
     fn condition_part(
         &self,
         state: &mut State,
@@ -179,7 +180,7 @@ impl<D: Declares> Reader<'_, D> {
     }
 
     // The object that a condition declares.
-    #[tactic(auto, using(cxx_syntax::proofs::Kept::trees_kept, cxx_syntax::proofs::Kept::trees_later, cxx_syntax::proofs::Kept::trees_append, cxx_syntax::proofs::Kept::trees_below_append, cxx_syntax::proofs::Kept::type_kept, cxx_syntax::proofs::Kept::type_later, cxx_syntax::proofs::Kept::later_refl, cxx_syntax::proofs::Kept::later_trans), unfolding(crate::specs::Blocks::tested_object))]
+    #[tactic(auto, using(cxx_cursor::proofs::Kept::trees_kept, cxx_cursor::proofs::Kept::trees_later, cxx_cursor::proofs::Kept::trees_append, cxx_cursor::proofs::Kept::trees_below_append, cxx_cursor::proofs::Kept::type_kept, cxx_cursor::proofs::Kept::type_later, cxx_cursor::proofs::Kept::later_refl, cxx_cursor::proofs::Kept::later_trans), unfolding(crate::specs::Blocks::tested_object))]
     fn tested_object(
         &self,
         state: &mut State,
@@ -201,7 +202,7 @@ impl<D: Declares> Reader<'_, D> {
     }
 
     // A function has no `=` behind it.
-    #[tactic(auto, using(cxx_syntax::proofs::Kept::layers_kept, cxx_syntax::proofs::Kept::later_refl, cxx_syntax::proofs::Kept::later_trans), unfolding(crate::specs::Blocks::tested_function))]
+    #[tactic(auto, using(cxx_cursor::proofs::Kept::layers_kept, cxx_cursor::proofs::Kept::later_refl, cxx_cursor::proofs::Kept::later_trans), unfolding(crate::specs::Blocks::tested_function))]
     fn tested_function(
         &self,
         state: &mut State,
@@ -220,7 +221,7 @@ impl<D: Declares> Reader<'_, D> {
         Err(Stop::Fault(cursor.refused()?))
     }
 
-    #[tactic(auto, using(cxx_syntax::proofs::Kept::later_refl, cxx_syntax::proofs::Kept::later_trans))]
+    #[tactic(auto, using(cxx_cursor::proofs::Kept::later_refl, cxx_cursor::proofs::Kept::later_trans))]
     fn tested_by(
         &self,
         state: &mut State,
@@ -240,7 +241,7 @@ impl<D: Declares> Reader<'_, D> {
     }
 
     // A declarator that fits, with the type that it declares.
-    #[tactic(auto, using(cxx_syntax::proofs::Kept::layers_kept, cxx_syntax::proofs::Kept::layers_later, cxx_syntax::proofs::Kept::trees_kept, cxx_syntax::proofs::Kept::trees_later, cxx_syntax::proofs::Kept::type_kept, cxx_syntax::proofs::Kept::type_later, cxx_syntax::proofs::Kept::later_refl, cxx_syntax::proofs::Kept::later_trans))]
+    #[tactic(auto, using(cxx_cursor::proofs::Kept::layers_kept, cxx_cursor::proofs::Kept::layers_later, cxx_cursor::proofs::Kept::trees_kept, cxx_cursor::proofs::Kept::trees_later, cxx_cursor::proofs::Kept::type_kept, cxx_cursor::proofs::Kept::type_later, cxx_cursor::proofs::Kept::later_refl, cxx_cursor::proofs::Kept::later_trans))]
     fn tested_as(
         &self,
         state: &mut State,
@@ -259,7 +260,7 @@ impl<D: Declares> Reader<'_, D> {
         }
     }
 
-    #[tactic(auto, using(cxx_syntax::proofs::Kept::type_kept, cxx_syntax::proofs::Kept::type_later, cxx_syntax::proofs::Kept::later_refl, cxx_syntax::proofs::Kept::later_trans), unfolding(crate::specs::Blocks::tested_declarator_at))]
+    #[tactic(auto, using(cxx_cursor::proofs::Kept::type_kept, cxx_cursor::proofs::Kept::type_later, cxx_cursor::proofs::Kept::later_refl, cxx_cursor::proofs::Kept::later_trans), unfolding(crate::specs::Blocks::tested_declarator_at))]
     fn tested_declarator_at(
         &self,
         state: &mut State,
@@ -277,7 +278,7 @@ impl<D: Declares> Reader<'_, D> {
         self.tested_as(state, cursor, said, &from, declarator)
     }
 
-    #[tactic(auto, using(cxx_syntax::proofs::Kept::named_kept, cxx_syntax::proofs::Kept::named_later, cxx_syntax::proofs::Kept::type_kept, cxx_syntax::proofs::Kept::type_later, cxx_syntax::proofs::Kept::trees_kept, cxx_syntax::proofs::Kept::trees_later, cxx_syntax::proofs::Kept::later_refl, cxx_syntax::proofs::Kept::later_trans), unfolding(crate::specs::Blocks::declared_condition_at))]
+    #[tactic(auto, using(cxx_cursor::proofs::Kept::named_kept, cxx_cursor::proofs::Kept::named_later, cxx_cursor::proofs::Kept::type_kept, cxx_cursor::proofs::Kept::type_later, cxx_cursor::proofs::Kept::trees_kept, cxx_cursor::proofs::Kept::trees_later, cxx_cursor::proofs::Kept::later_refl, cxx_cursor::proofs::Kept::later_trans), unfolding(crate::specs::Blocks::declared_condition_at))]
     fn declared_condition_at(
         &self,
         state: &mut State,

@@ -17,17 +17,17 @@ ghost use Rattle.cxx_reading.specs.Spaces as spaces;
 ghost use Rattle.cxx_reading.specs.Specifiers.{specifiers_at};
 ghost use Rattle.cxx_reading.specs.Syntax.{declarator_at};
 ghost use Rattle.cxx_reading.specs.Usings as usings;
-ghost use Rattle.cxx_syntax.specs.Asking.{AnyKnown, IsAsked, IsTreeKnown, itself, scope_number};
-ghost use Rattle.cxx_syntax.specs.Reading.{IsRead};
-ghost use Rattle.cxx_syntax.specs.Views.{AreSpecifiers, IsDeclarator, declarator_of, lexeme_at, name_at, specifiers_of};
+ghost use Rattle.cxx_cursor.specs.Asking.{AnyKnown, IsAsked, IsTreeKnown, itself, scope_number};
+ghost use Rattle.cxx_cursor.specs.Reading.{IsRead};
+ghost use Rattle.cxx_cursor.specs.Views.{AreSpecifiers, IsDeclarator, declarator_of, lexeme_at, name_at, specifiers_of};
 ghost use Rattle.cxx_tree.specs.Answered.{IsScopeKnown, fact_number, scope_of_option};
 ghost use Rattle.cxx_tree.specs.Arena.{path_at};
 ghost use Rattle.cxx_tree.specs.Held.{meaning, tree, trees, type_of};
 
+use cxx_cursor::{Cursor, Declarator, NameToken, Specifiers, Spelled};
 use cxx_model::{FactId, Node, OutOfMemory, Path, Place, ScopeId, Stop, TreeId, TypeId};
 use cxx_phrases::Initializer;
 use cxx_reading::{Naming, SpecifierPlace};
-use cxx_syntax::{Cursor, Declarator, NameToken, Specifiers, Spelled};
 use cxx_tree::State;
 
 /// Who reads specifiers, declarators and initializers, declares names, and says what expressions mean and what their values

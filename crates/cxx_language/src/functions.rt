@@ -2,15 +2,15 @@
 
 ghost use Rattle.cxx_language.specs.Blocks as blocks;
 ghost use Rattle.cxx_reading.specs.Units as definition;
-ghost use Rattle.cxx_syntax.specs.Asking.{IsTreeKnown};
-ghost use Rattle.cxx_syntax.specs.Reading.{IsRead};
-ghost use Rattle.cxx_syntax.specs.Views.{declarator_of};
+ghost use Rattle.cxx_cursor.specs.Asking.{IsTreeKnown};
+ghost use Rattle.cxx_cursor.specs.Reading.{IsRead};
+ghost use Rattle.cxx_cursor.specs.Views.{declarator_of};
 ghost use Rattle.cxx_tree.specs.Held.{meaning, tree};
 ghost use Rattle.cxx_units.specs.Said.{IsDeclared, said_of};
 
 use crate::declares::{Declares, Reader};
+use cxx_cursor::{Cursor, Declarator};
 use cxx_model::{Stop, TreeId, TypeId};
-use cxx_syntax::{Cursor, Declarator};
 use cxx_tree::State;
 use cxx_units::ends::{own_parameters, synonym_ended};
 use cxx_units::said::Said;
@@ -18,7 +18,7 @@ use cxx_units::trees::{declarator_tree, token_or};
 
 impl<D: Declares> Reader<'_, D> {
     /// A name of a type (7.1.3).
-    #[tactic(auto, using(cxx_syntax::proofs::Kept::trees_kept, cxx_syntax::proofs::Kept::trees_later, cxx_syntax::proofs::Kept::type_kept, cxx_syntax::proofs::Kept::type_later, cxx_syntax::proofs::Kept::later_refl, cxx_syntax::proofs::Kept::later_trans), unfolding(cxx_reading::specs::Units::declared_synonym))]
+    #[tactic(auto, using(cxx_cursor::proofs::Kept::trees_kept, cxx_cursor::proofs::Kept::trees_later, cxx_cursor::proofs::Kept::type_kept, cxx_cursor::proofs::Kept::type_later, cxx_cursor::proofs::Kept::later_refl, cxx_cursor::proofs::Kept::later_trans), unfolding(cxx_reading::specs::Units::declared_synonym))]
     pub fn declared_synonym(
         &self,
         state: &mut State,
@@ -48,7 +48,7 @@ impl<D: Declares> Reader<'_, D> {
     }
 
     /// A function that a block declares (3.5).
-    #[tactic(auto, using(cxx_syntax::proofs::Kept::trees_kept, cxx_syntax::proofs::Kept::trees_later, cxx_syntax::proofs::Kept::layers_kept, cxx_syntax::proofs::Kept::type_kept, cxx_syntax::proofs::Kept::type_later, cxx_syntax::proofs::Kept::later_refl, cxx_syntax::proofs::Kept::later_trans), unfolding(crate::specs::Blocks::local_function))]
+    #[tactic(auto, using(cxx_cursor::proofs::Kept::trees_kept, cxx_cursor::proofs::Kept::trees_later, cxx_cursor::proofs::Kept::layers_kept, cxx_cursor::proofs::Kept::type_kept, cxx_cursor::proofs::Kept::type_later, cxx_cursor::proofs::Kept::later_refl, cxx_cursor::proofs::Kept::later_trans), unfolding(crate::specs::Blocks::local_function))]
     pub(crate) fn local_function(
         &self,
         state: &mut State,

@@ -6,14 +6,14 @@ ghost use Rattle.cxx_language.specs.Objects as definition;
 ghost use Rattle.cxx_language.specs.Parts.{is_zero_bound};
 ghost use Rattle.cxx_model.specs.Types.Numbers.{bound_at, type_at};
 ghost use Rattle.cxx_phrases.specs.Views.{IsInitializer, initializer_of};
-ghost use Rattle.cxx_syntax.specs.Asking.{AnyKnown, itself};
-ghost use Rattle.cxx_syntax.specs.Reading.{IsRead};
-ghost use Rattle.cxx_syntax.specs.Views.{name_at};
+ghost use Rattle.cxx_cursor.specs.Asking.{AnyKnown, itself};
+ghost use Rattle.cxx_cursor.specs.Reading.{IsRead};
+ghost use Rattle.cxx_cursor.specs.Views.{name_at};
 ghost use Rattle.cxx_tree.specs.Held.{meaning, type_of};
 
+use cxx_cursor::{Cursor, NameToken, is_punct, node_from};
 use cxx_model::{Bound, FaultText, Form, Node, Stop, Text, TypeId, TypeNode, punct};
 use cxx_phrases::Initializer;
-use cxx_syntax::{Cursor, NameToken, is_punct, node_from};
 use cxx_tree::State;
 use cxx_types::TypeTable;
 use cxx_units::trees::faulty;
@@ -70,7 +70,7 @@ fn is_empty_array(types: &TypeTable, number: TypeId) -> bool
 }
 
 /// An array has one element at least (8.3.4).
-#[tactic(auto, using(cxx_syntax::proofs::Kept::later_refl), unfolding(crate::specs::Objects::some_elements))]
+#[tactic(auto, using(cxx_cursor::proofs::Kept::later_refl), unfolding(crate::specs::Objects::some_elements))]
 pub(crate) fn some_elements(
     state: &State,
     cursor: &Cursor<'_>,

@@ -17,20 +17,20 @@ ghost use Rattle.cxx_model.specs.Types.Trees.{CxxType};
 ghost use Rattle.cxx_reading.specs.Declaring.{fact_here};
 ghost use Rattle.cxx_reading.specs.Trees.{CxxTree};
 ghost use Rattle.cxx_standard.specs.Views.{kind_at};
-ghost use Rattle.cxx_syntax.specs.Asking.{AnyKnown, IsAsked, itself};
-ghost use Rattle.cxx_syntax.specs.Views.{AreTreesHeld, name_at, trees_held};
+ghost use Rattle.cxx_cursor.specs.Asking.{AnyKnown, IsAsked, itself};
+ghost use Rattle.cxx_cursor.specs.Views.{AreTreesHeld, name_at, trees_held};
 ghost use Rattle.cxx_tree.specs.Held.{meaning, tree as tree_at, trees, type_of};
 
 use crate::declares::Declares;
 use cxx_answers::typed::{entity_number, fact_of};
 use cxx_answers::value_here;
 use cxx_constant::ConstantFault;
+use cxx_cursor::NameToken;
 use cxx_graph::Graph;
 use cxx_model::{
     Access, Entity, Fact, FactId, MemberKind, Name, OutOfMemory, Place, Stop, TreeId, TypeId, Word,
 };
 use cxx_standard::{TypeKind, cv_of, is_floating, kind_of};
-use cxx_syntax::NameToken;
 use cxx_tree::State;
 use cxx_units::types::is_unbounded;
 use std::alloc::AllocError;
@@ -227,7 +227,7 @@ fn add(state: &mut State, fact: Fact) -> Result<(), Stop>
 }
 
 // A further declaration of the object with a declaration, with its type and its value.
-#[tactic(auto, using(cxx_syntax::proofs::Kept::later_refl))]
+#[tactic(auto, using(cxx_cursor::proofs::Kept::later_refl))]
 fn noted_with(
     state: &mut State,
     name: &NameToken,
@@ -250,7 +250,7 @@ fn noted_with(
     }
 }
 
-#[tactic(auto, using(cxx_syntax::proofs::Kept::later_refl))]
+#[tactic(auto, using(cxx_cursor::proofs::Kept::later_refl))]
 fn note_with(
     state: &mut State,
     name: &NameToken,
@@ -270,7 +270,7 @@ fn note_with(
 }
 
 /// What the initializer of the object with a declaration makes known is noted behind it, where it makes something known.
-#[tactic(auto, using(cxx_syntax::proofs::Kept::later_refl), unfolding(crate::specs::Known::note_known, crate::specs::Known::noted))]
+#[tactic(auto, using(cxx_cursor::proofs::Kept::later_refl), unfolding(crate::specs::Known::note_known, crate::specs::Known::noted))]
 pub(crate) fn note_known<D: Declares>(
     declares: &D,
     state: &mut State,

@@ -6,9 +6,9 @@ ghost use Rattle.cxx_language.specs.Blocks as blocks;
 ghost use Rattle.cxx_language.specs.Made as made;
 ghost use Rattle.cxx_language.specs.Objects as definition;
 ghost use Rattle.cxx_language.specs.Parts.{initialized_by as initialized_by_one};
-ghost use Rattle.cxx_syntax.specs.Asking.{AnyKnown, IsTreeKnown, itself};
-ghost use Rattle.cxx_syntax.specs.Reading.{IsRead};
-ghost use Rattle.cxx_syntax.specs.Views.{AreTreesHeld, declarator_of, name_at, trees_held};
+ghost use Rattle.cxx_cursor.specs.Asking.{AnyKnown, IsTreeKnown, itself};
+ghost use Rattle.cxx_cursor.specs.Reading.{IsRead};
+ghost use Rattle.cxx_cursor.specs.Views.{AreTreesHeld, declarator_of, name_at, trees_held};
 ghost use Rattle.cxx_tree.specs.Held.{meaning, tree, type_of};
 ghost use Rattle.cxx_units.specs.Said.{IsDeclared, said_of};
 
@@ -16,8 +16,8 @@ use crate::declares::{Declares, Reader};
 use crate::initializers::{begins_initializer, initializer_node, some_elements};
 use crate::known::{note_known, type_known};
 use cxx_answers::typed::type_so_far;
+use cxx_cursor::{Cursor, Declarator, NameToken, joined};
 use cxx_model::{FactId, FaultText, Listed, Stop, TreeId, TreeIdList, TypeId};
-use cxx_syntax::{Cursor, Declarator, NameToken, joined};
 use cxx_tree::State;
 use cxx_units::ends::{complete_object, ends_declarator, synonym_ended, uninitialized};
 use cxx_units::said::Said;
@@ -39,7 +39,7 @@ fn without_initializer(
 }
 
 // An object that a block declares with `extern` has no initializer there (3.5, 6.7).
-#[tactic(auto, using(cxx_syntax::proofs::Kept::later_refl), unfolding(crate::specs::Blocks::linked_ended))]
+#[tactic(auto, using(cxx_cursor::proofs::Kept::later_refl), unfolding(crate::specs::Blocks::linked_ended))]
 fn linked_ended(state: &State, cursor: &Cursor<'_>) -> Result<(), Stop>
     ensures { IsRead itself AnyKnown state.now state.now cursor.now result (blocks.linked_ended (meaning state.now) cursor.now) }
 {
@@ -51,7 +51,7 @@ fn linked_ended(state: &State, cursor: &Cursor<'_>) -> Result<(), Stop>
 
 impl<D: Declares> Reader<'_, D> {
     /// What the initializer of an object says, once it is known how it initializes it.
-    #[tactic(auto, using(cxx_syntax::proofs::Kept::trees_kept, cxx_syntax::proofs::Kept::trees_later, cxx_syntax::proofs::Kept::type_kept, cxx_syntax::proofs::Kept::type_later, cxx_syntax::proofs::Kept::later_refl, cxx_syntax::proofs::Kept::later_trans))]
+    #[tactic(auto, using(cxx_cursor::proofs::Kept::trees_kept, cxx_cursor::proofs::Kept::trees_later, cxx_cursor::proofs::Kept::type_kept, cxx_cursor::proofs::Kept::type_later, cxx_cursor::proofs::Kept::later_refl, cxx_cursor::proofs::Kept::later_trans))]
     pub(crate) fn initialized_by(
         &self,
         state: &mut State,
@@ -72,7 +72,7 @@ impl<D: Declares> Reader<'_, D> {
     }
 
     // From `=` or `(` on, of the object with a declaration.
-    #[tactic(auto, using(cxx_syntax::proofs::Kept::trees_kept, cxx_syntax::proofs::Kept::trees_later, cxx_syntax::proofs::Kept::type_kept, cxx_syntax::proofs::Kept::type_later, cxx_syntax::proofs::Kept::later_refl, cxx_syntax::proofs::Kept::later_trans), unfolding(crate::specs::Objects::initialized_part))]
+    #[tactic(auto, using(cxx_cursor::proofs::Kept::trees_kept, cxx_cursor::proofs::Kept::trees_later, cxx_cursor::proofs::Kept::type_kept, cxx_cursor::proofs::Kept::type_later, cxx_cursor::proofs::Kept::later_refl, cxx_cursor::proofs::Kept::later_trans), unfolding(crate::specs::Objects::initialized_part))]
     fn initialized_part(
         &self,
         state: &mut State,
@@ -94,7 +94,7 @@ impl<D: Declares> Reader<'_, D> {
     }
 
     // Behind the name of an object that is defined.
-    #[tactic(auto, using(cxx_syntax::proofs::Kept::later_refl, cxx_syntax::proofs::Kept::later_trans), unfolding(crate::specs::Objects::defined_part))]
+    #[tactic(auto, using(cxx_cursor::proofs::Kept::later_refl, cxx_cursor::proofs::Kept::later_trans), unfolding(crate::specs::Objects::defined_part))]
     fn defined_part(
         &self,
         state: &mut State,
@@ -115,7 +115,7 @@ impl<D: Declares> Reader<'_, D> {
         Err(Stop::Fault(cursor.refused()?))
     }
 
-    #[tactic(auto, using(cxx_syntax::proofs::Kept::type_kept, cxx_syntax::proofs::Kept::type_later, cxx_syntax::proofs::Kept::later_refl, cxx_syntax::proofs::Kept::later_trans), unfolding(crate::specs::Objects::defined_later))]
+    #[tactic(auto, using(cxx_cursor::proofs::Kept::type_kept, cxx_cursor::proofs::Kept::type_later, cxx_cursor::proofs::Kept::later_refl, cxx_cursor::proofs::Kept::later_trans), unfolding(crate::specs::Objects::defined_later))]
     fn defined_later(
         &self,
         state: &mut State,
@@ -132,7 +132,7 @@ impl<D: Declares> Reader<'_, D> {
     }
 
     // Behind the name of an object that is declared with `extern`, which an initializer defines (3.1).
-    #[tactic(auto, using(cxx_syntax::proofs::Kept::later_refl, cxx_syntax::proofs::Kept::later_trans), unfolding(crate::specs::Objects::extern_part))]
+    #[tactic(auto, using(cxx_cursor::proofs::Kept::later_refl, cxx_cursor::proofs::Kept::later_trans), unfolding(crate::specs::Objects::extern_part))]
     fn extern_part(
         &self,
         state: &mut State,
@@ -154,7 +154,7 @@ impl<D: Declares> Reader<'_, D> {
     }
 
     /// An object that is declared with `extern`.
-    #[tactic(auto, using(cxx_syntax::proofs::Kept::trees_kept, cxx_syntax::proofs::Kept::trees_later, cxx_syntax::proofs::Kept::trees_append, cxx_syntax::proofs::Kept::trees_below_append, cxx_syntax::proofs::Kept::type_kept, cxx_syntax::proofs::Kept::type_later, cxx_syntax::proofs::Kept::later_refl, cxx_syntax::proofs::Kept::later_trans), unfolding(crate::specs::Made::extern_object))]
+    #[tactic(auto, using(cxx_cursor::proofs::Kept::trees_kept, cxx_cursor::proofs::Kept::trees_later, cxx_cursor::proofs::Kept::trees_append, cxx_cursor::proofs::Kept::trees_below_append, cxx_cursor::proofs::Kept::type_kept, cxx_cursor::proofs::Kept::type_later, cxx_cursor::proofs::Kept::later_refl, cxx_cursor::proofs::Kept::later_trans), unfolding(crate::specs::Made::extern_object))]
     pub fn extern_object(
         &self,
         state: &mut State,
@@ -175,7 +175,7 @@ impl<D: Declares> Reader<'_, D> {
     }
 
     /// An object that is defined.
-    #[tactic(auto, using(cxx_syntax::proofs::Kept::trees_kept, cxx_syntax::proofs::Kept::trees_later, cxx_syntax::proofs::Kept::trees_append, cxx_syntax::proofs::Kept::trees_below_append, cxx_syntax::proofs::Kept::type_kept, cxx_syntax::proofs::Kept::type_later, cxx_syntax::proofs::Kept::later_refl, cxx_syntax::proofs::Kept::later_trans), unfolding(crate::specs::Made::defined_object))]
+    #[tactic(auto, using(cxx_cursor::proofs::Kept::trees_kept, cxx_cursor::proofs::Kept::trees_later, cxx_cursor::proofs::Kept::trees_append, cxx_cursor::proofs::Kept::trees_below_append, cxx_cursor::proofs::Kept::type_kept, cxx_cursor::proofs::Kept::type_later, cxx_cursor::proofs::Kept::later_refl, cxx_cursor::proofs::Kept::later_trans), unfolding(crate::specs::Made::defined_object))]
     pub fn defined_object(
         &self,
         state: &mut State,
@@ -196,7 +196,7 @@ impl<D: Declares> Reader<'_, D> {
     }
 
     /// An object that a block declares with `extern` (3.5).
-    #[tactic(auto, using(cxx_syntax::proofs::Kept::trees_kept, cxx_syntax::proofs::Kept::trees_later, cxx_syntax::proofs::Kept::type_kept, cxx_syntax::proofs::Kept::type_later, cxx_syntax::proofs::Kept::later_refl, cxx_syntax::proofs::Kept::later_trans), unfolding(crate::specs::Blocks::local_extern))]
+    #[tactic(auto, using(cxx_cursor::proofs::Kept::trees_kept, cxx_cursor::proofs::Kept::trees_later, cxx_cursor::proofs::Kept::type_kept, cxx_cursor::proofs::Kept::type_later, cxx_cursor::proofs::Kept::later_refl, cxx_cursor::proofs::Kept::later_trans), unfolding(crate::specs::Blocks::local_extern))]
     pub(crate) fn local_extern(
         &self,
         state: &mut State,

@@ -3,17 +3,17 @@
 ghost use Rattle.std.specs.Prelude.{◌≡◌, []};
 ghost use Rattle.cxx_language.specs.Spaces as definition;
 ghost use Rattle.cxx_language.specs.Views.{IsSpaceKnown, space_of};
-ghost use Rattle.cxx_syntax.specs.Asking.{AnyKnown, IsTreeKnown};
-ghost use Rattle.cxx_syntax.specs.Making.{GrowsTree};
-ghost use Rattle.cxx_syntax.specs.Reading.{IsRead};
-ghost use Rattle.cxx_syntax.specs.Views.{lexeme_at};
+ghost use Rattle.cxx_cursor.specs.Asking.{AnyKnown, IsTreeKnown};
+ghost use Rattle.cxx_cursor.specs.Making.{GrowsTree};
+ghost use Rattle.cxx_cursor.specs.Reading.{IsRead};
+ghost use Rattle.cxx_cursor.specs.Views.{lexeme_at};
 ghost use Rattle.cxx_tree.specs.Arena.{path_at};
 ghost use Rattle.cxx_tree.specs.Held.{meaning, tree};
 
 use crate::declares::Declares;
+use cxx_cursor::{Cursor, Spelled, is_keyword, is_name, is_punct};
 use cxx_model::{Listed, Path, Place, ScopeId, Stop, TreeId, keyword, punct};
 use cxx_paths::last_place;
-use cxx_syntax::{Cursor, Spelled, is_keyword, is_name, is_punct};
 use cxx_tree::State;
 use cxx_units::trees::part_tree;
 
@@ -34,7 +34,7 @@ pub(crate) struct NamedSpace {
 }
 
 // A name of a namespace (3.4.6).
-#[tactic(auto, using(cxx_syntax::proofs::Kept::later_refl, cxx_syntax::proofs::Kept::later_trans), unfolding(crate::specs::Spaces::space_name_at))]
+#[tactic(auto, using(cxx_cursor::proofs::Kept::later_refl, cxx_cursor::proofs::Kept::later_trans), unfolding(crate::specs::Spaces::space_name_at))]
 fn space_name_at<D: Declares>(
     declares: &D,
     state: &mut State,
@@ -66,7 +66,7 @@ fn bare_tree(
 }
 
 // Another name of a namespace, from the `=` on.
-#[tactic(auto, using(cxx_syntax::proofs::Kept::later_refl, cxx_syntax::proofs::Kept::later_trans), unfolding(crate::specs::Spaces::alias_at))]
+#[tactic(auto, using(cxx_cursor::proofs::Kept::later_refl, cxx_cursor::proofs::Kept::later_trans), unfolding(crate::specs::Spaces::alias_at))]
 fn alias_at<D: Declares>(
     declares: &D,
     state: &mut State,
@@ -84,7 +84,7 @@ fn alias_at<D: Declares>(
 }
 
 /// Behind `namespace` and a name: another name of a namespace, from its `=` on (7.3.2).
-#[tactic(auto, using(cxx_syntax::proofs::Kept::later_refl))]
+#[tactic(auto, using(cxx_cursor::proofs::Kept::later_refl))]
 pub fn alias_or_not<D: Declares>(
     declares: &D,
     state: &mut State,
@@ -101,7 +101,7 @@ pub fn alias_or_not<D: Declares>(
 }
 
 // Behind the word in a block, where no namespace is defined (7.3).
-#[tactic(auto, using(cxx_syntax::proofs::Kept::later_refl), unfolding(crate::specs::Spaces::behind_word))]
+#[tactic(auto, using(cxx_cursor::proofs::Kept::later_refl), unfolding(crate::specs::Spaces::behind_word))]
 fn behind_word<D: Declares>(
     declares: &D,
     state: &mut State,
@@ -132,7 +132,7 @@ pub(crate) fn local_alias_at<D: Declares>(
 }
 
 // A using-directive, from the word `using` on.
-#[tactic(auto, using(cxx_syntax::proofs::Kept::later_refl, cxx_syntax::proofs::Kept::later_trans), unfolding(crate::specs::Spaces::directive_at))]
+#[tactic(auto, using(cxx_cursor::proofs::Kept::later_refl, cxx_cursor::proofs::Kept::later_trans), unfolding(crate::specs::Spaces::directive_at))]
 fn directive_at<D: Declares>(
     declares: &D,
     state: &mut State,
@@ -150,7 +150,7 @@ fn directive_at<D: Declares>(
 }
 
 // The name of a using-declaration, which has a qualifier.
-#[tactic(auto, using(cxx_syntax::proofs::Kept::later_refl))]
+#[tactic(auto, using(cxx_cursor::proofs::Kept::later_refl))]
 fn qualified_taken(state: &State, cursor: &mut Cursor<'_>) -> Result<Path, Stop>
     ensures { IsRead (λ held. path_at) AnyKnown state.now state.now cursor.new result (definition.qualified_taken (meaning state.now) cursor.old) }
 {
@@ -162,7 +162,7 @@ fn qualified_taken(state: &State, cursor: &mut Cursor<'_>) -> Result<Path, Stop>
 }
 
 // The name behind `using`; behind `typename` it is not read yet (14.6).
-#[tactic(auto, using(cxx_syntax::proofs::Kept::later_refl), unfolding(crate::specs::Spaces::brought_name_at))]
+#[tactic(auto, using(cxx_cursor::proofs::Kept::later_refl), unfolding(crate::specs::Spaces::brought_name_at))]
 fn brought_name_at(state: &State, cursor: &mut Cursor<'_>) -> Result<Path, Stop>
     ensures { IsRead (λ held. path_at) AnyKnown state.now state.now cursor.new result (definition.brought_name_at (meaning state.now) cursor.old) }
 {
@@ -176,7 +176,7 @@ fn brought_name_at(state: &State, cursor: &mut Cursor<'_>) -> Result<Path, Stop>
 }
 
 // A using-declaration, from the word `using` on (7.3.3).
-#[tactic(auto, using(cxx_syntax::proofs::Kept::later_refl, cxx_syntax::proofs::Kept::later_trans), unfolding(crate::specs::Spaces::using_declaration_at))]
+#[tactic(auto, using(cxx_cursor::proofs::Kept::later_refl, cxx_cursor::proofs::Kept::later_trans), unfolding(crate::specs::Spaces::using_declaration_at))]
 fn using_declaration_at<D: Declares>(
     declares: &D,
     state: &mut State,

@@ -7,11 +7,11 @@ use Rattle.cxx_model.specs.Types.Numbers.{type_at}
 use Rattle.cxx_model.specs.Types.Trees.{CxxType}
 use Rattle.cxx_phrases.specs.Knot.{type_declared}
 use Rattle.cxx_reading.specs.Reads.{Ahead}
-use Rattle.cxx_syntax.proofs.Kept.{later_trans, layers_kept, trees_kept}
-use Rattle.cxx_syntax.specs.Asking.{IsTypeKnown}
-use Rattle.cxx_syntax.specs.declared.declarator.Declarator.{Declarator}
-use Rattle.cxx_syntax.specs.Reading.{IsRead}
-use Rattle.cxx_syntax.specs.Views.{IsDeclarator, declarator_of}
+use Rattle.cxx_cursor.proofs.Kept.{later_trans, layers_kept, trees_kept}
+use Rattle.cxx_cursor.specs.Asking.{IsTypeKnown}
+use Rattle.cxx_cursor.specs.declared.declarator.Declarator.{Declarator}
+use Rattle.cxx_cursor.specs.Reading.{IsRead}
+use Rattle.cxx_cursor.specs.Views.{IsDeclarator, declarator_of}
 use Rattle.cxx_tree.specs.Held.{Held, meaning, type_of}
 use Rattle.cxx_tree.specs.Later.{Later}
 

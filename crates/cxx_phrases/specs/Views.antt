@@ -11,9 +11,9 @@ use Rattle.cxx_reading.specs.Reads as reads
 use Rattle.cxx_reading.specs.Reads.{Ahead}
 use Rattle.cxx_reading.specs.Tokens.{path_ahead}
 use Rattle.cxx_reading.specs.Trees.{CxxPath, CxxTree}
-use Rattle.cxx_syntax.specs.declared.turn.Turn.{Turn}
-use Rattle.cxx_syntax.specs.Asking.{IsTreeKnown}
-use Rattle.cxx_syntax.specs.Views.{AreTreesHeld, IsTurn, trees_held, turn_at}
+use Rattle.cxx_cursor.specs.declared.turn.Turn.{Turn}
+use Rattle.cxx_cursor.specs.Asking.{IsTreeKnown}
+use Rattle.cxx_cursor.specs.Views.{AreTreesHeld, IsTurn, trees_held, turn_at}
 use Rattle.cxx_tree.specs.Held.{Held, tree, type_of}
 
 -- a type, with the trees of what it is written of

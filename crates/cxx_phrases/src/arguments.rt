@@ -2,22 +2,22 @@
 
 ghost use Rattle.std.specs.Prelude.{◌≡◌, ◌++◌, [], ◌∷◌};
 ghost use Rattle.cxx_phrases.specs.Arguments as definition;
-ghost use Rattle.cxx_syntax.specs.Asking.{IsTreeKnown};
-ghost use Rattle.cxx_syntax.specs.Reading.{IsRead};
-ghost use Rattle.cxx_syntax.specs.Views.{AreTreesHeld, IsTreesTurn, trees_held, trees_turn};
+ghost use Rattle.cxx_cursor.specs.Asking.{IsTreeKnown};
+ghost use Rattle.cxx_cursor.specs.Reading.{IsRead};
+ghost use Rattle.cxx_cursor.specs.Views.{AreTreesHeld, IsTreesTurn, trees_held, trees_turn};
 ghost use Rattle.cxx_tree.specs.Held.{meaning, tree};
 
 use crate::level::Level;
 use crate::lists::with_tree;
 use crate::operators::begins_expression;
 use crate::phrases::Phrases;
+use cxx_cursor::{Cursor, Turn, is_keyword, is_punct};
 use cxx_model::limits::MOST_ARGUMENTS;
 use cxx_model::{LimitKind, Listed, Stop, TreeId, TreeIdList, keyword, punct};
-use cxx_syntax::{Cursor, Turn, is_keyword, is_punct};
 use cxx_tree::State;
 
 // Behind an argument.
-#[tactic(auto, using(cxx_syntax::proofs::Kept::later_refl, cxx_syntax::proofs::Kept::trees_append, cxx_syntax::proofs::Kept::trees_below_append), unfolding(crate::specs::Arguments::argument_ended))]
+#[tactic(auto, using(cxx_cursor::proofs::Kept::later_refl, cxx_cursor::proofs::Kept::trees_append, cxx_cursor::proofs::Kept::trees_below_append), unfolding(crate::specs::Arguments::argument_ended))]
 fn argument_ended(
     state: &State,
     cursor: &mut Cursor<'_>,
@@ -42,7 +42,7 @@ fn argument_ended(
 }
 
 // An argument, and what separates it from the next.
-#[tactic(auto, using(cxx_syntax::proofs::Kept::later_trans, cxx_syntax::proofs::Kept::later_refl, cxx_syntax::proofs::Kept::trees_kept, cxx_syntax::proofs::Kept::trees_later), unfolding(crate::specs::Arguments::argument_step))]
+#[tactic(auto, using(cxx_cursor::proofs::Kept::later_trans, cxx_cursor::proofs::Kept::later_refl, cxx_cursor::proofs::Kept::trees_kept, cxx_cursor::proofs::Kept::trees_later), unfolding(crate::specs::Arguments::argument_step))]
 fn argument_step<P: Phrases>(
     phrases: &P,
     state: &mut State,
@@ -58,7 +58,7 @@ fn argument_step<P: Phrases>(
 }
 
 // More arguments than there may be, where one can begin.
-#[tactic(auto, using(cxx_syntax::proofs::Kept::later_refl), unfolding(crate::specs::Arguments::arguments_over))]
+#[tactic(auto, using(cxx_cursor::proofs::Kept::later_refl), unfolding(crate::specs::Arguments::arguments_over))]
 fn arguments_over(
     state: &State,
     cursor: &Cursor<'_>,
@@ -75,7 +75,7 @@ fn arguments_over(
 }
 
 /// At least one argument, with the end of the bracket.
-#[tactic(auto, using(cxx_syntax::proofs::Loops::turn, cxx_syntax::proofs::Loops::no_turn, cxx_syntax::proofs::Kept::later_trans, cxx_syntax::proofs::Kept::later_refl), unfolding(crate::specs::Arguments::some_arguments))]
+#[tactic(auto, using(cxx_cursor::proofs::Loops::turn, cxx_cursor::proofs::Loops::no_turn, cxx_cursor::proofs::Kept::later_trans, cxx_cursor::proofs::Kept::later_refl), unfolding(crate::specs::Arguments::some_arguments))]
 pub(crate) fn some_arguments<P: Phrases>(
     phrases: &P,
     state: &mut State,
@@ -95,7 +95,7 @@ pub(crate) fn some_arguments<P: Phrases>(
 }
 
 // Arguments behind their bracket.
-#[tactic(auto, using(cxx_syntax::proofs::Kept::later_trans, cxx_syntax::proofs::Kept::later_refl), unfolding(crate::specs::Arguments::arguments_behind))]
+#[tactic(auto, using(cxx_cursor::proofs::Kept::later_trans, cxx_cursor::proofs::Kept::later_refl), unfolding(crate::specs::Arguments::arguments_behind))]
 fn arguments_behind<P: Phrases>(
     phrases: &P,
     state: &mut State,
@@ -112,7 +112,7 @@ fn arguments_behind<P: Phrases>(
 }
 
 /// Arguments from the bracket ahead on, with its end.
-#[tactic(auto, using(cxx_syntax::proofs::Kept::later_trans, cxx_syntax::proofs::Kept::later_refl), unfolding(crate::specs::Arguments::arguments_at))]
+#[tactic(auto, using(cxx_cursor::proofs::Kept::later_trans, cxx_cursor::proofs::Kept::later_refl), unfolding(crate::specs::Arguments::arguments_at))]
 pub(crate) fn arguments_at<P: Phrases>(
     phrases: &P,
     state: &mut State,

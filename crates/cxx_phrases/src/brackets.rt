@@ -4,16 +4,16 @@ ghost use Rattle.std.specs.Prelude.{◌≡◌, ◌≤◌, ◌<◌, ◌+◌, ◌^
 ghost use Rattle.cxx_phrases.specs.Brackets as definition;
 ghost use Rattle.cxx_phrases.specs.Views.{path_in};
 ghost use Rattle.cxx_reading.specs.Tokens.{path_ahead};
-ghost use Rattle.cxx_syntax.specs.Asking.{AnyKnown, itself};
-ghost use Rattle.cxx_syntax.specs.Reading.{IsRead, Takes};
-ghost use Rattle.cxx_syntax.specs.Views.{IsTurn, turn_at};
+ghost use Rattle.cxx_cursor.specs.Asking.{AnyKnown, itself};
+ghost use Rattle.cxx_cursor.specs.Reading.{IsRead, Takes};
+ghost use Rattle.cxx_cursor.specs.Views.{IsTurn, turn_at};
 ghost use Rattle.cxx_tree.specs.Held.{meaning};
 
 use crate::operators::begins_expression;
 use crate::phrases::Phrases;
 use crate::shape::TypeShape;
+use cxx_cursor::{Cursor, Turn, is_punct};
 use cxx_model::{LimitKind, Stop, punct};
-use cxx_syntax::{Cursor, Turn, is_punct};
 use cxx_tree::State;
 
 // One more bracket, where one stands.
@@ -42,7 +42,7 @@ fn opened_over(cursor: &Cursor<'_>, count: u64) -> Result<u64, Stop>
 }
 
 // Brackets that open, one behind another.
-#[tactic(auto, using(cxx_syntax::proofs::Loops::turn, cxx_syntax::proofs::Loops::no_turn), unfolding(crate::specs::Brackets::opened_passed))]
+#[tactic(auto, using(cxx_cursor::proofs::Loops::turn, cxx_cursor::proofs::Loops::no_turn), unfolding(crate::specs::Brackets::opened_passed))]
 fn opened_passed(cursor: &mut Cursor<'_>, room: u32) -> Result<u64, Stop>
     ensures { Takes (λ x. x) cursor.new result (definition.opened_passed room tt cursor.old) }
 {
@@ -57,7 +57,7 @@ fn opened_passed(cursor: &mut Cursor<'_>, room: u32) -> Result<u64, Stop>
 }
 
 // Whether so many brackets close.
-#[tactic(auto, using(cxx_syntax::proofs::Loops::turn, cxx_syntax::proofs::Loops::no_turn), unfolding(crate::specs::Brackets::closed_passed, crate::specs::Brackets::closed_step))]
+#[tactic(auto, using(cxx_cursor::proofs::Loops::turn, cxx_cursor::proofs::Loops::no_turn), unfolding(crate::specs::Brackets::closed_passed, crate::specs::Brackets::closed_step))]
 fn closed_passed(cursor: &mut Cursor<'_>, count: u64) -> Result<bool, Stop>
     ensures { Takes (λ x. x) cursor.new result (definition.closed_passed count tt cursor.old) }
 {
@@ -112,7 +112,7 @@ pub(crate) fn called_name<'a>(
 }
 
 // Whether a type stands behind a bracket, and behind that what can begin an operand.
-#[tactic(auto, using(cxx_syntax::proofs::Kept::later_trans, cxx_syntax::proofs::Kept::later_refl), unfolding(crate::specs::Brackets::cast_passed))]
+#[tactic(auto, using(cxx_cursor::proofs::Kept::later_trans, cxx_cursor::proofs::Kept::later_refl), unfolding(crate::specs::Brackets::cast_passed))]
 fn cast_passed<P: Phrases>(
     phrases: &P,
     state: &mut State,
@@ -129,7 +129,7 @@ fn cast_passed<P: Phrases>(
 }
 
 /// Whether the bracket ahead begins a cast (5.4).
-#[tactic(auto, using(cxx_syntax::proofs::Kept::later_trans, cxx_syntax::proofs::Kept::later_refl), unfolding(crate::specs::Brackets::begins_cast))]
+#[tactic(auto, using(cxx_cursor::proofs::Kept::later_trans, cxx_cursor::proofs::Kept::later_refl), unfolding(crate::specs::Brackets::begins_cast))]
 pub(crate) fn begins_cast<P: Phrases>(
     phrases: &P,
     state: &mut State,

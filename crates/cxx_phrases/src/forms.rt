@@ -3,18 +3,18 @@
 ghost use Rattle.std.specs.Prelude.{◌≡◌, ◌<◌, length, IfOk};
 ghost use Rattle.cxx_phrases.specs.Forms as form;
 ghost use Rattle.cxx_phrases.specs.Views.{IsSized, IsWritten, sized_of, written_of};
-ghost use Rattle.cxx_syntax.specs.Asking.{IsAsked, IsTreeKnown};
-ghost use Rattle.cxx_syntax.specs.Making.{GrowsTree};
-ghost use Rattle.cxx_syntax.specs.Views.{AreTreesHeld, trees_held};
+ghost use Rattle.cxx_cursor.specs.Asking.{IsAsked, IsTreeKnown};
+ghost use Rattle.cxx_cursor.specs.Making.{GrowsTree};
+ghost use Rattle.cxx_cursor.specs.Views.{AreTreesHeld, trees_held};
 ghost use Rattle.cxx_tree.specs.Arena.{path_at};
 ghost use Rattle.cxx_tree.specs.Held.{meaning, tree, type_of};
 
 use crate::lists::{one_tree, three_trees, two_trees, with_tree};
 use crate::phrases::Phrases;
 use crate::production;
+use cxx_cursor::{Cursor, joined, last_place, node_from, push};
 use cxx_model::{Listed, Path, Place, Stop, Text, TokenKind, TreeId, TreeIdList, TypeId};
 use cxx_strings::side_by_side;
-use cxx_syntax::{Cursor, joined, last_place, node_from, push};
 use cxx_tree::State;
 use std::alloc::{AllocError, Global};
 
@@ -29,7 +29,7 @@ fn literal_text(alloc: Global, kind: TokenKind, word: &[u8]) -> Result<Text, All
 }
 
 /// A literal (2.13).
-#[tactic(auto, using(cxx_syntax::proofs::Kept::later_trans, cxx_syntax::proofs::Kept::later_refl, crate::proofs::Kept::tree_kept, crate::proofs::Kept::tree_later))]
+#[tactic(auto, using(cxx_cursor::proofs::Kept::later_trans, cxx_cursor::proofs::Kept::later_refl, crate::proofs::Kept::tree_kept, crate::proofs::Kept::tree_later))]
 pub(crate) fn literal_asked<P: Phrases>(
     phrases: &P,
     state: &mut State,
@@ -46,7 +46,7 @@ pub(crate) fn literal_asked<P: Phrases>(
 }
 
 /// A name that is not called (5.1).
-#[tactic(auto, using(cxx_syntax::proofs::Kept::later_trans, cxx_syntax::proofs::Kept::later_refl, crate::proofs::Kept::tree_kept, crate::proofs::Kept::tree_later))]
+#[tactic(auto, using(cxx_cursor::proofs::Kept::later_trans, cxx_cursor::proofs::Kept::later_refl, crate::proofs::Kept::tree_kept, crate::proofs::Kept::tree_later))]
 pub(crate) fn name_asked<P: Phrases>(
     phrases: &P,
     state: &mut State,
@@ -66,7 +66,7 @@ pub(crate) fn name_asked<P: Phrases>(
 }
 
 /// A parenthesis (5.1).
-#[tactic(auto, using(cxx_syntax::proofs::Kept::later_trans, cxx_syntax::proofs::Kept::later_refl, crate::proofs::Kept::tree_kept, crate::proofs::Kept::tree_later))]
+#[tactic(auto, using(cxx_cursor::proofs::Kept::later_trans, cxx_cursor::proofs::Kept::later_refl, crate::proofs::Kept::tree_kept, crate::proofs::Kept::tree_later))]
 pub(crate) fn parenthesis_asked<P: Phrases>(
     phrases: &P,
     state: &mut State,
@@ -85,7 +85,7 @@ pub(crate) fn parenthesis_asked<P: Phrases>(
 }
 
 /// A call by a name; the spelling tells whether the name stands in brackets (5.2.2).
-#[tactic(auto, using(cxx_syntax::proofs::Kept::later_trans, cxx_syntax::proofs::Kept::later_refl, crate::proofs::Kept::tree_kept, crate::proofs::Kept::tree_later))]
+#[tactic(auto, using(cxx_cursor::proofs::Kept::later_trans, cxx_cursor::proofs::Kept::later_refl, crate::proofs::Kept::tree_kept, crate::proofs::Kept::tree_later))]
 pub(crate) fn call_asked<P: Phrases>(
     phrases: &P,
     state: &mut State,
@@ -107,7 +107,7 @@ pub(crate) fn call_asked<P: Phrases>(
 }
 
 /// A call of what is no name (5.2.2).
-#[tactic(auto, using(cxx_syntax::proofs::Kept::later_trans, cxx_syntax::proofs::Kept::later_refl, crate::proofs::Kept::tree_kept, crate::proofs::Kept::tree_later, cxx_syntax::proofs::Kept::trees_append, cxx_syntax::proofs::Kept::trees_below_append))]
+#[tactic(auto, using(cxx_cursor::proofs::Kept::later_trans, cxx_cursor::proofs::Kept::later_refl, crate::proofs::Kept::tree_kept, crate::proofs::Kept::tree_later, cxx_cursor::proofs::Kept::trees_append, cxx_cursor::proofs::Kept::trees_below_append))]
 pub(crate) fn called_asked<P: Phrases>(
     phrases: &P,
     state: &mut State,
@@ -128,7 +128,7 @@ pub(crate) fn called_asked<P: Phrases>(
 }
 
 /// A type with arguments (5.2.3).
-#[tactic(auto, using(cxx_syntax::proofs::Kept::later_trans, cxx_syntax::proofs::Kept::later_refl, crate::proofs::Kept::tree_kept, crate::proofs::Kept::tree_later))]
+#[tactic(auto, using(cxx_cursor::proofs::Kept::later_trans, cxx_cursor::proofs::Kept::later_refl, crate::proofs::Kept::tree_kept, crate::proofs::Kept::tree_later))]
 pub(crate) fn functional_asked<P: Phrases>(
     phrases: &P,
     state: &mut State,
@@ -149,7 +149,7 @@ pub(crate) fn functional_asked<P: Phrases>(
 }
 
 /// A subscript (5.2.1).
-#[tactic(auto, using(cxx_syntax::proofs::Kept::later_trans, cxx_syntax::proofs::Kept::later_refl, crate::proofs::Kept::tree_kept, crate::proofs::Kept::tree_later))]
+#[tactic(auto, using(cxx_cursor::proofs::Kept::later_trans, cxx_cursor::proofs::Kept::later_refl, crate::proofs::Kept::tree_kept, crate::proofs::Kept::tree_later))]
 pub(crate) fn subscript_asked<P: Phrases>(
     phrases: &P,
     state: &mut State,
@@ -172,7 +172,7 @@ pub(crate) fn subscript_asked<P: Phrases>(
 }
 
 /// A postfix operator (5.2.6).
-#[tactic(auto, using(cxx_syntax::proofs::Kept::later_trans, cxx_syntax::proofs::Kept::later_refl, crate::proofs::Kept::tree_kept, crate::proofs::Kept::tree_later))]
+#[tactic(auto, using(cxx_cursor::proofs::Kept::later_trans, cxx_cursor::proofs::Kept::later_refl, crate::proofs::Kept::tree_kept, crate::proofs::Kept::tree_later))]
 pub(crate) fn step_asked<P: Phrases>(
     phrases: &P,
     state: &mut State,
@@ -193,7 +193,7 @@ pub(crate) fn step_asked<P: Phrases>(
 }
 
 /// A prefix operator (5.3.1, 5.3.2).
-#[tactic(auto, using(cxx_syntax::proofs::Kept::later_trans, cxx_syntax::proofs::Kept::later_refl, crate::proofs::Kept::tree_kept, crate::proofs::Kept::tree_later))]
+#[tactic(auto, using(cxx_cursor::proofs::Kept::later_trans, cxx_cursor::proofs::Kept::later_refl, crate::proofs::Kept::tree_kept, crate::proofs::Kept::tree_later))]
 pub(crate) fn prefix_asked<P: Phrases>(
     phrases: &P,
     state: &mut State,
@@ -212,7 +212,7 @@ pub(crate) fn prefix_asked<P: Phrases>(
 }
 
 /// A size (5.3.3).
-#[tactic(auto, using(cxx_syntax::proofs::Kept::later_trans, cxx_syntax::proofs::Kept::later_refl, crate::proofs::Kept::tree_kept, crate::proofs::Kept::tree_later))]
+#[tactic(auto, using(cxx_cursor::proofs::Kept::later_trans, cxx_cursor::proofs::Kept::later_refl, crate::proofs::Kept::tree_kept, crate::proofs::Kept::tree_later))]
 pub(crate) fn size_asked<P: Phrases>(
     phrases: &P,
     state: &mut State,
@@ -232,7 +232,7 @@ pub(crate) fn size_asked<P: Phrases>(
 }
 
 /// A cast (5.2.9 to 5.2.11, 5.4).
-#[tactic(auto, using(cxx_syntax::proofs::Kept::later_trans, cxx_syntax::proofs::Kept::later_refl, crate::proofs::Kept::tree_kept, crate::proofs::Kept::tree_later, cxx_syntax::proofs::Kept::trees_append, cxx_syntax::proofs::Kept::trees_below_append))]
+#[tactic(auto, using(cxx_cursor::proofs::Kept::later_trans, cxx_cursor::proofs::Kept::later_refl, crate::proofs::Kept::tree_kept, crate::proofs::Kept::tree_later, cxx_cursor::proofs::Kept::trees_append, cxx_cursor::proofs::Kept::trees_below_append))]
 pub(crate) fn cast_asked<P: Phrases>(
     phrases: &P,
     state: &mut State,
@@ -256,7 +256,7 @@ pub(crate) fn cast_asked<P: Phrases>(
 }
 
 /// An operator between two operands, by the number of its production (5.6 to 5.18).
-#[tactic(auto, using(cxx_syntax::proofs::Kept::later_trans, cxx_syntax::proofs::Kept::later_refl, crate::proofs::Kept::tree_kept, crate::proofs::Kept::tree_later))]
+#[tactic(auto, using(cxx_cursor::proofs::Kept::later_trans, cxx_cursor::proofs::Kept::later_refl, crate::proofs::Kept::tree_kept, crate::proofs::Kept::tree_later))]
 pub(crate) fn operator_asked<P: Phrases>(
     phrases: &P,
     state: &mut State,
@@ -280,7 +280,7 @@ pub(crate) fn operator_asked<P: Phrases>(
 }
 
 /// A conditional expression (5.16).
-#[tactic(auto, using(cxx_syntax::proofs::Kept::later_trans, cxx_syntax::proofs::Kept::later_refl, crate::proofs::Kept::tree_kept, crate::proofs::Kept::tree_later))]
+#[tactic(auto, using(cxx_cursor::proofs::Kept::later_trans, cxx_cursor::proofs::Kept::later_refl, crate::proofs::Kept::tree_kept, crate::proofs::Kept::tree_later))]
 pub(crate) fn conditional_asked<P: Phrases>(
     phrases: &P,
     state: &mut State,

@@ -4,9 +4,9 @@ ghost use Rattle.std.specs.Prelude.{◌≡◌, ◌++◌, [], ◌∷◌};
 ghost use Rattle.cxx_phrases.specs.Initializers as definition;
 ghost use Rattle.cxx_phrases.specs.Operands as operands;
 ghost use Rattle.cxx_phrases.specs.Views.{IsInitializer, IsSized, initializer_of, sized_of};
-ghost use Rattle.cxx_syntax.specs.Asking.{IsTreeKnown};
-ghost use Rattle.cxx_syntax.specs.Reading.{IsRead};
-ghost use Rattle.cxx_syntax.specs.Views.{AreTreesHeld, IsTreesTurn, trees_held, trees_turn};
+ghost use Rattle.cxx_cursor.specs.Asking.{IsTreeKnown};
+ghost use Rattle.cxx_cursor.specs.Reading.{IsRead};
+ghost use Rattle.cxx_cursor.specs.Views.{AreTreesHeld, IsTreesTurn, trees_held, trees_turn};
 ghost use Rattle.cxx_tree.specs.Held.{meaning, tree};
 
 use crate::arguments::some_arguments;
@@ -17,12 +17,12 @@ use crate::levels::{assignment_at, conditional_at, whole_at};
 use crate::lists::{one_tree, with_tree};
 use crate::operands::{operand_at, sized_at};
 use crate::phrases::Phrases;
+use cxx_cursor::{Cursor, Turn, is_punct};
 use cxx_model::{Form, LimitKind, Listed, Stop, TreeId, TreeIdList, TypeId, punct};
-use cxx_syntax::{Cursor, Turn, is_punct};
 use cxx_tree::State;
 
 // Behind a comma the end may stand.
-#[tactic(auto, using(cxx_syntax::proofs::Kept::later_refl), unfolding(crate::specs::Initializers::clause_comma))]
+#[tactic(auto, using(cxx_cursor::proofs::Kept::later_refl), unfolding(crate::specs::Initializers::clause_comma))]
 fn clause_comma(
     state: &State,
     cursor: &mut Cursor<'_>,
@@ -40,7 +40,7 @@ fn clause_comma(
 }
 
 // Behind a part.
-#[tactic(auto, using(cxx_syntax::proofs::Kept::later_refl, cxx_syntax::proofs::Kept::trees_append, cxx_syntax::proofs::Kept::trees_below_append), unfolding(crate::specs::Initializers::clause_ended))]
+#[tactic(auto, using(cxx_cursor::proofs::Kept::later_refl, cxx_cursor::proofs::Kept::trees_append, cxx_cursor::proofs::Kept::trees_below_append), unfolding(crate::specs::Initializers::clause_ended))]
 fn clause_ended(
     state: &State,
     cursor: &mut Cursor<'_>,
@@ -64,7 +64,7 @@ fn clause_ended(
 }
 
 // A part of braces, and what separates it from the next.
-#[tactic(auto, using(cxx_syntax::proofs::Kept::later_trans, cxx_syntax::proofs::Kept::later_refl, cxx_syntax::proofs::Kept::trees_kept, cxx_syntax::proofs::Kept::trees_later), unfolding(crate::specs::Initializers::clause_step))]
+#[tactic(auto, using(cxx_cursor::proofs::Kept::later_trans, cxx_cursor::proofs::Kept::later_refl, cxx_cursor::proofs::Kept::trees_kept, cxx_cursor::proofs::Kept::trees_later), unfolding(crate::specs::Initializers::clause_step))]
 fn clause_step<P: Phrases>(
     phrases: &P,
     state: &mut State,
@@ -80,7 +80,7 @@ fn clause_step<P: Phrases>(
 }
 
 // At least one part, with the end of the braces.
-#[tactic(auto, using(cxx_syntax::proofs::Loops::turn, cxx_syntax::proofs::Loops::no_turn, cxx_syntax::proofs::Kept::later_trans, cxx_syntax::proofs::Kept::later_refl), unfolding(crate::specs::Initializers::some_clauses))]
+#[tactic(auto, using(cxx_cursor::proofs::Loops::turn, cxx_cursor::proofs::Loops::no_turn, cxx_cursor::proofs::Kept::later_trans, cxx_cursor::proofs::Kept::later_refl), unfolding(crate::specs::Initializers::some_clauses))]
 fn some_clauses<P: Phrases>(
     phrases: &P,
     state: &mut State,
@@ -100,7 +100,7 @@ fn some_clauses<P: Phrases>(
 }
 
 // The parts of braces behind their beginning.
-#[tactic(auto, using(cxx_syntax::proofs::Kept::later_trans, cxx_syntax::proofs::Kept::later_refl), unfolding(crate::specs::Initializers::clauses_behind))]
+#[tactic(auto, using(cxx_cursor::proofs::Kept::later_trans, cxx_cursor::proofs::Kept::later_refl), unfolding(crate::specs::Initializers::clauses_behind))]
 fn clauses_behind<P: Phrases>(
     phrases: &P,
     state: &mut State,
@@ -117,7 +117,7 @@ fn clauses_behind<P: Phrases>(
 }
 
 // The parts of the braces that stand ahead, with their end (8.5.1).
-#[tactic(auto, using(cxx_syntax::proofs::Kept::later_trans, cxx_syntax::proofs::Kept::later_refl), unfolding(crate::specs::Initializers::clauses_at))]
+#[tactic(auto, using(cxx_cursor::proofs::Kept::later_trans, cxx_cursor::proofs::Kept::later_refl), unfolding(crate::specs::Initializers::clauses_at))]
 fn clauses_at<P: Phrases>(
     phrases: &P,
     state: &mut State,
@@ -134,7 +134,7 @@ fn clauses_at<P: Phrases>(
 }
 
 // Braces inside of braces.
-#[tactic(auto, using(cxx_syntax::proofs::Kept::later_trans, cxx_syntax::proofs::Kept::later_refl), unfolding(crate::specs::Initializers::braces_at))]
+#[tactic(auto, using(cxx_cursor::proofs::Kept::later_trans, cxx_cursor::proofs::Kept::later_refl), unfolding(crate::specs::Initializers::braces_at))]
 fn braces_at<P: Phrases>(
     phrases: &P,
     state: &mut State,
@@ -149,7 +149,7 @@ fn braces_at<P: Phrases>(
 }
 
 // A part of braces.
-#[tactic(auto, using(cxx_syntax::proofs::Kept::later_trans, cxx_syntax::proofs::Kept::later_refl), unfolding(crate::specs::Initializers::clause_at))]
+#[tactic(auto, using(cxx_cursor::proofs::Kept::later_trans, cxx_cursor::proofs::Kept::later_refl), unfolding(crate::specs::Initializers::clause_at))]
 fn clause_at<P: Phrases>(
     phrases: &P,
     state: &mut State,
@@ -165,7 +165,7 @@ fn clause_at<P: Phrases>(
 }
 
 // Behind `=` without braces.
-#[tactic(auto, using(cxx_syntax::proofs::Kept::later_trans, cxx_syntax::proofs::Kept::later_refl), unfolding(crate::specs::Initializers::copy_at))]
+#[tactic(auto, using(cxx_cursor::proofs::Kept::later_trans, cxx_cursor::proofs::Kept::later_refl), unfolding(crate::specs::Initializers::copy_at))]
 fn copy_at<P: Phrases>(
     phrases: &P,
     state: &mut State,
@@ -183,7 +183,7 @@ fn copy_at<P: Phrases>(
 }
 
 // Behind `=` with braces (8.5.1).
-#[tactic(auto, using(cxx_syntax::proofs::Kept::later_trans, cxx_syntax::proofs::Kept::later_refl), unfolding(crate::specs::Initializers::aggregate_at))]
+#[tactic(auto, using(cxx_cursor::proofs::Kept::later_trans, cxx_cursor::proofs::Kept::later_refl), unfolding(crate::specs::Initializers::aggregate_at))]
 fn aggregate_at<P: Phrases>(
     phrases: &P,
     state: &mut State,
@@ -200,7 +200,7 @@ fn aggregate_at<P: Phrases>(
 }
 
 // Behind `=`.
-#[tactic(auto, using(cxx_syntax::proofs::Kept::later_trans, cxx_syntax::proofs::Kept::later_refl), unfolding(crate::specs::Initializers::equals_at))]
+#[tactic(auto, using(cxx_cursor::proofs::Kept::later_trans, cxx_cursor::proofs::Kept::later_refl), unfolding(crate::specs::Initializers::equals_at))]
 fn equals_at<P: Phrases>(
     phrases: &P,
     state: &mut State,
@@ -216,7 +216,7 @@ fn equals_at<P: Phrases>(
 }
 
 // Behind `(` at least one expression stands.
-#[tactic(auto, using(cxx_syntax::proofs::Kept::later_trans, cxx_syntax::proofs::Kept::later_refl), unfolding(crate::specs::Initializers::list_behind))]
+#[tactic(auto, using(cxx_cursor::proofs::Kept::later_trans, cxx_cursor::proofs::Kept::later_refl), unfolding(crate::specs::Initializers::list_behind))]
 fn list_behind<P: Phrases>(
     phrases: &P,
     state: &mut State,
@@ -233,7 +233,7 @@ fn list_behind<P: Phrases>(
 }
 
 // From `(` on.
-#[tactic(auto, using(cxx_syntax::proofs::Kept::later_trans, cxx_syntax::proofs::Kept::later_refl), unfolding(crate::specs::Initializers::direct_at))]
+#[tactic(auto, using(cxx_cursor::proofs::Kept::later_trans, cxx_cursor::proofs::Kept::later_refl), unfolding(crate::specs::Initializers::direct_at))]
 fn direct_at<P: Phrases>(
     phrases: &P,
     state: &mut State,
@@ -250,7 +250,7 @@ fn direct_at<P: Phrases>(
 }
 
 /// An initializer, from its `=` or `(` on (8.5). A limit is that of nesting or that of arguments.
-#[tactic(auto, using(cxx_syntax::proofs::Kept::later_trans, cxx_syntax::proofs::Kept::later_refl), unfolding(crate::specs::Initializers::initializer_at))]
+#[tactic(auto, using(cxx_cursor::proofs::Kept::later_trans, cxx_cursor::proofs::Kept::later_refl), unfolding(crate::specs::Initializers::initializer_at))]
 pub fn read_initializer<P: Phrases>(
     phrases: &P,
     state: &mut State,
@@ -271,7 +271,7 @@ pub fn read_initializer<P: Phrases>(
 
 /// An expression of a level, with room for so many brackets and operators as the user says (5, 8.5.1). A limit is that of
 /// nesting or that of arguments, or one of the user's.
-#[tactic(auto, using(cxx_syntax::proofs::Kept::later_trans, cxx_syntax::proofs::Kept::later_refl))]
+#[tactic(auto, using(cxx_cursor::proofs::Kept::later_trans, cxx_cursor::proofs::Kept::later_refl))]
 pub fn read_expression<P: Phrases>(
     phrases: &P,
     state: &mut State,
@@ -291,7 +291,7 @@ pub fn read_expression<P: Phrases>(
 }
 
 /// What stands behind `sizeof`: the type, where one is written, and the trees of that, or else of the operand (5.3.3).
-#[tactic(auto, using(cxx_syntax::proofs::Kept::later_trans, cxx_syntax::proofs::Kept::later_refl))]
+#[tactic(auto, using(cxx_cursor::proofs::Kept::later_trans, cxx_cursor::proofs::Kept::later_refl))]
 pub fn read_sized<P: Phrases>(
     phrases: &P,
     state: &mut State,

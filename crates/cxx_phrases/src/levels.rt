@@ -4,8 +4,8 @@ ghost use Rattle.std.specs.Prelude.{◌≡◌, ◌<◌, ◌-◌};
 ghost use Rattle.cxx_phrases.specs.Levels as definition;
 ghost use Rattle.cxx_phrases.specs.Levels.{binary_at as binary};
 ghost use Rattle.cxx_phrases.specs.Views.{IsTreeTurn, tree_turn};
-ghost use Rattle.cxx_syntax.specs.Asking.{IsTreeKnown};
-ghost use Rattle.cxx_syntax.specs.Reading.{IsRead};
+ghost use Rattle.cxx_cursor.specs.Asking.{IsTreeKnown};
+ghost use Rattle.cxx_cursor.specs.Reading.{IsRead};
 ghost use Rattle.cxx_tree.specs.Held.{meaning, tree};
 
 use crate::forms::{conditional_asked, operator_asked};
@@ -14,12 +14,12 @@ use crate::operands::operand_at;
 use crate::operators::{OUTERMOST, is_assignment, is_of_level, operator_ahead, selects_member};
 use crate::phrases::Phrases;
 use crate::production;
+use cxx_cursor::{Cursor, Turn, is_keyword, is_punct};
 use cxx_model::{FaultText, LeftOut, Stop, TreeId, keyword, punct};
-use cxx_syntax::{Cursor, Turn, is_keyword, is_punct};
 use cxx_tree::State;
 
 // Pointers to members are left out (5.5).
-#[tactic(auto, using(cxx_syntax::proofs::Kept::later_refl), unfolding(crate::specs::Levels::no_member))]
+#[tactic(auto, using(cxx_cursor::proofs::Kept::later_refl), unfolding(crate::specs::Levels::no_member))]
 fn no_member(state: &State, cursor: &Cursor<'_>, number: TreeId) -> Result<TreeId, Stop>
     requires known { IsTreeKnown state.now number }
     ensures { IsRead tree IsTreeKnown state.now state.now cursor.now result (definition.no_member (tree state.now number) (meaning state.now) cursor.now) }
@@ -33,7 +33,7 @@ fn no_member(state: &State, cursor: &Cursor<'_>, number: TreeId) -> Result<TreeI
 }
 
 // An operand of binary operators.
-#[tactic(auto, using(cxx_syntax::proofs::Kept::later_trans, cxx_syntax::proofs::Kept::later_refl), unfolding(crate::specs::Levels::member_operand))]
+#[tactic(auto, using(cxx_cursor::proofs::Kept::later_trans, cxx_cursor::proofs::Kept::later_refl), unfolding(crate::specs::Levels::member_operand))]
 fn member_operand<P: Phrases>(
     phrases: &P,
     state: &mut State,
@@ -48,7 +48,7 @@ fn member_operand<P: Phrases>(
 
 // An operator, which is ahead, and its right operand.
 #[cycle(binary)]
-#[tactic(auto, using(cxx_syntax::proofs::Kept::later_trans, cxx_syntax::proofs::Kept::later_refl, crate::proofs::Kept::tree_kept, crate::proofs::Kept::tree_later), unfolding(crate::specs::Levels::operation))]
+#[tactic(auto, using(cxx_cursor::proofs::Kept::later_trans, cxx_cursor::proofs::Kept::later_refl, crate::proofs::Kept::tree_kept, crate::proofs::Kept::tree_later), unfolding(crate::specs::Levels::operation))]
 fn operation<P: Phrases>(
     phrases: &P,
     state: &mut State,
@@ -82,7 +82,7 @@ fn operation<P: Phrases>(
 
 // An operator of a level and its right operand, where one stands ahead.
 #[cycle(binary)]
-#[tactic(auto, using(cxx_syntax::proofs::Kept::later_trans, cxx_syntax::proofs::Kept::later_refl), unfolding(crate::specs::Levels::operation_step))]
+#[tactic(auto, using(cxx_cursor::proofs::Kept::later_trans, cxx_cursor::proofs::Kept::later_refl), unfolding(crate::specs::Levels::operation_step))]
 fn operation_step<P: Phrases>(
     phrases: &P,
     state: &mut State,
@@ -104,7 +104,7 @@ fn operation_step<P: Phrases>(
 
 // Operators of a level, from the left, behind the first operand, which began at `from`.
 #[cycle(binary)]
-#[tactic(auto, using(cxx_syntax::proofs::Loops::turn, cxx_syntax::proofs::Loops::no_turn, cxx_syntax::proofs::Kept::later_trans, cxx_syntax::proofs::Kept::later_refl), unfolding(crate::specs::Levels::operations_at))]
+#[tactic(auto, using(cxx_cursor::proofs::Loops::turn, cxx_cursor::proofs::Loops::no_turn, cxx_cursor::proofs::Kept::later_trans, cxx_cursor::proofs::Kept::later_refl), unfolding(crate::specs::Levels::operations_at))]
 fn operations_at<P: Phrases>(
     phrases: &P,
     state: &mut State,
@@ -130,7 +130,7 @@ fn operations_at<P: Phrases>(
 
 // Operands of a level below, and operators between them.
 #[cycle(binary)]
-#[tactic(auto, using(cxx_syntax::proofs::Kept::later_trans, cxx_syntax::proofs::Kept::later_refl), unfolding(crate::specs::Levels::operations_part))]
+#[tactic(auto, using(cxx_cursor::proofs::Kept::later_trans, cxx_cursor::proofs::Kept::later_refl), unfolding(crate::specs::Levels::operations_part))]
 fn operations_part<P: Phrases>(
     phrases: &P,
     state: &mut State,
@@ -165,7 +165,7 @@ fn binary_at<P: Phrases>(
 }
 
 // The conditional operator, from its `?` on (5.16).
-#[tactic(auto, using(cxx_syntax::proofs::Kept::later_trans, cxx_syntax::proofs::Kept::later_refl, crate::proofs::Kept::tree_kept, crate::proofs::Kept::tree_later), unfolding(crate::specs::Levels::conditional_part))]
+#[tactic(auto, using(cxx_cursor::proofs::Kept::later_trans, cxx_cursor::proofs::Kept::later_refl, crate::proofs::Kept::tree_kept, crate::proofs::Kept::tree_later), unfolding(crate::specs::Levels::conditional_part))]
 fn conditional_part<P: Phrases>(
     phrases: &P,
     state: &mut State,
@@ -186,7 +186,7 @@ fn conditional_part<P: Phrases>(
 }
 
 // What goes on with a condition.
-#[tactic(auto, using(cxx_syntax::proofs::Kept::later_trans, cxx_syntax::proofs::Kept::later_refl), unfolding(crate::specs::Levels::conditional_by))]
+#[tactic(auto, using(cxx_cursor::proofs::Kept::later_trans, cxx_cursor::proofs::Kept::later_refl), unfolding(crate::specs::Levels::conditional_by))]
 fn conditional_by<P: Phrases>(
     phrases: &P,
     state: &mut State,
@@ -205,7 +205,7 @@ fn conditional_by<P: Phrases>(
 }
 
 /// A conditional expression (5.16).
-#[tactic(auto, using(cxx_syntax::proofs::Kept::later_trans, cxx_syntax::proofs::Kept::later_refl), unfolding(crate::specs::Levels::conditional_at))]
+#[tactic(auto, using(cxx_cursor::proofs::Kept::later_trans, cxx_cursor::proofs::Kept::later_refl), unfolding(crate::specs::Levels::conditional_at))]
 pub(crate) fn conditional_at<P: Phrases>(
     phrases: &P,
     state: &mut State,
@@ -220,7 +220,7 @@ pub(crate) fn conditional_at<P: Phrases>(
 }
 
 // An assignment, from its operator on (5.17).
-#[tactic(auto, using(cxx_syntax::proofs::Kept::later_trans, cxx_syntax::proofs::Kept::later_refl, crate::proofs::Kept::tree_kept, crate::proofs::Kept::tree_later), unfolding(crate::specs::Levels::assignment_part))]
+#[tactic(auto, using(cxx_cursor::proofs::Kept::later_trans, cxx_cursor::proofs::Kept::later_refl, crate::proofs::Kept::tree_kept, crate::proofs::Kept::tree_later), unfolding(crate::specs::Levels::assignment_part))]
 fn assignment_part<P: Phrases>(
     phrases: &P,
     state: &mut State,
@@ -250,7 +250,7 @@ fn assignment_part<P: Phrases>(
 }
 
 // What goes on with the left side of an assignment.
-#[tactic(auto, using(cxx_syntax::proofs::Kept::later_trans, cxx_syntax::proofs::Kept::later_refl), unfolding(crate::specs::Levels::assignment_by))]
+#[tactic(auto, using(cxx_cursor::proofs::Kept::later_trans, cxx_cursor::proofs::Kept::later_refl), unfolding(crate::specs::Levels::assignment_by))]
 fn assignment_by<P: Phrases>(
     phrases: &P,
     state: &mut State,
@@ -269,7 +269,7 @@ fn assignment_by<P: Phrases>(
 }
 
 // An assignment, where no exception is thrown.
-#[tactic(auto, using(cxx_syntax::proofs::Kept::later_trans, cxx_syntax::proofs::Kept::later_refl), unfolding(crate::specs::Levels::assignment_behind))]
+#[tactic(auto, using(cxx_cursor::proofs::Kept::later_trans, cxx_cursor::proofs::Kept::later_refl), unfolding(crate::specs::Levels::assignment_behind))]
 fn assignment_behind<P: Phrases>(
     phrases: &P,
     state: &mut State,
@@ -284,7 +284,7 @@ fn assignment_behind<P: Phrases>(
 }
 
 /// An assignment-expression (5.17); `throw` is left out (15.1).
-#[tactic(auto, using(cxx_syntax::proofs::Kept::later_trans, cxx_syntax::proofs::Kept::later_refl), unfolding(crate::specs::Levels::assignment_at))]
+#[tactic(auto, using(cxx_cursor::proofs::Kept::later_trans, cxx_cursor::proofs::Kept::later_refl), unfolding(crate::specs::Levels::assignment_at))]
 pub(crate) fn assignment_at<P: Phrases>(
     phrases: &P,
     state: &mut State,
@@ -301,7 +301,7 @@ pub(crate) fn assignment_at<P: Phrases>(
 }
 
 // A comma and its right operand (5.18).
-#[tactic(auto, using(cxx_syntax::proofs::Kept::later_trans, cxx_syntax::proofs::Kept::later_refl, crate::proofs::Kept::tree_kept, crate::proofs::Kept::tree_later), unfolding(crate::specs::Levels::comma_part))]
+#[tactic(auto, using(cxx_cursor::proofs::Kept::later_trans, cxx_cursor::proofs::Kept::later_refl, crate::proofs::Kept::tree_kept, crate::proofs::Kept::tree_later), unfolding(crate::specs::Levels::comma_part))]
 fn comma_part<P: Phrases>(
     phrases: &P,
     state: &mut State,
@@ -332,7 +332,7 @@ fn comma_part<P: Phrases>(
 }
 
 // A comma and its right operand, where one stands ahead.
-#[tactic(auto, using(cxx_syntax::proofs::Kept::later_trans, cxx_syntax::proofs::Kept::later_refl), unfolding(crate::specs::Levels::comma_step))]
+#[tactic(auto, using(cxx_cursor::proofs::Kept::later_trans, cxx_cursor::proofs::Kept::later_refl), unfolding(crate::specs::Levels::comma_step))]
 fn comma_step<P: Phrases>(
     phrases: &P,
     state: &mut State,
@@ -351,7 +351,7 @@ fn comma_step<P: Phrases>(
 }
 
 // Commas behind the first operand, which began at `from`.
-#[tactic(auto, using(cxx_syntax::proofs::Loops::turn, cxx_syntax::proofs::Loops::no_turn, cxx_syntax::proofs::Kept::later_trans, cxx_syntax::proofs::Kept::later_refl), unfolding(crate::specs::Levels::commas_at))]
+#[tactic(auto, using(cxx_cursor::proofs::Loops::turn, cxx_cursor::proofs::Loops::no_turn, cxx_cursor::proofs::Kept::later_trans, cxx_cursor::proofs::Kept::later_refl), unfolding(crate::specs::Levels::commas_at))]
 fn commas_at<P: Phrases>(
     phrases: &P,
     state: &mut State,
@@ -374,7 +374,7 @@ fn commas_at<P: Phrases>(
 }
 
 /// A whole expression (5.18).
-#[tactic(auto, using(cxx_syntax::proofs::Kept::later_trans, cxx_syntax::proofs::Kept::later_refl), unfolding(crate::specs::Levels::whole_at))]
+#[tactic(auto, using(cxx_cursor::proofs::Kept::later_trans, cxx_cursor::proofs::Kept::later_refl), unfolding(crate::specs::Levels::whole_at))]
 pub(crate) fn whole_at<P: Phrases>(
     phrases: &P,
     state: &mut State,

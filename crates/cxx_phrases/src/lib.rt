@@ -16,11 +16,9 @@ mod phrases;
 mod primary;
 mod production;
 mod shape;
-mod types;
 
 pub use initializer::Initializer;
 pub use initializers::{read_expression, read_initializer, read_sized};
 pub use level::Level;
 pub use phrases::Phrases;
 pub use shape::TypeShape;
-pub use types::{type_id_at, type_passed_at};

@@ -5,8 +5,8 @@ ghost use Rattle.cxx_phrases.specs.Operands as definition;
 ghost use Rattle.cxx_phrases.specs.Views.{IsSized, IsTreeTurn, sized_of, tree_turn};
 ghost use Rattle.cxx_reading.specs.Shapes.{look, past};
 ghost use Rattle.cxx_reading.specs.Tokens.{path_ahead};
-ghost use Rattle.cxx_syntax.specs.Asking.{AnyKnown, IsTreeKnown, itself};
-ghost use Rattle.cxx_syntax.specs.Reading.{IsRead};
+ghost use Rattle.cxx_cursor.specs.Asking.{AnyKnown, IsTreeKnown, itself};
+ghost use Rattle.cxx_cursor.specs.Reading.{IsRead};
 ghost use Rattle.cxx_tree.specs.Held.{meaning, tree};
 
 use crate::arguments::arguments_at;
@@ -20,12 +20,12 @@ use crate::operators::{is_member_access, is_prefix, is_step, operator_ahead};
 use crate::phrases::Phrases;
 use crate::primary::{called_at, parenthesis_at, primary_at};
 use crate::shape::TypeShape;
+use cxx_cursor::{Cursor, Turn, is_keyword, is_punct};
 use cxx_model::{Kind, Stop, TreeId, TreeIdList, TypeId, keyword, punct};
-use cxx_syntax::{Cursor, Turn, is_keyword, is_punct};
 use cxx_tree::State;
 
 // A call of what was read (5.2.2).
-#[tactic(auto, using(cxx_syntax::proofs::Kept::later_trans, cxx_syntax::proofs::Kept::later_refl, crate::proofs::Kept::tree_kept, crate::proofs::Kept::tree_later, cxx_syntax::proofs::Kept::trees_kept, cxx_syntax::proofs::Kept::trees_later), unfolding(crate::specs::Operands::call_step))]
+#[tactic(auto, using(cxx_cursor::proofs::Kept::later_trans, cxx_cursor::proofs::Kept::later_refl, crate::proofs::Kept::tree_kept, crate::proofs::Kept::tree_later, cxx_cursor::proofs::Kept::trees_kept, cxx_cursor::proofs::Kept::trees_later), unfolding(crate::specs::Operands::call_step))]
 fn call_step<P: Phrases>(
     phrases: &P,
     state: &mut State,
@@ -43,7 +43,7 @@ fn call_step<P: Phrases>(
 }
 
 // A subscript (5.2.1).
-#[tactic(auto, using(cxx_syntax::proofs::Kept::later_trans, cxx_syntax::proofs::Kept::later_refl, crate::proofs::Kept::tree_kept, crate::proofs::Kept::tree_later), unfolding(crate::specs::Operands::subscript_step))]
+#[tactic(auto, using(cxx_cursor::proofs::Kept::later_trans, cxx_cursor::proofs::Kept::later_refl, crate::proofs::Kept::tree_kept, crate::proofs::Kept::tree_later), unfolding(crate::specs::Operands::subscript_step))]
 fn subscript_step<P: Phrases>(
     phrases: &P,
     state: &mut State,
@@ -64,7 +64,7 @@ fn subscript_step<P: Phrases>(
 }
 
 // A postfix operator (5.2.6).
-#[tactic(auto, using(cxx_syntax::proofs::Kept::later_trans, cxx_syntax::proofs::Kept::later_refl, crate::proofs::Kept::tree_kept, crate::proofs::Kept::tree_later), unfolding(crate::specs::Operands::step_step))]
+#[tactic(auto, using(cxx_cursor::proofs::Kept::later_trans, cxx_cursor::proofs::Kept::later_refl, crate::proofs::Kept::tree_kept, crate::proofs::Kept::tree_later), unfolding(crate::specs::Operands::step_step))]
 fn step_step<P: Phrases>(
     phrases: &P,
     state: &mut State,
@@ -84,7 +84,7 @@ fn step_step<P: Phrases>(
 }
 
 // What goes on with an operand; members are not read yet (5.2.5).
-#[tactic(auto, using(cxx_syntax::proofs::Kept::later_trans, cxx_syntax::proofs::Kept::later_refl), unfolding(crate::specs::Operands::postfix_step))]
+#[tactic(auto, using(cxx_cursor::proofs::Kept::later_trans, cxx_cursor::proofs::Kept::later_refl), unfolding(crate::specs::Operands::postfix_step))]
 fn postfix_step<P: Phrases>(
     phrases: &P,
     state: &mut State,
@@ -112,7 +112,7 @@ fn postfix_step<P: Phrases>(
 }
 
 // All that goes on with a primary expression, which began at `from`.
-#[tactic(auto, using(cxx_syntax::proofs::Loops::turn, cxx_syntax::proofs::Loops::no_turn, cxx_syntax::proofs::Kept::later_trans, cxx_syntax::proofs::Kept::later_refl), unfolding(crate::specs::Operands::postfixes_at))]
+#[tactic(auto, using(cxx_cursor::proofs::Loops::turn, cxx_cursor::proofs::Loops::no_turn, cxx_cursor::proofs::Kept::later_trans, cxx_cursor::proofs::Kept::later_refl), unfolding(crate::specs::Operands::postfixes_at))]
 fn postfixes_at<P: Phrases>(
     phrases: &P,
     state: &mut State,
@@ -135,7 +135,7 @@ fn postfixes_at<P: Phrases>(
 }
 
 // A cast (5.4).
-#[tactic(auto, using(cxx_syntax::proofs::Kept::later_trans, cxx_syntax::proofs::Kept::later_refl, cxx_syntax::proofs::Kept::trees_kept, cxx_syntax::proofs::Kept::trees_later, cxx_syntax::proofs::Kept::type_kept, cxx_syntax::proofs::Kept::type_later), unfolding(crate::specs::Operands::cast_at))]
+#[tactic(auto, using(cxx_cursor::proofs::Kept::later_trans, cxx_cursor::proofs::Kept::later_refl, cxx_cursor::proofs::Kept::trees_kept, cxx_cursor::proofs::Kept::trees_later, cxx_cursor::proofs::Kept::type_kept, cxx_cursor::proofs::Kept::type_later), unfolding(crate::specs::Operands::cast_at))]
 fn cast_at<P: Phrases>(
     phrases: &P,
     state: &mut State,
@@ -153,7 +153,7 @@ fn cast_at<P: Phrases>(
 }
 
 // A parenthesis, and what goes on with it.
-#[tactic(auto, using(cxx_syntax::proofs::Kept::later_trans, cxx_syntax::proofs::Kept::later_refl), unfolding(crate::specs::Operands::parenthesis_part))]
+#[tactic(auto, using(cxx_cursor::proofs::Kept::later_trans, cxx_cursor::proofs::Kept::later_refl), unfolding(crate::specs::Operands::parenthesis_part))]
 fn parenthesis_part<P: Phrases>(
     phrases: &P,
     state: &mut State,
@@ -168,7 +168,7 @@ fn parenthesis_part<P: Phrases>(
 }
 
 // A cast or a parenthesis.
-#[tactic(auto, using(cxx_syntax::proofs::Kept::later_trans, cxx_syntax::proofs::Kept::later_refl), unfolding(crate::specs::Operands::cast_or_parenthesis))]
+#[tactic(auto, using(cxx_cursor::proofs::Kept::later_trans, cxx_cursor::proofs::Kept::later_refl), unfolding(crate::specs::Operands::cast_or_parenthesis))]
 fn cast_or_parenthesis<P: Phrases>(
     phrases: &P,
     state: &mut State,
@@ -184,7 +184,7 @@ fn cast_or_parenthesis<P: Phrases>(
 }
 
 // A call by the name that stands in brackets from `from` on (13.3.1.1.1).
-#[tactic(auto, using(cxx_syntax::proofs::Kept::later_trans, cxx_syntax::proofs::Kept::later_refl), unfolding(crate::specs::Operands::called_part))]
+#[tactic(auto, using(cxx_cursor::proofs::Kept::later_trans, cxx_cursor::proofs::Kept::later_refl), unfolding(crate::specs::Operands::called_part))]
 fn called_part<P: Phrases>(
     phrases: &P,
     state: &mut State,
@@ -201,7 +201,7 @@ fn called_part<P: Phrases>(
 }
 
 // The name of a type is not called, nor is that of a namespace. What is ahead of `rest` is the bracket of the arguments.
-#[tactic(auto, using(cxx_syntax::proofs::Kept::later_trans, cxx_syntax::proofs::Kept::later_refl), unfolding(crate::specs::Operands::called_or_not))]
+#[tactic(auto, using(cxx_cursor::proofs::Kept::later_trans, cxx_cursor::proofs::Kept::later_refl), unfolding(crate::specs::Operands::called_or_not))]
 fn called_or_not<'a, P: Phrases>(
     phrases: &P,
     state: &mut State,
@@ -224,7 +224,7 @@ fn called_or_not<'a, P: Phrases>(
 }
 
 // What begins with `(`.
-#[tactic(auto, using(cxx_syntax::proofs::Kept::later_trans, cxx_syntax::proofs::Kept::later_refl), unfolding(crate::specs::Operands::bracket_at))]
+#[tactic(auto, using(cxx_cursor::proofs::Kept::later_trans, cxx_cursor::proofs::Kept::later_refl), unfolding(crate::specs::Operands::bracket_at))]
 fn bracket_at<P: Phrases>(
     phrases: &P,
     state: &mut State,
@@ -241,7 +241,7 @@ fn bracket_at<P: Phrases>(
 }
 
 // A prefix operator (5.3.1, 5.3.2).
-#[tactic(auto, using(cxx_syntax::proofs::Kept::later_trans, cxx_syntax::proofs::Kept::later_refl), unfolding(crate::specs::Operands::prefix_at))]
+#[tactic(auto, using(cxx_cursor::proofs::Kept::later_trans, cxx_cursor::proofs::Kept::later_refl), unfolding(crate::specs::Operands::prefix_at))]
 fn prefix_at<P: Phrases>(
     phrases: &P,
     state: &mut State,
@@ -258,7 +258,7 @@ fn prefix_at<P: Phrases>(
 }
 
 // A size (5.3.3).
-#[tactic(auto, using(cxx_syntax::proofs::Kept::later_trans, cxx_syntax::proofs::Kept::later_refl), unfolding(crate::specs::Operands::size_at))]
+#[tactic(auto, using(cxx_cursor::proofs::Kept::later_trans, cxx_cursor::proofs::Kept::later_refl), unfolding(crate::specs::Operands::size_at))]
 fn size_at<P: Phrases>(
     phrases: &P,
     state: &mut State,
@@ -274,7 +274,7 @@ fn size_at<P: Phrases>(
 }
 
 // A primary expression, and what goes on with it.
-#[tactic(auto, using(cxx_syntax::proofs::Kept::later_trans, cxx_syntax::proofs::Kept::later_refl), unfolding(crate::specs::Operands::primary_part))]
+#[tactic(auto, using(cxx_cursor::proofs::Kept::later_trans, cxx_cursor::proofs::Kept::later_refl), unfolding(crate::specs::Operands::primary_part))]
 fn primary_part<P: Phrases>(
     phrases: &P,
     state: &mut State,
@@ -289,7 +289,7 @@ fn primary_part<P: Phrases>(
 }
 
 /// The operand of an operator (5.4).
-#[tactic(auto, using(cxx_syntax::proofs::Kept::later_trans, cxx_syntax::proofs::Kept::later_refl), unfolding(crate::specs::Operands::operand_at))]
+#[tactic(auto, using(cxx_cursor::proofs::Kept::later_trans, cxx_cursor::proofs::Kept::later_refl), unfolding(crate::specs::Operands::operand_at))]
 pub(crate) fn operand_at<P: Phrases>(
     phrases: &P,
     state: &mut State,
@@ -311,7 +311,7 @@ pub(crate) fn operand_at<P: Phrases>(
 }
 
 // The operand behind `sizeof`.
-#[tactic(auto, using(cxx_syntax::proofs::Kept::later_trans, cxx_syntax::proofs::Kept::later_refl), unfolding(crate::specs::Operands::sized_operand))]
+#[tactic(auto, using(cxx_cursor::proofs::Kept::later_trans, cxx_cursor::proofs::Kept::later_refl), unfolding(crate::specs::Operands::sized_operand))]
 fn sized_operand<P: Phrases>(
     phrases: &P,
     state: &mut State,
@@ -325,7 +325,7 @@ fn sized_operand<P: Phrases>(
 }
 
 // The type behind `sizeof`.
-#[tactic(auto, using(cxx_syntax::proofs::Kept::later_trans, cxx_syntax::proofs::Kept::later_refl), unfolding(crate::specs::Operands::sized_type))]
+#[tactic(auto, using(cxx_cursor::proofs::Kept::later_trans, cxx_cursor::proofs::Kept::later_refl), unfolding(crate::specs::Operands::sized_type))]
 fn sized_type<P: Phrases>(
     phrases: &P,
     state: &mut State,
@@ -341,7 +341,7 @@ fn sized_type<P: Phrases>(
 }
 
 // Whether the bracket ahead holds a type (8.2).
-#[tactic(auto, using(cxx_syntax::proofs::Kept::later_trans, cxx_syntax::proofs::Kept::later_refl))]
+#[tactic(auto, using(cxx_cursor::proofs::Kept::later_trans, cxx_cursor::proofs::Kept::later_refl))]
 fn holds_type<P: Phrases>(
     phrases: &P,
     state: &mut State,
@@ -356,7 +356,7 @@ fn holds_type<P: Phrases>(
 }
 
 /// What stands behind `sizeof`: a type in brackets, or an operand (5.3.3).
-#[tactic(auto, using(cxx_syntax::proofs::Kept::later_trans, cxx_syntax::proofs::Kept::later_refl), unfolding(crate::specs::Operands::sized_at))]
+#[tactic(auto, using(cxx_cursor::proofs::Kept::later_trans, cxx_cursor::proofs::Kept::later_refl), unfolding(crate::specs::Operands::sized_at))]
 pub(crate) fn sized_at<P: Phrases>(
     phrases: &P,
     state: &mut State,

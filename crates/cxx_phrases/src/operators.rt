@@ -3,8 +3,8 @@
 ghost use Rattle.std.specs.Prelude.{◌≡◌, IfOk};
 ghost use Rattle.cxx_phrases.specs.Operators as definition;
 
+use cxx_cursor::{Cursor, begins_operand, begins_unary, is_member_pointer};
 use cxx_model::{Base, Text, TokenKind, keyword, punct};
-use cxx_syntax::{Cursor, begins_operand, begins_unary, is_member_pointer};
 use std::alloc::AllocError;
 
 // The level of a binary operator, from the one that binds most tightly outward (5.6 to 5.15).

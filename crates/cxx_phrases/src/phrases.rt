@@ -3,15 +3,15 @@ ghost use Rattle.cxx_phrases.specs.Phrases as definition;
 ghost use Rattle.cxx_phrases.specs.Views.{IsSized, IsWritten, sized_of, written_of};
 ghost use Rattle.cxx_reading.specs.State.{CxxState};
 ghost use Rattle.cxx_reading.specs.Tokens.{path_ahead};
-ghost use Rattle.cxx_syntax.specs.Asking.{AnyKnown, IsAsked, IsTreeKnown, IsTypeKnown, itself};
-ghost use Rattle.cxx_syntax.specs.Reading.{IsRead};
+ghost use Rattle.cxx_cursor.specs.Asking.{AnyKnown, IsAsked, IsTreeKnown, IsTypeKnown, itself};
+ghost use Rattle.cxx_cursor.specs.Reading.{IsRead};
 ghost use Rattle.cxx_tree.specs.Arena.{AreTreesBelow, IsNodeBelow, tree_over};
 ghost use Rattle.cxx_tree.specs.Held.{meaning, tree, trees, type_of};
 
 use crate::level::Level;
 use crate::shape::TypeShape;
+use cxx_cursor::Cursor;
 use cxx_model::{Kind, Node, Stop, TreeId, TreeIdList, TypeId};
-use cxx_syntax::Cursor;
 use cxx_tree::State;
 
 /// What a reader of expressions asks of its user. `asks` and `inner` are the definitions that the answers follow: those of

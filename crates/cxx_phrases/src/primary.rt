@@ -4,9 +4,9 @@ ghost use Rattle.std.specs.Prelude.{◌≡◌, ◌<◌, length, []};
 ghost use Rattle.cxx_model.specs.Types.Trees.{fundamental};
 ghost use Rattle.cxx_phrases.specs.Primary as definition;
 ghost use Rattle.cxx_phrases.specs.Views.{IsWritten, written_of};
-ghost use Rattle.cxx_syntax.specs.Asking.{IsTreeKnown};
+ghost use Rattle.cxx_cursor.specs.Asking.{IsTreeKnown};
 ghost use Rattle.cxx_phrases.specs.Making.{GrowsType};
-ghost use Rattle.cxx_syntax.specs.Reading.{IsRead};
+ghost use Rattle.cxx_cursor.specs.Reading.{IsRead};
 ghost use Rattle.cxx_tree.specs.Arena.{path_at};
 ghost use Rattle.cxx_tree.specs.Held.{meaning, tree, type_of};
 
@@ -18,12 +18,12 @@ use crate::level::Level;
 use crate::names::kind_ahead;
 use crate::operators::{base_of_kind, is_cast_word, is_literal};
 use crate::phrases::Phrases;
+use cxx_cursor::{Cursor, is_punct, no_expression};
 use cxx_model::{Base, Kind, Path, Stop, TreeId, TreeIdList, TypeId, punct};
-use cxx_syntax::{Cursor, is_punct, no_expression};
 use cxx_tree::State;
 
 // A literal (2.13).
-#[tactic(auto, using(cxx_syntax::proofs::Kept::later_trans, cxx_syntax::proofs::Kept::later_refl), unfolding(crate::specs::Primary::literal_part))]
+#[tactic(auto, using(cxx_cursor::proofs::Kept::later_trans, cxx_cursor::proofs::Kept::later_refl), unfolding(crate::specs::Primary::literal_part))]
 fn literal_part<P: Phrases>(
     phrases: &P,
     state: &mut State,
@@ -38,7 +38,7 @@ fn literal_part<P: Phrases>(
 }
 
 // A name that is not called (5.1).
-#[tactic(auto, using(cxx_syntax::proofs::Kept::later_trans, cxx_syntax::proofs::Kept::later_refl), unfolding(crate::specs::Primary::name_at))]
+#[tactic(auto, using(cxx_cursor::proofs::Kept::later_trans, cxx_cursor::proofs::Kept::later_refl), unfolding(crate::specs::Primary::name_at))]
 fn name_at<P: Phrases>(
     phrases: &P,
     state: &mut State,
@@ -53,7 +53,7 @@ fn name_at<P: Phrases>(
 }
 
 /// A call by a name, from its bracket on (5.2.2).
-#[tactic(auto, using(cxx_syntax::proofs::Kept::later_trans, cxx_syntax::proofs::Kept::later_refl, cxx_syntax::proofs::Kept::trees_kept, cxx_syntax::proofs::Kept::trees_later), unfolding(crate::specs::Primary::called_at))]
+#[tactic(auto, using(cxx_cursor::proofs::Kept::later_trans, cxx_cursor::proofs::Kept::later_refl, cxx_cursor::proofs::Kept::trees_kept, cxx_cursor::proofs::Kept::trees_later), unfolding(crate::specs::Primary::called_at))]
 pub(crate) fn called_at<P: Phrases>(
     phrases: &P,
     state: &mut State,
@@ -70,7 +70,7 @@ pub(crate) fn called_at<P: Phrases>(
 }
 
 // A call by a name.
-#[tactic(auto, using(cxx_syntax::proofs::Kept::later_trans, cxx_syntax::proofs::Kept::later_refl), unfolding(crate::specs::Primary::named_call))]
+#[tactic(auto, using(cxx_cursor::proofs::Kept::later_trans, cxx_cursor::proofs::Kept::later_refl), unfolding(crate::specs::Primary::named_call))]
 fn named_call<P: Phrases>(
     phrases: &P,
     state: &mut State,
@@ -85,7 +85,7 @@ fn named_call<P: Phrases>(
 }
 
 // The name of no type.
-#[tactic(auto, using(cxx_syntax::proofs::Kept::later_trans, cxx_syntax::proofs::Kept::later_refl), unfolding(crate::specs::Primary::value_name_at))]
+#[tactic(auto, using(cxx_cursor::proofs::Kept::later_trans, cxx_cursor::proofs::Kept::later_refl), unfolding(crate::specs::Primary::value_name_at))]
 fn value_name_at<P: Phrases>(
     phrases: &P,
     state: &mut State,
@@ -101,7 +101,7 @@ fn value_name_at<P: Phrases>(
 }
 
 // Arguments behind a type (5.2.3).
-#[tactic(auto, using(cxx_syntax::proofs::Kept::later_trans, cxx_syntax::proofs::Kept::later_refl, cxx_syntax::proofs::Kept::trees_kept, cxx_syntax::proofs::Kept::trees_later, cxx_syntax::proofs::Kept::type_kept, cxx_syntax::proofs::Kept::type_later), unfolding(crate::specs::Primary::functional_cast))]
+#[tactic(auto, using(cxx_cursor::proofs::Kept::later_trans, cxx_cursor::proofs::Kept::later_refl, cxx_cursor::proofs::Kept::trees_kept, cxx_cursor::proofs::Kept::trees_later, cxx_cursor::proofs::Kept::type_kept, cxx_cursor::proofs::Kept::type_later), unfolding(crate::specs::Primary::functional_cast))]
 fn functional_cast<P: Phrases>(
     phrases: &P,
     state: &mut State,
@@ -118,7 +118,7 @@ fn functional_cast<P: Phrases>(
 }
 
 // An expression begins with the name or the word of a type in no other way.
-#[tactic(auto, using(cxx_syntax::proofs::Kept::later_trans, cxx_syntax::proofs::Kept::later_refl), unfolding(crate::specs::Primary::functional_at))]
+#[tactic(auto, using(cxx_cursor::proofs::Kept::later_trans, cxx_cursor::proofs::Kept::later_refl), unfolding(crate::specs::Primary::functional_at))]
 fn functional_at<P: Phrases>(
     phrases: &P,
     state: &mut State,
@@ -137,7 +137,7 @@ fn functional_at<P: Phrases>(
 }
 
 // The name of a type.
-#[tactic(auto, using(cxx_syntax::proofs::Kept::later_trans, cxx_syntax::proofs::Kept::later_refl, cxx_syntax::proofs::Kept::type_kept, cxx_syntax::proofs::Kept::type_later), unfolding(crate::specs::Primary::type_name_at))]
+#[tactic(auto, using(cxx_cursor::proofs::Kept::later_trans, cxx_cursor::proofs::Kept::later_refl, cxx_cursor::proofs::Kept::type_kept, cxx_cursor::proofs::Kept::type_later), unfolding(crate::specs::Primary::type_name_at))]
 fn type_name_at<P: Phrases>(
     phrases: &P,
     state: &mut State,
@@ -153,7 +153,7 @@ fn type_name_at<P: Phrases>(
 }
 
 // A name, with qualifiers or without.
-#[tactic(auto, using(cxx_syntax::proofs::Kept::later_trans, cxx_syntax::proofs::Kept::later_refl), unfolding(crate::specs::Primary::named_at))]
+#[tactic(auto, using(cxx_cursor::proofs::Kept::later_trans, cxx_cursor::proofs::Kept::later_refl), unfolding(crate::specs::Primary::named_at))]
 fn named_at<P: Phrases>(
     phrases: &P,
     state: &mut State,
@@ -180,7 +180,7 @@ fn word_type(state: &mut State, base: Base) -> Result<TypeId, Stop>
 }
 
 // A word of a type.
-#[tactic(auto, using(cxx_syntax::proofs::Kept::later_trans, cxx_syntax::proofs::Kept::later_refl, cxx_syntax::proofs::Kept::type_kept, cxx_syntax::proofs::Kept::type_later), unfolding(crate::specs::Primary::word_at))]
+#[tactic(auto, using(cxx_cursor::proofs::Kept::later_trans, cxx_cursor::proofs::Kept::later_refl, cxx_cursor::proofs::Kept::type_kept, cxx_cursor::proofs::Kept::type_later), unfolding(crate::specs::Primary::word_at))]
 fn word_at<P: Phrases>(
     phrases: &P,
     state: &mut State,
@@ -197,7 +197,7 @@ fn word_at<P: Phrases>(
 }
 
 // A cast by a word, up to its `>`.
-#[tactic(auto, using(cxx_syntax::proofs::Kept::later_trans, cxx_syntax::proofs::Kept::later_refl), unfolding(crate::specs::Primary::cast_opened))]
+#[tactic(auto, using(cxx_cursor::proofs::Kept::later_trans, cxx_cursor::proofs::Kept::later_refl), unfolding(crate::specs::Primary::cast_opened))]
 fn cast_opened<P: Phrases>(
     phrases: &P,
     state: &mut State,
@@ -214,7 +214,7 @@ fn cast_opened<P: Phrases>(
 }
 
 // A cast by a word, from its `(` on.
-#[tactic(auto, using(cxx_syntax::proofs::Kept::later_trans, cxx_syntax::proofs::Kept::later_refl, cxx_syntax::proofs::Kept::trees_kept, cxx_syntax::proofs::Kept::trees_later, cxx_syntax::proofs::Kept::type_kept, cxx_syntax::proofs::Kept::type_later), unfolding(crate::specs::Primary::cast_closed))]
+#[tactic(auto, using(cxx_cursor::proofs::Kept::later_trans, cxx_cursor::proofs::Kept::later_refl, cxx_cursor::proofs::Kept::trees_kept, cxx_cursor::proofs::Kept::trees_later, cxx_cursor::proofs::Kept::type_kept, cxx_cursor::proofs::Kept::type_later), unfolding(crate::specs::Primary::cast_closed))]
 fn cast_closed<P: Phrases>(
     phrases: &P,
     state: &mut State,
@@ -243,7 +243,7 @@ fn cast_closed<P: Phrases>(
 }
 
 // A cast by a word (5.2.9 to 5.2.11).
-#[tactic(auto, using(cxx_syntax::proofs::Kept::later_trans, cxx_syntax::proofs::Kept::later_refl), unfolding(crate::specs::Primary::cast_word_at))]
+#[tactic(auto, using(cxx_cursor::proofs::Kept::later_trans, cxx_cursor::proofs::Kept::later_refl), unfolding(crate::specs::Primary::cast_word_at))]
 fn cast_word_at<P: Phrases>(
     phrases: &P,
     state: &mut State,
@@ -258,7 +258,7 @@ fn cast_word_at<P: Phrases>(
 }
 
 /// A parenthesis (5.1).
-#[tactic(auto, using(cxx_syntax::proofs::Kept::later_trans, cxx_syntax::proofs::Kept::later_refl), unfolding(crate::specs::Primary::parenthesis_at))]
+#[tactic(auto, using(cxx_cursor::proofs::Kept::later_trans, cxx_cursor::proofs::Kept::later_refl), unfolding(crate::specs::Primary::parenthesis_at))]
 pub(crate) fn parenthesis_at<P: Phrases>(
     phrases: &P,
     state: &mut State,
@@ -275,7 +275,7 @@ pub(crate) fn parenthesis_at<P: Phrases>(
 }
 
 /// A primary expression, but for brackets.
-#[tactic(auto, using(cxx_syntax::proofs::Kept::later_trans, cxx_syntax::proofs::Kept::later_refl), unfolding(crate::specs::Primary::primary_at, cxx_reading::specs::Constants::no_expression))]
+#[tactic(auto, using(cxx_cursor::proofs::Kept::later_trans, cxx_cursor::proofs::Kept::later_refl), unfolding(crate::specs::Primary::primary_at, cxx_reading::specs::Constants::no_expression))]
 pub(crate) fn primary_at<P: Phrases>(
     phrases: &P,
     state: &mut State,

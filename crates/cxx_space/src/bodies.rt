@@ -4,17 +4,17 @@ ghost use Rattle.std.specs.Prelude.{◌≡◌, ◌<◌, length};
 ghost use Rattle.cxx_space.specs.Parts.{body_or_not, function_end};
 ghost use Rattle.cxx_language.specs.Units as units;
 ghost use Rattle.cxx_space.specs.Views.{IsBodyKnown, IsDeclaredKnown, body_of, declares_of};
-ghost use Rattle.cxx_syntax.specs.Reading.{IsRead};
-ghost use Rattle.cxx_syntax.specs.Views.{name_at};
+ghost use Rattle.cxx_cursor.specs.Reading.{IsRead};
+ghost use Rattle.cxx_cursor.specs.Views.{name_at};
 ghost use Rattle.cxx_tree.specs.Answered.{scope_of_option};
 ghost use Rattle.cxx_tree.specs.Held.{meaning, type_of};
 ghost use Rattle.cxx_units.specs.Said.{IsListed, IsListedTurn, listed_of, listed_turn};
 
 use crate::space::{Defines, Space};
+use cxx_cursor::{Cursor, NameToken, Turn, is_keyword, is_punct};
 use cxx_model::{
     FactId, FaultText, LeftOut, ScopeId, Stop, TreeId, TreeIdList, TypeId, keyword, punct,
 };
-use cxx_syntax::{Cursor, NameToken, Turn, is_keyword, is_punct};
 use cxx_tree::State;
 use cxx_units::declarator_ended;
 use cxx_units::ends::ends_declarator;
@@ -30,7 +30,7 @@ pub(crate) struct Declared {
 
 impl<D: Defines> Space<'_, D> {
     // A body, or what may not stand there.
-    #[tactic(auto, using(cxx_syntax::proofs::Kept::later_refl, cxx_syntax::proofs::Kept::later_trans))]
+    #[tactic(auto, using(cxx_cursor::proofs::Kept::later_refl, cxx_cursor::proofs::Kept::later_trans))]
     fn body_or_not(
         &self,
         state: &mut State,
@@ -57,7 +57,7 @@ impl<D: Defines> Space<'_, D> {
     }
 
     // Where a declarator has its own list of parameters, a body may stand behind it.
-    #[tactic(auto, using(cxx_syntax::proofs::Kept::later_refl))]
+    #[tactic(auto, using(cxx_cursor::proofs::Kept::later_refl))]
     fn behind_list(
         &self,
         state: &mut State,
@@ -77,7 +77,7 @@ impl<D: Defines> Space<'_, D> {
     }
 
     /// Behind the declarator of the function with a declaration: its body, where it has one.
-    #[tactic(auto, using(cxx_syntax::proofs::Kept::later_refl))]
+    #[tactic(auto, using(cxx_cursor::proofs::Kept::later_refl))]
     pub(crate) fn function_ended(
         &self,
         state: &mut State,
@@ -102,7 +102,7 @@ impl<D: Defines> Space<'_, D> {
 }
 
 /// Behind a body a declaration has ended; else its end or another declarator follows.
-#[tactic(auto, using(cxx_syntax::proofs::Kept::trees_append, cxx_syntax::proofs::Kept::trees_below_append, cxx_syntax::proofs::Kept::later_refl))]
+#[tactic(auto, using(cxx_cursor::proofs::Kept::trees_append, cxx_cursor::proofs::Kept::trees_below_append, cxx_cursor::proofs::Kept::later_refl))]
 pub(crate) fn ended_by(
     state: &State,
     cursor: &mut Cursor<'_>,

@@ -6,17 +6,17 @@ ghost use Rattle.cxx_reading.specs.Productions as of_reading;
 ghost use Rattle.cxx_reading.specs.Units as definition;
 ghost use Rattle.cxx_space.specs.Parts.{linkages_at};
 ghost use Rattle.cxx_statements.specs.Productions as statement;
-ghost use Rattle.cxx_syntax.specs.Asking.{IsTreeKnown};
-ghost use Rattle.cxx_syntax.specs.Making.{GrowsTree};
-ghost use Rattle.cxx_syntax.specs.Reading.{IsRead};
-ghost use Rattle.cxx_syntax.specs.Views.{AreSpecifiers, AreTreesHeld, IsTreesTurn, specifiers_of, trees_held, trees_turn};
+ghost use Rattle.cxx_cursor.specs.Asking.{IsTreeKnown};
+ghost use Rattle.cxx_cursor.specs.Making.{GrowsTree};
+ghost use Rattle.cxx_cursor.specs.Reading.{IsRead};
+ghost use Rattle.cxx_cursor.specs.Views.{AreSpecifiers, AreTreesHeld, IsTreesTurn, specifiers_of, trees_held, trees_turn};
 ghost use Rattle.cxx_tree.specs.Held.{meaning, tree, trees};
 
 use crate::space::{Defines, Space};
+use cxx_cursor::{Cursor, Specifiers, Turn, is_keyword, is_punct};
 use cxx_language::using_at;
 use cxx_model::{LimitKind, Listed, Stop, TreeId, TreeIdList, keyword, punct};
 use cxx_reading::SpecifierPlace;
-use cxx_syntax::{Cursor, Specifiers, Turn, is_keyword, is_punct};
 use cxx_tree::State;
 use cxx_units::ends::{another_ahead, no_declaration};
 use cxx_units::linkage::linkages_passed;
@@ -65,7 +65,7 @@ fn production_of(state: &State, declarators: &[TreeId]) -> u8
 }
 
 // The tree of a declaration, with that of its specifiers.
-#[tactic(auto, using(cxx_syntax::proofs::Kept::trees_kept, cxx_syntax::proofs::Kept::trees_later, cxx_syntax::proofs::Kept::later_refl, cxx_syntax::proofs::Kept::later_trans))]
+#[tactic(auto, using(cxx_cursor::proofs::Kept::trees_kept, cxx_cursor::proofs::Kept::trees_later, cxx_cursor::proofs::Kept::later_refl, cxx_cursor::proofs::Kept::later_trans))]
 fn declaration_tree(
     state: &mut State,
     specifiers: Specifiers,
@@ -85,7 +85,7 @@ fn declaration_tree(
 
 impl<D: Defines> Space<'_, D> {
     // A declaration of declarators (clause 7).
-    #[tactic(auto, using(cxx_syntax::proofs::Kept::named_kept, cxx_syntax::proofs::Kept::named_later, cxx_syntax::proofs::Kept::trees_kept, cxx_syntax::proofs::Kept::trees_later, cxx_syntax::proofs::Kept::later_refl, cxx_syntax::proofs::Kept::later_trans), unfolding(cxx_language::specs::Units::simple_declaration_at))]
+    #[tactic(auto, using(cxx_cursor::proofs::Kept::named_kept, cxx_cursor::proofs::Kept::named_later, cxx_cursor::proofs::Kept::trees_kept, cxx_cursor::proofs::Kept::trees_later, cxx_cursor::proofs::Kept::later_refl, cxx_cursor::proofs::Kept::later_trans), unfolding(cxx_language::specs::Units::simple_declaration_at))]
     fn simple_declaration_at(
         &self,
         state: &mut State,
@@ -104,7 +104,7 @@ impl<D: Defines> Space<'_, D> {
     }
 
     // A declaration without a linkage of its own.
-    #[tactic(auto, using(cxx_syntax::proofs::Kept::later_refl, cxx_syntax::proofs::Kept::later_trans), unfolding(cxx_language::specs::Units::plain_declaration_at, cxx_reading::specs::Tokens::no_declaration))]
+    #[tactic(auto, using(cxx_cursor::proofs::Kept::later_refl, cxx_cursor::proofs::Kept::later_trans), unfolding(cxx_language::specs::Units::plain_declaration_at, cxx_reading::specs::Tokens::no_declaration))]
     fn plain_declaration_at(
         &self,
         state: &mut State,
@@ -141,7 +141,7 @@ impl<D: Defines> Space<'_, D> {
 
     // What a linkage is of: the declarations in its braces, or one.
     #[cycle(declaration)]
-    #[tactic(auto, using(cxx_syntax::proofs::Kept::later_refl, cxx_syntax::proofs::Kept::later_trans), unfolding(cxx_reading::specs::Units::linkage_list))]
+    #[tactic(auto, using(cxx_cursor::proofs::Kept::later_refl, cxx_cursor::proofs::Kept::later_trans), unfolding(cxx_reading::specs::Units::linkage_list))]
     fn linked_by(&self, state: &mut State, cursor: &mut Cursor<'_>) -> Result<TreeIdList, Stop>
         ensures { IsRead trees_held AreTreesHeld state.old state.new cursor.new result (units.linked_by self.now.room (units.linkage_opened self.now.room) (meaning state.old) cursor.old) }
     {
@@ -155,7 +155,7 @@ impl<D: Defines> Space<'_, D> {
 
     // Behind specifications of linkage, where there are any.
     #[cycle(declaration)]
-    #[tactic(auto, using(cxx_syntax::proofs::Kept::later_refl, cxx_syntax::proofs::Kept::later_trans))]
+    #[tactic(auto, using(cxx_cursor::proofs::Kept::later_refl, cxx_cursor::proofs::Kept::later_trans))]
     fn linkage_by(
         &self,
         state: &mut State,
@@ -174,7 +174,7 @@ impl<D: Defines> Space<'_, D> {
 
     // A declaration with specifications of linkage, or without.
     #[cycle(declaration)]
-    #[tactic(auto, using(cxx_syntax::proofs::Kept::later_refl, cxx_syntax::proofs::Kept::later_trans))]
+    #[tactic(auto, using(cxx_cursor::proofs::Kept::later_refl, cxx_cursor::proofs::Kept::later_trans))]
     fn linkages_at(&self, state: &mut State, cursor: &mut Cursor<'_>) -> Result<TreeId, Stop>
         ensures { IsRead tree IsTreeKnown state.old state.new cursor.new result (linkages_at self.now.room (units.linkage_opened self.now.room) (meaning state.old) cursor.old) }
     {
@@ -204,7 +204,7 @@ impl<D: Defines> Space<'_, D> {
 
     // A declaration in braces, or their end.
     #[cycle(declaration)]
-    #[tactic(auto, using(cxx_syntax::proofs::Kept::trees_kept, cxx_syntax::proofs::Kept::trees_later, cxx_syntax::proofs::Kept::trees_append, cxx_syntax::proofs::Kept::trees_below_append, cxx_syntax::proofs::Kept::later_refl, cxx_syntax::proofs::Kept::later_trans), unfolding(cxx_reading::specs::Units::inside_step))]
+    #[tactic(auto, using(cxx_cursor::proofs::Kept::trees_kept, cxx_cursor::proofs::Kept::trees_later, cxx_cursor::proofs::Kept::trees_append, cxx_cursor::proofs::Kept::trees_below_append, cxx_cursor::proofs::Kept::later_refl, cxx_cursor::proofs::Kept::later_trans), unfolding(cxx_reading::specs::Units::inside_step))]
     fn inside_step(
         &self,
         state: &mut State,
@@ -224,7 +224,7 @@ impl<D: Defines> Space<'_, D> {
 
     // The declarations behind a brace that was taken, with its end.
     #[cycle(declaration)]
-    #[tactic(auto, using(cxx_syntax::proofs::Loops::turn, cxx_syntax::proofs::Loops::no_turn, crate::proofs::Opened::opened_zero, crate::proofs::Opened::opened_more, cxx_syntax::proofs::Kept::later_refl, cxx_syntax::proofs::Kept::later_trans))]
+    #[tactic(auto, using(cxx_cursor::proofs::Loops::turn, cxx_cursor::proofs::Loops::no_turn, crate::proofs::Opened::opened_zero, crate::proofs::Opened::opened_more, cxx_cursor::proofs::Kept::later_refl, cxx_cursor::proofs::Kept::later_trans))]
     pub(crate) fn linkage_opened(
         &self,
         state: &mut State,

@@ -4,17 +4,18 @@ ghost use Rattle.std.specs.Prelude.{◌≡◌, ◌<◌, length};
 ghost use Rattle.cxx_language.specs.Units as units;
 ghost use Rattle.cxx_space.specs.Parts.{fitting_by};
 ghost use Rattle.cxx_space.specs.Views.{IsDeclaredKnown, declares_of};
-ghost use Rattle.cxx_syntax.specs.Asking.{AnyKnown, itself};
-ghost use Rattle.cxx_syntax.specs.Reading.{IsRead};
-ghost use Rattle.cxx_syntax.specs.Views.{AreSpecifiers, AreTreesHeld, IsDeclarator, declarator_of, specifiers_of, trees_held};
+ghost use Rattle.cxx_cursor.specs.Asking.{AnyKnown, itself};
+ghost use Rattle.cxx_cursor.specs.Reading.{IsRead};
+ghost use Rattle.cxx_cursor.specs.Views.{AreSpecifiers, AreTreesHeld, IsDeclarator, declarator_of, specifiers_of, trees_held};
 ghost use Rattle.cxx_tree.specs.Held.{meaning};
 ghost use Rattle.cxx_units.specs.Said.{IsDeclared, IsListed, IsListedTurn, IsSaid, listed_of, listed_turn, said_of};
 
 use crate::bodies::{Declared, ended_by};
 use crate::space::{Defines, Space};
+use cxx_cursor::{Cursor, Declarator, Specifiers, Turn, is_punct};
 use cxx_model::{ScopeId, Stop, TreeIdList, TypeId, punct};
 use cxx_reading::Naming;
-use cxx_syntax::{Cursor, Declarator, Specifiers, Turn, declared, is_punct};
+use cxx_syntax::declared;
 use cxx_tree::State;
 use cxx_units::ends::nothing_declared;
 use cxx_units::said::{Listed as ListedTrees, Said, said_by};
@@ -31,7 +32,7 @@ fn standing(state: &State) -> ScopeId
 
 impl<D: Defines> Space<'_, D> {
     // What has qualifiers was declared before with the same type (8.3).
-    #[tactic(auto, using(cxx_syntax::proofs::Kept::later_refl))]
+    #[tactic(auto, using(cxx_cursor::proofs::Kept::later_refl))]
     fn member_agrees(
         &self,
         state: &State,
@@ -56,7 +57,7 @@ impl<D: Defines> Space<'_, D> {
     }
 
     // A declarator that fits, given the type that it declares.
-    #[tactic(auto, using(cxx_syntax::proofs::Kept::later_refl, cxx_syntax::proofs::Kept::later_trans))]
+    #[tactic(auto, using(cxx_cursor::proofs::Kept::later_refl, cxx_cursor::proofs::Kept::later_trans))]
     fn declared_of(
         &self,
         state: &mut State,
@@ -75,7 +76,7 @@ impl<D: Defines> Space<'_, D> {
     }
 
     // A declarator that fits, with the type that it declares.
-    #[tactic(auto, using(cxx_syntax::proofs::Kept::layers_kept, cxx_syntax::proofs::Kept::layers_later, cxx_syntax::proofs::Kept::trees_kept, cxx_syntax::proofs::Kept::trees_later, cxx_syntax::proofs::Kept::type_kept, cxx_syntax::proofs::Kept::type_later, cxx_syntax::proofs::Kept::later_refl, cxx_syntax::proofs::Kept::later_trans))]
+    #[tactic(auto, using(cxx_cursor::proofs::Kept::layers_kept, cxx_cursor::proofs::Kept::layers_later, cxx_cursor::proofs::Kept::trees_kept, cxx_cursor::proofs::Kept::trees_later, cxx_cursor::proofs::Kept::type_kept, cxx_cursor::proofs::Kept::type_later, cxx_cursor::proofs::Kept::later_refl, cxx_cursor::proofs::Kept::later_trans))]
     fn declared_as(
         &self,
         state: &mut State,
@@ -96,7 +97,7 @@ impl<D: Defines> Space<'_, D> {
     }
 
     // Behind a declarator the reader stands where it stood before.
-    #[tactic(auto, using(crate::proofs::Kept::declares_kept, crate::proofs::Kept::declared_later, cxx_syntax::proofs::Kept::type_kept, cxx_syntax::proofs::Kept::type_later, cxx_syntax::proofs::Kept::later_refl, cxx_syntax::proofs::Kept::later_trans), unfolding(cxx_language::specs::Units::init_declarator_at))]
+    #[tactic(auto, using(crate::proofs::Kept::declares_kept, crate::proofs::Kept::declared_later, cxx_cursor::proofs::Kept::type_kept, cxx_cursor::proofs::Kept::type_later, cxx_cursor::proofs::Kept::later_refl, cxx_cursor::proofs::Kept::later_trans), unfolding(cxx_language::specs::Units::init_declarator_at))]
     fn init_declarator_at(
         &self,
         state: &mut State,
@@ -119,7 +120,7 @@ impl<D: Defines> Space<'_, D> {
     }
 
     // A declarator, and what separates it from the next.
-    #[tactic(auto, using(cxx_syntax::proofs::Kept::trees_kept, cxx_syntax::proofs::Kept::trees_later, cxx_syntax::proofs::Kept::later_refl, cxx_syntax::proofs::Kept::later_trans), unfolding(cxx_language::specs::Units::declarator_step))]
+    #[tactic(auto, using(cxx_cursor::proofs::Kept::trees_kept, cxx_cursor::proofs::Kept::trees_later, cxx_cursor::proofs::Kept::later_refl, cxx_cursor::proofs::Kept::later_trans), unfolding(cxx_language::specs::Units::declarator_step))]
     fn declarator_step(
         &self,
         state: &mut State,
@@ -136,7 +137,7 @@ impl<D: Defines> Space<'_, D> {
     }
 
     // All declarators, with the end of their declaration.
-    #[tactic(auto, using(cxx_syntax::proofs::Loops::turn, cxx_syntax::proofs::Loops::no_turn, cxx_syntax::proofs::Kept::type_kept, cxx_syntax::proofs::Kept::type_later, cxx_syntax::proofs::Kept::later_refl, cxx_syntax::proofs::Kept::later_trans), unfolding(cxx_language::specs::Units::declarators_at))]
+    #[tactic(auto, using(cxx_cursor::proofs::Loops::turn, cxx_cursor::proofs::Loops::no_turn, cxx_cursor::proofs::Kept::type_kept, cxx_cursor::proofs::Kept::type_later, cxx_cursor::proofs::Kept::later_refl, cxx_cursor::proofs::Kept::later_trans), unfolding(cxx_language::specs::Units::declarators_at))]
     fn declarators_at(
         &self,
         state: &mut State,
@@ -157,7 +158,7 @@ impl<D: Defines> Space<'_, D> {
     }
 
     /// The declarators that stand behind specifiers, with the end of their declaration (clause 7).
-    #[tactic(auto, using(cxx_syntax::proofs::Kept::later_refl, cxx_syntax::proofs::Kept::later_trans), unfolding(cxx_language::specs::Units::declarators_of))]
+    #[tactic(auto, using(cxx_cursor::proofs::Kept::later_refl, cxx_cursor::proofs::Kept::later_trans), unfolding(cxx_language::specs::Units::declarators_of))]
     pub(crate) fn declarators_of(
         &self,
         state: &mut State,

@@ -3,16 +3,16 @@
 ghost use Rattle.std.specs.Prelude.{◌≡◌, None};
 ghost use Rattle.cxx_language.specs.Units as units;
 ghost use Rattle.cxx_space.specs.Views.{IsDeclaredKnown, declares_of};
-ghost use Rattle.cxx_syntax.specs.Reading.{IsRead};
-ghost use Rattle.cxx_syntax.specs.Views.{declarator_of};
+ghost use Rattle.cxx_cursor.specs.Reading.{IsRead};
+ghost use Rattle.cxx_cursor.specs.Views.{declarator_of};
 ghost use Rattle.cxx_tree.specs.Held.{meaning};
 ghost use Rattle.cxx_units.specs.Said.{IsDeclared, said_of};
 
 use crate::bodies::Declared;
 use crate::space::{Defines, Space};
+use cxx_cursor::{Cursor, Declarator};
 use cxx_language::Reader;
 use cxx_model::{Stop, TreeId, TypeId};
-use cxx_syntax::{Cursor, Declarator};
 use cxx_tree::State;
 use cxx_units::ends::own_parameters;
 use cxx_units::said::Said;
@@ -31,7 +31,7 @@ fn alone(number: TreeId) -> Declared
 
 impl<D: Defines> Space<'_, D> {
     // A function is declared before it is looked whether a body follows.
-    #[tactic(auto, using(cxx_syntax::proofs::Kept::trees_kept, cxx_syntax::proofs::Kept::trees_later, cxx_syntax::proofs::Kept::layers_kept, cxx_syntax::proofs::Kept::type_kept, cxx_syntax::proofs::Kept::type_later, cxx_syntax::proofs::Kept::later_refl, cxx_syntax::proofs::Kept::later_trans, cxx_expr::proofs::Kept::tree_kept, cxx_expr::proofs::Kept::tree_later), unfolding(cxx_language::specs::Units::declared_function, cxx_language::specs::Units::function_ended))]
+    #[tactic(auto, using(cxx_cursor::proofs::Kept::trees_kept, cxx_cursor::proofs::Kept::trees_later, cxx_cursor::proofs::Kept::layers_kept, cxx_cursor::proofs::Kept::type_kept, cxx_cursor::proofs::Kept::type_later, cxx_cursor::proofs::Kept::later_refl, cxx_cursor::proofs::Kept::later_trans, cxx_expr::proofs::Kept::tree_kept, cxx_expr::proofs::Kept::tree_later), unfolding(cxx_language::specs::Units::declared_function, cxx_language::specs::Units::function_ended))]
     fn declared_function(
         &self,
         state: &mut State,
@@ -63,7 +63,7 @@ impl<D: Defines> Space<'_, D> {
     }
 
     /// What a declarator declares; its name is declared before what follows is looked at (3.3.1).
-    #[tactic(auto, using(cxx_syntax::proofs::Kept::later_refl, cxx_syntax::proofs::Kept::later_trans))]
+    #[tactic(auto, using(cxx_cursor::proofs::Kept::later_refl, cxx_cursor::proofs::Kept::later_trans))]
     pub(crate) fn declared_by(
         &self,
         state: &mut State,

@@ -4,15 +4,15 @@ ghost use Rattle.cxx_language.specs.Spaces as definition;
 ghost use Rattle.cxx_language.specs.Units as units;
 ghost use Rattle.cxx_reading.specs.Spaces as spaces;
 ghost use Rattle.cxx_space.specs.Parts.{behind_begin};
-ghost use Rattle.cxx_syntax.specs.Asking.{IsTreeKnown};
-ghost use Rattle.cxx_syntax.specs.Reading.{IsRead};
-ghost use Rattle.cxx_syntax.specs.Views.{lexeme_at};
+ghost use Rattle.cxx_cursor.specs.Asking.{IsTreeKnown};
+ghost use Rattle.cxx_cursor.specs.Reading.{IsRead};
+ghost use Rattle.cxx_cursor.specs.Views.{lexeme_at};
 ghost use Rattle.cxx_tree.specs.Held.{meaning, tree};
 
 use crate::space::{Defines, Space};
+use cxx_cursor::{Cursor, Spelled, is_name, is_punct};
 use cxx_language::alias_or_not;
 use cxx_model::{Place, Stop, TreeId, punct};
-use cxx_syntax::{Cursor, Spelled, is_name, is_punct};
 use cxx_tree::State;
 use cxx_units::trees::part_tree;
 
@@ -22,7 +22,7 @@ const NAMESPACE_DEFINITION: u8 = 4;
 impl<D: Defines> Space<'_, D> {
     // From the `{` on, where the namespace has begun.
     #[cycle(declaration)]
-    #[tactic(auto, using(cxx_syntax::proofs::Kept::trees_kept, cxx_syntax::proofs::Kept::trees_later, cxx_syntax::proofs::Kept::later_refl, cxx_syntax::proofs::Kept::later_trans))]
+    #[tactic(auto, using(cxx_cursor::proofs::Kept::trees_kept, cxx_cursor::proofs::Kept::trees_later, cxx_cursor::proofs::Kept::later_refl, cxx_cursor::proofs::Kept::later_trans))]
     fn behind_begin(
         &self,
         state: &mut State,
@@ -38,7 +38,7 @@ impl<D: Defines> Space<'_, D> {
     }
 
     #[cycle(declaration)]
-    #[tactic(auto, using(cxx_syntax::proofs::Kept::later_refl, cxx_syntax::proofs::Kept::later_trans), unfolding(cxx_language::specs::Spaces::space_opened))]
+    #[tactic(auto, using(cxx_cursor::proofs::Kept::later_refl, cxx_cursor::proofs::Kept::later_trans), unfolding(cxx_language::specs::Spaces::space_opened))]
     fn named_opened(
         &self,
         state: &mut State,
@@ -53,7 +53,7 @@ impl<D: Defines> Space<'_, D> {
     }
 
     #[cycle(declaration)]
-    #[tactic(auto, using(cxx_syntax::proofs::Kept::later_refl, cxx_syntax::proofs::Kept::later_trans), unfolding(cxx_language::specs::Spaces::space_opened))]
+    #[tactic(auto, using(cxx_cursor::proofs::Kept::later_refl, cxx_cursor::proofs::Kept::later_trans), unfolding(cxx_language::specs::Spaces::space_opened))]
     fn unnamed_opened(
         &self,
         state: &mut State,
@@ -86,7 +86,7 @@ impl<D: Defines> Space<'_, D> {
 
     // Behind the word `namespace`.
     #[cycle(declaration)]
-    #[tactic(auto, using(cxx_syntax::proofs::Kept::later_refl), unfolding(cxx_language::specs::Spaces::behind_namespace))]
+    #[tactic(auto, using(cxx_cursor::proofs::Kept::later_refl), unfolding(cxx_language::specs::Spaces::behind_namespace))]
     fn behind_namespace(
         &self,
         state: &mut State,

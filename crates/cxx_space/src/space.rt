@@ -3,14 +3,14 @@
 ghost use Rattle.std.specs.Prelude.{◌<◌, length};
 ghost use Rattle.cxx_language.specs.Bodies.{function_body};
 ghost use Rattle.cxx_reading.specs.Spaces as spaces;
-ghost use Rattle.cxx_syntax.specs.Asking.{AnyKnown, IsAsked, IsTreeKnown, itself};
-ghost use Rattle.cxx_syntax.specs.Reading.{IsRead};
-ghost use Rattle.cxx_syntax.specs.Views.{lexeme_at, name_at};
+ghost use Rattle.cxx_cursor.specs.Asking.{AnyKnown, IsAsked, IsTreeKnown, itself};
+ghost use Rattle.cxx_cursor.specs.Reading.{IsRead};
+ghost use Rattle.cxx_cursor.specs.Views.{lexeme_at, name_at};
 ghost use Rattle.cxx_tree.specs.Held.{meaning, tree, type_of};
 
+use cxx_cursor::{Cursor, NameToken, Spelled};
 use cxx_language::Declares;
 use cxx_model::{FactId, Place, ScopeId, Stop, TreeId, TypeId};
-use cxx_syntax::{Cursor, NameToken, Spelled};
 use cxx_tree::State;
 
 /// Who reads the bodies of functions and opens namespaces too.

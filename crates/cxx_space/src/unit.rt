@@ -6,23 +6,23 @@ ghost use Rattle.cxx_model.specs.Stops.{Gives};
 ghost use Rattle.cxx_model.specs.Text.Lexemes.{lexemes};
 ghost use Rattle.cxx_overload.specs.Choosers.{IsNew};
 ghost use Rattle.cxx_reading.specs.Reads.{count_ahead, give, repeat};
-ghost use Rattle.cxx_syntax.specs.Asking.{AnyKnown, itself};
-ghost use Rattle.cxx_syntax.specs.Reading.{IsRead};
+ghost use Rattle.cxx_cursor.specs.Asking.{AnyKnown, itself};
+ghost use Rattle.cxx_cursor.specs.Reading.{IsRead};
 ghost use Rattle.cxx_tree.specs.Held.{meaning};
 ghost use Rattle.cxx_tree.specs.Told.{IsAskedBy};
 ghost use Rattle.cxx_units.specs.Read.{nothing_turn, reading_of};
 
 use crate::space::{Defines, Space};
+use cxx_cursor::{Cursor, Turn, is_end};
 use cxx_model::limits::MOST_NESTING;
 use cxx_model::{Options, Stop, Token};
 use cxx_overload::Choosing;
-use cxx_syntax::{Cursor, Turn, is_end};
 use cxx_tree::State;
 use cxx_units::{begun, first_place, part_added, whole};
 use std::alloc::Global;
 
 // A declaration of the unit, or its end.
-#[tactic(auto, using(cxx_syntax::proofs::Kept::later_refl, cxx_syntax::proofs::Kept::later_trans), unfolding(cxx_language::specs::Units::unit_step))]
+#[tactic(auto, using(cxx_cursor::proofs::Kept::later_refl, cxx_cursor::proofs::Kept::later_trans), unfolding(cxx_language::specs::Units::unit_step))]
 fn unit_step<D: Defines>(
     declares: &D,
     state: &mut State,
@@ -43,7 +43,7 @@ fn unit_step<D: Defines>(
 }
 
 // All declarations up to the end of the unit.
-#[tactic(auto, using(cxx_syntax::proofs::Loops::turn, cxx_syntax::proofs::Loops::no_turn, cxx_syntax::proofs::Kept::later_refl, cxx_syntax::proofs::Kept::later_trans))]
+#[tactic(auto, using(cxx_cursor::proofs::Loops::turn, cxx_cursor::proofs::Loops::no_turn, cxx_cursor::proofs::Kept::later_refl, cxx_cursor::proofs::Kept::later_trans))]
 fn unit_steps<D: Defines>(
     declares: &D,
     state: &mut State,

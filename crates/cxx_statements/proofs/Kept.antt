@@ -11,8 +11,8 @@ use Rattle.cxx_statements.specs.declared.parts.Target.TheVariants as target
 use Rattle.cxx_statements.specs.Statements as definition
 use Rattle.cxx_statements.specs.Statements.{CxxTarget, to_type}
 use Rattle.cxx_statements.specs.Views.{IsAround, IsSwitch, IsSwitchOption, IsTarget, around_of, switch_of, switch_of_option, target_of}
-use Rattle.cxx_syntax.specs.Asking.{IsTreeKnown}
-use Rattle.cxx_syntax.proofs.Kept as kept
+use Rattle.cxx_cursor.specs.Asking.{IsTreeKnown}
+use Rattle.cxx_cursor.proofs.Kept as kept
 use Rattle.cxx_tree.specs.Arena.{trees_in}
 use Rattle.cxx_tree.specs.Held.{Held, tree, trees}
 use Rattle.cxx_tree.specs.Later.{Later}

@@ -12,9 +12,9 @@ use Rattle.cxx_statements.specs.declared.behind.Found.{Found}
 use Rattle.cxx_statements.specs.declared.behind.Found.TheVariants as found
 use Rattle.cxx_statements.specs.Statements.{Around, Parts, Within, nothing_around, within}
 use Rattle.cxx_statements.specs.Views.{IsAround, IsSeveral, IsStated, IsTarget, around_of, several_of, stated_of, target_of}
-use Rattle.cxx_syntax.specs.Asking.{IsTreeKnown}
-use Rattle.cxx_syntax.specs.Reading.{IsRead}
-use Rattle.cxx_syntax.specs.Views.{AreTreesHeld, trees_held}
+use Rattle.cxx_cursor.specs.Asking.{IsTreeKnown}
+use Rattle.cxx_cursor.specs.Reading.{IsRead}
+use Rattle.cxx_cursor.specs.Views.{AreTreesHeld, trees_held}
 use Rattle.cxx_tree.specs.Arena.{tree_in}
 use Rattle.cxx_tree.specs.Held.{Held, meaning, tree, trees}
 

@@ -11,9 +11,9 @@ use Rattle.cxx_statements.specs.declared.parts.Target.{Target}
 use Rattle.cxx_statements.specs.declared.parts.Target.TheVariants as target
 use Rattle.cxx_statements.specs.Statements as definition
 use Rattle.cxx_statements.specs.Statements.{CxxTarget, to_bool, to_promoted, to_type, to_result}
-use Rattle.cxx_syntax.specs.declared.turn.Turn.{Turn}
-use Rattle.cxx_syntax.specs.Asking.{IsTreeKnown, IsTypeKnown}
-use Rattle.cxx_syntax.specs.Views.{AreTreesHeld, IsTurn, trees_held, turn_at}
+use Rattle.cxx_cursor.specs.declared.turn.Turn.{Turn}
+use Rattle.cxx_cursor.specs.Asking.{IsTreeKnown, IsTypeKnown}
+use Rattle.cxx_cursor.specs.Views.{AreTreesHeld, IsTurn, trees_held, turn_at}
 use Rattle.cxx_tree.specs.Held.{Held, tree, type_of}
 
 -- ---- what an expression becomes

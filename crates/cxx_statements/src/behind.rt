@@ -3,8 +3,8 @@
 use crate::around::{Around, Several, Stated};
 use crate::parts::{Parts, Target};
 use crate::within::Within;
+use cxx_cursor::Cursor;
 use cxx_model::{Stop, TreeId, TreeIdList};
-use cxx_syntax::Cursor;
 use cxx_tree::State;
 
 /// What stands behind a bracket that was taken, or in another statement.

@@ -2,17 +2,17 @@
 
 ghost use Rattle.cxx_statements.specs.Statements as definition;
 ghost use Rattle.cxx_statements.specs.Views.{IsTarget, target_of};
-ghost use Rattle.cxx_syntax.specs.Asking.{IsTreeKnown};
-ghost use Rattle.cxx_syntax.specs.Reading.{IsRead};
+ghost use Rattle.cxx_cursor.specs.Asking.{IsTreeKnown};
+ghost use Rattle.cxx_cursor.specs.Reading.{IsRead};
 ghost use Rattle.cxx_tree.specs.Held.{meaning, tree};
 
 use crate::parts::{Parts, Purpose, Target};
+use cxx_cursor::Cursor;
 use cxx_model::{Stop, TreeId, punct};
-use cxx_syntax::Cursor;
 use cxx_tree::State;
 
 // What was read becomes what is wanted before the bracket is looked at.
-#[tactic(auto, using(cxx_syntax::proofs::Kept::later_trans, cxx_syntax::proofs::Kept::later_refl))]
+#[tactic(auto, using(cxx_cursor::proofs::Kept::later_trans, cxx_cursor::proofs::Kept::later_refl))]
 fn condition_ended<P: Parts>(
     parts: &P,
     state: &mut State,
@@ -32,7 +32,7 @@ fn condition_ended<P: Parts>(
 }
 
 /// Behind the `(`, up to its end, in a scope that is entered for it (6.4).
-#[tactic(auto, using(cxx_syntax::proofs::Kept::later_trans, cxx_syntax::proofs::Kept::later_refl, crate::proofs::Kept::target_kept, crate::proofs::Kept::target_later), unfolding(crate::specs::Statements::condition_at))]
+#[tactic(auto, using(cxx_cursor::proofs::Kept::later_trans, cxx_cursor::proofs::Kept::later_refl, crate::proofs::Kept::target_kept, crate::proofs::Kept::target_later), unfolding(crate::specs::Statements::condition_at))]
 pub(crate) fn condition_at<P: Parts>(
     parts: &P,
     state: &mut State,
@@ -50,7 +50,7 @@ pub(crate) fn condition_at<P: Parts>(
 }
 
 /// Behind the `(` of a `do` (6.5.2).
-#[tactic(auto, using(cxx_syntax::proofs::Kept::later_trans, cxx_syntax::proofs::Kept::later_refl), unfolding(crate::specs::Statements::last_condition_at))]
+#[tactic(auto, using(cxx_cursor::proofs::Kept::later_trans, cxx_cursor::proofs::Kept::later_refl), unfolding(crate::specs::Statements::last_condition_at))]
 pub(crate) fn last_condition_at<P: Parts>(
     parts: &P,
     state: &mut State,

@@ -3,8 +3,8 @@
 
 ghost use Rattle.cxx_statements.specs.Knot.{Enters, Follows, IsEntrance, Nests};
 ghost use Rattle.cxx_statements.specs.Statements.{body_at, too_deep as too_deep_readers, within, within_by};
-ghost use Rattle.cxx_syntax.specs.Reading.{IsRead};
-ghost use Rattle.cxx_syntax.specs.Views.{AreTreesHeld, trees_held};
+ghost use Rattle.cxx_cursor.specs.Reading.{IsRead};
+ghost use Rattle.cxx_cursor.specs.Views.{AreTreesHeld, trees_held};
 ghost use Rattle.cxx_tree.specs.Held.{meaning};
 
 use crate::around::Around;
@@ -13,12 +13,12 @@ use crate::conditions::{condition_at, last_condition_at};
 use crate::loop_parts::loop_parts_at;
 use crate::parts::Parts;
 use crate::reader::Reader;
+use cxx_cursor::Cursor;
 use cxx_model::{LimitKind, Stop, TreeIdList};
-use cxx_syntax::Cursor;
 use cxx_tree::State;
 
 // Where there is no room.
-#[tactic(auto, using(cxx_syntax::proofs::Kept::later_refl))]
+#[tactic(auto, using(cxx_cursor::proofs::Kept::later_refl))]
 pub(crate) fn too_deep(state: &State, cursor: &Cursor<'_>, what: Entrance) -> Result<Found, Stop>
     ensures { Follows too_deep_readers what state.now cursor.now result state.now cursor.now }
 {

@@ -5,9 +5,9 @@ ghost use Rattle.cxx_reading.specs.Reads.{place_ahead};
 ghost use Rattle.cxx_statements.specs.Productions as productions;
 ghost use Rattle.cxx_statements.specs.Statements as definition;
 ghost use Rattle.cxx_statements.specs.Views.{IsAround, IsLabelled, IsSeveral, IsSeveralTurn, IsStated, IsSwitch, around_of, labelled_of, several_of, several_turn, stated_of, switch_of};
-ghost use Rattle.cxx_syntax.specs.Asking.{AnyKnown, IsTreeKnown, itself};
-ghost use Rattle.cxx_syntax.specs.Making.{GrowsTree};
-ghost use Rattle.cxx_syntax.specs.Reading.{IsRead};
+ghost use Rattle.cxx_cursor.specs.Asking.{AnyKnown, IsTreeKnown, itself};
+ghost use Rattle.cxx_cursor.specs.Making.{GrowsTree};
+ghost use Rattle.cxx_cursor.specs.Reading.{IsRead};
 ghost use Rattle.cxx_tree.specs.Held.{meaning, tree};
 
 use crate::around::{Around, Labelled, Several, Stated, Switch};
@@ -15,13 +15,13 @@ use crate::making::{one_tree, with_tree, word_tree};
 use crate::parts::{Parts, Purpose, Target};
 use crate::production;
 use crate::tests::is_label;
+use cxx_cursor::{Cursor, Turn, is_keyword};
 use cxx_model::{FaultText, Listed, Stop, TreeId, keyword, punct};
-use cxx_syntax::{Cursor, Turn, is_keyword};
 use cxx_tree::State;
 use std::alloc::AllocError;
 
 // No two labels of a switch have one value (6.4.2).
-#[tactic(auto, using(cxx_syntax::proofs::Kept::later_refl), unfolding(crate::specs::Statements::fresh_label))]
+#[tactic(auto, using(cxx_cursor::proofs::Kept::later_refl), unfolding(crate::specs::Statements::fresh_label))]
 fn fresh_label(
     state: &State,
     from: &Cursor<'_>,
@@ -63,7 +63,7 @@ fn case_tree(
     word_tree(state, production::LABEL, b"case", all, from, to)
 }
 
-#[tactic(auto, using(cxx_syntax::proofs::Kept::later_trans, cxx_syntax::proofs::Kept::later_refl, crate::proofs::Kept::tree_kept, crate::proofs::Kept::tree_later, cxx_syntax::proofs::Kept::type_kept, cxx_syntax::proofs::Kept::type_later), unfolding(crate::specs::Statements::case_of))]
+#[tactic(auto, using(cxx_cursor::proofs::Kept::later_trans, cxx_cursor::proofs::Kept::later_refl, crate::proofs::Kept::tree_kept, crate::proofs::Kept::tree_later, cxx_cursor::proofs::Kept::type_kept, cxx_cursor::proofs::Kept::type_later), unfolding(crate::specs::Statements::case_of))]
 fn case_of<P: Parts>(
     parts: &P,
     state: &mut State,
@@ -89,7 +89,7 @@ fn case_of<P: Parts>(
     })
 }
 
-#[tactic(auto, using(cxx_syntax::proofs::Kept::later_trans, cxx_syntax::proofs::Kept::later_refl, cxx_syntax::proofs::Kept::type_kept, cxx_syntax::proofs::Kept::type_later), unfolding(crate::specs::Statements::default_taken))]
+#[tactic(auto, using(cxx_cursor::proofs::Kept::later_trans, cxx_cursor::proofs::Kept::later_refl, cxx_cursor::proofs::Kept::type_kept, cxx_cursor::proofs::Kept::type_later), unfolding(crate::specs::Statements::default_taken))]
 fn default_taken(
     state: &mut State,
     cursor: &mut Cursor<'_>,
@@ -113,7 +113,7 @@ fn default_taken(
     })
 }
 
-#[tactic(auto, using(cxx_syntax::proofs::Kept::later_trans, cxx_syntax::proofs::Kept::later_refl), unfolding(crate::specs::Statements::default_of))]
+#[tactic(auto, using(cxx_cursor::proofs::Kept::later_trans, cxx_cursor::proofs::Kept::later_refl), unfolding(crate::specs::Statements::default_of))]
 fn default_of(state: &mut State, cursor: &mut Cursor<'_>, switch: Switch) -> Result<Labelled, Stop>
     requires { IsSwitch state.old switch }
     ensures { IsRead labelled_of IsLabelled state.old state.new cursor.new result (definition.default_of (switch_of state.old switch) (meaning state.old) cursor.old) }
@@ -125,7 +125,7 @@ fn default_of(state: &mut State, cursor: &mut Cursor<'_>, switch: Switch) -> Res
 }
 
 // A label, with its switch behind it.
-#[tactic(auto, using(cxx_syntax::proofs::Kept::later_trans, cxx_syntax::proofs::Kept::later_refl), unfolding(crate::specs::Statements::label_in))]
+#[tactic(auto, using(cxx_cursor::proofs::Kept::later_trans, cxx_cursor::proofs::Kept::later_refl), unfolding(crate::specs::Statements::label_in))]
 fn label_in<P: Parts>(
     parts: &P,
     state: &mut State,
@@ -144,7 +144,7 @@ fn label_in<P: Parts>(
 }
 
 // Where its keyword stands.
-#[tactic(auto, using(cxx_syntax::proofs::Kept::later_trans, cxx_syntax::proofs::Kept::later_refl), unfolding(crate::specs::Statements::label_at))]
+#[tactic(auto, using(cxx_cursor::proofs::Kept::later_trans, cxx_cursor::proofs::Kept::later_refl), unfolding(crate::specs::Statements::label_at))]
 fn label_at<P: Parts>(
     parts: &P,
     state: &mut State,
@@ -177,7 +177,7 @@ fn label_at<P: Parts>(
     }
 }
 
-#[tactic(auto, using(cxx_syntax::proofs::Kept::later_trans, cxx_syntax::proofs::Kept::later_refl, cxx_syntax::proofs::Kept::trees_kept, cxx_syntax::proofs::Kept::trees_later, cxx_syntax::proofs::Kept::trees_append, cxx_syntax::proofs::Kept::trees_below_append), unfolding(crate::specs::Statements::label_step))]
+#[tactic(auto, using(cxx_cursor::proofs::Kept::later_trans, cxx_cursor::proofs::Kept::later_refl, cxx_cursor::proofs::Kept::trees_kept, cxx_cursor::proofs::Kept::trees_later, cxx_cursor::proofs::Kept::trees_append, cxx_cursor::proofs::Kept::trees_below_append), unfolding(crate::specs::Statements::label_step))]
 fn label_step<P: Parts>(
     parts: &P,
     state: &mut State,
@@ -200,7 +200,7 @@ fn label_step<P: Parts>(
 }
 
 /// All labels before a statement.
-#[tactic(auto, using(cxx_syntax::proofs::Loops::turn, cxx_syntax::proofs::Loops::no_turn, cxx_syntax::proofs::Kept::later_trans, cxx_syntax::proofs::Kept::later_refl), unfolding(crate::specs::Statements::labels_in))]
+#[tactic(auto, using(cxx_cursor::proofs::Loops::turn, cxx_cursor::proofs::Loops::no_turn, cxx_cursor::proofs::Kept::later_trans, cxx_cursor::proofs::Kept::later_refl), unfolding(crate::specs::Statements::labels_in))]
 pub(crate) fn labels_in<P: Parts>(
     parts: &P,
     state: &mut State,

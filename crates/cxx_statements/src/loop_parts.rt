@@ -2,21 +2,21 @@
 
 ghost use Rattle.cxx_reading.specs.Reads.{behind, got};
 ghost use Rattle.cxx_statements.specs.Statements as definition;
-ghost use Rattle.cxx_syntax.specs.Asking.{IsTreeKnown};
-ghost use Rattle.cxx_syntax.specs.Reading.{IsRead};
-ghost use Rattle.cxx_syntax.specs.Views.{AreTreesHeld, trees_held};
+ghost use Rattle.cxx_cursor.specs.Asking.{IsTreeKnown};
+ghost use Rattle.cxx_cursor.specs.Reading.{IsRead};
+ghost use Rattle.cxx_cursor.specs.Views.{AreTreesHeld, trees_held};
 ghost use Rattle.cxx_tree.specs.Held.{meaning, tree};
 
 use crate::making::{no_part, three_trees};
 use crate::parts::{Parts, Purpose, Target};
 use crate::simple::plain_statement;
 use crate::tests::{begins_no_object, begins_statement};
+use cxx_cursor::{Cursor, is_punct};
 use cxx_model::{Stop, TreeId, TreeIdList, punct};
-use cxx_syntax::{Cursor, is_punct};
 use cxx_tree::State;
 
 // A part that is left out, with what ends it.
-#[tactic(auto, using(cxx_syntax::proofs::Kept::later_trans, cxx_syntax::proofs::Kept::later_refl))]
+#[tactic(auto, using(cxx_cursor::proofs::Kept::later_trans, cxx_cursor::proofs::Kept::later_refl))]
 fn left_out(state: &mut State, cursor: &mut Cursor<'_>) -> Result<TreeId, Stop>
     ensures { IsRead tree IsTreeKnown state.old state.new cursor.new result (got (definition.no_part cursor.old) (meaning state.old) (behind cursor.old)) }
 {
@@ -25,7 +25,7 @@ fn left_out(state: &mut State, cursor: &mut Cursor<'_>) -> Result<TreeId, Stop>
     Ok(number)
 }
 
-#[tactic(auto, using(cxx_syntax::proofs::Kept::later_trans, cxx_syntax::proofs::Kept::later_refl), unfolding(crate::specs::Statements::first_part))]
+#[tactic(auto, using(cxx_cursor::proofs::Kept::later_trans, cxx_cursor::proofs::Kept::later_refl), unfolding(crate::specs::Statements::first_part))]
 fn first_part<P: Parts>(
     parts: &P,
     state: &mut State,
@@ -44,7 +44,7 @@ fn first_part<P: Parts>(
     plain_statement(parts, state, cursor, room)
 }
 
-#[tactic(auto, using(cxx_syntax::proofs::Kept::later_trans, cxx_syntax::proofs::Kept::later_refl), unfolding(crate::specs::Statements::some_condition))]
+#[tactic(auto, using(cxx_cursor::proofs::Kept::later_trans, cxx_cursor::proofs::Kept::later_refl), unfolding(crate::specs::Statements::some_condition))]
 fn some_condition<P: Parts>(
     parts: &P,
     state: &mut State,
@@ -60,7 +60,7 @@ fn some_condition<P: Parts>(
     Ok(value)
 }
 
-#[tactic(auto, using(cxx_syntax::proofs::Kept::later_trans, cxx_syntax::proofs::Kept::later_refl), unfolding(crate::specs::Statements::second_part))]
+#[tactic(auto, using(cxx_cursor::proofs::Kept::later_trans, cxx_cursor::proofs::Kept::later_refl), unfolding(crate::specs::Statements::second_part))]
 fn second_part<P: Parts>(
     parts: &P,
     state: &mut State,
@@ -76,7 +76,7 @@ fn second_part<P: Parts>(
     some_condition(parts, state, cursor, room)
 }
 
-#[tactic(auto, using(cxx_syntax::proofs::Kept::later_trans, cxx_syntax::proofs::Kept::later_refl), unfolding(crate::specs::Statements::some_step))]
+#[tactic(auto, using(cxx_cursor::proofs::Kept::later_trans, cxx_cursor::proofs::Kept::later_refl), unfolding(crate::specs::Statements::some_step))]
 fn some_step<P: Parts>(
     parts: &P,
     state: &mut State,
@@ -91,7 +91,7 @@ fn some_step<P: Parts>(
     Ok(number)
 }
 
-#[tactic(auto, using(cxx_syntax::proofs::Kept::later_trans, cxx_syntax::proofs::Kept::later_refl), unfolding(crate::specs::Statements::third_part))]
+#[tactic(auto, using(cxx_cursor::proofs::Kept::later_trans, cxx_cursor::proofs::Kept::later_refl), unfolding(crate::specs::Statements::third_part))]
 fn third_part<P: Parts>(
     parts: &P,
     state: &mut State,
@@ -108,7 +108,7 @@ fn third_part<P: Parts>(
 }
 
 /// Behind the `(`, up to its end, in a scope that is entered for it.
-#[tactic(auto, using(cxx_syntax::proofs::Kept::later_trans, cxx_syntax::proofs::Kept::later_refl, crate::proofs::Kept::tree_kept, crate::proofs::Kept::tree_later), unfolding(crate::specs::Statements::loop_parts_at))]
+#[tactic(auto, using(cxx_cursor::proofs::Kept::later_trans, cxx_cursor::proofs::Kept::later_refl, crate::proofs::Kept::tree_kept, crate::proofs::Kept::tree_later), unfolding(crate::specs::Statements::loop_parts_at))]
 pub(crate) fn loop_parts_at<P: Parts>(
     parts: &P,
     state: &mut State,

@@ -6,14 +6,14 @@ ghost use Rattle.cxx_reading.specs.Initializers.{operand_of};
 ghost use Rattle.cxx_statements.specs.Making.{GrowsType};
 ghost use Rattle.cxx_statements.specs.Productions as definition_of;
 ghost use Rattle.cxx_statements.specs.Statements as definition;
-ghost use Rattle.cxx_syntax.specs.Asking.{IsTreeKnown};
-ghost use Rattle.cxx_syntax.specs.Making.{GrowsTree};
-ghost use Rattle.cxx_syntax.specs.Views.{AreTreesHeld, trees_held};
+ghost use Rattle.cxx_cursor.specs.Asking.{IsTreeKnown};
+ghost use Rattle.cxx_cursor.specs.Making.{GrowsTree};
+ghost use Rattle.cxx_cursor.specs.Views.{AreTreesHeld, trees_held};
 ghost use Rattle.cxx_tree.specs.Held.{tree};
 
 use crate::production;
+use cxx_cursor::{Cursor, node_from, push};
 use cxx_model::{Base, Listed, Stop, Text, TreeId, TreeIdList, TypeId};
-use cxx_syntax::{Cursor, node_from, push};
 use cxx_tree::State;
 use std::alloc::{AllocError, Global};
 
@@ -104,7 +104,7 @@ pub(crate) fn statement_tree(
 }
 
 /// A selection of one of two statements, where another one is there (6.4.1).
-#[tactic(auto, using(cxx_syntax::proofs::Kept::later_refl))]
+#[tactic(auto, using(cxx_cursor::proofs::Kept::later_refl))]
 pub(crate) fn selection_tree(
     state: &mut State,
     condition: TreeId,
@@ -123,7 +123,7 @@ pub(crate) fn selection_tree(
 }
 
 /// Trees with one more in one tree.
-#[tactic(auto, using(cxx_syntax::proofs::Kept::later_refl, cxx_syntax::proofs::Kept::trees_append, cxx_syntax::proofs::Kept::trees_below_append))]
+#[tactic(auto, using(cxx_cursor::proofs::Kept::later_refl, cxx_cursor::proofs::Kept::trees_append, cxx_cursor::proofs::Kept::trees_below_append))]
 pub(crate) fn longer_tree(
     state: &mut State,
     production: u8,
@@ -159,7 +159,7 @@ fn plain_type(state: &mut State, base: Base) -> Result<TypeId, Stop>
 }
 
 /// The type of an expression. One that gives nothing is void.
-#[tactic(auto, using(cxx_syntax::proofs::Kept::later_refl))]
+#[tactic(auto, using(cxx_cursor::proofs::Kept::later_refl))]
 pub(crate) fn type_of_tree(state: &mut State, number: TreeId) -> Result<TypeId, Stop>
     requires { IsTreeKnown state.old number }
     ensures { GrowsType state.old state.new result (operand_of (tree state.old number)).of }

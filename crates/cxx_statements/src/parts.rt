@@ -4,12 +4,12 @@ ghost use Rattle.std.specs.Prelude.{ℕ};
 ghost use Rattle.cxx_reading.specs.State.{CxxState};
 ghost use Rattle.cxx_statements.specs.Statements as definition;
 ghost use Rattle.cxx_statements.specs.Views.{IsTarget, target_of};
-ghost use Rattle.cxx_syntax.specs.Asking.{AnyKnown, IsAsked, IsTreeKnown, itself};
-ghost use Rattle.cxx_syntax.specs.Reading.{IsRead};
+ghost use Rattle.cxx_cursor.specs.Asking.{AnyKnown, IsAsked, IsTreeKnown, itself};
+ghost use Rattle.cxx_cursor.specs.Reading.{IsRead};
 ghost use Rattle.cxx_tree.specs.Held.{meaning, tree};
 
+use cxx_cursor::Cursor;
 use cxx_model::{Stop, TreeId, TypeId};
-use cxx_syntax::Cursor;
 use cxx_tree::State;
 
 /// What begins at a token with which no statement begins by its keyword (6.8).

@@ -3,9 +3,9 @@
 ghost use Rattle.std.specs.Prelude.{◌≡◌, [], Some, true, false};
 ghost use Rattle.cxx_statements.specs.Statements as definition;
 ghost use Rattle.cxx_statements.specs.Views.{IsAround, IsSeveral, IsSeveralTurn, IsStated, around_of, several_of, several_turn, stated_of};
-ghost use Rattle.cxx_syntax.specs.Asking.{AnyKnown, IsTreeKnown, itself};
-ghost use Rattle.cxx_syntax.specs.Reading.{IsRead, Takes};
-ghost use Rattle.cxx_syntax.specs.Views.{AreTreesHeld, trees_held};
+ghost use Rattle.cxx_cursor.specs.Asking.{AnyKnown, IsTreeKnown, itself};
+ghost use Rattle.cxx_cursor.specs.Reading.{IsRead, Takes};
+ghost use Rattle.cxx_cursor.specs.Views.{AreTreesHeld, trees_held};
 ghost use Rattle.cxx_tree.specs.Held.{meaning, tree};
 
 use crate::around::{Around, Several, Stated, Switch};
@@ -19,8 +19,8 @@ use crate::simple::{empty_in, flat_in};
 use crate::tests::begins_statement;
 use crate::values::Values;
 use crate::within::Within;
+use cxx_cursor::{Cursor, Turn, is_keyword, is_punct};
 use cxx_model::{Listed, Stop, TreeId, TreeIdList, TypeId, keyword, punct};
-use cxx_syntax::{Cursor, Turn, is_keyword, is_punct};
 use cxx_tree::State;
 use std::alloc::Global;
 
@@ -82,7 +82,7 @@ fn keyword_taken(cursor: &mut Cursor<'_>, number: u8) -> Result<(), Stop>
 }
 
 // Labels stand before their statement in one tree (6.1).
-#[tactic(auto, using(cxx_syntax::proofs::Kept::later_trans, cxx_syntax::proofs::Kept::later_refl, crate::proofs::Kept::around_kept, crate::proofs::Kept::around_later, crate::proofs::Kept::trees_counted), unfolding(crate::specs::Statements::labelled))]
+#[tactic(auto, using(cxx_cursor::proofs::Kept::later_trans, cxx_cursor::proofs::Kept::later_refl, crate::proofs::Kept::around_kept, crate::proofs::Kept::around_later, crate::proofs::Kept::trees_counted), unfolding(crate::specs::Statements::labelled))]
 fn labelled(
     state: &mut State,
     labels: TreeIdList,
@@ -106,7 +106,7 @@ fn labelled(
 
 impl<P: Parts, N: Within> Reader<'_, P, N> {
     // A block, with its `{` (6.3).
-    #[tactic(auto, using(cxx_syntax::proofs::Kept::later_trans, cxx_syntax::proofs::Kept::later_refl, crate::proofs::Kept::around_kept, crate::proofs::Kept::around_later), unfolding(crate::specs::Statements::block_in))]
+    #[tactic(auto, using(cxx_cursor::proofs::Kept::later_trans, cxx_cursor::proofs::Kept::later_refl, crate::proofs::Kept::around_kept, crate::proofs::Kept::around_later), unfolding(crate::specs::Statements::block_in))]
     fn block_in(
         &self,
         state: &mut State,
@@ -129,7 +129,7 @@ impl<P: Parts, N: Within> Reader<'_, P, N> {
     }
 
     // What begins no statement at all is met before the limit of nesting.
-    #[tactic(auto, using(cxx_syntax::proofs::Kept::later_trans, cxx_syntax::proofs::Kept::later_refl), unfolding(crate::specs::Statements::begun))]
+    #[tactic(auto, using(cxx_cursor::proofs::Kept::later_trans, cxx_cursor::proofs::Kept::later_refl), unfolding(crate::specs::Statements::begun))]
     fn begun(&self, state: &mut State, cursor: &Cursor<'_>) -> Result<(), Stop>
         requires ready { P.is_ready self.now.parts.now }
         ensures { IsRead itself AnyKnown state.old state.new cursor.now result (definition.begun (P.asks self.now.parts.now self.now.room) (meaning state.old) cursor.now) }
@@ -141,7 +141,7 @@ impl<P: Parts, N: Within> Reader<'_, P, N> {
         Ok(())
     }
 
-    #[tactic(auto, using(cxx_syntax::proofs::Kept::later_trans, cxx_syntax::proofs::Kept::later_refl, crate::proofs::Kept::around_kept, crate::proofs::Kept::around_later))]
+    #[tactic(auto, using(cxx_cursor::proofs::Kept::later_trans, cxx_cursor::proofs::Kept::later_refl, crate::proofs::Kept::around_kept, crate::proofs::Kept::around_later))]
     fn nested_statement(
         &self,
         state: &mut State,
@@ -158,7 +158,7 @@ impl<P: Parts, N: Within> Reader<'_, P, N> {
     }
 
     // A statement in another one (6.4, 6.5).
-    #[tactic(auto, using(cxx_syntax::proofs::Kept::later_trans, cxx_syntax::proofs::Kept::later_refl), unfolding(crate::specs::Statements::sub_in))]
+    #[tactic(auto, using(cxx_cursor::proofs::Kept::later_trans, cxx_cursor::proofs::Kept::later_refl), unfolding(crate::specs::Statements::sub_in))]
     fn sub_in(
         &self,
         state: &mut State,
@@ -176,7 +176,7 @@ impl<P: Parts, N: Within> Reader<'_, P, N> {
         self.nested_statement(state, cursor, around)
     }
 
-    #[tactic(auto, using(cxx_syntax::proofs::Kept::later_trans, cxx_syntax::proofs::Kept::later_refl, crate::proofs::Kept::around_kept, crate::proofs::Kept::around_later), unfolding(crate::specs::Statements::else_part))]
+    #[tactic(auto, using(cxx_cursor::proofs::Kept::later_trans, cxx_cursor::proofs::Kept::later_refl, crate::proofs::Kept::around_kept, crate::proofs::Kept::around_later), unfolding(crate::specs::Statements::else_part))]
     fn else_part(
         &self,
         state: &mut State,
@@ -197,7 +197,7 @@ impl<P: Parts, N: Within> Reader<'_, P, N> {
     }
 
     // Behind the first statement of an `if` (6.4.1).
-    #[tactic(auto, using(cxx_syntax::proofs::Kept::later_trans, cxx_syntax::proofs::Kept::later_refl), unfolding(crate::specs::Statements::other_part))]
+    #[tactic(auto, using(cxx_cursor::proofs::Kept::later_trans, cxx_cursor::proofs::Kept::later_refl), unfolding(crate::specs::Statements::other_part))]
     fn other_part(
         &self,
         state: &mut State,
@@ -219,7 +219,7 @@ impl<P: Parts, N: Within> Reader<'_, P, N> {
     }
 
     // Behind the condition of an `if`, with a scope that was entered.
-    #[tactic(auto, using(cxx_syntax::proofs::Kept::later_trans, cxx_syntax::proofs::Kept::later_refl, crate::proofs::Kept::around_kept, crate::proofs::Kept::around_later, crate::proofs::Kept::tree_kept, crate::proofs::Kept::tree_later, cxx_syntax::proofs::Kept::trees_kept, cxx_syntax::proofs::Kept::trees_later), unfolding(crate::specs::Statements::if_ended))]
+    #[tactic(auto, using(cxx_cursor::proofs::Kept::later_trans, cxx_cursor::proofs::Kept::later_refl, crate::proofs::Kept::around_kept, crate::proofs::Kept::around_later, crate::proofs::Kept::tree_kept, crate::proofs::Kept::tree_later, cxx_cursor::proofs::Kept::trees_kept, cxx_cursor::proofs::Kept::trees_later), unfolding(crate::specs::Statements::if_ended))]
     fn if_ended(
         &self,
         state: &mut State,
@@ -245,7 +245,7 @@ impl<P: Parts, N: Within> Reader<'_, P, N> {
     }
 
     // 6.4.1
-    #[tactic(auto, using(cxx_syntax::proofs::Kept::later_trans, cxx_syntax::proofs::Kept::later_refl, crate::proofs::Kept::around_kept, crate::proofs::Kept::around_later), unfolding(crate::specs::Statements::if_in))]
+    #[tactic(auto, using(cxx_cursor::proofs::Kept::later_trans, cxx_cursor::proofs::Kept::later_refl, crate::proofs::Kept::around_kept, crate::proofs::Kept::around_later), unfolding(crate::specs::Statements::if_in))]
     fn if_in(
         &self,
         state: &mut State,
@@ -265,7 +265,7 @@ impl<P: Parts, N: Within> Reader<'_, P, N> {
     }
 
     // 6.4.2
-    #[tactic(auto, using(cxx_syntax::proofs::Kept::later_trans, cxx_syntax::proofs::Kept::later_refl, crate::proofs::Kept::around_kept, crate::proofs::Kept::around_later, crate::proofs::Kept::tree_kept, crate::proofs::Kept::tree_later), unfolding(crate::specs::Statements::switch_in))]
+    #[tactic(auto, using(cxx_cursor::proofs::Kept::later_trans, cxx_cursor::proofs::Kept::later_refl, crate::proofs::Kept::around_kept, crate::proofs::Kept::around_later, crate::proofs::Kept::tree_kept, crate::proofs::Kept::tree_later), unfolding(crate::specs::Statements::switch_in))]
     fn switch_in(
         &self,
         state: &mut State,
@@ -290,7 +290,7 @@ impl<P: Parts, N: Within> Reader<'_, P, N> {
     }
 
     // Behind what a loop has before its body, with a scope that was entered.
-    #[tactic(auto, using(cxx_syntax::proofs::Kept::later_trans, cxx_syntax::proofs::Kept::later_refl, crate::proofs::Kept::around_kept, crate::proofs::Kept::around_later, cxx_syntax::proofs::Kept::trees_kept, cxx_syntax::proofs::Kept::trees_later), unfolding(crate::specs::Statements::loop_ended))]
+    #[tactic(auto, using(cxx_cursor::proofs::Kept::later_trans, cxx_cursor::proofs::Kept::later_refl, crate::proofs::Kept::around_kept, crate::proofs::Kept::around_later, cxx_cursor::proofs::Kept::trees_kept, cxx_cursor::proofs::Kept::trees_later), unfolding(crate::specs::Statements::loop_ended))]
     fn loop_ended(
         &self,
         state: &mut State,
@@ -318,7 +318,7 @@ impl<P: Parts, N: Within> Reader<'_, P, N> {
     }
 
     // 6.5.1
-    #[tactic(auto, using(cxx_syntax::proofs::Kept::later_trans, cxx_syntax::proofs::Kept::later_refl, crate::proofs::Kept::around_kept, crate::proofs::Kept::around_later), unfolding(crate::specs::Statements::while_in))]
+    #[tactic(auto, using(cxx_cursor::proofs::Kept::later_trans, cxx_cursor::proofs::Kept::later_refl, crate::proofs::Kept::around_kept, crate::proofs::Kept::around_later), unfolding(crate::specs::Statements::while_in))]
     fn while_in(
         &self,
         state: &mut State,
@@ -339,7 +339,7 @@ impl<P: Parts, N: Within> Reader<'_, P, N> {
     }
 
     // 6.5.2
-    #[tactic(auto, using(cxx_syntax::proofs::Kept::later_trans, cxx_syntax::proofs::Kept::later_refl, crate::proofs::Kept::around_kept, crate::proofs::Kept::around_later, crate::proofs::Kept::tree_kept, crate::proofs::Kept::tree_later), unfolding(crate::specs::Statements::do_in))]
+    #[tactic(auto, using(cxx_cursor::proofs::Kept::later_trans, cxx_cursor::proofs::Kept::later_refl, crate::proofs::Kept::around_kept, crate::proofs::Kept::around_later, crate::proofs::Kept::tree_kept, crate::proofs::Kept::tree_later), unfolding(crate::specs::Statements::do_in))]
     fn do_in(
         &self,
         state: &mut State,
@@ -369,7 +369,7 @@ impl<P: Parts, N: Within> Reader<'_, P, N> {
     }
 
     // 6.5.3
-    #[tactic(auto, using(cxx_syntax::proofs::Kept::later_trans, cxx_syntax::proofs::Kept::later_refl, crate::proofs::Kept::around_kept, crate::proofs::Kept::around_later), unfolding(crate::specs::Statements::for_in))]
+    #[tactic(auto, using(cxx_cursor::proofs::Kept::later_trans, cxx_cursor::proofs::Kept::later_refl, crate::proofs::Kept::around_kept, crate::proofs::Kept::around_later), unfolding(crate::specs::Statements::for_in))]
     fn for_in(
         &self,
         state: &mut State,
@@ -389,7 +389,7 @@ impl<P: Parts, N: Within> Reader<'_, P, N> {
     }
 
     // One of them, or a statement in which no other stands.
-    #[tactic(auto, using(cxx_syntax::proofs::Kept::later_trans, cxx_syntax::proofs::Kept::later_refl), unfolding(crate::specs::Statements::keyword_in))]
+    #[tactic(auto, using(cxx_cursor::proofs::Kept::later_trans, cxx_cursor::proofs::Kept::later_refl), unfolding(crate::specs::Statements::keyword_in))]
     fn keyword_in(
         &self,
         state: &mut State,
@@ -420,7 +420,7 @@ impl<P: Parts, N: Within> Reader<'_, P, N> {
     }
 
     // One without labels.
-    #[tactic(auto, using(cxx_syntax::proofs::Kept::later_trans, cxx_syntax::proofs::Kept::later_refl), unfolding(crate::specs::Statements::unlabelled_in))]
+    #[tactic(auto, using(cxx_cursor::proofs::Kept::later_trans, cxx_cursor::proofs::Kept::later_refl), unfolding(crate::specs::Statements::unlabelled_in))]
     fn unlabelled_in(
         &self,
         state: &mut State,
@@ -441,7 +441,7 @@ impl<P: Parts, N: Within> Reader<'_, P, N> {
         self.keyword_in(state, cursor, around)
     }
 
-    #[tactic(auto, using(cxx_syntax::proofs::Kept::later_trans, cxx_syntax::proofs::Kept::later_refl, crate::proofs::Kept::around_kept, crate::proofs::Kept::around_later, cxx_syntax::proofs::Kept::trees_kept, cxx_syntax::proofs::Kept::trees_later, cxx_syntax::proofs::Kept::trees_append, cxx_syntax::proofs::Kept::trees_below_append), unfolding(crate::specs::Statements::statement_in))]
+    #[tactic(auto, using(cxx_cursor::proofs::Kept::later_trans, cxx_cursor::proofs::Kept::later_refl, crate::proofs::Kept::around_kept, crate::proofs::Kept::around_later, cxx_cursor::proofs::Kept::trees_kept, cxx_cursor::proofs::Kept::trees_later, cxx_cursor::proofs::Kept::trees_append, cxx_cursor::proofs::Kept::trees_below_append), unfolding(crate::specs::Statements::statement_in))]
     fn statement_in(
         &self,
         state: &mut State,
@@ -460,7 +460,7 @@ impl<P: Parts, N: Within> Reader<'_, P, N> {
     }
 
     /// A statement that is no block, in another one, in a scope of its own (6.4, 6.5).
-    #[tactic(auto, using(cxx_syntax::proofs::Kept::later_trans, cxx_syntax::proofs::Kept::later_refl, crate::proofs::Kept::around_kept, crate::proofs::Kept::around_later, crate::proofs::Kept::tree_kept, crate::proofs::Kept::tree_later), unfolding(crate::specs::Statements::sub_statement_at))]
+    #[tactic(auto, using(cxx_cursor::proofs::Kept::later_trans, cxx_cursor::proofs::Kept::later_refl, crate::proofs::Kept::around_kept, crate::proofs::Kept::around_later, crate::proofs::Kept::tree_kept, crate::proofs::Kept::tree_later), unfolding(crate::specs::Statements::sub_statement_at))]
     pub fn sub_statement_at(
         &self,
         state: &mut State,
@@ -478,7 +478,7 @@ impl<P: Parts, N: Within> Reader<'_, P, N> {
         Ok(one)
     }
 
-    #[tactic(auto, using(cxx_syntax::proofs::Kept::later_trans, cxx_syntax::proofs::Kept::later_refl, cxx_syntax::proofs::Kept::trees_kept, cxx_syntax::proofs::Kept::trees_later, cxx_syntax::proofs::Kept::trees_append, cxx_syntax::proofs::Kept::trees_below_append), unfolding(crate::specs::Statements::statement_step))]
+    #[tactic(auto, using(cxx_cursor::proofs::Kept::later_trans, cxx_cursor::proofs::Kept::later_refl, cxx_cursor::proofs::Kept::trees_kept, cxx_cursor::proofs::Kept::trees_later, cxx_cursor::proofs::Kept::trees_append, cxx_cursor::proofs::Kept::trees_below_append), unfolding(crate::specs::Statements::statement_step))]
     fn statement_step(
         &self,
         state: &mut State,
@@ -502,7 +502,7 @@ impl<P: Parts, N: Within> Reader<'_, P, N> {
     }
 
     /// Statements up to the `}`, in the scope where the reader stands (6.3).
-    #[tactic(auto, using(cxx_syntax::proofs::Loops::turn, cxx_syntax::proofs::Loops::no_turn, cxx_syntax::proofs::Kept::later_trans, cxx_syntax::proofs::Kept::later_refl), unfolding(crate::specs::Statements::statements_in))]
+    #[tactic(auto, using(cxx_cursor::proofs::Loops::turn, cxx_cursor::proofs::Loops::no_turn, cxx_cursor::proofs::Kept::later_trans, cxx_cursor::proofs::Kept::later_refl), unfolding(crate::specs::Statements::statements_in))]
     pub fn statements_in(
         &self,
         state: &mut State,
@@ -529,7 +529,7 @@ impl<P: Parts, N: Within> Reader<'_, P, N> {
     }
 
     /// In a scope of their own.
-    #[tactic(auto, using(cxx_syntax::proofs::Kept::later_trans, cxx_syntax::proofs::Kept::later_refl, crate::proofs::Kept::around_kept, crate::proofs::Kept::around_later, cxx_syntax::proofs::Kept::trees_kept, cxx_syntax::proofs::Kept::trees_later, cxx_syntax::proofs::Kept::trees_append, cxx_syntax::proofs::Kept::trees_below_append), unfolding(crate::specs::Statements::statements_at))]
+    #[tactic(auto, using(cxx_cursor::proofs::Kept::later_trans, cxx_cursor::proofs::Kept::later_refl, crate::proofs::Kept::around_kept, crate::proofs::Kept::around_later, cxx_cursor::proofs::Kept::trees_kept, cxx_cursor::proofs::Kept::trees_later, cxx_cursor::proofs::Kept::trees_append, cxx_cursor::proofs::Kept::trees_below_append), unfolding(crate::specs::Statements::statements_at))]
     pub fn statements_at(
         &self,
         state: &mut State,

@@ -2,21 +2,21 @@
 
 ghost use Rattle.cxx_statements.specs.Statements as definition;
 ghost use Rattle.cxx_statements.specs.Views.{IsAround, IsStated, around_of, stated_of};
-ghost use Rattle.cxx_syntax.specs.Asking.{IsTreeKnown};
-ghost use Rattle.cxx_syntax.specs.Reading.{IsRead};
-ghost use Rattle.cxx_syntax.specs.Views.{AreTreesHeld, trees_held};
+ghost use Rattle.cxx_cursor.specs.Asking.{IsTreeKnown};
+ghost use Rattle.cxx_cursor.specs.Reading.{IsRead};
+ghost use Rattle.cxx_cursor.specs.Views.{AreTreesHeld, trees_held};
 ghost use Rattle.cxx_tree.specs.Held.{meaning, tree};
 
 use crate::around::{Around, Stated};
 use crate::making::{one_tree, statement_tree, word_tree};
 use crate::parts::{Head, Parts, Purpose, Target};
 use crate::production;
+use cxx_cursor::{Cursor, is_keyword, is_punct};
 use cxx_model::{FaultText, Listed, Stop, TreeId, TreeIdList, keyword, punct};
-use cxx_syntax::{Cursor, is_keyword, is_punct};
 use cxx_tree::State;
 
 /// An expression with its `;` (6.2).
-#[tactic(auto, using(cxx_syntax::proofs::Kept::later_trans, cxx_syntax::proofs::Kept::later_refl), unfolding(crate::specs::Statements::expression_statement))]
+#[tactic(auto, using(cxx_cursor::proofs::Kept::later_trans, cxx_cursor::proofs::Kept::later_refl), unfolding(crate::specs::Statements::expression_statement))]
 fn expression_statement<P: Parts>(
     parts: &P,
     state: &mut State,
@@ -34,7 +34,7 @@ fn expression_statement<P: Parts>(
 }
 
 /// A declaration, which has its end (6.7).
-#[tactic(auto, using(cxx_syntax::proofs::Kept::later_trans, cxx_syntax::proofs::Kept::later_refl), unfolding(crate::specs::Statements::declaration_statement))]
+#[tactic(auto, using(cxx_cursor::proofs::Kept::later_trans, cxx_cursor::proofs::Kept::later_refl), unfolding(crate::specs::Statements::declaration_statement))]
 fn declaration_statement<P: Parts>(
     parts: &P,
     state: &mut State,
@@ -51,7 +51,7 @@ fn declaration_statement<P: Parts>(
 }
 
 /// One of both (6.8).
-#[tactic(auto, using(cxx_syntax::proofs::Kept::later_trans, cxx_syntax::proofs::Kept::later_refl), unfolding(crate::specs::Statements::plain_statement))]
+#[tactic(auto, using(cxx_cursor::proofs::Kept::later_trans, cxx_cursor::proofs::Kept::later_refl), unfolding(crate::specs::Statements::plain_statement))]
 pub(crate) fn plain_statement<P: Parts>(
     parts: &P,
     state: &mut State,
@@ -68,7 +68,7 @@ pub(crate) fn plain_statement<P: Parts>(
 }
 
 // `;` alone (6.2).
-#[tactic(auto, using(cxx_syntax::proofs::Kept::later_trans, cxx_syntax::proofs::Kept::later_refl), unfolding(crate::specs::Statements::empty_statement))]
+#[tactic(auto, using(cxx_cursor::proofs::Kept::later_trans, cxx_cursor::proofs::Kept::later_refl), unfolding(crate::specs::Statements::empty_statement))]
 fn empty_statement(state: &mut State, cursor: &mut Cursor<'_>) -> Result<TreeId, Stop>
     ensures { IsRead tree IsTreeKnown state.old state.new cursor.new result (definition.empty_statement (meaning state.old) cursor.old) }
 {
@@ -79,7 +79,7 @@ fn empty_statement(state: &mut State, cursor: &mut Cursor<'_>) -> Result<TreeId,
 }
 
 // A jump with its `;` (6.6.1, 6.6.2).
-#[tactic(auto, using(cxx_syntax::proofs::Kept::later_trans, cxx_syntax::proofs::Kept::later_refl, crate::proofs::Kept::around_kept, crate::proofs::Kept::around_later), unfolding(crate::specs::Statements::jump_taken))]
+#[tactic(auto, using(cxx_cursor::proofs::Kept::later_trans, cxx_cursor::proofs::Kept::later_refl, crate::proofs::Kept::around_kept, crate::proofs::Kept::around_later), unfolding(crate::specs::Statements::jump_taken))]
 fn jump_taken(
     state: &mut State,
     cursor: &mut Cursor<'_>,
@@ -98,7 +98,7 @@ fn jump_taken(
 }
 
 // One where there is something to end or to go on with (6.6.1, 6.6.2).
-#[tactic(auto, using(cxx_syntax::proofs::Kept::later_trans, cxx_syntax::proofs::Kept::later_refl), unfolding(crate::specs::Statements::jump_in))]
+#[tactic(auto, using(cxx_cursor::proofs::Kept::later_trans, cxx_cursor::proofs::Kept::later_refl), unfolding(crate::specs::Statements::jump_in))]
 fn jump_in(
     state: &mut State,
     cursor: &mut Cursor<'_>,
@@ -116,7 +116,7 @@ fn jump_in(
 }
 
 // What a function answers, with the `;` (6.6.3).
-#[tactic(auto, using(cxx_syntax::proofs::Kept::later_trans, cxx_syntax::proofs::Kept::later_refl), unfolding(crate::specs::Statements::some_answer))]
+#[tactic(auto, using(cxx_cursor::proofs::Kept::later_trans, cxx_cursor::proofs::Kept::later_refl), unfolding(crate::specs::Statements::some_answer))]
 fn some_answer<P: Parts>(
     parts: &P,
     state: &mut State,
@@ -132,7 +132,7 @@ fn some_answer<P: Parts>(
     Ok(one_tree(cursor.alloc(), value)?)
 }
 
-#[tactic(auto, using(cxx_syntax::proofs::Kept::later_trans, cxx_syntax::proofs::Kept::later_refl), unfolding(crate::specs::Statements::answer))]
+#[tactic(auto, using(cxx_cursor::proofs::Kept::later_trans, cxx_cursor::proofs::Kept::later_refl), unfolding(crate::specs::Statements::answer))]
 fn answer<P: Parts>(
     parts: &P,
     state: &mut State,
@@ -150,7 +150,7 @@ fn answer<P: Parts>(
 }
 
 // 6.6.3
-#[tactic(auto, using(cxx_syntax::proofs::Kept::later_trans, cxx_syntax::proofs::Kept::later_refl, crate::proofs::Kept::around_kept, crate::proofs::Kept::around_later), unfolding(crate::specs::Statements::return_in))]
+#[tactic(auto, using(cxx_cursor::proofs::Kept::later_trans, cxx_cursor::proofs::Kept::later_refl, crate::proofs::Kept::around_kept, crate::proofs::Kept::around_later), unfolding(crate::specs::Statements::return_in))]
 fn return_in<P: Parts>(
     parts: &P,
     state: &mut State,
@@ -170,7 +170,7 @@ fn return_in<P: Parts>(
 }
 
 // An expression or a declaration, with what stands around it.
-#[tactic(auto, using(cxx_syntax::proofs::Kept::later_trans, cxx_syntax::proofs::Kept::later_refl, crate::proofs::Kept::around_kept, crate::proofs::Kept::around_later), unfolding(crate::specs::Statements::plain_in))]
+#[tactic(auto, using(cxx_cursor::proofs::Kept::later_trans, cxx_cursor::proofs::Kept::later_refl, crate::proofs::Kept::around_kept, crate::proofs::Kept::around_later), unfolding(crate::specs::Statements::plain_in))]
 fn plain_in<P: Parts>(
     parts: &P,
     state: &mut State,
@@ -187,7 +187,7 @@ fn plain_in<P: Parts>(
 }
 
 /// `;` alone, with what stands around it.
-#[tactic(auto, using(cxx_syntax::proofs::Kept::later_trans, cxx_syntax::proofs::Kept::later_refl, crate::proofs::Kept::around_kept, crate::proofs::Kept::around_later), unfolding(crate::specs::Statements::empty_in))]
+#[tactic(auto, using(cxx_cursor::proofs::Kept::later_trans, cxx_cursor::proofs::Kept::later_refl, crate::proofs::Kept::around_kept, crate::proofs::Kept::around_later), unfolding(crate::specs::Statements::empty_in))]
 pub(crate) fn empty_in(
     state: &mut State,
     cursor: &mut Cursor<'_>,
@@ -201,7 +201,7 @@ pub(crate) fn empty_in(
 }
 
 /// A statement without labels in which no other stands.
-#[tactic(auto, using(cxx_syntax::proofs::Kept::later_trans, cxx_syntax::proofs::Kept::later_refl), unfolding(crate::specs::Statements::flat_in))]
+#[tactic(auto, using(cxx_cursor::proofs::Kept::later_trans, cxx_cursor::proofs::Kept::later_refl), unfolding(crate::specs::Statements::flat_in))]
 pub(crate) fn flat_in<P: Parts>(
     parts: &P,
     state: &mut State,

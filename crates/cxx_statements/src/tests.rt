@@ -3,8 +3,8 @@
 ghost use Rattle.std.specs.Prelude.{◌≡◌};
 ghost use Rattle.cxx_statements.specs.Statements as definition;
 
+use cxx_cursor::{is_keyword, is_punct};
 use cxx_model::{TokenKind, keyword, punct};
-use cxx_syntax::{is_keyword, is_punct};
 
 /// Whether it is a keyword with which a statement begins that is neither an expression nor a declaration.
 #[tactic(auto, unfolding(crate::specs::Statements::begins_statement))]

@@ -3,15 +3,15 @@
 ghost use Rattle.cxx_reading.specs.State.{CxxState};
 ghost use Rattle.cxx_statements.specs.Statements as definition;
 ghost use Rattle.cxx_statements.specs.Views.{IsAround, IsSeveral, IsStated, IsTarget, around_of, several_of, stated_of, target_of};
-ghost use Rattle.cxx_syntax.specs.Asking.{IsTreeKnown};
-ghost use Rattle.cxx_syntax.specs.Reading.{IsRead};
-ghost use Rattle.cxx_syntax.specs.Views.{AreTreesHeld, trees_held};
+ghost use Rattle.cxx_cursor.specs.Asking.{IsTreeKnown};
+ghost use Rattle.cxx_cursor.specs.Reading.{IsRead};
+ghost use Rattle.cxx_cursor.specs.Views.{AreTreesHeld, trees_held};
 ghost use Rattle.cxx_tree.specs.Held.{meaning, tree};
 
 use crate::around::{Around, Several, Stated};
 use crate::parts::Target;
+use cxx_cursor::Cursor;
 use cxx_model::{Stop, TreeId, TreeIdList};
-use cxx_syntax::Cursor;
 use cxx_tree::State;
 
 /// The readers there. `inner` is the definition that they follow.

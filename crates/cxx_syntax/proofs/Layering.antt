@@ -11,11 +11,11 @@ use Rattle.cxx_model.specs.Types.Trees.{CxxType, CxxTypes, any_cv, pointer_to, q
 use Rattle.cxx_types.specs.Parameters as parameters
 use Rattle.cxx_reading.specs.Declarators as definition
 use Rattle.cxx_reading.specs.Declarators.{pointer_layer, reference_layer, array_layer, function_layer, adjusted_types, declared_type, is_void, layer_on, or_later, refused_in, refused_on}
-use Rattle.cxx_syntax.specs.declared.declarator.Layer.{Layer}
+use Rattle.cxx_cursor.specs.declared.declarator.Layer.{Layer}
 use Rattle.cxx_syntax.specs.declared.layers.Footing.{Footing}
 use Rattle.cxx_syntax.specs.Layering.{IsDeclaredFrom, IsFooting, footing_of, footing_on, refused_by}
-use Rattle.cxx_syntax.specs.Views.{AreLayersBelow, IsLayerBelow, layer_in, layers_in, types_in}
-use Rattle.cxx_syntax.proofs.Kept as kept
+use Rattle.cxx_cursor.specs.Views.{AreLayersBelow, IsLayerBelow, layer_in, layers_in, types_in}
+use Rattle.cxx_cursor.proofs.Kept as kept
 use Rattle.cxx_tree.specs.Held.{Held, type_of}
 use Rattle.cxx_tree.specs.Later.{MakesType}
 

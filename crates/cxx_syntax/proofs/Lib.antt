@@ -1,5 +1,2 @@
-pub mod Loops
-pub mod Kept
 mod Longer
 pub mod Layering
-pub mod Names

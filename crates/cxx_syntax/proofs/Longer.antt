@@ -13,13 +13,13 @@ use Rattle.cxx_reading.specs.Reads.{Ahead, got}
 use Rattle.cxx_reading.specs.State.{CxxState}
 use Rattle.cxx_reading.specs.Syntax.{with_parameter}
 use Rattle.cxx_reading.specs.Trees.{CxxTree}
-use Rattle.cxx_syntax.specs.declared.declarator.ParameterTypes.{ParameterTypes}
-use Rattle.cxx_syntax.specs.Reading.{IsRead}
-use Rattle.cxx_syntax.specs.Views.{AreParameters, parameters_of, types_in}
+use Rattle.cxx_cursor.specs.declared.declarator.ParameterTypes.{ParameterTypes}
+use Rattle.cxx_cursor.specs.Reading.{IsRead}
+use Rattle.cxx_cursor.specs.Views.{AreParameters, parameters_of, types_in}
 use Rattle.cxx_tree.specs.Arena.{tree_in, trees_in}
 use Rattle.cxx_tree.specs.Held.{Held, meaning, trees, type_of}
 use Rattle.cxx_tree.specs.Later.{Later}
-use Rattle.cxx_syntax.proofs.Kept as kept
+use Rattle.cxx_cursor.proofs.Kept as kept
 
 abbrev more : TypeId → TreeId → ParameterTypes → ParameterTypes
 more of number so_far = record so_far { types = so_far.types ++ of ∷ []; parts = so_far.parts ++ number ∷ [] }

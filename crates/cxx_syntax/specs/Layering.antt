@@ -7,9 +7,9 @@ use Rattle.cxx_model.specs.declared.types.TypeId.{TypeId}
 use Rattle.cxx_model.specs.Types.Trees.{CxxType, fundamental}
 use Rattle.cxx_reading.specs.Declarators as definition
 use Rattle.cxx_reading.specs.Declarators.{pointer_layer, reference_layer, array_layer, function_layer, declared_type, is_below_one, is_function_type, is_reference, is_void, refused_in}
-use Rattle.cxx_syntax.specs.declared.declarator.Layer.{Layer}
+use Rattle.cxx_cursor.specs.declared.declarator.Layer.{Layer}
 use Rattle.cxx_syntax.specs.declared.layers.Footing.{Footing}
-use Rattle.cxx_syntax.specs.Views.{layers_in}
+use Rattle.cxx_cursor.specs.Views.{layers_in}
 use Rattle.cxx_tree.specs.Held.{Held, meaning, type_of}
 use Rattle.cxx_tree.specs.Later.{Later}
 

@@ -1,11 +1,4 @@
-pub mod Reading
-pub mod Views
-pub mod Asking
-pub mod Words
-pub mod Making
-pub mod Looping
 pub mod Suffixes
 pub mod Outlines
 pub mod Layering
 pub mod Parameters
-pub mod Passing

@@ -6,33 +6,20 @@ use Rattle.cxx_reading.specs.Reads.{Reads, ◌>>=◌}
 use Rattle.cxx_reading.specs.Shapes as shape
 use Rattle.cxx_reading.specs.Shapes.{no_type, a_type, surely, fits, fits_not, is_type_kind}
 use Rattle.cxx_reading.specs.Tokens.{kind_of_name}
-use Rattle.cxx_syntax.specs.declared.shapes.Fits.{Fits}
-use Rattle.cxx_syntax.specs.declared.shapes.Fits.TheVariants as fitting
-use Rattle.cxx_syntax.specs.declared.shapes.Outline.{Outline}
-use Rattle.cxx_syntax.specs.declared.shapes.Run.{Run}
-use Rattle.cxx_syntax.specs.declared.shapes.Run.TheVariants as run
-use Rattle.cxx_syntax.specs.declared.turn.Turn.{Turn}
-use Rattle.cxx_syntax.specs.Views.{IsTurn, turn_at}
+use Rattle.cxx_cursor.specs.declared.outline.Fits.{Fits}
+use Rattle.cxx_cursor.specs.declared.outline.Outline.{Outline}
+use Rattle.cxx_cursor.specs.declared.outline.Run.{Run}
+use Rattle.cxx_cursor.specs.declared.turn.Turn.{Turn}
+use Rattle.cxx_cursor.specs.Outlines.{run_in, fits_of, outline_of}
+use Rattle.cxx_cursor.specs.Views.{IsTurn, turn_at}
 use Rattle.cxx_tree.specs.Held.{Held}
 
 -- whether the name ahead is one of a type
 abbrev pub names_type : {S : Type 0} → Kinds S → Reads S Bool
 names_type asks = kind_of_name asks.kind >>= is_type_kind
 
-abbrev pub run_in : Run → shape.Run
-run_in run.NoType = no_type
-run_in run.AType = a_type
-run_in run.Surely = surely
-
 abbrev pub run_turn : Held → Turn Bool Run → reads.Turn Bool shape.Run
 run_turn held = turn_at (λ typed. typed) run_in
-
-abbrev pub fits_of : Fits → shape.Fits
-fits_of fitting.Fits = fits
-fits_of fitting.FitsNot = fits_not
-
-abbrev pub outline_of : Outline → shape.Outline
-outline_of outline = record { brackets = outline.brackets; is_named = outline.is_named }
 
 abbrev pub prefix_turn : Held → Turn Outline Outline → reads.Turn shape.Outline shape.Outline
 prefix_turn held = turn_at outline_of outline_of

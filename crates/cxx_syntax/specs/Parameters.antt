@@ -8,9 +8,9 @@ use Rattle.cxx_reading.specs.Reads as reads
 use Rattle.cxx_reading.specs.Reads.{Ahead, Reads, ask, got, give, looked, ◌>>=◌}
 use Rattle.cxx_reading.specs.Syntax.{default_at, list_ended, parameter_fits, parameter_tree, place_of_declarator, specified_type, turn_result, with_parameter}
 use Rattle.cxx_reading.specs.Trees.{CxxTree}
-use Rattle.cxx_syntax.specs.declared.declarator.ParameterTypes.{ParameterTypes}
-use Rattle.cxx_syntax.specs.declared.turn.Turn.{Turn}
-use Rattle.cxx_syntax.specs.Views.{AreParameters, IsTurn, parameters_of, turn_at}
+use Rattle.cxx_cursor.specs.declared.declarator.ParameterTypes.{ParameterTypes}
+use Rattle.cxx_cursor.specs.declared.turn.Turn.{Turn}
+use Rattle.cxx_cursor.specs.Views.{AreParameters, IsTurn, parameters_of, turn_at}
 use Rattle.cxx_tree.specs.Held.{Held}
 
 abbrev pub parameters_turn : Held → Turn ParameterTypes ParameterTypes → reads.Turn definition.ParameterTypes definition.ParameterTypes

@@ -2,10 +2,10 @@
 use Rattle.cxx_reading.specs.Declarators as declarators
 use Rattle.cxx_reading.specs.Reads as reads
 use Rattle.cxx_reading.specs.Syntax as definition
-use Rattle.cxx_syntax.specs.declared.declarator.Declarator.{Declarator}
+use Rattle.cxx_cursor.specs.declared.declarator.Declarator.{Declarator}
 use Rattle.cxx_syntax.specs.declared.declarators.Suffixed.{Suffixed}
-use Rattle.cxx_syntax.specs.declared.turn.Turn.{Turn}
-use Rattle.cxx_syntax.specs.Views.{IsDeclarator, IsTurn, declarator_of, turn_at}
+use Rattle.cxx_cursor.specs.declared.turn.Turn.{Turn}
+use Rattle.cxx_cursor.specs.Views.{IsDeclarator, IsTurn, declarator_of, turn_at}
 use Rattle.cxx_tree.specs.Held.{Held}
 
 abbrev pub suffixed_of : Held → Suffixed → definition.Suffixed

@@ -1,9 +1,8 @@
 ghost use Rattle.cxx_reading.specs.Syntax as definition;
-ghost use Rattle.cxx_syntax.specs.Reading.{Takes};
-ghost use Rattle.cxx_syntax.specs.Views.{turn_at};
+ghost use Rattle.cxx_cursor.specs.Reading.{Takes};
+ghost use Rattle.cxx_cursor.specs.Views.{turn_at};
 
-use crate::cursor::{Cursor, is_keyword, is_punct};
-use crate::turn::Turn;
+use cxx_cursor::{Cursor, Turn, is_keyword, is_punct};
 use cxx_model::{Cv, FaultText, LeftOut, Stop, keyword, punct};
 
 // A word behind `*` (8.3.1), each once.
@@ -35,7 +34,7 @@ fn cv_step(cursor: &mut Cursor<'_>, cv: Cv) -> Result<Turn<Cv, Cv>, Stop>
 }
 
 // All words behind `*`.
-#[tactic(auto, using(crate::proofs::Loops::turn, crate::proofs::Loops::no_turn), unfolding(cxx_reading::specs::Syntax::cv_at))]
+#[tactic(auto, using(cxx_cursor::proofs::Loops::turn, cxx_cursor::proofs::Loops::no_turn), unfolding(cxx_reading::specs::Syntax::cv_at))]
 pub(crate) fn cv_at(cursor: &mut Cursor<'_>) -> Result<Cv, Stop>
     ensures { Takes (λ x. x) cursor.new result (definition.cv_at tt cursor.old) }
 {

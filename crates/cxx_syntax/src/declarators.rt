@@ -3,28 +3,26 @@
 ghost use Rattle.std.specs.Prelude.{◌≡◌, ◌++◌, [], ◌∷◌, Some, None, false, IfOk, IfErr};
 ghost use Rattle.cxx_model.specs.declared.stop.Stop.TheVariants as stop;
 ghost use Rattle.cxx_reading.specs.Shapes as shape;
-ghost use Rattle.cxx_syntax.specs.declared.declarator.Layer.TheVariants as layer;
+ghost use Rattle.cxx_cursor.specs.declared.declarator.Layer.TheVariants as layer;
 ghost use Rattle.cxx_reading.specs.Syntax as definition;
 ghost use Rattle.cxx_reading.specs.Trees.{last_part};
-ghost use Rattle.cxx_syntax.specs.Asking.{AnyKnown, itself};
+ghost use Rattle.cxx_cursor.specs.Asking.{AnyKnown, itself};
 ghost use Rattle.cxx_syntax.specs.Outlines.{names_type};
-ghost use Rattle.cxx_syntax.specs.Reading.{IsRead};
+ghost use Rattle.cxx_cursor.specs.Reading.{IsRead};
 ghost use Rattle.cxx_syntax.specs.Suffixes.{IsSuffixed, IsSuffixedTurn, suffixed_of, suffixed_turn};
-ghost use Rattle.cxx_syntax.specs.Views.{IsConstantOption, IsDeclarator, declarator_of, name_at};
+ghost use Rattle.cxx_cursor.specs.Views.{IsConstantOption, IsDeclarator, declarator_of, name_at};
 ghost use Rattle.cxx_tree.specs.Arena.{bound_of, path_at};
 ghost use Rattle.cxx_tree.specs.Held.{meaning};
 
-use crate::cursor::{Cursor, is_keyword, is_punct};
 use crate::cv::{cv_at, exceptions_at};
-use crate::declarator::{Declarator, Layer, ParameterTypes};
 use crate::kinds::Kinds;
-use crate::name::NameToken;
 use crate::nested::Nested;
-use crate::nodes::last_part;
 use crate::reader::Reader;
 use crate::steps::begins_class;
-use crate::turn::Turn;
-use crate::words::type_word;
+use cxx_cursor::{
+    Cursor, Declarator, Layer, NameToken, ParameterTypes, Turn, is_keyword, is_punct, joined,
+    last_part, type_word,
+};
 use cxx_model::{Kind, Listed, Path, Place, Stop, TokenKind, TreeIdList, Word, keyword, punct};
 use cxx_reading::Naming;
 use cxx_tree::State;
@@ -110,15 +108,6 @@ fn with_path(state: &State, alloc: Global, path: &Path) -> Result<Declarator, Al
     })
 }
 
-/// The trees of both lists.
-pub fn joined(one: TreeIdList, two: TreeIdList) -> Result<TreeIdList, AllocError>
-    ensures { IfOk result (λ all. all ≡ one ++ two) }
-{
-    let mut items = one.into_vec();
-    items.extend_from_slice(two.as_slice())?;
-    Ok(Listed::from_vec(items))
-}
-
 // A part of a declarator that stands outside of what was read of it.
 fn outward(layer: Layer, parts: TreeIdList, inside: Declarator) -> Result<Declarator, Stop>
     ensures is { IfOk result (λ declarator. declarator ≡ record inside { layers = inside.layers ++ layer ∷ []; parts = inside.parts ++ parts }) }
@@ -198,7 +187,7 @@ fn is_no_declarator(kind: TokenKind) -> bool
 
 impl<K: Kinds, N: Nested> Reader<'_, K, N> {
     // Whether the name ahead is one of a type (3.4).
-    #[tactic(auto, using(crate::proofs::Kept::later_trans, crate::proofs::Kept::later_refl))]
+    #[tactic(auto, using(cxx_cursor::proofs::Kept::later_trans, cxx_cursor::proofs::Kept::later_refl))]
     fn is_type_name(&self, state: &mut State, cursor: &Cursor<'_>) -> Result<bool, Stop>
         requires ready { K.is_ready self.now.kinds.now }
         ensures { IsRead itself AnyKnown state.old state.new cursor.now result (names_type (K.asks self.now.kinds.now self.now.room) (meaning state.old) cursor.now) }
@@ -250,7 +239,7 @@ impl<K: Kinds, N: Nested> Reader<'_, K, N> {
     }
 
     // Only the first bound of a row may be left out (8.3.4).
-    #[tactic(auto, using(crate::proofs::Kept::trees_kept, crate::proofs::Kept::trees_later, crate::proofs::Kept::trees_append, crate::proofs::Kept::trees_below_append, crate::proofs::Kept::layers_kept, crate::proofs::Kept::layers_later, crate::proofs::Kept::layers_append, crate::proofs::Kept::layers_below_append, crate::proofs::Kept::later_trans, crate::proofs::Kept::later_refl), unfolding(cxx_reading::specs::Syntax::array_suffix))]
+    #[tactic(auto, using(cxx_cursor::proofs::Kept::trees_kept, cxx_cursor::proofs::Kept::trees_later, cxx_cursor::proofs::Kept::trees_append, cxx_cursor::proofs::Kept::trees_below_append, cxx_cursor::proofs::Kept::layers_kept, cxx_cursor::proofs::Kept::layers_later, cxx_cursor::proofs::Kept::layers_append, cxx_cursor::proofs::Kept::layers_below_append, cxx_cursor::proofs::Kept::later_trans, cxx_cursor::proofs::Kept::later_refl), unfolding(cxx_reading::specs::Syntax::array_suffix))]
     fn array_suffix(
         &self,
         state: &mut State,
@@ -271,7 +260,7 @@ impl<K: Kinds, N: Nested> Reader<'_, K, N> {
     }
 
     // The words behind the parameters are read and say nothing (8.3.5).
-    #[tactic(auto, using(crate::proofs::Kept::trees_kept, crate::proofs::Kept::trees_later, crate::proofs::Kept::trees_append, crate::proofs::Kept::trees_below_append, crate::proofs::Kept::layers_kept, crate::proofs::Kept::layers_later, crate::proofs::Kept::layers_append, crate::proofs::Kept::layers_below_append, crate::proofs::Kept::later_trans, crate::proofs::Kept::later_refl), unfolding(cxx_reading::specs::Syntax::function_suffix))]
+    #[tactic(auto, using(cxx_cursor::proofs::Kept::trees_kept, cxx_cursor::proofs::Kept::trees_later, cxx_cursor::proofs::Kept::trees_append, cxx_cursor::proofs::Kept::trees_below_append, cxx_cursor::proofs::Kept::layers_kept, cxx_cursor::proofs::Kept::layers_later, cxx_cursor::proofs::Kept::layers_append, cxx_cursor::proofs::Kept::layers_below_append, cxx_cursor::proofs::Kept::later_trans, cxx_cursor::proofs::Kept::later_refl), unfolding(cxx_reading::specs::Syntax::function_suffix))]
     fn function_suffix(
         &self,
         state: &mut State,
@@ -294,7 +283,7 @@ impl<K: Kinds, N: Nested> Reader<'_, K, N> {
     }
 
     // Behind a name a bracket holds parameters by its shape, and else an initializer (8.2).
-    #[tactic(auto, using(crate::proofs::Kept::trees_kept, crate::proofs::Kept::trees_later, crate::proofs::Kept::trees_append, crate::proofs::Kept::trees_below_append, crate::proofs::Kept::layers_kept, crate::proofs::Kept::layers_later, crate::proofs::Kept::layers_append, crate::proofs::Kept::layers_below_append, crate::proofs::Kept::later_trans, crate::proofs::Kept::later_refl), unfolding(cxx_reading::specs::Syntax::bracket_suffix))]
+    #[tactic(auto, using(cxx_cursor::proofs::Kept::trees_kept, cxx_cursor::proofs::Kept::trees_later, cxx_cursor::proofs::Kept::trees_append, cxx_cursor::proofs::Kept::trees_below_append, cxx_cursor::proofs::Kept::layers_kept, cxx_cursor::proofs::Kept::layers_later, cxx_cursor::proofs::Kept::layers_append, cxx_cursor::proofs::Kept::layers_below_append, cxx_cursor::proofs::Kept::later_trans, cxx_cursor::proofs::Kept::later_refl), unfolding(cxx_reading::specs::Syntax::bracket_suffix))]
     fn bracket_suffix(
         &self,
         state: &mut State,
@@ -337,7 +326,7 @@ impl<K: Kinds, N: Nested> Reader<'_, K, N> {
     }
 
     // All parts behind a name.
-    #[tactic(auto, using(crate::proofs::Loops::turn, crate::proofs::Loops::no_turn, crate::proofs::Kept::later_trans, crate::proofs::Kept::later_refl), unfolding(cxx_reading::specs::Syntax::suffixes_at))]
+    #[tactic(auto, using(cxx_cursor::proofs::Loops::turn, cxx_cursor::proofs::Loops::no_turn, cxx_cursor::proofs::Kept::later_trans, cxx_cursor::proofs::Kept::later_refl), unfolding(cxx_reading::specs::Syntax::suffixes_at))]
     fn suffixes_at(
         &self,
         state: &mut State,
@@ -362,7 +351,7 @@ impl<K: Kinds, N: Nested> Reader<'_, K, N> {
     }
 
     // A name with qualifiers, which is looked up before what stands behind it is read (8.3).
-    #[tactic(auto, using(crate::proofs::Kept::trees_kept, crate::proofs::Kept::trees_later, crate::proofs::Kept::trees_append, crate::proofs::Kept::trees_below_append, crate::proofs::Kept::layers_kept, crate::proofs::Kept::layers_later, crate::proofs::Kept::layers_append, crate::proofs::Kept::layers_below_append, crate::proofs::Kept::later_trans, crate::proofs::Kept::later_refl), unfolding(cxx_reading::specs::Syntax::qualified_part))]
+    #[tactic(auto, using(cxx_cursor::proofs::Kept::trees_kept, cxx_cursor::proofs::Kept::trees_later, cxx_cursor::proofs::Kept::trees_append, cxx_cursor::proofs::Kept::trees_below_append, cxx_cursor::proofs::Kept::layers_kept, cxx_cursor::proofs::Kept::layers_later, cxx_cursor::proofs::Kept::layers_append, cxx_cursor::proofs::Kept::layers_below_append, cxx_cursor::proofs::Kept::later_trans, cxx_cursor::proofs::Kept::later_refl), unfolding(cxx_reading::specs::Syntax::qualified_part))]
     fn qualified_part(&self, state: &mut State, cursor: &mut Cursor<'_>) -> Result<Declarator, Stop>
         requires ready { K.is_ready self.now.kinds.now }
         requires open { N.is_open self.now.nested.now }
@@ -376,7 +365,7 @@ impl<K: Kinds, N: Nested> Reader<'_, K, N> {
     }
 
     // A name, or none where none has to stand.
-    #[tactic(auto, using(crate::proofs::Kept::trees_kept, crate::proofs::Kept::trees_later, crate::proofs::Kept::trees_append, crate::proofs::Kept::trees_below_append, crate::proofs::Kept::layers_kept, crate::proofs::Kept::layers_later, crate::proofs::Kept::layers_append, crate::proofs::Kept::layers_below_append, crate::proofs::Kept::later_trans, crate::proofs::Kept::later_refl), unfolding(cxx_reading::specs::Syntax::name_part, cxx_reading::specs::Tokens::no_declarator))]
+    #[tactic(auto, using(cxx_cursor::proofs::Kept::trees_kept, cxx_cursor::proofs::Kept::trees_later, cxx_cursor::proofs::Kept::trees_append, cxx_cursor::proofs::Kept::trees_below_append, cxx_cursor::proofs::Kept::layers_kept, cxx_cursor::proofs::Kept::layers_later, cxx_cursor::proofs::Kept::layers_append, cxx_cursor::proofs::Kept::layers_below_append, cxx_cursor::proofs::Kept::later_trans, cxx_cursor::proofs::Kept::later_refl), unfolding(cxx_reading::specs::Syntax::name_part, cxx_reading::specs::Tokens::no_declarator))]
     fn name_part(
         &self,
         state: &mut State,
@@ -404,7 +393,7 @@ impl<K: Kinds, N: Nested> Reader<'_, K, N> {
     }
 
     // A declarator in brackets.
-    #[tactic(auto, using(crate::proofs::Kept::trees_kept, crate::proofs::Kept::trees_later, crate::proofs::Kept::trees_append, crate::proofs::Kept::trees_below_append, crate::proofs::Kept::layers_kept, crate::proofs::Kept::layers_later, crate::proofs::Kept::layers_append, crate::proofs::Kept::layers_below_append, crate::proofs::Kept::later_trans, crate::proofs::Kept::later_refl), unfolding(cxx_reading::specs::Syntax::grouped_part))]
+    #[tactic(auto, using(cxx_cursor::proofs::Kept::trees_kept, cxx_cursor::proofs::Kept::trees_later, cxx_cursor::proofs::Kept::trees_append, cxx_cursor::proofs::Kept::trees_below_append, cxx_cursor::proofs::Kept::layers_kept, cxx_cursor::proofs::Kept::layers_later, cxx_cursor::proofs::Kept::layers_append, cxx_cursor::proofs::Kept::layers_below_append, cxx_cursor::proofs::Kept::later_trans, cxx_cursor::proofs::Kept::later_refl), unfolding(cxx_reading::specs::Syntax::grouped_part))]
     fn grouped_part(
         &self,
         state: &mut State,
@@ -420,7 +409,7 @@ impl<K: Kinds, N: Nested> Reader<'_, K, N> {
     }
 
     // Where no name has to stand, a bracket before a type holds parameters (8.2).
-    #[tactic(auto, using(crate::proofs::Kept::trees_kept, crate::proofs::Kept::trees_later, crate::proofs::Kept::trees_append, crate::proofs::Kept::trees_below_append, crate::proofs::Kept::layers_kept, crate::proofs::Kept::layers_later, crate::proofs::Kept::layers_append, crate::proofs::Kept::layers_below_append, crate::proofs::Kept::later_trans, crate::proofs::Kept::later_refl), unfolding(cxx_reading::specs::Syntax::bracket_part))]
+    #[tactic(auto, using(cxx_cursor::proofs::Kept::trees_kept, cxx_cursor::proofs::Kept::trees_later, cxx_cursor::proofs::Kept::trees_append, cxx_cursor::proofs::Kept::trees_below_append, cxx_cursor::proofs::Kept::layers_kept, cxx_cursor::proofs::Kept::layers_later, cxx_cursor::proofs::Kept::layers_append, cxx_cursor::proofs::Kept::layers_below_append, cxx_cursor::proofs::Kept::later_trans, cxx_cursor::proofs::Kept::later_refl), unfolding(cxx_reading::specs::Syntax::bracket_part))]
     fn bracket_part(
         &self,
         state: &mut State,
@@ -438,7 +427,7 @@ impl<K: Kinds, N: Nested> Reader<'_, K, N> {
     }
 
     // A pointer (8.3.1).
-    #[tactic(auto, using(crate::proofs::Kept::trees_kept, crate::proofs::Kept::trees_later, crate::proofs::Kept::trees_append, crate::proofs::Kept::trees_below_append, crate::proofs::Kept::layers_kept, crate::proofs::Kept::layers_later, crate::proofs::Kept::layers_append, crate::proofs::Kept::layers_below_append, crate::proofs::Kept::later_trans, crate::proofs::Kept::later_refl), unfolding(cxx_reading::specs::Syntax::star_part))]
+    #[tactic(auto, using(cxx_cursor::proofs::Kept::trees_kept, cxx_cursor::proofs::Kept::trees_later, cxx_cursor::proofs::Kept::trees_append, cxx_cursor::proofs::Kept::trees_below_append, cxx_cursor::proofs::Kept::layers_kept, cxx_cursor::proofs::Kept::layers_later, cxx_cursor::proofs::Kept::layers_append, cxx_cursor::proofs::Kept::layers_below_append, cxx_cursor::proofs::Kept::later_trans, cxx_cursor::proofs::Kept::later_refl), unfolding(cxx_reading::specs::Syntax::star_part))]
     fn star_part(
         &self,
         state: &mut State,
@@ -453,7 +442,7 @@ impl<K: Kinds, N: Nested> Reader<'_, K, N> {
     }
 
     // A reference (8.3.2).
-    #[tactic(auto, using(crate::proofs::Kept::trees_kept, crate::proofs::Kept::trees_later, crate::proofs::Kept::trees_append, crate::proofs::Kept::trees_below_append, crate::proofs::Kept::layers_kept, crate::proofs::Kept::layers_later, crate::proofs::Kept::layers_append, crate::proofs::Kept::layers_below_append, crate::proofs::Kept::later_trans, crate::proofs::Kept::later_refl), unfolding(cxx_reading::specs::Syntax::ampersand_part))]
+    #[tactic(auto, using(cxx_cursor::proofs::Kept::trees_kept, cxx_cursor::proofs::Kept::trees_later, cxx_cursor::proofs::Kept::trees_append, cxx_cursor::proofs::Kept::trees_below_append, cxx_cursor::proofs::Kept::layers_kept, cxx_cursor::proofs::Kept::layers_later, cxx_cursor::proofs::Kept::layers_append, cxx_cursor::proofs::Kept::layers_below_append, cxx_cursor::proofs::Kept::later_trans, cxx_cursor::proofs::Kept::later_refl), unfolding(cxx_reading::specs::Syntax::ampersand_part))]
     fn ampersand_part(
         &self,
         state: &mut State,
@@ -468,7 +457,7 @@ impl<K: Kinds, N: Nested> Reader<'_, K, N> {
     }
 
     /// A declarator (8).
-    #[tactic(auto, using(crate::proofs::Kept::trees_kept, crate::proofs::Kept::trees_later, crate::proofs::Kept::trees_append, crate::proofs::Kept::trees_below_append, crate::proofs::Kept::layers_kept, crate::proofs::Kept::layers_later, crate::proofs::Kept::layers_append, crate::proofs::Kept::layers_below_append, crate::proofs::Kept::later_trans, crate::proofs::Kept::later_refl), unfolding(cxx_reading::specs::Syntax::declarator_at))]
+    #[tactic(auto, using(cxx_cursor::proofs::Kept::trees_kept, cxx_cursor::proofs::Kept::trees_later, cxx_cursor::proofs::Kept::trees_append, cxx_cursor::proofs::Kept::trees_below_append, cxx_cursor::proofs::Kept::layers_kept, cxx_cursor::proofs::Kept::layers_later, cxx_cursor::proofs::Kept::layers_append, cxx_cursor::proofs::Kept::layers_below_append, cxx_cursor::proofs::Kept::later_trans, cxx_cursor::proofs::Kept::later_refl), unfolding(cxx_reading::specs::Syntax::declarator_at))]
     pub fn declarator_at(
         &self,
         state: &mut State,
@@ -492,7 +481,7 @@ impl<K: Kinds, N: Nested> Reader<'_, K, N> {
     }
 
     /// What stands behind `*` (8.3.1).
-    #[tactic(auto, using(crate::proofs::Kept::trees_kept, crate::proofs::Kept::trees_later, crate::proofs::Kept::trees_append, crate::proofs::Kept::trees_below_append, crate::proofs::Kept::layers_kept, crate::proofs::Kept::layers_later, crate::proofs::Kept::layers_append, crate::proofs::Kept::layers_below_append, crate::proofs::Kept::later_trans, crate::proofs::Kept::later_refl), unfolding(cxx_reading::specs::Syntax::pointed_at))]
+    #[tactic(auto, using(cxx_cursor::proofs::Kept::trees_kept, cxx_cursor::proofs::Kept::trees_later, cxx_cursor::proofs::Kept::trees_append, cxx_cursor::proofs::Kept::trees_below_append, cxx_cursor::proofs::Kept::layers_kept, cxx_cursor::proofs::Kept::layers_later, cxx_cursor::proofs::Kept::layers_append, cxx_cursor::proofs::Kept::layers_below_append, cxx_cursor::proofs::Kept::later_trans, cxx_cursor::proofs::Kept::later_refl), unfolding(cxx_reading::specs::Syntax::pointed_at))]
     pub fn pointed_at(
         &self,
         state: &mut State,
@@ -509,7 +498,7 @@ impl<K: Kinds, N: Nested> Reader<'_, K, N> {
     }
 
     /// What stands behind `&` (8.3.2).
-    #[tactic(auto, using(crate::proofs::Kept::trees_kept, crate::proofs::Kept::trees_later, crate::proofs::Kept::trees_append, crate::proofs::Kept::trees_below_append, crate::proofs::Kept::layers_kept, crate::proofs::Kept::layers_later, crate::proofs::Kept::layers_append, crate::proofs::Kept::layers_below_append, crate::proofs::Kept::later_trans, crate::proofs::Kept::later_refl), unfolding(cxx_reading::specs::Syntax::referred_at))]
+    #[tactic(auto, using(cxx_cursor::proofs::Kept::trees_kept, cxx_cursor::proofs::Kept::trees_later, cxx_cursor::proofs::Kept::trees_append, cxx_cursor::proofs::Kept::trees_below_append, cxx_cursor::proofs::Kept::layers_kept, cxx_cursor::proofs::Kept::layers_later, cxx_cursor::proofs::Kept::layers_append, cxx_cursor::proofs::Kept::layers_below_append, cxx_cursor::proofs::Kept::later_trans, cxx_cursor::proofs::Kept::later_refl), unfolding(cxx_reading::specs::Syntax::referred_at))]
     pub fn referred_at(
         &self,
         state: &mut State,
@@ -525,7 +514,7 @@ impl<K: Kinds, N: Nested> Reader<'_, K, N> {
     }
 
     /// A declarator in brackets behind its `(`, with the end (8).
-    #[tactic(auto, using(crate::proofs::Kept::trees_kept, crate::proofs::Kept::trees_later, crate::proofs::Kept::trees_append, crate::proofs::Kept::trees_below_append, crate::proofs::Kept::layers_kept, crate::proofs::Kept::layers_later, crate::proofs::Kept::layers_append, crate::proofs::Kept::layers_below_append, crate::proofs::Kept::later_trans, crate::proofs::Kept::later_refl), unfolding(cxx_reading::specs::Syntax::grouped_at))]
+    #[tactic(auto, using(cxx_cursor::proofs::Kept::trees_kept, cxx_cursor::proofs::Kept::trees_later, cxx_cursor::proofs::Kept::trees_append, cxx_cursor::proofs::Kept::trees_below_append, cxx_cursor::proofs::Kept::layers_kept, cxx_cursor::proofs::Kept::layers_later, cxx_cursor::proofs::Kept::layers_append, cxx_cursor::proofs::Kept::layers_below_append, cxx_cursor::proofs::Kept::later_trans, cxx_cursor::proofs::Kept::later_refl), unfolding(cxx_reading::specs::Syntax::grouped_at))]
     pub fn grouped_at(
         &self,
         state: &mut State,

@@ -3,11 +3,11 @@
 ghost use Rattle.std.specs.Prelude.{◌<◌, length};
 ghost use Rattle.cxx_reading.specs.Kinds as definition;
 ghost use Rattle.cxx_reading.specs.State.{CxxState};
-ghost use Rattle.cxx_syntax.specs.Reading.{IsRead};
-ghost use Rattle.cxx_syntax.specs.Views.{AreTreesHeld, trees_held};
+ghost use Rattle.cxx_cursor.specs.Reading.{IsRead};
+ghost use Rattle.cxx_cursor.specs.Views.{AreTreesHeld, trees_held};
 ghost use Rattle.cxx_tree.specs.Held.{meaning, type_of};
 
-use crate::cursor::Cursor;
+use cxx_cursor::Cursor;
 use cxx_model::{Stop, TreeIdList, TypeId};
 use cxx_tree::State;
 

@@ -2,13 +2,12 @@ ghost use Rattle.std.specs.Prelude.{ℕ, ◌<◌, length};
 ghost use Rattle.cxx_reading.specs.Kinds as definition;
 ghost use Rattle.cxx_reading.specs.State.{CxxState};
 ghost use Rattle.cxx_reading.specs.Tokens.{path_ahead};
-ghost use Rattle.cxx_syntax.specs.Asking.{AnyKnown, IsAsked, IsConstantKnown, IsEnumeration, IsTypeKnown, enumeration_number, itself, scope_number};
-ghost use Rattle.cxx_syntax.specs.Views.{lexeme_at, name_of_option};
+ghost use Rattle.cxx_cursor.specs.Asking.{AnyKnown, IsAsked, IsConstantKnown, IsEnumeration, IsTypeKnown, enumeration_number, itself, scope_number};
+ghost use Rattle.cxx_cursor.specs.Views.{lexeme_at, name_of_option};
 ghost use Rattle.cxx_tree.specs.Arena.{path_at};
 ghost use Rattle.cxx_tree.specs.Held.{meaning, tree, trees, type_of};
 
-use crate::cursor::{Cursor, Spelled};
-use crate::name::NameToken;
+use cxx_cursor::{Cursor, NameToken, Spelled};
 use cxx_model::{EnumId, Kind, Path, Place, ScopeId, Stop, TreeId, TypeId};
 use cxx_tree::State;
 

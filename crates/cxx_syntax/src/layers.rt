@@ -6,12 +6,12 @@ ghost use Rattle.cxx_model.specs.Types.Trees.{fundamental};
 ghost use Rattle.cxx_reading.specs.Declarators as definition;
 ghost use Rattle.cxx_reading.specs.Declarators.{declared_type, is_below_one, layer_on, parameter_type, refused_in};
 ghost use Rattle.cxx_syntax.specs.Layering.{footing_of as footing_of_type, footing_on as footing_on_layer, is_bare_void, refused_by};
-ghost use Rattle.cxx_syntax.specs.Views.{AreLayersBelow, IsLayerBelow, layer_in, layers_in};
+ghost use Rattle.cxx_cursor.specs.Views.{AreLayersBelow, IsLayerBelow, layer_in, layers_in};
 ghost use Rattle.cxx_tree.specs.Arena.{bound_of};
 ghost use Rattle.cxx_tree.specs.Held.{type_of};
 ghost use Rattle.cxx_tree.specs.Later.{MakesType};
 
-use crate::declarator::Layer;
+use cxx_cursor::Layer;
 use cxx_model::{Base, OutOfMemory, SubstitutionText, TypeId, TypeNode};
 use cxx_tree::State;
 use cxx_types::TypeTable;
@@ -213,7 +213,7 @@ pub fn is_declared_void(state: &State, layers: &[Layer], of: TypeId) -> bool
 }
 
 // A type with one layer more.
-#[tactic(auto, using(crate::proofs::Layering::adjusted_same, crate::proofs::Kept::later_trans))]
+#[tactic(auto, using(crate::proofs::Layering::adjusted_same, cxx_cursor::proofs::Kept::later_trans))]
 fn with_layer(state: &mut State, layer: &Layer, of: TypeId) -> Result<TypeId, OutOfMemory>
     requires known { of.0 < length (state.old).types }
     requires below { IsLayerBelow (length (state.old).types) layer.now }
@@ -253,7 +253,7 @@ pub fn declared(state: &mut State, layers: &[Layer], of: TypeId) -> Result<TypeI
 }
 
 /// The type of a parameter with that declarator: an array and a function are what they decay to (8.3.5).
-#[tactic(auto, using(crate::proofs::Kept::later_trans))]
+#[tactic(auto, using(cxx_cursor::proofs::Kept::later_trans))]
 pub fn declared_parameter(
     state: &mut State,
     layers: &[Layer],

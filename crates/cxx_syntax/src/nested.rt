@@ -2,13 +2,12 @@
 
 ghost use Rattle.cxx_reading.specs.Kinds as definition;
 ghost use Rattle.cxx_reading.specs.State.{CxxState};
-ghost use Rattle.cxx_syntax.specs.Asking.{AnyKnown, itself};
-ghost use Rattle.cxx_syntax.specs.Reading.{IsRead};
-ghost use Rattle.cxx_syntax.specs.Views.{AreParameters, AreTreesHeld, IsDeclarator, IsValue, declarator_of, parameters_of, trees_held, value_of};
+ghost use Rattle.cxx_cursor.specs.Asking.{AnyKnown, itself};
+ghost use Rattle.cxx_cursor.specs.Reading.{IsRead};
+ghost use Rattle.cxx_cursor.specs.Views.{AreParameters, AreTreesHeld, IsDeclarator, IsValue, declarator_of, parameters_of, trees_held, value_of};
 ghost use Rattle.cxx_tree.specs.Held.{meaning};
 
-use crate::cursor::Cursor;
-use crate::declarator::{Declarator, ParameterTypes};
+use cxx_cursor::{Cursor, Declarator, ParameterTypes};
 use cxx_model::{EnumId, Stop, TreeIdList};
 use cxx_reading::Naming;
 use cxx_tree::State;

@@ -3,26 +3,24 @@
 ghost use Rattle.std.specs.Prelude.{◌≡◌, ◌++◌, ◌<◌, ◌∷◌, [], length, IfOk, IfErr, false};
 ghost use Rattle.cxx_model.specs.declared.stop.Stop.TheVariants as stop;
 ghost use Rattle.cxx_reading.specs.Syntax as definition;
-ghost use Rattle.cxx_syntax.specs.Asking.{IsTypeKnown};
-ghost use Rattle.cxx_syntax.specs.Making.{GrowsTree};
+ghost use Rattle.cxx_cursor.specs.Asking.{IsTypeKnown};
+ghost use Rattle.cxx_cursor.specs.Making.{GrowsTree};
 ghost use Rattle.cxx_syntax.specs.Parameters.{IsParametersTurn, ellipsis_alone as ellipsis_alone_at, parameter_added as parameter_added_by, parameter_behind as parameter_behind_by, parameter_declared as parameter_declared_by, parameter_typed as parameter_typed_by, parameters_turn};
-ghost use Rattle.cxx_syntax.specs.Reading.{IsRead};
-ghost use Rattle.cxx_syntax.specs.Views.{AreParameters, AreSpecifiers, AreTreesHeld, IsDeclarator, declarator_of, parameters_of, specifiers_of, trees_held};
+ghost use Rattle.cxx_cursor.specs.Reading.{IsRead};
+ghost use Rattle.cxx_cursor.specs.Views.{AreParameters, AreSpecifiers, AreTreesHeld, IsDeclarator, declarator_of, parameters_of, specifiers_of, trees_held};
 ghost use Rattle.cxx_tree.specs.Held.{meaning, type_of};
 ghost use Rattle.cxx_tree.specs.Later.{MakesType};
 
-use crate::cursor::{Cursor, fault_at, is_keyword, is_punct};
-use crate::declarator::{Declarator, ParameterTypes};
-use crate::declarators::joined;
 use crate::defaults::Defaults;
 use crate::kinds::Kinds;
 use crate::layers::{declared_parameter, is_declared_void, refused};
 use crate::nested::Nested;
-use crate::nodes::{node_from, path_to_option, place_of, production, push};
 use crate::reader::Reader;
-use crate::specifiers::Specifiers;
-use crate::turn::Turn;
-use crate::words::base_of_words;
+use crate::trees::production;
+use cxx_cursor::{
+    Cursor, Declarator, ParameterTypes, Specifiers, Turn, base_of_words, fault_at, is_keyword,
+    is_punct, joined, node_from, path_to_option, place_of, push,
+};
 use cxx_model::limits::MOST_ARGUMENTS;
 use cxx_model::{
     Base, FaultText, LimitKind, Listed, OutOfMemory, ScopeId, Stop, TreeId, TreeIdList, TypeId,
@@ -33,7 +31,7 @@ use cxx_tree::State;
 use std::alloc::Global;
 
 /// The type of specifiers, and `void` where they name none (7.1.5).
-#[tactic(auto, using(crate::proofs::Kept::later_trans))]
+#[tactic(auto, using(cxx_cursor::proofs::Kept::later_trans))]
 pub fn specified(state: &mut State, specifiers: &Specifiers) -> Result<TypeId, OutOfMemory>
     requires { AreSpecifiers state.old specifiers.now }
     ensures { MakesType state.old state.new result (definition.specified_type (specifiers_of state.old specifiers.now)) }
@@ -60,7 +58,7 @@ fn is_refused_parameter(state: &State, declarator: &Declarator, of: TypeId) -> b
 }
 
 // The type of a parameter.
-#[tactic(auto, using(crate::proofs::Kept::layers_kept, crate::proofs::Kept::layers_later, crate::proofs::Kept::later_trans, crate::proofs::Kept::later_refl), unfolding(crate::specs::Parameters::parameter_typed, cxx_reading::specs::Syntax::parameter_fits))]
+#[tactic(auto, using(cxx_cursor::proofs::Kept::layers_kept, cxx_cursor::proofs::Kept::layers_later, cxx_cursor::proofs::Kept::later_trans, cxx_cursor::proofs::Kept::later_refl), unfolding(crate::specs::Parameters::parameter_typed, cxx_reading::specs::Syntax::parameter_fits))]
 fn parameter_typed(
     state: &mut State,
     cursor: &Cursor<'_>,
@@ -88,7 +86,7 @@ fn parameter_typed(
 }
 
 // The tree of a parameter, with its default argument. `to` stands behind its declarator, and `end` behind all of it.
-#[tactic(auto, using(crate::proofs::Kept::trees_append, crate::proofs::Kept::trees_below_append))]
+#[tactic(auto, using(cxx_cursor::proofs::Kept::trees_append, cxx_cursor::proofs::Kept::trees_below_append))]
 fn parameter_tree(
     state: &mut State,
     specifiers: Specifiers,
@@ -133,7 +131,7 @@ fn with_parameter(of: TypeId, tree: TreeId, so_far: ParameterTypes) -> Result<Pa
 }
 
 // The list with a parameter that is declared.
-#[tactic(auto, using(crate::proofs::Kept::trees_kept, crate::proofs::Kept::trees_later, crate::proofs::Kept::trees_append, crate::proofs::Kept::trees_below_append, crate::proofs::Kept::types_kept, crate::proofs::Kept::types_later, crate::proofs::Kept::types_append, crate::proofs::Kept::types_below_append, crate::proofs::Kept::type_kept, crate::proofs::Kept::type_later, crate::proofs::Kept::later_trans, crate::proofs::Kept::later_refl))]
+#[tactic(auto, using(cxx_cursor::proofs::Kept::trees_kept, cxx_cursor::proofs::Kept::trees_later, cxx_cursor::proofs::Kept::trees_append, cxx_cursor::proofs::Kept::trees_below_append, cxx_cursor::proofs::Kept::types_kept, cxx_cursor::proofs::Kept::types_later, cxx_cursor::proofs::Kept::types_append, cxx_cursor::proofs::Kept::types_below_append, cxx_cursor::proofs::Kept::type_kept, cxx_cursor::proofs::Kept::type_later, cxx_cursor::proofs::Kept::later_trans, cxx_cursor::proofs::Kept::later_refl))]
 fn parameter_added(
     state: &mut State,
     end: &Cursor<'_>,
@@ -168,7 +166,7 @@ fn no_parameters_yet(alloc: Global, scope: ScopeId) -> ParameterTypes
 }
 
 // Behind `...`.
-#[tactic(auto, using(crate::proofs::Kept::later_refl), unfolding(cxx_reading::specs::Syntax::list_ended))]
+#[tactic(auto, using(cxx_cursor::proofs::Kept::later_refl), unfolding(cxx_reading::specs::Syntax::list_ended))]
 fn list_ended(
     state: &State,
     cursor: &mut Cursor<'_>,
@@ -186,7 +184,7 @@ fn list_ended(
 }
 
 // Behind a comma.
-#[tactic(auto, using(crate::proofs::Kept::later_refl), unfolding(cxx_reading::specs::Syntax::comma_passed))]
+#[tactic(auto, using(cxx_cursor::proofs::Kept::later_refl), unfolding(cxx_reading::specs::Syntax::comma_passed))]
 fn comma_passed(
     state: &State,
     cursor: &mut Cursor<'_>,
@@ -202,7 +200,7 @@ fn comma_passed(
 }
 
 // Behind a parameter.
-#[tactic(auto, using(crate::proofs::Kept::later_refl), unfolding(cxx_reading::specs::Syntax::parameter_ended))]
+#[tactic(auto, using(cxx_cursor::proofs::Kept::later_refl), unfolding(cxx_reading::specs::Syntax::parameter_ended))]
 fn parameter_ended(
     state: &State,
     cursor: &mut Cursor<'_>,
@@ -234,7 +232,7 @@ fn is_void_list(cursor: &Cursor<'_>) -> bool
 }
 
 // An ellipsis alone.
-#[tactic(auto, using(crate::proofs::Kept::later_refl), unfolding(cxx_reading::specs::Syntax::list_ended))]
+#[tactic(auto, using(cxx_cursor::proofs::Kept::later_refl), unfolding(cxx_reading::specs::Syntax::list_ended))]
 fn ellipsis_alone(
     state: &State,
     cursor: &mut Cursor<'_>,
@@ -250,7 +248,7 @@ fn ellipsis_alone(
 }
 
 // The default argument, where one stands behind a parameter (8.3.6).
-#[tactic(auto, using(crate::proofs::Kept::later_trans, crate::proofs::Kept::later_refl), unfolding(cxx_reading::specs::Syntax::default_at))]
+#[tactic(auto, using(cxx_cursor::proofs::Kept::later_trans, cxx_cursor::proofs::Kept::later_refl), unfolding(cxx_reading::specs::Syntax::default_at))]
 fn default_at<D: Defaults>(
     defaults: &D,
     state: &mut State,
@@ -278,7 +276,7 @@ fn next_index(state: &State, so_far: &ParameterTypes) -> usize
 }
 
 // A parameter that is declared, with what is read behind it.
-#[tactic(auto, using(crate::proofs::Kept::trees_kept, crate::proofs::Kept::trees_later, crate::proofs::Kept::types_kept, crate::proofs::Kept::types_later, crate::proofs::Kept::type_kept, crate::proofs::Kept::type_later, crate::proofs::Kept::named_kept, crate::proofs::Kept::named_later, crate::proofs::Kept::layers_kept, crate::proofs::Kept::layers_later, crate::proofs::Kept::later_trans, crate::proofs::Kept::later_refl), unfolding(crate::specs::Parameters::parameter_behind))]
+#[tactic(auto, using(cxx_cursor::proofs::Kept::trees_kept, cxx_cursor::proofs::Kept::trees_later, cxx_cursor::proofs::Kept::types_kept, cxx_cursor::proofs::Kept::types_later, cxx_cursor::proofs::Kept::type_kept, cxx_cursor::proofs::Kept::type_later, cxx_cursor::proofs::Kept::named_kept, cxx_cursor::proofs::Kept::named_later, cxx_cursor::proofs::Kept::layers_kept, cxx_cursor::proofs::Kept::layers_later, cxx_cursor::proofs::Kept::later_trans, cxx_cursor::proofs::Kept::later_refl), unfolding(crate::specs::Parameters::parameter_behind))]
 fn parameter_behind<D: Defaults>(
     defaults: &D,
     state: &mut State,
@@ -306,7 +304,7 @@ fn parameter_behind<D: Defaults>(
 
 impl<K: Kinds, N: Nested> Reader<'_, K, N> {
     // A parameter whose specifiers and declarator were read is declared before what follows is looked at (3.3.1).
-    #[tactic(auto, using(crate::proofs::Kept::trees_kept, crate::proofs::Kept::trees_later, crate::proofs::Kept::types_kept, crate::proofs::Kept::types_later, crate::proofs::Kept::type_kept, crate::proofs::Kept::type_later, crate::proofs::Kept::named_kept, crate::proofs::Kept::named_later, crate::proofs::Kept::layers_kept, crate::proofs::Kept::layers_later, crate::proofs::Kept::later_trans, crate::proofs::Kept::later_refl), unfolding(crate::specs::Parameters::parameter_declared))]
+    #[tactic(auto, using(cxx_cursor::proofs::Kept::trees_kept, cxx_cursor::proofs::Kept::trees_later, cxx_cursor::proofs::Kept::types_kept, cxx_cursor::proofs::Kept::types_later, cxx_cursor::proofs::Kept::type_kept, cxx_cursor::proofs::Kept::type_later, cxx_cursor::proofs::Kept::named_kept, cxx_cursor::proofs::Kept::named_later, cxx_cursor::proofs::Kept::layers_kept, cxx_cursor::proofs::Kept::layers_later, cxx_cursor::proofs::Kept::later_trans, cxx_cursor::proofs::Kept::later_refl), unfolding(crate::specs::Parameters::parameter_declared))]
     fn parameter_declared<D: Defaults>(
         &self,
         state: &mut State,
@@ -334,7 +332,7 @@ impl<K: Kinds, N: Nested> Reader<'_, K, N> {
     }
 
     // A parameter (8.3.5).
-    #[tactic(auto, using(crate::proofs::Kept::trees_kept, crate::proofs::Kept::trees_later, crate::proofs::Kept::types_kept, crate::proofs::Kept::types_later, crate::proofs::Kept::named_kept, crate::proofs::Kept::named_later, crate::proofs::Kept::later_trans, crate::proofs::Kept::later_refl), unfolding(cxx_reading::specs::Syntax::parameter_at, crate::specs::Parameters::parameter_declared, crate::specs::Parameters::parameter_behind, crate::specs::Parameters::parameter_typed))]
+    #[tactic(auto, using(cxx_cursor::proofs::Kept::trees_kept, cxx_cursor::proofs::Kept::trees_later, cxx_cursor::proofs::Kept::types_kept, cxx_cursor::proofs::Kept::types_later, cxx_cursor::proofs::Kept::named_kept, cxx_cursor::proofs::Kept::named_later, cxx_cursor::proofs::Kept::later_trans, cxx_cursor::proofs::Kept::later_refl), unfolding(cxx_reading::specs::Syntax::parameter_at, crate::specs::Parameters::parameter_declared, crate::specs::Parameters::parameter_behind, crate::specs::Parameters::parameter_typed))]
     fn parameter_at<D: Defaults>(
         &self,
         state: &mut State,
@@ -357,7 +355,7 @@ impl<K: Kinds, N: Nested> Reader<'_, K, N> {
     }
 
     // A parameter, and what separates it from the next.
-    #[tactic(auto, using(crate::proofs::Kept::later_trans, crate::proofs::Kept::later_refl), unfolding(cxx_reading::specs::Syntax::parameter_step))]
+    #[tactic(auto, using(cxx_cursor::proofs::Kept::later_trans, cxx_cursor::proofs::Kept::later_refl), unfolding(cxx_reading::specs::Syntax::parameter_step))]
     fn parameter_step<D: Defaults>(
         &self,
         state: &mut State,
@@ -376,7 +374,7 @@ impl<K: Kinds, N: Nested> Reader<'_, K, N> {
     }
 
     // A parameter more than there may be: `auto` and `register` begin one too (7.1.1).
-    #[tactic(auto, using(crate::proofs::Kept::later_trans, crate::proofs::Kept::later_refl), unfolding(cxx_reading::specs::Syntax::parameters_over))]
+    #[tactic(auto, using(cxx_cursor::proofs::Kept::later_trans, cxx_cursor::proofs::Kept::later_refl), unfolding(cxx_reading::specs::Syntax::parameters_over))]
     fn parameters_over(
         &self,
         state: &mut State,
@@ -397,7 +395,7 @@ impl<K: Kinds, N: Nested> Reader<'_, K, N> {
     }
 
     // One parameter after another.
-    #[tactic(auto, using(crate::proofs::Loops::turn, crate::proofs::Loops::no_turn, crate::proofs::Kept::later_trans, crate::proofs::Kept::later_refl), unfolding(cxx_reading::specs::Syntax::some_parameters))]
+    #[tactic(auto, using(cxx_cursor::proofs::Loops::turn, cxx_cursor::proofs::Loops::no_turn, cxx_cursor::proofs::Kept::later_trans, cxx_cursor::proofs::Kept::later_refl), unfolding(cxx_reading::specs::Syntax::some_parameters))]
     fn some_parameters<D: Defaults>(
         &self,
         state: &mut State,
@@ -421,7 +419,7 @@ impl<K: Kinds, N: Nested> Reader<'_, K, N> {
     }
 
     // The parameters of a list, with its end.
-    #[tactic(auto, using(crate::proofs::Kept::later_trans, crate::proofs::Kept::later_refl), unfolding(cxx_reading::specs::Syntax::list_at))]
+    #[tactic(auto, using(cxx_cursor::proofs::Kept::later_trans, cxx_cursor::proofs::Kept::later_refl), unfolding(cxx_reading::specs::Syntax::list_at))]
     fn list_at<D: Defaults>(
         &self,
         state: &mut State,
@@ -451,7 +449,7 @@ impl<K: Kinds, N: Nested> Reader<'_, K, N> {
     }
 
     /// A list of parameters behind its `(`, with the end (8.3.5). A limit is that of parameters.
-    #[tactic(auto, using(crate::proofs::Kept::trees_kept, crate::proofs::Kept::trees_later, crate::proofs::Kept::types_kept, crate::proofs::Kept::types_later, crate::proofs::Kept::later_trans, crate::proofs::Kept::later_refl), unfolding(cxx_reading::specs::Syntax::parameters_at))]
+    #[tactic(auto, using(cxx_cursor::proofs::Kept::trees_kept, cxx_cursor::proofs::Kept::trees_later, cxx_cursor::proofs::Kept::types_kept, cxx_cursor::proofs::Kept::types_later, cxx_cursor::proofs::Kept::later_trans, cxx_cursor::proofs::Kept::later_refl), unfolding(cxx_reading::specs::Syntax::parameters_at))]
     pub fn parameters_at<D: Defaults>(
         &self,
         state: &mut State,

@@ -3,44 +3,23 @@
 ghost use Rattle.std.specs.Prelude.{◌≡◌, ◌<◌, ◌≤◌, ◌+◌, ◌^◌, IfOk, false};
 ghost use Rattle.cxx_reading.specs.Reads.{count_ahead, repeat};
 ghost use Rattle.cxx_reading.specs.Shapes as shape;
-ghost use Rattle.cxx_syntax.specs.Asking.{AnyKnown, itself};
-ghost use Rattle.cxx_syntax.specs.Outlines.{HasFewerPrefix, fits_of, outline_of, prefix_turn, run_in, run_turn, suffix_turn};
-ghost use Rattle.cxx_syntax.specs.Reading.{IsRead, Takes};
-ghost use Rattle.cxx_syntax.specs.Views.{IsTurn, turn_at};
+ghost use Rattle.cxx_cursor.specs.Asking.{AnyKnown, itself};
+ghost use Rattle.cxx_cursor.specs.Outlines.{fits_of, outline_of, run_in};
+ghost use Rattle.cxx_syntax.specs.Outlines.{HasFewerPrefix, prefix_turn, run_turn, suffix_turn};
+ghost use Rattle.cxx_cursor.specs.Reading.{IsRead, Takes};
+ghost use Rattle.cxx_cursor.specs.Views.{IsTurn, turn_at};
 ghost use Rattle.cxx_tree.specs.Held.{meaning};
 
-use crate::cursor::{Cursor, is_end, is_keyword, is_punct};
 use crate::declarators::{is_cv, is_key};
 use crate::kinds::Kinds;
 use crate::nested::Nested;
 use crate::reader::Reader;
 use crate::steps::is_of_members;
-use crate::turn::Turn;
-use crate::words::{storage_word, type_word};
+use cxx_cursor::{
+    Cursor, Fits, Outline, Run, Turn, is_end, is_keyword, is_punct, storage_word, type_word,
+};
 use cxx_model::{Kind, Stop, TokenKind, keyword, punct};
 use cxx_tree::State;
-
-/// What a run of specifiers holds: no type, a type, or what no initializer begins with.
-#[derive(Clone, Copy)]
-pub enum Run {
-    NoType,
-    AType,
-    Surely,
-}
-
-/// What was read of a declarator: how many brackets are open round its name, and whether it has one.
-#[derive(Clone, Copy)]
-pub struct Outline {
-    pub brackets: u64,
-    pub is_named: bool,
-}
-
-/// Whether a declarator fits.
-#[derive(Clone, Copy)]
-pub enum Fits {
-    Fits,
-    FitsNot,
-}
 
 fn opens(kind: TokenKind) -> bool
     ensures { result ≡ shape.opens kind }
@@ -82,7 +61,7 @@ fn bracket_step(cursor: &mut Cursor<'_>, count: u64) -> Result<Turn<u64, ()>, St
 }
 
 /// Passes what stands between brackets, whatever it is: from an opening one behind its end, or to the end of the unit.
-#[tactic(auto, using(crate::proofs::Loops::turn, crate::proofs::Loops::no_turn), unfolding(cxx_reading::specs::Shapes::brackets_passed))]
+#[tactic(auto, using(cxx_cursor::proofs::Loops::turn, cxx_cursor::proofs::Loops::no_turn), unfolding(cxx_reading::specs::Shapes::brackets_passed))]
 pub fn brackets_passed(cursor: &mut Cursor<'_>) -> Result<(), Stop>
     ensures { Takes (λ x. x) cursor.new result (shape.brackets_passed tt cursor.old) }
 {
@@ -123,7 +102,7 @@ fn default_step(cursor: &mut Cursor<'_>) -> Result<Turn<(), ()>, Stop>
 }
 
 // A default argument, to the next token that ends it outside of brackets (8.3.6).
-#[tactic(auto, using(crate::proofs::Loops::turn, crate::proofs::Loops::no_turn), unfolding(cxx_reading::specs::Shapes::default_passed))]
+#[tactic(auto, using(cxx_cursor::proofs::Loops::turn, cxx_cursor::proofs::Loops::no_turn), unfolding(cxx_reading::specs::Shapes::default_passed))]
 fn default_passed(cursor: &mut Cursor<'_>) -> Result<(), Stop>
     ensures { Takes (λ x. x) cursor.new result (shape.default_passed tt cursor.old) }
 {
@@ -150,7 +129,7 @@ fn is_specifier(number: u8) -> bool
 }
 
 // Behind a key (7.1.5.3).
-#[tactic(auto, using(crate::proofs::Kept::later_refl), unfolding(cxx_reading::specs::Shapes::key_shape))]
+#[tactic(auto, using(cxx_cursor::proofs::Kept::later_refl), unfolding(cxx_reading::specs::Shapes::key_shape))]
 fn key_shape(state: &State, cursor: &mut Cursor<'_>) -> Result<Turn<bool, Run>, Stop>
     ensures { IsRead run_turn AnyKnown state.now state.now cursor.new result (shape.key_shape (meaning state.now) cursor.old) }
 {
@@ -172,7 +151,7 @@ fn ended(typed: bool) -> Run
     if typed { Run::AType } else { Run::NoType }
 }
 
-#[tactic(auto, using(crate::proofs::Kept::later_refl), unfolding(cxx_reading::specs::Shapes::keyword_shape))]
+#[tactic(auto, using(cxx_cursor::proofs::Kept::later_refl), unfolding(cxx_reading::specs::Shapes::keyword_shape))]
 fn keyword_shape(
     state: &State,
     cursor: &mut Cursor<'_>,
@@ -207,7 +186,7 @@ fn is_closed(outline: Outline) -> Fits
 }
 
 // What separates a parameter from the next; nothing is refused.
-#[tactic(auto, using(crate::proofs::Kept::later_refl))]
+#[tactic(auto, using(cxx_cursor::proofs::Kept::later_refl))]
 fn separated(state: &State, cursor: &mut Cursor<'_>) -> Result<Turn<(), bool>, Stop>
     ensures { IsRead (λ held. turn_at (λ x. x) (λ x. x)) AnyKnown state.now state.now cursor.new result (shape.separated (meaning state.now) cursor.old) }
 {
@@ -222,7 +201,7 @@ fn separated(state: &State, cursor: &mut Cursor<'_>) -> Result<Turn<(), bool>, S
 
 impl<K: Kinds, N: Nested> Reader<'_, K, N> {
     // A name in a run of specifiers.
-    #[tactic(auto, using(crate::proofs::Kept::later_trans, crate::proofs::Kept::later_refl), unfolding(cxx_reading::specs::Shapes::name_shape))]
+    #[tactic(auto, using(cxx_cursor::proofs::Kept::later_trans, cxx_cursor::proofs::Kept::later_refl), unfolding(cxx_reading::specs::Shapes::name_shape))]
     fn name_shape(
         &self,
         state: &mut State,
@@ -245,7 +224,7 @@ impl<K: Kinds, N: Nested> Reader<'_, K, N> {
     }
 
     // One specifier.
-    #[tactic(auto, using(crate::proofs::Kept::later_trans, crate::proofs::Kept::later_refl), unfolding(cxx_reading::specs::Shapes::run_step))]
+    #[tactic(auto, using(cxx_cursor::proofs::Kept::later_trans, cxx_cursor::proofs::Kept::later_refl), unfolding(cxx_reading::specs::Shapes::run_step))]
     fn run_step(
         &self,
         state: &mut State,
@@ -270,7 +249,7 @@ impl<K: Kinds, N: Nested> Reader<'_, K, N> {
     }
 
     /// Passes specifiers with one type (8.2).
-    #[tactic(auto, using(crate::proofs::Loops::turn, crate::proofs::Loops::no_turn, crate::proofs::Kept::later_trans, crate::proofs::Kept::later_refl), unfolding(cxx_reading::specs::Shapes::run_passed))]
+    #[tactic(auto, using(cxx_cursor::proofs::Loops::turn, cxx_cursor::proofs::Loops::no_turn, cxx_cursor::proofs::Kept::later_trans, cxx_cursor::proofs::Kept::later_refl), unfolding(cxx_reading::specs::Shapes::run_passed))]
     pub fn run_passed(&self, state: &mut State, cursor: &mut Cursor<'_>) -> Result<Run, Stop>
         requires ready { K.is_ready self.now.kinds.now }
         ensures { IsRead (λ held. run_in) AnyKnown state.old state.new cursor.new result (shape.run_passed (K.asks self.now.kinds.now self.now.room) (meaning state.old) cursor.old) }
@@ -286,7 +265,7 @@ impl<K: Kinds, N: Nested> Reader<'_, K, N> {
     }
 
     // Before the name: pointer operators with their cv words, and brackets.
-    #[tactic(auto, using(crate::proofs::Kept::later_trans, crate::proofs::Kept::later_refl), unfolding(cxx_reading::specs::Shapes::prefix_step))]
+    #[tactic(auto, using(cxx_cursor::proofs::Kept::later_trans, cxx_cursor::proofs::Kept::later_refl), unfolding(cxx_reading::specs::Shapes::prefix_step))]
     fn prefix_step(
         &self,
         state: &mut State,
@@ -326,7 +305,7 @@ impl<K: Kinds, N: Nested> Reader<'_, K, N> {
     }
 
     /// Passes all that stands before the name of a declarator and the name, which is one identifier (8.2).
-    #[tactic(auto, using(crate::proofs::Loops::turn, crate::proofs::Loops::no_turn, crate::proofs::Kept::later_trans, crate::proofs::Kept::later_refl), unfolding(cxx_reading::specs::Shapes::prefix_passed))]
+    #[tactic(auto, using(cxx_cursor::proofs::Loops::turn, cxx_cursor::proofs::Loops::no_turn, cxx_cursor::proofs::Kept::later_trans, cxx_cursor::proofs::Kept::later_refl), unfolding(cxx_reading::specs::Shapes::prefix_passed))]
     pub fn prefix_passed(&self, state: &mut State, cursor: &mut Cursor<'_>) -> Result<Outline, Stop>
         requires ready { K.is_ready self.now.kinds.now }
         ensures { IsRead (λ held. outline_of) AnyKnown state.old state.new cursor.new result (shape.prefix_passed (K.asks self.now.kinds.now self.now.room) (meaning state.old) cursor.old) }
@@ -345,7 +324,7 @@ impl<K: Kinds, N: Nested> Reader<'_, K, N> {
     }
 
     // What stands in a bracket behind the name, or where it would stand, has to be parameters (8.2).
-    #[tactic(auto, using(crate::proofs::Kept::later_trans, crate::proofs::Kept::later_refl), unfolding(cxx_reading::specs::Shapes::list_shape))]
+    #[tactic(auto, using(cxx_cursor::proofs::Kept::later_trans, cxx_cursor::proofs::Kept::later_refl), unfolding(cxx_reading::specs::Shapes::list_shape))]
     fn list_shape(
         &self,
         state: &mut State,
@@ -365,7 +344,7 @@ impl<K: Kinds, N: Nested> Reader<'_, K, N> {
     }
 
     // Behind the name: parameters, bounds, words behind parameters, and ends of brackets.
-    #[tactic(auto, using(crate::proofs::Kept::later_trans, crate::proofs::Kept::later_refl), unfolding(cxx_reading::specs::Shapes::suffix_step))]
+    #[tactic(auto, using(cxx_cursor::proofs::Kept::later_trans, cxx_cursor::proofs::Kept::later_refl), unfolding(cxx_reading::specs::Shapes::suffix_step))]
     fn suffix_step(
         &self,
         state: &mut State,
@@ -400,7 +379,7 @@ impl<K: Kinds, N: Nested> Reader<'_, K, N> {
     }
 
     /// Passes all that stands behind the name of a declarator (8.2).
-    #[tactic(auto, using(crate::proofs::Loops::turn, crate::proofs::Loops::no_turn, crate::proofs::Kept::later_trans, crate::proofs::Kept::later_refl), unfolding(cxx_reading::specs::Shapes::suffixes_by))]
+    #[tactic(auto, using(cxx_cursor::proofs::Loops::turn, cxx_cursor::proofs::Loops::no_turn, cxx_cursor::proofs::Kept::later_trans, cxx_cursor::proofs::Kept::later_refl), unfolding(cxx_reading::specs::Shapes::suffixes_by))]
     pub fn suffixes_passed(
         &self,
         state: &mut State,
@@ -421,7 +400,7 @@ impl<K: Kinds, N: Nested> Reader<'_, K, N> {
     }
 
     // A declarator, with a name or without one (8, 8.1).
-    #[tactic(auto, using(crate::proofs::Kept::later_trans, crate::proofs::Kept::later_refl), unfolding(cxx_reading::specs::Shapes::declarator_passed))]
+    #[tactic(auto, using(cxx_cursor::proofs::Kept::later_trans, cxx_cursor::proofs::Kept::later_refl), unfolding(cxx_reading::specs::Shapes::declarator_passed))]
     fn declarator_passed(&self, state: &mut State, cursor: &mut Cursor<'_>) -> Result<Fits, Stop>
         requires ready { K.is_ready self.now.kinds.now }
         requires open { N.is_open self.now.nested.now }
@@ -432,7 +411,7 @@ impl<K: Kinds, N: Nested> Reader<'_, K, N> {
     }
 
     // What separates a parameter from the next.
-    #[tactic(auto, using(crate::proofs::Kept::later_trans, crate::proofs::Kept::later_refl))]
+    #[tactic(auto, using(cxx_cursor::proofs::Kept::later_trans, cxx_cursor::proofs::Kept::later_refl))]
     fn parameter_ended_shape(
         &self,
         state: &mut State,
@@ -451,7 +430,7 @@ impl<K: Kinds, N: Nested> Reader<'_, K, N> {
     }
 
     // One parameter, and what separates it from the next.
-    #[tactic(auto, using(crate::proofs::Kept::later_trans, crate::proofs::Kept::later_refl), unfolding(cxx_reading::specs::Shapes::piece_step))]
+    #[tactic(auto, using(cxx_cursor::proofs::Kept::later_trans, cxx_cursor::proofs::Kept::later_refl), unfolding(cxx_reading::specs::Shapes::piece_step))]
     fn piece_step(&self, state: &mut State, cursor: &mut Cursor<'_>) -> Result<Turn<(), bool>, Stop>
         requires ready { K.is_ready self.now.kinds.now }
         requires open { N.is_open self.now.nested.now }
@@ -471,7 +450,7 @@ impl<K: Kinds, N: Nested> Reader<'_, K, N> {
     }
 
     // One parameter after another.
-    #[tactic(auto, using(crate::proofs::Loops::turn, crate::proofs::Loops::no_turn, crate::proofs::Kept::later_trans, crate::proofs::Kept::later_refl))]
+    #[tactic(auto, using(cxx_cursor::proofs::Loops::turn, cxx_cursor::proofs::Loops::no_turn, cxx_cursor::proofs::Kept::later_trans, cxx_cursor::proofs::Kept::later_refl))]
     fn pieces_passed(&self, state: &mut State, cursor: &mut Cursor<'_>) -> Result<bool, Stop>
         requires ready { K.is_ready self.now.kinds.now }
         requires open { N.is_open self.now.nested.now }
@@ -487,7 +466,7 @@ impl<K: Kinds, N: Nested> Reader<'_, K, N> {
     }
 
     /// Whether parameters stand behind a bracket: nothing, an ellipsis, or one parameter after another (8.2).
-    #[tactic(auto, using(crate::proofs::Kept::later_trans, crate::proofs::Kept::later_refl), unfolding(cxx_reading::specs::Shapes::parameters_shape))]
+    #[tactic(auto, using(cxx_cursor::proofs::Kept::later_trans, cxx_cursor::proofs::Kept::later_refl), unfolding(cxx_reading::specs::Shapes::parameters_shape))]
     pub fn parameters_shape(&self, state: &mut State, cursor: &mut Cursor<'_>) -> Result<bool, Stop>
         requires ready { K.is_ready self.now.kinds.now }
         requires open { N.is_open self.now.nested.now }

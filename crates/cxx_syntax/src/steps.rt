@@ -4,22 +4,21 @@ ghost use Rattle.cxx_reading.specs.Declarators.{has_type as has_type_in, no_cv, 
 ghost use Rattle.cxx_reading.specs.Reads.{count_ahead, give, repeat};
 ghost use Rattle.cxx_reading.specs.Specifiers as definition;
 ghost use Rattle.cxx_reading.specs.Tokens.{kind_of_name};
-ghost use Rattle.cxx_syntax.specs.Asking.{AnyKnown, itself};
-ghost use Rattle.cxx_syntax.specs.Reading.{IsRead};
-ghost use Rattle.cxx_syntax.specs.Words.{word_of};
-ghost use Rattle.cxx_syntax.specs.Views.{AreSpecifiers, AreTreesHeld, IsSpecifiersTurn, name_of_option, specifiers_of, specifiers_turn, trees_held};
+ghost use Rattle.cxx_cursor.specs.Asking.{AnyKnown, itself};
+ghost use Rattle.cxx_cursor.specs.Reading.{IsRead};
+ghost use Rattle.cxx_cursor.specs.Words.{word_of};
+ghost use Rattle.cxx_cursor.specs.Views.{AreSpecifiers, AreTreesHeld, IsSpecifiersTurn, name_of_option, specifiers_of, specifiers_turn, trees_held};
 ghost use Rattle.cxx_tree.specs.Arena.{path_at};
 ghost use Rattle.cxx_tree.specs.Held.{meaning};
 
-use crate::cursor::{Cursor, is_keyword, is_name, is_punct};
 use crate::kinds::Kinds;
-use crate::name::NameToken;
 use crate::nested::Nested;
-use crate::nodes::{elaborated_tree, enumeration_tree, place_of};
 use crate::reader::Reader;
-use crate::specifiers::Specifiers;
-use crate::turn::Turn;
-use crate::words::{TypeWord, base_of_words, storage_word, type_word, with_word};
+use crate::trees::{elaborated_tree, enumeration_tree};
+use cxx_cursor::{
+    Cursor, NameToken, Specifiers, Turn, TypeWord, base_of_words, is_keyword, is_name, is_punct,
+    place_of, storage_word, type_word, with_word,
+};
 use cxx_model::{
     Cv, EnumId, Kind, Listed, Path, Stop, TokenKind, TreeId, TreeIdList, TypeId, keyword, punct,
 };
@@ -230,7 +229,7 @@ pub(crate) fn begins_class(number: u8) -> bool
 }
 
 // The specifiers with a type that a name or an enumeration gives.
-#[tactic(auto, using(crate::proofs::Kept::trees_kept, crate::proofs::Kept::trees_later))]
+#[tactic(auto, using(cxx_cursor::proofs::Kept::trees_kept, cxx_cursor::proofs::Kept::trees_later))]
 fn with_named(so_far: Specifiers, of: TypeId) -> Specifiers
     ensures { result ≡ record so_far { named = Some of } }
 {
@@ -293,7 +292,7 @@ fn begins_named_list(cursor: &Cursor<'_>) -> bool
 
 impl<K: Kinds, N: Nested> Reader<'_, K, N> {
     // What the name ahead is to a reader (3.4); one that is not whole is met when it is read.
-    #[tactic(auto, using(crate::proofs::Kept::later_trans, crate::proofs::Kept::later_refl), unfolding(cxx_reading::specs::Tokens::kind_of_name))]
+    #[tactic(auto, using(cxx_cursor::proofs::Kept::later_trans, cxx_cursor::proofs::Kept::later_refl), unfolding(cxx_reading::specs::Tokens::kind_of_name))]
     pub(crate) fn kind_of_name(&self, state: &mut State, cursor: &Cursor<'_>) -> Result<Kind, Stop>
         requires ready { K.is_ready self.now.kinds.now }
         ensures { IsRead itself AnyKnown state.old state.new cursor.now result (kind_of_name ((K.asks self.now.kinds.now self.now.room).kind) (meaning state.old) cursor.now) }
@@ -305,7 +304,7 @@ impl<K: Kinds, N: Nested> Reader<'_, K, N> {
     }
 
     // The name of a type, which is whole.
-    #[tactic(auto, using(crate::proofs::Kept::trees_kept, crate::proofs::Kept::trees_later, crate::proofs::Kept::named_kept, crate::proofs::Kept::named_later, crate::proofs::Kept::later_trans, crate::proofs::Kept::later_refl), unfolding(cxx_reading::specs::Specifiers::type_name_step))]
+    #[tactic(auto, using(cxx_cursor::proofs::Kept::trees_kept, cxx_cursor::proofs::Kept::trees_later, cxx_cursor::proofs::Kept::named_kept, cxx_cursor::proofs::Kept::named_later, cxx_cursor::proofs::Kept::later_trans, cxx_cursor::proofs::Kept::later_refl), unfolding(cxx_reading::specs::Specifiers::type_name_step))]
     fn type_name_step(
         &self,
         state: &mut State,
@@ -322,7 +321,7 @@ impl<K: Kinds, N: Nested> Reader<'_, K, N> {
     }
 
     // A name of a type, where no type is there yet; behind one it is the name of the declarator (7.1.5.2).
-    #[tactic(auto, using(crate::proofs::Kept::trees_kept, crate::proofs::Kept::trees_later, crate::proofs::Kept::named_kept, crate::proofs::Kept::named_later, crate::proofs::Kept::later_trans, crate::proofs::Kept::later_refl), unfolding(cxx_reading::specs::Specifiers::named_step))]
+    #[tactic(auto, using(cxx_cursor::proofs::Kept::trees_kept, cxx_cursor::proofs::Kept::trees_later, cxx_cursor::proofs::Kept::named_kept, cxx_cursor::proofs::Kept::named_later, cxx_cursor::proofs::Kept::later_trans, cxx_cursor::proofs::Kept::later_refl), unfolding(cxx_reading::specs::Specifiers::named_step))]
     fn named_step(
         &self,
         state: &mut State,
@@ -343,7 +342,7 @@ impl<K: Kinds, N: Nested> Reader<'_, K, N> {
     }
 
     // `enum` and a name (7.1.5.3).
-    #[tactic(auto, using(crate::proofs::Kept::trees_kept, crate::proofs::Kept::trees_later, crate::proofs::Kept::trees_append, crate::proofs::Kept::trees_below_append, crate::proofs::Kept::named_kept, crate::proofs::Kept::named_later, crate::proofs::Kept::type_kept, crate::proofs::Kept::type_later, crate::proofs::Kept::later_trans, crate::proofs::Kept::later_refl), unfolding(cxx_reading::specs::Specifiers::elaborated_step))]
+    #[tactic(auto, using(cxx_cursor::proofs::Kept::trees_kept, cxx_cursor::proofs::Kept::trees_later, cxx_cursor::proofs::Kept::trees_append, cxx_cursor::proofs::Kept::trees_below_append, cxx_cursor::proofs::Kept::named_kept, cxx_cursor::proofs::Kept::named_later, cxx_cursor::proofs::Kept::type_kept, cxx_cursor::proofs::Kept::type_later, cxx_cursor::proofs::Kept::later_trans, cxx_cursor::proofs::Kept::later_refl), unfolding(cxx_reading::specs::Specifiers::elaborated_step))]
     fn elaborated_step(
         &self,
         state: &mut State,
@@ -363,7 +362,7 @@ impl<K: Kinds, N: Nested> Reader<'_, K, N> {
     }
 
     // The list of an enumeration, with its end (7.2).
-    #[tactic(auto, using(crate::proofs::Kept::later_trans, crate::proofs::Kept::later_refl, crate::proofs::Kept::trees_kept, crate::proofs::Kept::trees_later), unfolding(cxx_reading::specs::Specifiers::enumeration_body))]
+    #[tactic(auto, using(cxx_cursor::proofs::Kept::later_trans, cxx_cursor::proofs::Kept::later_refl, cxx_cursor::proofs::Kept::trees_kept, cxx_cursor::proofs::Kept::trees_later), unfolding(cxx_reading::specs::Specifiers::enumeration_body))]
     fn enumeration_body(
         &self,
         state: &mut State,
@@ -381,7 +380,7 @@ impl<K: Kinds, N: Nested> Reader<'_, K, N> {
     }
 
     // An enumeration is declared before its list is read (7.2).
-    #[tactic(auto, using(crate::proofs::Kept::trees_kept, crate::proofs::Kept::trees_later, crate::proofs::Kept::trees_append, crate::proofs::Kept::trees_below_append, crate::proofs::Kept::named_kept, crate::proofs::Kept::named_later, crate::proofs::Kept::type_kept, crate::proofs::Kept::type_later, crate::proofs::Kept::later_trans, crate::proofs::Kept::later_refl), unfolding(cxx_reading::specs::Specifiers::defined_step))]
+    #[tactic(auto, using(cxx_cursor::proofs::Kept::trees_kept, cxx_cursor::proofs::Kept::trees_later, cxx_cursor::proofs::Kept::trees_append, cxx_cursor::proofs::Kept::trees_below_append, cxx_cursor::proofs::Kept::named_kept, cxx_cursor::proofs::Kept::named_later, cxx_cursor::proofs::Kept::type_kept, cxx_cursor::proofs::Kept::type_later, cxx_cursor::proofs::Kept::later_trans, cxx_cursor::proofs::Kept::later_refl), unfolding(cxx_reading::specs::Specifiers::defined_step))]
     fn defined_step(
         &self,
         state: &mut State,
@@ -403,7 +402,7 @@ impl<K: Kinds, N: Nested> Reader<'_, K, N> {
     }
 
     // No enumeration is defined among parameters and in a type that is named (8.3.5, 5.3.3).
-    #[tactic(auto, using(crate::proofs::Kept::trees_kept, crate::proofs::Kept::trees_later, crate::proofs::Kept::trees_append, crate::proofs::Kept::trees_below_append, crate::proofs::Kept::named_kept, crate::proofs::Kept::named_later, crate::proofs::Kept::type_kept, crate::proofs::Kept::type_later, crate::proofs::Kept::later_trans, crate::proofs::Kept::later_refl), unfolding(cxx_reading::specs::Specifiers::list_step))]
+    #[tactic(auto, using(cxx_cursor::proofs::Kept::trees_kept, cxx_cursor::proofs::Kept::trees_later, cxx_cursor::proofs::Kept::trees_append, cxx_cursor::proofs::Kept::trees_below_append, cxx_cursor::proofs::Kept::named_kept, cxx_cursor::proofs::Kept::named_later, cxx_cursor::proofs::Kept::type_kept, cxx_cursor::proofs::Kept::type_later, cxx_cursor::proofs::Kept::later_trans, cxx_cursor::proofs::Kept::later_refl), unfolding(cxx_reading::specs::Specifiers::list_step))]
     fn list_step(
         &self,
         state: &mut State,
@@ -425,7 +424,7 @@ impl<K: Kinds, N: Nested> Reader<'_, K, N> {
     }
 
     // The name of an enumeration, and its list (7.2).
-    #[tactic(auto, using(crate::proofs::Kept::trees_kept, crate::proofs::Kept::trees_later, crate::proofs::Kept::trees_append, crate::proofs::Kept::trees_below_append, crate::proofs::Kept::named_kept, crate::proofs::Kept::named_later, crate::proofs::Kept::type_kept, crate::proofs::Kept::type_later, crate::proofs::Kept::later_trans, crate::proofs::Kept::later_refl), unfolding(cxx_reading::specs::Specifiers::named_list_step))]
+    #[tactic(auto, using(cxx_cursor::proofs::Kept::trees_kept, cxx_cursor::proofs::Kept::trees_later, cxx_cursor::proofs::Kept::trees_append, cxx_cursor::proofs::Kept::trees_below_append, cxx_cursor::proofs::Kept::named_kept, cxx_cursor::proofs::Kept::named_later, cxx_cursor::proofs::Kept::type_kept, cxx_cursor::proofs::Kept::type_later, cxx_cursor::proofs::Kept::later_trans, cxx_cursor::proofs::Kept::later_refl), unfolding(cxx_reading::specs::Specifiers::named_list_step))]
     fn named_list_step(
         &self,
         state: &mut State,
@@ -444,7 +443,7 @@ impl<K: Kinds, N: Nested> Reader<'_, K, N> {
     }
 
     // Behind `enum`.
-    #[tactic(auto, using(crate::proofs::Kept::trees_kept, crate::proofs::Kept::trees_later, crate::proofs::Kept::trees_append, crate::proofs::Kept::trees_below_append, crate::proofs::Kept::named_kept, crate::proofs::Kept::named_later, crate::proofs::Kept::type_kept, crate::proofs::Kept::type_later, crate::proofs::Kept::later_trans, crate::proofs::Kept::later_refl), unfolding(cxx_reading::specs::Specifiers::key_step))]
+    #[tactic(auto, using(cxx_cursor::proofs::Kept::trees_kept, cxx_cursor::proofs::Kept::trees_later, cxx_cursor::proofs::Kept::trees_append, cxx_cursor::proofs::Kept::trees_below_append, cxx_cursor::proofs::Kept::named_kept, cxx_cursor::proofs::Kept::named_later, cxx_cursor::proofs::Kept::type_kept, cxx_cursor::proofs::Kept::type_later, cxx_cursor::proofs::Kept::later_trans, cxx_cursor::proofs::Kept::later_refl), unfolding(cxx_reading::specs::Specifiers::key_step))]
     fn key_step(
         &self,
         state: &mut State,
@@ -471,7 +470,7 @@ impl<K: Kinds, N: Nested> Reader<'_, K, N> {
     }
 
     // A type that begins with `enum` (7.1.5.3, 7.2).
-    #[tactic(auto, using(crate::proofs::Kept::trees_kept, crate::proofs::Kept::trees_later, crate::proofs::Kept::trees_append, crate::proofs::Kept::trees_below_append, crate::proofs::Kept::named_kept, crate::proofs::Kept::named_later, crate::proofs::Kept::type_kept, crate::proofs::Kept::type_later, crate::proofs::Kept::later_trans, crate::proofs::Kept::later_refl), unfolding(cxx_reading::specs::Specifiers::enumeration_step))]
+    #[tactic(auto, using(cxx_cursor::proofs::Kept::trees_kept, cxx_cursor::proofs::Kept::trees_later, cxx_cursor::proofs::Kept::trees_append, cxx_cursor::proofs::Kept::trees_below_append, cxx_cursor::proofs::Kept::named_kept, cxx_cursor::proofs::Kept::named_later, cxx_cursor::proofs::Kept::type_kept, cxx_cursor::proofs::Kept::type_later, cxx_cursor::proofs::Kept::later_trans, cxx_cursor::proofs::Kept::later_refl), unfolding(cxx_reading::specs::Specifiers::enumeration_step))]
     fn enumeration_step(
         &self,
         state: &mut State,
@@ -493,7 +492,7 @@ impl<K: Kinds, N: Nested> Reader<'_, K, N> {
     }
 
     // The class that a name means (7.1.5.3).
-    #[tactic(auto, using(crate::proofs::Kept::trees_kept, crate::proofs::Kept::trees_later, crate::proofs::Kept::trees_append, crate::proofs::Kept::trees_below_append, crate::proofs::Kept::named_kept, crate::proofs::Kept::named_later, crate::proofs::Kept::type_kept, crate::proofs::Kept::type_later, crate::proofs::Kept::later_trans, crate::proofs::Kept::later_refl), unfolding(cxx_reading::specs::Specifiers::class_named_step))]
+    #[tactic(auto, using(cxx_cursor::proofs::Kept::trees_kept, cxx_cursor::proofs::Kept::trees_later, cxx_cursor::proofs::Kept::trees_append, cxx_cursor::proofs::Kept::trees_below_append, cxx_cursor::proofs::Kept::named_kept, cxx_cursor::proofs::Kept::named_later, cxx_cursor::proofs::Kept::type_kept, cxx_cursor::proofs::Kept::type_later, cxx_cursor::proofs::Kept::later_trans, cxx_cursor::proofs::Kept::later_refl), unfolding(cxx_reading::specs::Specifiers::class_named_step))]
     fn class_named_step(
         &self,
         state: &mut State,
@@ -517,7 +516,7 @@ impl<K: Kinds, N: Nested> Reader<'_, K, N> {
     }
 
     // Behind the name of a class.
-    #[tactic(auto, using(crate::proofs::Kept::trees_kept, crate::proofs::Kept::trees_later, crate::proofs::Kept::trees_append, crate::proofs::Kept::trees_below_append, crate::proofs::Kept::named_kept, crate::proofs::Kept::named_later, crate::proofs::Kept::type_kept, crate::proofs::Kept::type_later, crate::proofs::Kept::later_trans, crate::proofs::Kept::later_refl), unfolding(cxx_reading::specs::Specifiers::class_behind))]
+    #[tactic(auto, using(cxx_cursor::proofs::Kept::trees_kept, cxx_cursor::proofs::Kept::trees_later, cxx_cursor::proofs::Kept::trees_append, cxx_cursor::proofs::Kept::trees_below_append, cxx_cursor::proofs::Kept::named_kept, cxx_cursor::proofs::Kept::named_later, cxx_cursor::proofs::Kept::type_kept, cxx_cursor::proofs::Kept::type_later, cxx_cursor::proofs::Kept::later_trans, cxx_cursor::proofs::Kept::later_refl), unfolding(cxx_reading::specs::Specifiers::class_behind))]
     fn class_behind(
         &self,
         state: &mut State,
@@ -540,7 +539,7 @@ impl<K: Kinds, N: Nested> Reader<'_, K, N> {
     }
 
     // The name of a class.
-    #[tactic(auto, using(crate::proofs::Kept::trees_kept, crate::proofs::Kept::trees_later, crate::proofs::Kept::trees_append, crate::proofs::Kept::trees_below_append, crate::proofs::Kept::named_kept, crate::proofs::Kept::named_later, crate::proofs::Kept::type_kept, crate::proofs::Kept::type_later, crate::proofs::Kept::later_trans, crate::proofs::Kept::later_refl), unfolding(cxx_reading::specs::Specifiers::class_name_step))]
+    #[tactic(auto, using(cxx_cursor::proofs::Kept::trees_kept, cxx_cursor::proofs::Kept::trees_later, cxx_cursor::proofs::Kept::trees_append, cxx_cursor::proofs::Kept::trees_below_append, cxx_cursor::proofs::Kept::named_kept, cxx_cursor::proofs::Kept::named_later, cxx_cursor::proofs::Kept::type_kept, cxx_cursor::proofs::Kept::type_later, cxx_cursor::proofs::Kept::later_trans, cxx_cursor::proofs::Kept::later_refl), unfolding(cxx_reading::specs::Specifiers::class_name_step))]
     fn class_name_step(
         &self,
         state: &mut State,
@@ -559,7 +558,7 @@ impl<K: Kinds, N: Nested> Reader<'_, K, N> {
     }
 
     // Behind `class`, `struct` or `union`.
-    #[tactic(auto, using(crate::proofs::Kept::trees_kept, crate::proofs::Kept::trees_later, crate::proofs::Kept::trees_append, crate::proofs::Kept::trees_below_append, crate::proofs::Kept::named_kept, crate::proofs::Kept::named_later, crate::proofs::Kept::type_kept, crate::proofs::Kept::type_later, crate::proofs::Kept::later_trans, crate::proofs::Kept::later_refl), unfolding(cxx_reading::specs::Specifiers::class_key_step))]
+    #[tactic(auto, using(cxx_cursor::proofs::Kept::trees_kept, cxx_cursor::proofs::Kept::trees_later, cxx_cursor::proofs::Kept::trees_append, cxx_cursor::proofs::Kept::trees_below_append, cxx_cursor::proofs::Kept::named_kept, cxx_cursor::proofs::Kept::named_later, cxx_cursor::proofs::Kept::type_kept, cxx_cursor::proofs::Kept::type_later, cxx_cursor::proofs::Kept::later_trans, cxx_cursor::proofs::Kept::later_refl), unfolding(cxx_reading::specs::Specifiers::class_key_step))]
     fn class_key_step(
         &self,
         state: &mut State,
@@ -583,7 +582,7 @@ impl<K: Kinds, N: Nested> Reader<'_, K, N> {
     }
 
     // A class (7.1.5.3, 9.1); `typename` is not read yet (14.6).
-    #[tactic(auto, using(crate::proofs::Kept::trees_kept, crate::proofs::Kept::trees_later, crate::proofs::Kept::trees_append, crate::proofs::Kept::trees_below_append, crate::proofs::Kept::named_kept, crate::proofs::Kept::named_later, crate::proofs::Kept::type_kept, crate::proofs::Kept::type_later, crate::proofs::Kept::later_trans, crate::proofs::Kept::later_refl), unfolding(cxx_reading::specs::Specifiers::class_step))]
+    #[tactic(auto, using(cxx_cursor::proofs::Kept::trees_kept, cxx_cursor::proofs::Kept::trees_later, cxx_cursor::proofs::Kept::trees_append, cxx_cursor::proofs::Kept::trees_below_append, cxx_cursor::proofs::Kept::named_kept, cxx_cursor::proofs::Kept::named_later, cxx_cursor::proofs::Kept::type_kept, cxx_cursor::proofs::Kept::type_later, cxx_cursor::proofs::Kept::later_trans, cxx_cursor::proofs::Kept::later_refl), unfolding(cxx_reading::specs::Specifiers::class_step))]
     fn class_step(
         &self,
         state: &mut State,
@@ -615,7 +614,7 @@ impl<K: Kinds, N: Nested> Reader<'_, K, N> {
     }
 
     // A keyword that is no storage word and no word of a type.
-    #[tactic(auto, using(crate::proofs::Kept::trees_kept, crate::proofs::Kept::trees_later, crate::proofs::Kept::trees_append, crate::proofs::Kept::trees_below_append, crate::proofs::Kept::named_kept, crate::proofs::Kept::named_later, crate::proofs::Kept::type_kept, crate::proofs::Kept::type_later, crate::proofs::Kept::later_trans, crate::proofs::Kept::later_refl), unfolding(cxx_reading::specs::Specifiers::other_step))]
+    #[tactic(auto, using(cxx_cursor::proofs::Kept::trees_kept, cxx_cursor::proofs::Kept::trees_later, cxx_cursor::proofs::Kept::trees_append, cxx_cursor::proofs::Kept::trees_below_append, cxx_cursor::proofs::Kept::named_kept, cxx_cursor::proofs::Kept::named_later, cxx_cursor::proofs::Kept::type_kept, cxx_cursor::proofs::Kept::type_later, cxx_cursor::proofs::Kept::later_trans, cxx_cursor::proofs::Kept::later_refl), unfolding(cxx_reading::specs::Specifiers::other_step))]
     fn other_step(
         &self,
         state: &mut State,
@@ -651,7 +650,7 @@ impl<K: Kinds, N: Nested> Reader<'_, K, N> {
     }
 
     // A keyword among the specifiers.
-    #[tactic(auto, using(crate::proofs::Kept::trees_kept, crate::proofs::Kept::trees_later, crate::proofs::Kept::trees_append, crate::proofs::Kept::trees_below_append, crate::proofs::Kept::named_kept, crate::proofs::Kept::named_later, crate::proofs::Kept::type_kept, crate::proofs::Kept::type_later, crate::proofs::Kept::later_trans, crate::proofs::Kept::later_refl), unfolding(cxx_reading::specs::Specifiers::keyword_step))]
+    #[tactic(auto, using(cxx_cursor::proofs::Kept::trees_kept, cxx_cursor::proofs::Kept::trees_later, cxx_cursor::proofs::Kept::trees_append, cxx_cursor::proofs::Kept::trees_below_append, cxx_cursor::proofs::Kept::named_kept, cxx_cursor::proofs::Kept::named_later, cxx_cursor::proofs::Kept::type_kept, cxx_cursor::proofs::Kept::type_later, cxx_cursor::proofs::Kept::later_trans, cxx_cursor::proofs::Kept::later_refl), unfolding(cxx_reading::specs::Specifiers::keyword_step))]
     fn keyword_step(
         &self,
         state: &mut State,
@@ -675,7 +674,7 @@ impl<K: Kinds, N: Nested> Reader<'_, K, N> {
     }
 
     // One specifier.
-    #[tactic(auto, using(crate::proofs::Kept::trees_kept, crate::proofs::Kept::trees_later, crate::proofs::Kept::trees_append, crate::proofs::Kept::trees_below_append, crate::proofs::Kept::named_kept, crate::proofs::Kept::named_later, crate::proofs::Kept::type_kept, crate::proofs::Kept::type_later, crate::proofs::Kept::later_trans, crate::proofs::Kept::later_refl), unfolding(cxx_reading::specs::Specifiers::specifier_step))]
+    #[tactic(auto, using(cxx_cursor::proofs::Kept::trees_kept, cxx_cursor::proofs::Kept::trees_later, cxx_cursor::proofs::Kept::trees_append, cxx_cursor::proofs::Kept::trees_below_append, cxx_cursor::proofs::Kept::named_kept, cxx_cursor::proofs::Kept::named_later, cxx_cursor::proofs::Kept::type_kept, cxx_cursor::proofs::Kept::type_later, cxx_cursor::proofs::Kept::later_trans, cxx_cursor::proofs::Kept::later_refl), unfolding(cxx_reading::specs::Specifiers::specifier_step))]
     fn specifier_step(
         &self,
         state: &mut State,
@@ -703,7 +702,7 @@ impl<K: Kinds, N: Nested> Reader<'_, K, N> {
     }
 
     // All specifiers (7.1).
-    #[tactic(auto, using(crate::proofs::Loops::turn, crate::proofs::Loops::no_turn, crate::proofs::Kept::later_trans, crate::proofs::Kept::later_refl), unfolding(cxx_reading::specs::Specifiers::specifiers_at, cxx_reading::specs::Specifiers::typed))]
+    #[tactic(auto, using(cxx_cursor::proofs::Loops::turn, cxx_cursor::proofs::Loops::no_turn, cxx_cursor::proofs::Kept::later_trans, cxx_cursor::proofs::Kept::later_refl), unfolding(cxx_reading::specs::Specifiers::specifiers_at, cxx_reading::specs::Specifiers::typed))]
     fn specifiers_run(
         &self,
         state: &mut State,
@@ -725,7 +724,7 @@ impl<K: Kinds, N: Nested> Reader<'_, K, N> {
     }
 
     /// All specifiers, with a type among them (7.1, 7.1.5).
-    #[tactic(auto, using(crate::proofs::Kept::later_trans, crate::proofs::Kept::later_refl), unfolding(cxx_reading::specs::Specifiers::specifiers_at, cxx_reading::specs::Specifiers::typed))]
+    #[tactic(auto, using(cxx_cursor::proofs::Kept::later_trans, cxx_cursor::proofs::Kept::later_refl), unfolding(cxx_reading::specs::Specifiers::specifiers_at, cxx_reading::specs::Specifiers::typed))]
     pub fn specifiers_at(
         &self,
         state: &mut State,

@@ -2,8 +2,8 @@
 use Rattle.cxx_model.specs.declared.options.Options.{Options}
 use Rattle.cxx_reading.specs.Reads as reads
 use Rattle.cxx_reading.specs.Units.{CxxReading}
-use Rattle.cxx_syntax.specs.declared.turn.Turn.{Turn}
-use Rattle.cxx_syntax.specs.Views.{turn_at}
+use Rattle.cxx_cursor.specs.declared.turn.Turn.{Turn}
+use Rattle.cxx_cursor.specs.Views.{turn_at}
 use Rattle.cxx_tree.specs.Held.{Held, meaning}
 
 abbrev pub reading_of : Options → Held → CxxReading

@@ -9,9 +9,9 @@ use Rattle.cxx_reading.specs.Declarators.{declared_type, is_refused, is_void, re
 use Rattle.cxx_reading.specs.Reads as reads
 use Rattle.cxx_reading.specs.Trees.{CxxTree}
 use Rattle.cxx_reading.specs.Units as definition
-use Rattle.cxx_syntax.specs.declared.declarator.Declarator.{Declarator}
-use Rattle.cxx_syntax.specs.declared.turn.Turn.{Turn}
-use Rattle.cxx_syntax.specs.Views.{AreTreesHeld, IsDeclarator, IsTurn, layers_in, trees_held, turn_at}
+use Rattle.cxx_cursor.specs.declared.declarator.Declarator.{Declarator}
+use Rattle.cxx_cursor.specs.declared.turn.Turn.{Turn}
+use Rattle.cxx_cursor.specs.Views.{AreTreesHeld, IsDeclarator, IsTurn, layers_in, trees_held, turn_at}
 use Rattle.cxx_tree.specs.Held.{Held, meaning, type_of}
 use Rattle.cxx_tree.specs.Later.{Later}
 use Rattle.cxx_units.specs.declared.said.Listed.{Listed}

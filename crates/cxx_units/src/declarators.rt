@@ -2,16 +2,17 @@
 
 ghost use Rattle.std.specs.Prelude.{◌≡◌, ◌<◌, ◌++◌, ◌∷◌, [], false, length, true, IfOk};
 ghost use Rattle.cxx_reading.specs.Units as definition;
-ghost use Rattle.cxx_syntax.specs.Asking.{AnyKnown, itself};
-ghost use Rattle.cxx_syntax.specs.Reading.{IsRead};
-ghost use Rattle.cxx_syntax.specs.Views.{declarator_of, name_of_option};
+ghost use Rattle.cxx_cursor.specs.Asking.{AnyKnown, itself};
+ghost use Rattle.cxx_cursor.specs.Reading.{IsRead};
+ghost use Rattle.cxx_cursor.specs.Views.{declarator_of, name_of_option};
 ghost use Rattle.cxx_tree.specs.Held.{meaning, tree, trees};
 ghost use Rattle.cxx_units.specs.Said.{IsListed, IsListedTurn, IsSaid, is_unfit as is_unfit_by, listed_of, listed_turn, said_of};
 
 use crate::said::{Listed as ListedTrees, Said};
 use crate::trees::{faulty, with_tree};
+use cxx_cursor::{Cursor, Declarator, NameToken, Turn, is_punct};
 use cxx_model::{FaultText, Listed, Place, Stop, TreeId, TreeIdList, punct};
-use cxx_syntax::{Cursor, Declarator, NameToken, Turn, is_declared_void, is_punct, refused};
+use cxx_syntax::{is_declared_void, refused};
 use cxx_tree::State;
 use std::alloc::{AllocError, Global};
 
@@ -36,7 +37,7 @@ fn is_unfit(state: &State, said: Said, declarator: &Declarator) -> bool
 }
 
 /// The declared type is made of what it may be made of, and no object is `void` (8.3, 3.9.1).
-#[tactic(auto, using(cxx_syntax::proofs::Kept::later_refl), unfolding(cxx_reading::specs::Units::declared_fits))]
+#[tactic(auto, using(cxx_cursor::proofs::Kept::later_refl), unfolding(cxx_reading::specs::Units::declared_fits))]
 pub fn declared_fits(
     state: &State,
     cursor: &Cursor<'_>,
@@ -65,7 +66,7 @@ fn with_declarator(so_far: ListedTrees, number: TreeId) -> Result<ListedTrees, A
 }
 
 /// Behind a declarator.
-#[tactic(auto, using(cxx_syntax::proofs::Kept::trees_append, cxx_syntax::proofs::Kept::trees_below_append, cxx_syntax::proofs::Kept::later_refl), unfolding(cxx_reading::specs::Units::declarator_ended))]
+#[tactic(auto, using(cxx_cursor::proofs::Kept::trees_append, cxx_cursor::proofs::Kept::trees_below_append, cxx_cursor::proofs::Kept::later_refl), unfolding(cxx_reading::specs::Units::declarator_ended))]
 pub fn declarator_ended(
     state: &State,
     cursor: &mut Cursor<'_>,

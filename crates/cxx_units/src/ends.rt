@@ -6,20 +6,20 @@ ghost use Rattle.cxx_reading.specs.Declarators.{own_parameters as own_parameters
 ghost use Rattle.cxx_reading.specs.Reads.{kind_ahead, place_ahead};
 ghost use Rattle.cxx_reading.specs.Tokens as token;
 ghost use Rattle.cxx_reading.specs.Units as definition;
-ghost use Rattle.cxx_syntax.specs.Asking.{AnyKnown, itself};
-ghost use Rattle.cxx_syntax.specs.Reading.{IsRead};
-ghost use Rattle.cxx_syntax.specs.Views.{AreTreesHeld, layers_in, name_at, specifiers_of, trees_held};
+ghost use Rattle.cxx_cursor.specs.Asking.{AnyKnown, itself};
+ghost use Rattle.cxx_cursor.specs.Reading.{IsRead};
+ghost use Rattle.cxx_cursor.specs.Views.{AreTreesHeld, layers_in, name_at, specifiers_of, trees_held};
 ghost use Rattle.cxx_tree.specs.Answered.{scope_of_option};
 ghost use Rattle.cxx_tree.specs.Held.{meaning, type_of};
 
 use crate::trees::faulty;
 use crate::types::{is_const_type, is_reference, is_unbounded};
+use cxx_cursor::{Cursor, Layer, LayerList, NameToken, Specifiers, is_punct};
 use cxx_model::{
     Fault, FaultText, LeftOut, Listed, ScopeId, Stop, TokenKind, TreeIdList, TypeId, keyword, punct,
 };
 use cxx_names::is_incomplete;
 use cxx_reading::StorageWord;
-use cxx_syntax::{Cursor, Layer, LayerList, NameToken, Specifiers, is_punct};
 use cxx_tree::State;
 use std::alloc::AllocError;
 
@@ -31,7 +31,7 @@ pub fn ends_declarator(kind: TokenKind) -> bool
 }
 
 /// Behind the declarator of a synonym (7.1.3).
-#[tactic(auto, using(cxx_syntax::proofs::Kept::later_refl), unfolding(cxx_reading::specs::Units::synonym_ended))]
+#[tactic(auto, using(cxx_cursor::proofs::Kept::later_refl), unfolding(cxx_reading::specs::Units::synonym_ended))]
 pub fn synonym_ended(state: &State, cursor: &Cursor<'_>) -> Result<(), Stop>
     ensures { IsRead itself AnyKnown state.now state.now cursor.now result (definition.synonym_ended (meaning state.now) cursor.now) }
 {
@@ -54,7 +54,7 @@ pub fn own_parameters(state: &State, layers: &LayerList) -> Option<ScopeId>
 }
 
 /// An object is of a complete type (3.9).
-#[tactic(auto, using(cxx_syntax::proofs::Kept::later_refl), unfolding(cxx_reading::specs::Units::complete_object))]
+#[tactic(auto, using(cxx_cursor::proofs::Kept::later_refl), unfolding(cxx_reading::specs::Units::complete_object))]
 pub fn complete_object(
     state: &State,
     cursor: &Cursor<'_>,
@@ -72,7 +72,7 @@ pub fn complete_object(
 }
 
 /// An object without an initializer that has to have one (8.5).
-#[tactic(auto, using(cxx_syntax::proofs::Kept::later_refl), unfolding(cxx_reading::specs::Units::uninitialized))]
+#[tactic(auto, using(cxx_cursor::proofs::Kept::later_refl), unfolding(cxx_reading::specs::Units::uninitialized))]
 pub fn uninitialized(
     state: &State,
     cursor: &Cursor<'_>,
@@ -101,7 +101,7 @@ fn is_some_storage(word: Option<StorageWord>) -> bool
 }
 
 /// Without a declarator a declaration has to define an enumeration or to name a class (clause 7).
-#[tactic(auto, using(cxx_syntax::proofs::Kept::later_refl), unfolding(cxx_reading::specs::Units::nothing_declared))]
+#[tactic(auto, using(cxx_cursor::proofs::Kept::later_refl), unfolding(cxx_reading::specs::Units::nothing_declared))]
 pub fn nothing_declared(
     state: &State,
     cursor: &mut Cursor<'_>,

@@ -2,13 +2,13 @@
 
 ghost use Rattle.std.specs.Prelude.{◌≡◌};
 ghost use Rattle.cxx_reading.specs.Units as definition;
-ghost use Rattle.cxx_syntax.specs.Asking.{AnyKnown, itself};
-ghost use Rattle.cxx_syntax.specs.Reading.{IsRead};
+ghost use Rattle.cxx_cursor.specs.Asking.{AnyKnown, itself};
+ghost use Rattle.cxx_cursor.specs.Reading.{IsRead};
 ghost use Rattle.cxx_tree.specs.Held.{meaning};
 ghost use Rattle.cxx_units.specs.Said.{flag_turn};
 
+use cxx_cursor::{Cursor, Turn, is_keyword};
 use cxx_model::{Stop, TokenKind, keyword};
-use cxx_syntax::{Cursor, Turn, is_keyword};
 use cxx_tree::State;
 
 fn is_text(kind: TokenKind) -> bool
@@ -33,7 +33,7 @@ fn is_language(spelling: &[u8]) -> bool
 }
 
 // `extern` and the name of a language, once more.
-#[tactic(auto, using(cxx_syntax::proofs::Kept::later_refl), unfolding(cxx_reading::specs::Units::linkage_step))]
+#[tactic(auto, using(cxx_cursor::proofs::Kept::later_refl), unfolding(cxx_reading::specs::Units::linkage_step))]
 fn linkage_step(state: &State, cursor: &mut Cursor<'_>, any: bool) -> Result<Turn<bool, bool>, Stop>
     ensures { IsRead flag_turn AnyKnown state.now state.now cursor.new result (definition.linkage_step any (meaning state.now) cursor.old) }
 {
@@ -50,7 +50,7 @@ fn linkage_step(state: &State, cursor: &mut Cursor<'_>, any: bool) -> Result<Tur
 }
 
 /// Specifications of linkage, one after another: whether there are any.
-#[tactic(auto, using(cxx_syntax::proofs::Loops::turn, cxx_syntax::proofs::Loops::no_turn, cxx_syntax::proofs::Kept::later_refl), unfolding(cxx_reading::specs::Units::linkages_passed))]
+#[tactic(auto, using(cxx_cursor::proofs::Loops::turn, cxx_cursor::proofs::Loops::no_turn, cxx_cursor::proofs::Kept::later_refl), unfolding(cxx_reading::specs::Units::linkages_passed))]
 pub fn linkages_passed(state: &State, cursor: &mut Cursor<'_>) -> Result<bool, Stop>
     ensures { IsRead itself AnyKnown state.now state.now cursor.new result (definition.linkages_passed (meaning state.now) cursor.old) }
 {

@@ -4,14 +4,15 @@ ghost use Rattle.std.specs.Prelude.{◌≡◌, ◌<◌, length};
 ghost use Rattle.cxx_model.specs.Types.Trees.{fundamental, with_cv as with_cv_words};
 ghost use Rattle.cxx_reading.specs.Declarators as declarators;
 ghost use Rattle.cxx_reading.specs.Units as definition;
-ghost use Rattle.cxx_syntax.specs.Views.{AreSpecifiers, specifiers_of};
+ghost use Rattle.cxx_cursor.specs.Views.{AreSpecifiers, specifiers_of};
 ghost use Rattle.cxx_tree.specs.Held.{type_of};
 ghost use Rattle.cxx_units.specs.Made.{GrowsType, GrowsTypeOption};
 ghost use Rattle.cxx_units.specs.Said.{GrowsSaid};
 
+use cxx_cursor::{Specifiers, base_of_words};
 use cxx_model::{Base, Cv, Stop, TreeIdList, TypeId};
 use cxx_reading::{StorageWord, TypeWords};
-use cxx_syntax::{Specifiers, base_of_words, specified};
+use cxx_syntax::specified;
 use cxx_tree::State;
 
 /// What the specifiers say of each declarator.
@@ -61,7 +62,7 @@ pub(crate) fn storage_text(word: Option<StorageWord>) -> &'static [u8]
     }
 }
 
-#[tactic(auto, using(cxx_syntax::proofs::Kept::later_refl))]
+#[tactic(auto, using(cxx_cursor::proofs::Kept::later_refl))]
 fn plain(state: &mut State, of: Base) -> Result<TypeId, Stop>
     ensures { GrowsType state.old state.new result (fundamental of) }
 {
@@ -82,7 +83,7 @@ fn with_cv(state: &mut State, of: TypeId, cv: Cv) -> Result<TypeId, Stop>
 }
 
 // The type that words name (Table 7).
-#[tactic(auto, using(cxx_syntax::proofs::Kept::later_refl))]
+#[tactic(auto, using(cxx_cursor::proofs::Kept::later_refl))]
 fn type_of_words(state: &mut State, words: TypeWords) -> Result<Option<TypeId>, Stop>
     ensures { GrowsTypeOption state.old state.new result (declarators.of_base (declarators.base_of_words words)) }
 {
@@ -93,7 +94,7 @@ fn type_of_words(state: &mut State, words: TypeWords) -> Result<Option<TypeId>, 
 }
 
 // The type without its cv words.
-#[tactic(auto, using(cxx_syntax::proofs::Kept::later_refl))]
+#[tactic(auto, using(cxx_cursor::proofs::Kept::later_refl))]
 fn bare_type(state: &mut State, specifiers: &Specifiers) -> Result<Option<TypeId>, Stop>
     requires { AreSpecifiers state.old specifiers.now }
     ensures { GrowsTypeOption state.old state.new result (declarators.bare_type (specifiers_of state.old specifiers.now)) }
@@ -105,7 +106,7 @@ fn bare_type(state: &mut State, specifiers: &Specifiers) -> Result<Option<TypeId
 }
 
 /// The type that the specifiers name (7.1.5).
-#[tactic(auto, using(cxx_syntax::proofs::Kept::later_refl, cxx_syntax::proofs::Kept::later_trans))]
+#[tactic(auto, using(cxx_cursor::proofs::Kept::later_refl, cxx_cursor::proofs::Kept::later_trans))]
 pub(crate) fn type_of_specifiers(
     state: &mut State,
     specifiers: &Specifiers,

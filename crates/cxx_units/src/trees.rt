@@ -8,15 +8,15 @@ ghost use Rattle.cxx_reading.specs.Labels.{label_from};
 ghost use Rattle.cxx_reading.specs.Productions as production;
 ghost use Rattle.cxx_reading.specs.Trees.{tree_of};
 ghost use Rattle.cxx_reading.specs.Units as definition;
-ghost use Rattle.cxx_syntax.specs.Making.{GrowsTree};
-ghost use Rattle.cxx_syntax.specs.Views.{AreSpecifiers, AreTreesHeld, name_at, name_of_option, specifiers_of, trees_held};
+ghost use Rattle.cxx_cursor.specs.Making.{GrowsTree};
+ghost use Rattle.cxx_cursor.specs.Views.{AreSpecifiers, AreTreesHeld, name_at, name_of_option, specifiers_of, trees_held};
 ghost use Rattle.cxx_tree.specs.Held.{tree, trees, type_of};
 
 use crate::said::{storage_text, type_of_specifiers};
+use cxx_cursor::{Cursor, NameToken, Specifiers, node_from, path_to, push};
 use cxx_model::{
     FactId, Fault, FaultText, Listed, Place, Stop, Text, TokenKind, TreeId, TreeIdList, TypeId,
 };
-use cxx_syntax::{Cursor, NameToken, Specifiers, node_from, path_to, push};
 use cxx_tree::State;
 use std::alloc::{AllocError, Global};
 
@@ -173,7 +173,7 @@ fn specifiers_node(
 }
 
 /// The specifiers of a declaration (7.1), spelled by their storage word.
-#[tactic(auto, using(cxx_syntax::proofs::Kept::trees_kept, cxx_syntax::proofs::Kept::trees_later, cxx_syntax::proofs::Kept::later_trans, cxx_syntax::proofs::Kept::later_refl))]
+#[tactic(auto, using(cxx_cursor::proofs::Kept::trees_kept, cxx_cursor::proofs::Kept::trees_later, cxx_cursor::proofs::Kept::later_trans, cxx_cursor::proofs::Kept::later_refl))]
 pub fn specifiers_tree(
     state: &mut State,
     specifiers: Specifiers,
@@ -207,7 +207,7 @@ pub fn listed_tree(
 }
 
 /// The tree of a declaration, with that of its specifiers.
-#[tactic(auto, using(cxx_syntax::proofs::Kept::trees_kept, cxx_syntax::proofs::Kept::trees_later, cxx_syntax::proofs::Kept::later_refl, cxx_syntax::proofs::Kept::later_trans))]
+#[tactic(auto, using(cxx_cursor::proofs::Kept::trees_kept, cxx_cursor::proofs::Kept::trees_later, cxx_cursor::proofs::Kept::later_refl, cxx_cursor::proofs::Kept::later_trans))]
 pub fn declaration_tree(
     state: &mut State,
     specifiers: Specifiers,

@@ -8,8 +8,8 @@ ghost use Rattle.cxx_model.specs.Text.Lexemes.{first_place as first_place_of_uni
 ghost use Rattle.cxx_reading.specs.Reads.{Ahead, Got};
 ghost use Rattle.cxx_reading.specs.State.{CxxState, first_state};
 ghost use Rattle.cxx_reading.specs.Units as definition;
-ghost use Rattle.cxx_syntax.specs.Asking.{AnyKnown, IsAsked, itself};
-ghost use Rattle.cxx_syntax.specs.Reading.{Answers};
+ghost use Rattle.cxx_cursor.specs.Asking.{AnyKnown, IsAsked, itself};
+ghost use Rattle.cxx_cursor.specs.Reading.{Answers};
 ghost use Rattle.cxx_tree.specs.Held.{meaning, tree, trees};
 ghost use Rattle.cxx_units.specs.Read.{reading_of};
 

@@ -1,5 +1,5 @@
 use Rattle.cxx_reading.specs.Declaring.{kind_here}
-use Rattle.cxx_syntax.specs.Asking.{AnyKnown, itself}
+use Rattle.cxx_cursor.specs.Asking.{AnyKnown, itself}
 use Rattle.cxx_tree.specs.Held.{meaning}
 use Rattle.cxx_declaring.proofs.Answering.{plain_asked}
 use Rattle.cxx_declaring.proofs.declaring.kind_of_word.Goals as goal

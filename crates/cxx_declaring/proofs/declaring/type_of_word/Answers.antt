@@ -1,5 +1,5 @@
 use Rattle.cxx_reading.specs.Declaring.{type_here}
-use Rattle.cxx_syntax.specs.Asking.{IsTypeKnown}
+use Rattle.cxx_cursor.specs.Asking.{IsTypeKnown}
 use Rattle.cxx_tree.specs.Held.{meaning, type_of}
 use Rattle.cxx_declaring.proofs.Answering.{plain_asked}
 use Rattle.cxx_declaring.proofs.declaring.type_of_word.Goals as goal

@@ -2,8 +2,8 @@ use Rattle.std.specs.Prelude.{◌-◌}
 use Rattle.cxx_model.specs.declared.limits.TheConstants as limits
 use Rattle.cxx_phrases.specs.Arguments.{argument_step, arguments_over, some_arguments}
 use Rattle.cxx_reading.specs.Reads.{repeat}
-use Rattle.cxx_syntax.specs.Looping.{IsTurning}
-use Rattle.cxx_syntax.specs.Views.{AreTreesHeld, trees_held}
+use Rattle.cxx_cursor.specs.Looping.{IsTurning}
+use Rattle.cxx_cursor.specs.Views.{AreTreesHeld, trees_held}
 use Rattle.cxx_tree.specs.Held.{meaning}
 use Rattle.cxx_phrases.proofs.arguments.some_arguments.Given as goal
 

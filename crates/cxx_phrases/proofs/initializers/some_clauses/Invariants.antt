@@ -1,8 +1,8 @@
 use Rattle.std.specs.Prelude.{◌-◌}
 use Rattle.cxx_phrases.specs.Initializers.{clause_step, some_clauses}
 use Rattle.cxx_reading.specs.Reads.{give, repeat}
-use Rattle.cxx_syntax.specs.Looping.{IsTurning}
-use Rattle.cxx_syntax.specs.Views.{AreTreesHeld, trees_held}
+use Rattle.cxx_cursor.specs.Looping.{IsTurning}
+use Rattle.cxx_cursor.specs.Views.{AreTreesHeld, trees_held}
 use Rattle.cxx_tree.specs.Held.{meaning}
 use Rattle.cxx_phrases.proofs.initializers.some_clauses.Given as goal
 

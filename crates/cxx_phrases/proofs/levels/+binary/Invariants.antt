@@ -1,8 +1,8 @@
 use Rattle.std.specs.Prelude.{◌+◌, ◌*◌, ◌-◌}
 use Rattle.cxx_phrases.specs.Levels.{binary_at, operation_step, operations_at}
 use Rattle.cxx_reading.specs.Reads.{give, repeat}
-use Rattle.cxx_syntax.specs.Asking.{IsTreeKnown}
-use Rattle.cxx_syntax.specs.Looping.{IsTurning}
+use Rattle.cxx_cursor.specs.Asking.{IsTreeKnown}
+use Rattle.cxx_cursor.specs.Looping.{IsTurning}
 use Rattle.cxx_tree.specs.Held.{meaning, tree}
 use Rattle.cxx_phrases.proofs.levels.+binary.Given as goal
 

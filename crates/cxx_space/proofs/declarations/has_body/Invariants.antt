@@ -1,6 +1,6 @@
 use Rattle.std.proofs.Common.{◌≡◌, drop}
 use Rattle.cxx_language.specs.Units.{has_body}
-use Rattle.cxx_syntax.specs.Views.{AreTreesHeld, trees_held}
+use Rattle.cxx_cursor.specs.Views.{AreTreesHeld, trees_held}
 use Rattle.cxx_space.proofs.declarations.has_body.Given as goal
 
 abbrev pub invariant-loop-one : goal.invariant-loop-one

@@ -1,7 +1,7 @@
 use Rattle.std.specs.Prelude.{◌-◌}
 use Rattle.cxx_reading.specs.Reads.{count_ahead, give, repeat}
 use Rattle.cxx_language.specs.Units.{unit_step}
-use Rattle.cxx_syntax.specs.Looping.{IsTurning}
+use Rattle.cxx_cursor.specs.Looping.{IsTurning}
 use Rattle.cxx_tree.specs.Held.{meaning}
 use Rattle.cxx_space.proofs.unit.unit_steps.Given as goal
 

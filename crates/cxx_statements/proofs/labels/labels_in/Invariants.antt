@@ -2,7 +2,7 @@ use Rattle.std.specs.Prelude.{◌-◌}
 use Rattle.cxx_reading.specs.Reads.{give, repeat}
 use Rattle.cxx_statements.specs.Statements.{label_step, labels_in}
 use Rattle.cxx_statements.specs.Views.{IsSeveral, around_of, several_of}
-use Rattle.cxx_syntax.specs.Looping.{IsTurning}
+use Rattle.cxx_cursor.specs.Looping.{IsTurning}
 use Rattle.cxx_tree.specs.Held.{meaning}
 use Rattle.cxx_statements.proofs.labels.labels_in.Given as goal
 

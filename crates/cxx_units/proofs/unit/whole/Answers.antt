@@ -1,8 +1,8 @@
 use Rattle.std.specs.Prelude.{Result}
 use Rattle.std.proofs.Common.{subst}
 use Rattle.cxx_model.specs.declared.stop.Stop.{Stop}
-use Rattle.cxx_syntax.specs.Asking.{AnyKnown, itself}
-use Rattle.cxx_syntax.specs.Reading.{Answers}
+use Rattle.cxx_cursor.specs.Asking.{AnyKnown, itself}
+use Rattle.cxx_cursor.specs.Reading.{Answers}
 use Rattle.cxx_units.proofs.Ended.{stopped}
 use Rattle.cxx_units.proofs.unit.whole.Goals as goal
 

@@ -1,6 +1,6 @@
 use Rattle.cxx_reading.specs.Spaces.{declare_alias}
-use Rattle.cxx_syntax.specs.Asking.{AnyKnown, itself}
-use Rattle.cxx_syntax.specs.Views.{lexeme_at}
+use Rattle.cxx_cursor.specs.Asking.{AnyKnown, itself}
+use Rattle.cxx_cursor.specs.Views.{lexeme_at}
 use Rattle.cxx_tree.specs.Held.{meaning}
 use Rattle.cxx_declaring.proofs.Answering.{asked}
 use Rattle.cxx_declaring.proofs.declares.DeclaringDeclares.declare_alias.Goals as goal

@@ -1,5 +1,5 @@
 use Rattle.cxx_declare.specs.Functions as definition
-use Rattle.cxx_syntax.specs.Views.{name_at}
+use Rattle.cxx_cursor.specs.Views.{name_at}
 use Rattle.cxx_tree.specs.Answered.{IsFactKnown, fact_number, scope_of_option}
 use Rattle.cxx_tree.specs.Held.{meaning, type_of}
 use Rattle.cxx_declaring.proofs.Answering.{named_asked}

@@ -1,5 +1,5 @@
 use Rattle.cxx_reading.specs.Declaring as definition
-use Rattle.cxx_syntax.specs.Views.{name_at}
+use Rattle.cxx_cursor.specs.Views.{name_at}
 use Rattle.cxx_tree.specs.Answered.{IsFactKnown, fact_number}
 use Rattle.cxx_tree.specs.Held.{meaning, type_of}
 use Rattle.cxx_declaring.proofs.Answering.{named_asked}

@@ -2,8 +2,8 @@ use Rattle.std.specs.Prelude.{◌-◌, []}
 use Rattle.cxx_knot.specs.Knot.{asking_by}
 use Rattle.cxx_knot.specs.Readers.{enumerator_step}
 use Rattle.cxx_reading.specs.Reads.{count_ahead, give, repeat}
-use Rattle.cxx_syntax.specs.Looping.{IsTurning}
-use Rattle.cxx_syntax.specs.Views.{AreTreesHeld, trees_held}
+use Rattle.cxx_cursor.specs.Looping.{IsTurning}
+use Rattle.cxx_cursor.specs.Views.{AreTreesHeld, trees_held}
 use Rattle.cxx_tree.specs.Held.{meaning}
 use Rattle.cxx_knot.proofs.values.Values.enumerators_run.Given as goal
 

@@ -2,7 +2,7 @@ use Rattle.std.specs.Prelude.{◌-◌}
 use Rattle.cxx_reading.specs.Reads.{repeat}
 use Rattle.cxx_reading.specs.Units.{give_trees}
 use Rattle.cxx_language.specs.Blocks.{local_declarators_at, local_step}
-use Rattle.cxx_syntax.specs.Looping.{IsTurning}
+use Rattle.cxx_cursor.specs.Looping.{IsTurning}
 use Rattle.cxx_tree.specs.Held.{meaning}
 use Rattle.cxx_units.specs.Said.{IsListed, listed_of, said_of}
 use Rattle.cxx_language.proofs.declares.Reader.local_declarators_at.Given as goal

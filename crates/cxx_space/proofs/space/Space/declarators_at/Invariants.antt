@@ -2,7 +2,7 @@ use Rattle.std.specs.Prelude.{◌-◌}
 use Rattle.cxx_reading.specs.Reads.{repeat}
 use Rattle.cxx_reading.specs.Units.{give_trees}
 use Rattle.cxx_language.specs.Units.{declarator_step, declarators_at}
-use Rattle.cxx_syntax.specs.Looping.{IsTurning}
+use Rattle.cxx_cursor.specs.Looping.{IsTurning}
 use Rattle.cxx_tree.specs.Held.{meaning}
 use Rattle.cxx_units.specs.Said.{IsListed, listed_of, said_of}
 use Rattle.cxx_space.proofs.space.Space.declarators_at.Given as goal

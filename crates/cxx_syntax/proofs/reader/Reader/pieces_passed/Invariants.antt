@@ -1,7 +1,7 @@
 use Rattle.std.specs.Prelude.{◌-◌}
 use Rattle.cxx_reading.specs.Reads.{count_ahead, repeat}
 use Rattle.cxx_reading.specs.Shapes as shape
-use Rattle.cxx_syntax.specs.Looping.{IsTurning}
+use Rattle.cxx_cursor.specs.Looping.{IsTurning}
 use Rattle.cxx_tree.specs.Held.{meaning}
 use Rattle.cxx_syntax.proofs.reader.Reader.pieces_passed.Given as goal
 

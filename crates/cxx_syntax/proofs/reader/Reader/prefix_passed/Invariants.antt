@@ -1,8 +1,8 @@
 use Rattle.std.specs.Prelude.{◌≤◌, ◌-◌}
 use Rattle.cxx_reading.specs.Reads.{give, repeat}
 use Rattle.cxx_reading.specs.Shapes as shape
-use Rattle.cxx_syntax.specs.Looping.{IsTurning}
-use Rattle.cxx_syntax.specs.Outlines.{outline_of}
+use Rattle.cxx_cursor.specs.Looping.{IsTurning}
+use Rattle.cxx_cursor.specs.Outlines.{outline_of}
 use Rattle.cxx_tree.specs.Held.{meaning}
 use Rattle.cxx_syntax.proofs.reader.Reader.prefix_passed.Given as goal
 

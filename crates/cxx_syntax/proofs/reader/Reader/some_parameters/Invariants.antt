@@ -2,8 +2,8 @@ use Rattle.std.specs.Prelude.{◌-◌}
 use Rattle.cxx_model.specs.declared.limits.TheConstants as limits
 use Rattle.cxx_reading.specs.Reads.{repeat}
 use Rattle.cxx_reading.specs.Syntax.{parameter_step, parameters_over, some_parameters}
-use Rattle.cxx_syntax.specs.Looping.{IsTurning}
-use Rattle.cxx_syntax.specs.Views.{AreParameters, parameters_of}
+use Rattle.cxx_cursor.specs.Looping.{IsTurning}
+use Rattle.cxx_cursor.specs.Views.{AreParameters, parameters_of}
 use Rattle.cxx_tree.specs.Held.{meaning}
 use Rattle.cxx_syntax.proofs.reader.Reader.some_parameters.Given as goal
 

@@ -2,8 +2,8 @@ use Rattle.std.specs.Prelude.{◌-◌}
 use Rattle.cxx_reading.specs.Declarators.{no_specifiers}
 use Rattle.cxx_reading.specs.Reads.{count_ahead, give, repeat}
 use Rattle.cxx_reading.specs.Specifiers.{specifier_step}
-use Rattle.cxx_syntax.specs.Looping.{IsTurning}
-use Rattle.cxx_syntax.specs.Views.{AreSpecifiers, specifiers_of}
+use Rattle.cxx_cursor.specs.Looping.{IsTurning}
+use Rattle.cxx_cursor.specs.Views.{AreSpecifiers, specifiers_of}
 use Rattle.cxx_tree.specs.Held.{meaning}
 use Rattle.cxx_syntax.proofs.reader.Reader.specifiers_run.Given as goal
 

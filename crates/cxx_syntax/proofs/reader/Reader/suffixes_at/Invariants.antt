@@ -1,9 +1,9 @@
 use Rattle.std.specs.Prelude.{◌-◌}
 use Rattle.cxx_reading.specs.Reads.{repeat}
 use Rattle.cxx_reading.specs.Syntax.{give_declarator, suffix_at, suffixes_at}
-use Rattle.cxx_syntax.specs.Looping.{IsTurning}
+use Rattle.cxx_cursor.specs.Looping.{IsTurning}
 use Rattle.cxx_syntax.specs.Suffixes.{IsSuffixed, suffixed_of}
-use Rattle.cxx_syntax.specs.Views.{declarator_of}
+use Rattle.cxx_cursor.specs.Views.{declarator_of}
 use Rattle.cxx_tree.specs.Held.{meaning}
 use Rattle.cxx_syntax.proofs.reader.Reader.suffixes_at.Given as goal
 

@@ -8,10 +8,10 @@ ghost use Rattle.cxx_model.specs.declared.keyword.TheConstants as keyword;
 ghost use Rattle.cxx_reading.specs.Reads.{kind_ahead, place_ahead, word_ahead, count_ahead, behind};
 ghost use Rattle.cxx_reading.specs.Tokens as definition;
 ghost use Rattle.cxx_reading.specs.Tokens.{behind_name, passed_from, path_ahead, token_in};
-ghost use Rattle.cxx_syntax.specs.Asking.{AnyKnown};
-ghost use Rattle.cxx_syntax.specs.Passing.{goes_on, part_there};
-ghost use Rattle.cxx_syntax.specs.Reading.{IsRead, Takes};
-ghost use Rattle.cxx_syntax.specs.Views.{lexeme_at, name_at};
+ghost use Rattle.cxx_cursor.specs.Asking.{AnyKnown};
+ghost use Rattle.cxx_cursor.specs.Passing.{goes_on, part_there};
+ghost use Rattle.cxx_cursor.specs.Reading.{IsRead, Takes};
+ghost use Rattle.cxx_cursor.specs.Views.{lexeme_at, name_at};
 ghost use Rattle.cxx_tree.specs.Arena.{path_at, path_part_at, path_parts_at};
 ghost use Rattle.cxx_tree.specs.Held.{meaning};
 
@@ -154,12 +154,8 @@ fn with_part(
     Ok(parts)
 }
 
-// A fault without evidence.
-pub(crate) fn fault_at(
-    alloc: Global,
-    place: Place,
-    text: FaultText,
-) -> Result<Box<Fault>, AllocError>
+/// A fault without evidence.
+pub fn fault_at(alloc: Global, place: Place, text: FaultText) -> Result<Box<Fault>, AllocError>
     ensures { IfOk result (λ at. Faulty at.value ≡ fault place text) }
 {
     Ok(Box::new(
@@ -284,7 +280,7 @@ impl<'a> Cursor<'a> {
     }
 
     /// The token ahead, taken and kept.
-    pub(crate) fn kept(&mut self) -> Result<NameToken, AllocError>
+    pub fn kept(&mut self) -> Result<NameToken, AllocError>
         ensures token { IfOk result (λ token. name_at token ≡ token_in (self.old).tokens) }
         ensures taken { OnOk result (self.new ≡ behind self.old) }
     {
@@ -459,8 +455,8 @@ impl<'a> Cursor<'a> {
         Ok(path)
     }
 
-    // No declarator begins there (8): the name of an operator is not read yet.
-    pub(crate) fn no_declarator(&self) -> Result<Box<Fault>, AllocError>
+    /// No declarator begins there (8): the name of an operator is not read yet.
+    pub fn no_declarator(&self) -> Result<Box<Fault>, AllocError>
         ensures { IfOk result (λ at. Faulty at.value ≡ fault (place_ahead self.now) (if definition.is_keyword keyword.OPERATOR (kind_ahead self.now) then says.NotBuilt else says.SyntaxError)) }
     {
         if is_keyword(keyword::OPERATOR, self.kind()) {

@@ -1,5 +1,5 @@
-use Rattle.cxx_syntax.proofs.Names.{passing_more, passing_over, passing_rest, passing_whole}
-use Rattle.cxx_syntax.proofs.cursor.Cursor.pass_parts.Goals as goal
+use Rattle.cxx_cursor.proofs.Names.{passing_more, passing_over, passing_rest, passing_whole}
+use Rattle.cxx_cursor.proofs.cursor.Cursor.pass_parts.Goals as goal
 
 pub returns-then-not-goes_on-clause-taken : goal.returns-then-not-goes_on-clause-taken
 returns-then-not-goes_on-clause-taken c = passing_rest _ _ _ _ _ c.loop-turn.invariant cc

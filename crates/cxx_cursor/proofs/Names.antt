@@ -16,7 +16,7 @@ use Rattle.cxx_reading.specs.Tokens.{Passed, is_name, is_plain_name, is_punct, p
 use Rattle.cxx_reading.specs.Trees.{CxxPathPart, last_part}
 use Rattle.cxx_model.specs.declared.tree.PathPart.{PathPart}
 use Rattle.cxx_tree.specs.Arena.{path_part_at, path_parts_at}
-use Rattle.cxx_syntax.specs.Passing.{IsCollecting, IsPassing, goes_on, part_or, part_there, passed_at}
+use Rattle.cxx_cursor.specs.Passing.{IsCollecting, IsPassing, goes_on, part_or, part_there, passed_at}
 
 -- ---- one token
 

@@ -9,7 +9,7 @@ use Rattle.cxx_model.specs.Types.Trees.{enumeration}
 use Rattle.cxx_model.specs.Types.Numbers.{type_at}
 use Rattle.cxx_reading.specs.State.{CxxState}
 use Rattle.cxx_model.specs.declared.types.ScopeId.{ScopeId}
-use Rattle.cxx_syntax.specs.Views.{IsConstant}
+use Rattle.cxx_cursor.specs.Views.{IsConstant}
 use Rattle.cxx_tree.specs.Held.{Held, meaning, trees}
 use Rattle.cxx_tree.specs.Later.{Later}
 

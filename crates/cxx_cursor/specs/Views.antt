@@ -12,15 +12,15 @@ use Rattle.cxx_reading.specs.Declarators.{pointer_layer, reference_layer, array_
 use Rattle.cxx_reading.specs.Trees.{CxxTree}
 use Rattle.cxx_reading.specs.Reads as reads
 use Rattle.cxx_reading.specs.Reads.{More, Done}
-use Rattle.cxx_syntax.specs.declared.cursor.Spelled.{Spelled}
-use Rattle.cxx_syntax.specs.declared.declarator.Declarator.{Declarator}
-use Rattle.cxx_syntax.specs.declared.declarator.Layer.{Layer}
-use Rattle.cxx_syntax.specs.declared.declarator.Layer.TheVariants as layer
-use Rattle.cxx_syntax.specs.declared.declarator.ParameterTypes.{ParameterTypes}
-use Rattle.cxx_syntax.specs.declared.name.NameToken.{NameToken}
-use Rattle.cxx_syntax.specs.declared.specifiers.Specifiers.{Specifiers}
-use Rattle.cxx_syntax.specs.declared.turn.Turn.{Turn}
-use Rattle.cxx_syntax.specs.declared.turn.Turn.TheVariants as turn
+use Rattle.cxx_cursor.specs.declared.cursor.Spelled.{Spelled}
+use Rattle.cxx_cursor.specs.declared.declarator.Declarator.{Declarator}
+use Rattle.cxx_cursor.specs.declared.declarator.Layer.{Layer}
+use Rattle.cxx_cursor.specs.declared.declarator.Layer.TheVariants as layer
+use Rattle.cxx_cursor.specs.declared.declarator.ParameterTypes.{ParameterTypes}
+use Rattle.cxx_cursor.specs.declared.name.NameToken.{NameToken}
+use Rattle.cxx_cursor.specs.declared.specifiers.Specifiers.{Specifiers}
+use Rattle.cxx_cursor.specs.declared.turn.Turn.{Turn}
+use Rattle.cxx_cursor.specs.declared.turn.Turn.TheVariants as turn
 use Rattle.cxx_tree.specs.Arena.{AreTreesBelow, bound_of, trees_in}
 use Rattle.cxx_tree.specs.Held.{Held, trees}
 

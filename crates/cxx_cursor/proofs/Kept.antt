@@ -10,9 +10,9 @@ use Rattle.cxx_model.specs.Types.Numbers.{type_at, AreTypesBelow}
 use Rattle.cxx_reading.specs.Declarators as definition
 use Rattle.cxx_reading.specs.Declarators.{function_layer, adjusted_types}
 use Rattle.cxx_reading.specs.Trees.{CxxTree}
-use Rattle.cxx_syntax.specs.declared.declarator.Layer.{Layer}
-use Rattle.cxx_syntax.specs.declared.declarator.Layer.TheVariants as layer
-use Rattle.cxx_syntax.specs.Views.{AreLayersBelow, IsLayerBelow, layer_in, layers_in, types_in}
+use Rattle.cxx_cursor.specs.declared.declarator.Layer.{Layer}
+use Rattle.cxx_cursor.specs.declared.declarator.Layer.TheVariants as layer
+use Rattle.cxx_cursor.specs.Views.{AreLayersBelow, IsLayerBelow, layer_in, layers_in, types_in}
 use Rattle.cxx_tree.specs.Arena.{AreTreesBelow, trees_in}
 use Rattle.cxx_tree.specs.Held.{Held, trees}
 use Rattle.cxx_tree.specs.Later.{Later}

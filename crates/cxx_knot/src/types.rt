@@ -1,6 +1,6 @@
 //! Types where they are named by themselves (8.1), over the readers of declarators.
 
-ghost use Rattle.std.specs.Prelude.{◌≡◌, ◌<◌, ◌++◌, length, IfOk};
+ghost use Rattle.std.specs.Prelude.{◌≡◌, ◌<◌, length, IfOk};
 ghost use Rattle.cxx_model.specs.Stops.{Faulty, fault};
 ghost use Rattle.cxx_phrases.specs.Knot as definition;
 ghost use Rattle.cxx_phrases.specs.Making.{GrowsType};
@@ -8,19 +8,17 @@ ghost use Rattle.cxx_phrases.specs.Views.{IsWritten, written_of};
 ghost use Rattle.cxx_reading.specs.Declarators.{declared_type};
 ghost use Rattle.cxx_reading.specs.Shapes.{a_type};
 ghost use Rattle.cxx_reading.specs.Syntax.{specified_type};
-ghost use Rattle.cxx_syntax.specs.Asking.{AnyKnown, IsTypeKnown, itself};
-ghost use Rattle.cxx_syntax.specs.Outlines.{fits_of, outline_of};
-ghost use Rattle.cxx_syntax.specs.Reading.{IsRead};
-ghost use Rattle.cxx_syntax.specs.Views.{AreSpecifiers, IsDeclarator, declarator_of, specifiers_of};
+ghost use Rattle.cxx_cursor.specs.Asking.{AnyKnown, IsTypeKnown, itself};
+ghost use Rattle.cxx_cursor.specs.Outlines.{fits_of, outline_of};
+ghost use Rattle.cxx_cursor.specs.Reading.{IsRead};
+ghost use Rattle.cxx_cursor.specs.Views.{AreSpecifiers, IsDeclarator, declarator_of, specifiers_of};
 ghost use Rattle.cxx_tree.specs.Held.{meaning, type_of};
 
-use crate::shape::TypeShape;
+use cxx_cursor::{Cursor, Declarator, Fits, Outline, Run, Specifiers, is_punct, joined};
 use cxx_model::{Fault, FaultText, Listed, Place, Stop, TreeIdList, TypeId, punct};
+use cxx_phrases::TypeShape;
 use cxx_reading::{Naming, SpecifierPlace};
-use cxx_syntax::{
-    Cursor, Declarator, Fits, Kinds, Nested, Outline, Reader, Run, Specifiers, declared, is_punct,
-    joined, refused, specified,
-};
+use cxx_syntax::{Kinds, Nested, Reader, declared, refused, specified};
 use cxx_tree::State;
 use std::alloc::{AllocError, Global};
 
@@ -60,7 +58,7 @@ fn declared_here(state: &mut State, declarator: &Declarator, of: TypeId) -> Resu
 }
 
 // A type that there may be, of that of the specifiers.
-#[tactic(auto, using(cxx_syntax::proofs::Kept::later_trans, cxx_syntax::proofs::Kept::later_refl), unfolding(crate::specs::Knot::type_declared))]
+#[tactic(auto, using(cxx_cursor::proofs::Kept::later_trans, cxx_cursor::proofs::Kept::later_refl), unfolding(cxx_phrases::specs::Knot::type_declared))]
 fn type_declared(
     state: &mut State,
     cursor: &Cursor<'_>,
@@ -79,7 +77,7 @@ fn type_declared(
 }
 
 // The type of specifiers and a declarator.
-#[tactic(auto, using(crate::proofs::Carried::type_carried, cxx_syntax::proofs::Kept::layers_later, cxx_syntax::proofs::Kept::trees_later))]
+#[tactic(auto, using(cxx_phrases::proofs::Carried::type_carried, cxx_cursor::proofs::Kept::layers_later, cxx_cursor::proofs::Kept::trees_later))]
 fn type_made(
     state: &mut State,
     cursor: &Cursor<'_>,
@@ -94,7 +92,7 @@ fn type_made(
     type_declared(state, cursor, of, declarator)
 }
 
-#[tactic(auto, using(cxx_syntax::proofs::Kept::trees_kept, cxx_syntax::proofs::Kept::trees_later, cxx_syntax::proofs::Kept::trees_append, cxx_syntax::proofs::Kept::trees_below_append, cxx_syntax::proofs::Kept::later_trans, cxx_syntax::proofs::Kept::later_refl), unfolding(crate::specs::Knot::type_id_fits))]
+#[tactic(auto, using(cxx_cursor::proofs::Kept::trees_kept, cxx_cursor::proofs::Kept::trees_later, cxx_cursor::proofs::Kept::trees_append, cxx_cursor::proofs::Kept::trees_below_append, cxx_cursor::proofs::Kept::later_trans, cxx_cursor::proofs::Kept::later_refl), unfolding(cxx_phrases::specs::Knot::type_id_fits))]
 fn type_id_fits(
     state: &mut State,
     cursor: &Cursor<'_>,
@@ -110,7 +108,7 @@ fn type_id_fits(
 }
 
 /// A type, with the trees of what it is written of (8.1).
-#[tactic(auto, using(cxx_syntax::proofs::Kept::trees_kept, cxx_syntax::proofs::Kept::trees_later, cxx_syntax::proofs::Kept::named_kept, cxx_syntax::proofs::Kept::named_later, cxx_syntax::proofs::Kept::later_trans, cxx_syntax::proofs::Kept::later_refl), unfolding(crate::specs::Knot::type_id_at))]
+#[tactic(auto, using(cxx_cursor::proofs::Kept::trees_kept, cxx_cursor::proofs::Kept::trees_later, cxx_cursor::proofs::Kept::named_kept, cxx_cursor::proofs::Kept::named_later, cxx_cursor::proofs::Kept::later_trans, cxx_cursor::proofs::Kept::later_refl), unfolding(cxx_phrases::specs::Knot::type_id_at))]
 pub fn type_id_at<K: Kinds, N: Nested>(
     reader: &Reader<'_, K, N>,
     state: &mut State,
@@ -126,7 +124,7 @@ pub fn type_id_at<K: Kinds, N: Nested>(
 }
 
 // Behind a declarator that fits the end of the bracket has to stand.
-#[tactic(auto, using(cxx_syntax::proofs::Kept::later_refl))]
+#[tactic(auto, using(cxx_cursor::proofs::Kept::later_refl))]
 fn closed_by(state: &State, cursor: &mut Cursor<'_>, fits: Fits) -> Result<TypeShape, Stop>
     ensures { IsRead itself AnyKnown state.now state.now cursor.new result (definition.closed_by (fits_of fits) (meaning state.now) cursor.old) }
 {
@@ -144,7 +142,7 @@ fn closed_by(state: &State, cursor: &mut Cursor<'_>, fits: Fits) -> Result<TypeS
 }
 
 // Behind the first part of a declarator, which has no name in a type.
-#[tactic(auto, using(cxx_syntax::proofs::Kept::later_trans, cxx_syntax::proofs::Kept::later_refl))]
+#[tactic(auto, using(cxx_cursor::proofs::Kept::later_trans, cxx_cursor::proofs::Kept::later_refl))]
 fn abstract_by<K: Kinds, N: Nested>(
     reader: &Reader<'_, K, N>,
     state: &mut State,
@@ -162,7 +160,7 @@ fn abstract_by<K: Kinds, N: Nested>(
 }
 
 // Behind a type a declarator without a name stands.
-#[tactic(auto, using(cxx_syntax::proofs::Kept::later_trans, cxx_syntax::proofs::Kept::later_refl))]
+#[tactic(auto, using(cxx_cursor::proofs::Kept::later_trans, cxx_cursor::proofs::Kept::later_refl))]
 fn abstract_at<K: Kinds, N: Nested>(
     reader: &Reader<'_, K, N>,
     state: &mut State,
@@ -177,7 +175,7 @@ fn abstract_at<K: Kinds, N: Nested>(
 }
 
 /// Whether a type stands ahead up to the end of a bracket, behind which the cursor stands then (8.2).
-#[tactic(auto, using(cxx_syntax::proofs::Kept::later_trans, cxx_syntax::proofs::Kept::later_refl), unfolding(crate::specs::Knot::type_passed_at))]
+#[tactic(auto, using(cxx_cursor::proofs::Kept::later_trans, cxx_cursor::proofs::Kept::later_refl), unfolding(cxx_phrases::specs::Knot::type_passed_at))]
 pub fn type_passed_at<K: Kinds, N: Nested>(
     reader: &Reader<'_, K, N>,
     state: &mut State,

@@ -2,8 +2,8 @@
 use Rattle.std.specs.Prelude.{Option, Some, None}
 use Rattle.cxx_reading.specs.Declarators as definition
 use Rattle.cxx_reading.specs.Declarators.{of_core, of_sign, of_size}
-use Rattle.cxx_syntax.specs.declared.words.TypeWord.{TypeWord}
-use Rattle.cxx_syntax.specs.declared.words.TypeWord.TheVariants as word
+use Rattle.cxx_cursor.specs.declared.words.TypeWord.{TypeWord}
+use Rattle.cxx_cursor.specs.declared.words.TypeWord.TheVariants as word
 
 abbrev pub word_of : TypeWord → definition.TypeWord
 word_of (word.Core core) = of_core core

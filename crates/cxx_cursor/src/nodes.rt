@@ -1,37 +1,25 @@
 //! The trees of what is read.
 
-ghost use Rattle.std.specs.Prelude.{◌≡◌, ◌<◌, ◌-◌, length, None, IfOk};
+ghost use Rattle.std.specs.Prelude.{◌≡◌, ◌<◌, ◌-◌, ◌++◌, length, None, IfOk};
 ghost use Rattle.std.specs.List.{slice_get};
 ghost use Rattle.std.specs.Option.{option_copied};
 ghost use Rattle.cxx_reading.specs.Productions as production;
 ghost use Rattle.cxx_reading.specs.Reads.{count_ahead, place_ahead};
 ghost use Rattle.cxx_reading.specs.Specifiers as definition;
 ghost use Rattle.cxx_reading.specs.Specifiers.{path_of, place_or};
-ghost use Rattle.cxx_syntax.specs.Asking.{IsEnumeration};
-ghost use Rattle.cxx_syntax.specs.Making.{GrowsTree};
-ghost use Rattle.cxx_syntax.specs.Passing.{part_or};
-ghost use Rattle.cxx_syntax.specs.Views.{AreTreesHeld, name_at, name_of_option, trees_held};
+ghost use Rattle.cxx_cursor.specs.Making.{GrowsTree};
+ghost use Rattle.cxx_cursor.specs.Passing.{part_or};
+ghost use Rattle.cxx_cursor.specs.Views.{name_at, name_of_option};
 ghost use Rattle.cxx_reading.specs.Trees.{last_part};
 ghost use Rattle.cxx_tree.specs.Arena.{AreTreesBelow, IsNodeBelow, path_at, path_parts_at, tree_over};
 ghost use Rattle.cxx_tree.specs.Arena as arena;
-ghost use Rattle.cxx_tree.specs.Held.{trees, type_of};
+ghost use Rattle.cxx_tree.specs.Held.{trees};
 
 use crate::cursor::Cursor;
 use crate::name::NameToken;
-use cxx_model::{
-    EnumId, Listed, Node, Path, PathPart, Place, Stop, Text, TreeId, TreeIdList, TypeId, Word,
-};
+use cxx_model::{Listed, Node, Path, PathPart, Place, Stop, Text, TreeId, TreeIdList, Word};
 use cxx_tree::State;
 use std::alloc::{AllocError, Global};
-
-/// The numbers of the productions.
-pub(crate) mod production {
-    pub const ELABORATED: u8 = 9;
-
-    pub const ENUMERATION_LIST: u8 = 11;
-
-    pub const PARAMETER: u8 = 54;
-}
 
 /// A node that covers what was read from one place up to another, and says nothing else yet.
 pub fn node_from(
@@ -59,6 +47,15 @@ pub fn node_from(
     }
 }
 
+/// The trees of both lists.
+pub fn joined(one: TreeIdList, two: TreeIdList) -> Result<TreeIdList, AllocError>
+    ensures { IfOk result (λ all. all ≡ one ++ two) }
+{
+    let mut items = one.into_vec();
+    items.extend_from_slice(two.as_slice())?;
+    Ok(Listed::from_vec(items))
+}
+
 /// The path of a name without qualifiers.
 pub fn path_to(alloc: Global, name: &NameToken) -> Result<Path, AllocError>
     ensures { IfOk result (λ path. path_at path ≡ path_of (name_at name.now)) }
@@ -75,10 +72,8 @@ pub fn path_to(alloc: Global, name: &NameToken) -> Result<Path, AllocError>
     })
 }
 
-pub(crate) fn path_to_option(
-    alloc: Global,
-    name: &Option<NameToken>,
-) -> Result<Option<Path>, AllocError>
+/// The same of a name, where there is one.
+pub fn path_to_option(alloc: Global, name: &Option<NameToken>) -> Result<Option<Path>, AllocError>
     ensures { IfOk result (λ path. arena.path_of_option path ≡ definition.path_of_option (name_of_option name.now)) }
 {
     match name {
@@ -88,7 +83,7 @@ pub(crate) fn path_to_option(
 }
 
 /// The place of a name, or another where there is none.
-pub(crate) fn place_of(place: Place, name: &Option<NameToken>) -> Place
+pub fn place_of(place: Place, name: &Option<NameToken>) -> Place
     ensures { result ≡ place_or place (name_of_option name.now) }
 {
     match name {
@@ -103,9 +98,9 @@ fn last_of(parts: &[PathPart]) -> Option<&PathPart>
     parts.get(parts.len().saturating_sub(1))
 }
 
-// The last of the parts of a name.
+/// The last of the parts of a name.
 #[tactic(auto, using(crate::proofs::Names::last_is))]
-pub(crate) fn last_part(parts: &[PathPart]) -> Option<&PathPart>
+pub fn last_part(parts: &[PathPart]) -> Option<&PathPart>
     ensures { part_or (option_copied result) ≡ last_part (path_parts_at parts.now) }
 {
     last_of(parts)
@@ -131,59 +126,4 @@ pub fn push(state: &mut State, node: Node) -> Result<TreeId, Stop>
         Ok(number) => Ok(number),
         Err(_) => Err(Stop::OutOfMemory),
     }
-}
-
-/// A key and a name (7.1.5.3).
-pub(crate) fn elaborated_tree(
-    alloc: Global,
-    state: &mut State,
-    key: &[u8],
-    path: Path,
-    of: TypeId,
-    from: &Cursor<'_>,
-    to: &Cursor<'_>,
-) -> Result<TreeId, Stop>
-    requires { of.0 < length (state.old).types }
-    ensures { GrowsTree state.old state.new result (definition.elaborated_tree key.now (path_at path) (type_of state.old of) from.now to.now) }
-{
-    let spelling = Text::from_slice(alloc, key)?;
-    let mut node = node_from(
-        production::ELABORATED,
-        spelling,
-        from,
-        to,
-        Listed::new(alloc),
-    );
-    node.place = last_place(path.parts.as_slice());
-    node.path = Some(path);
-    node.of = Some(of);
-    push(state, node)
-}
-
-/// An enumeration with its list (7.2).
-pub(crate) fn enumeration_tree(
-    alloc: Global,
-    state: &mut State,
-    name: &Option<NameToken>,
-    both: (EnumId, TypeId),
-    values: TreeIdList,
-    from: &Cursor<'_>,
-    to: &Cursor<'_>,
-) -> Result<TreeId, Stop>
-    requires known { IsEnumeration state.old both }
-    requires values { AreTreesHeld state.old values }
-    ensures { GrowsTree state.old state.new result (definition.enumeration_tree (name_of_option name.now) both.0.0 (trees_held state.old values) from.now to.now) }
-{
-    let path = path_to_option(alloc, name)?;
-    let mut node = node_from(
-        production::ENUMERATION_LIST,
-        Listed::new(alloc),
-        from,
-        to,
-        values,
-    );
-    node.place = place_of(from.place(), name);
-    node.path = path;
-    node.of = Some(both.1);
-    push(state, node)
 }

@@ -1,5 +1,5 @@
-use Rattle.cxx_syntax.proofs.Names.{collecting_ends, collecting_more, collecting_over}
-use Rattle.cxx_syntax.proofs.cursor.Cursor.parts.Goals as goal
+use Rattle.cxx_cursor.proofs.Names.{collecting_ends, collecting_more, collecting_over}
+use Rattle.cxx_cursor.proofs.cursor.Cursor.parts.Goals as goal
 
 pub returns-then-not-goes_on : goal.returns-then-not-goes_on
 returns-then-not-goes_on c = collecting_ends _ _ _ _ _ _ c.loop-turn.invariant cc

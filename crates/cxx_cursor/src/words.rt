@@ -3,20 +3,21 @@
 ghost use Rattle.std.specs.Prelude.{◌≡◌, Some};
 ghost use Rattle.cxx_reading.specs.Declarators as definition;
 ghost use Rattle.cxx_reading.specs.Specifiers as specifier;
-ghost use Rattle.cxx_syntax.specs.Words.{word_of, word_of_option};
+ghost use Rattle.cxx_cursor.specs.Words.{word_of, word_of_option};
 
 use cxx_model::{Base, keyword};
 use cxx_reading::{CoreWord, SignWord, SizeWord, StorageWord, TypeWords};
 
 /// What a keyword is among the words of a type.
 #[derive(Clone, Copy)]
-pub(crate) enum TypeWord {
+pub enum TypeWord {
     Core(CoreWord),
     Sign(SignWord),
     Size(SizeWord),
 }
 
-pub(crate) fn type_word(number: u8) -> Option<TypeWord>
+/// The word of a type that a keyword is (7.1.5.2).
+pub fn type_word(number: u8) -> Option<TypeWord>
     ensures { word_of_option result ≡ definition.type_word number }
 {
     match number {
@@ -35,7 +36,8 @@ pub(crate) fn type_word(number: u8) -> Option<TypeWord>
     }
 }
 
-pub(crate) fn storage_word(number: u8) -> Option<StorageWord>
+/// The storage word that a keyword is (7.1.1, 7.1.3).
+pub fn storage_word(number: u8) -> Option<StorageWord>
     ensures { result ≡ specifier.storage_word number }
 {
     match number {
@@ -142,7 +144,7 @@ fn fitting(words: TypeWords) -> Option<TypeWords>
 }
 
 /// The words with one more, where some row of Table 7 has them all.
-pub(crate) fn with_word(word: TypeWord, words: TypeWords) -> Option<TypeWords>
+pub fn with_word(word: TypeWord, words: TypeWords) -> Option<TypeWords>
     ensures { result ≡ definition.with_word (word_of word) words }
 {
     match word {
