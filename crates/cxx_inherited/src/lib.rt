@@ -1,0 +1,12 @@
+//! What names mean as members of classes, over the index of names and the bases of a class, so that no lookup goes over the
+//! whole unit (10.2).
+#![tactic(auto)]
+
+mod filed;
+mod rows;
+mod scopes;
+mod seeking;
+
+pub use cxx_members::Wanted;
+pub use cxx_model::{Hit, MemberFound};
+pub use scopes::ClassScopes;
