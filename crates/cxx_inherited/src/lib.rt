@@ -2,11 +2,18 @@
 //! whole unit (10.2).
 #![tactic(auto)]
 
+mod bases;
+mod declared;
 mod filed;
+mod lookup;
+mod paths;
 mod rows;
 mod scopes;
 mod seeking;
+mod table;
+mod ways;
 
 pub use cxx_members::Wanted;
 pub use cxx_model::{Hit, MemberFound};
+pub use lookup::member;
 pub use scopes::ClassScopes;

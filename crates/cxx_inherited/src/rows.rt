@@ -103,11 +103,7 @@ impl Seeking<'_> {
 
     /// Adds the declarations of the name in a class.
     #[tactic(auto, using(crate::proofs::Declaring::members_are))]
-    pub fn add_members(
-        &self,
-        class: ClassId,
-        found: &mut Vec<Sighting>,
-    ) -> Result<(), AllocError>
+    pub fn add_members(&self, class: ClassId, found: &mut Vec<Sighting>) -> Result<(), AllocError>
         requires { IsSeeking self.now }
         ensures { OnOk result (Adds (types_of self.now) found.old.items found.new.items (members_in (graph_of self.now) (wanted_of self.now) (name_of self.now) class)) }
     {

@@ -1,0 +1,8 @@
+use Rattle.std.proofs.Common.{◌≡◌, drop, map}
+use Rattle.cxx_members.specs.Sighted.{sighting_at}
+use Rattle.std.specs.List.{find}
+use Rattle.cxx_meaning.specs.Lookups.Member.{is_one_nonstatic}
+use Rattle.cxx_inherited.proofs.seeking.Seeking.find_nonstatic.Given as goal
+
+abbrev pub invariant-loop-one : goal.invariant-loop-one
+invariant-loop-one l = find is_one_nonstatic (map (sighting_at l.self.looking.types.now) (drop l.one-index l.sightings)) ≡ find is_one_nonstatic (map (sighting_at l.self.looking.types.now) l.sightings)
