@@ -1,4 +1,6 @@
+pub mod Awaiting
 pub mod Declaring
+mod Examples
 pub mod Filing
 pub mod Joining
 pub mod Keeping

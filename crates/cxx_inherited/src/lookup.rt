@@ -253,11 +253,16 @@ impl Seeking<'_> {
         self.member_of_three(&table, three)
     }
 
-    // Whether a class has to be complete before it is asked (14.7.1).
+    // Whether a class has to be complete before it is asked (14.7.1). One whose end was read is answered at once.
+    #[tactic(auto, using(crate::proofs::Awaiting::never_pending))]
     fn is_pending(&self, class: ClassId) -> bool
         ensures { result ≡ is_one_pending (graph_of self.now) class.0 }
     {
-        self.looking.graph.pending(class)
+        let graph = self.looking.graph;
+        if class.0 < graph.class_count() && graph.complete(class) {
+            return false;
+        }
+        graph.pending(class)
     }
 
     // A member of a class, or the class where it has to be complete first.
