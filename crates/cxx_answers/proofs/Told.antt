@@ -7,11 +7,13 @@ use Rattle.std.specs.Option.{option_map}
 use Rattle.cxx_model.specs.declared.facts.Fact.{Fact}
 use Rattle.cxx_model.specs.declared.types.FactId.{FactId}
 use Rattle.cxx_model.specs.Facts.Declarations.{CxxGraph, CxxName, declares_at, fact_at, facts_at, graph_at, name_at, unnamed}
+use Rattle.cxx_model.specs.Facts.Fitted.{AreFactsBelow, IsNameBelow}
 use Rattle.cxx_model.specs.Facts.Graph.{Graph}
 use Rattle.cxx_model.specs.Types.Trees.{CxxType}
 use Rattle.cxx_names.proofs.Wordless.{no_unnamed}
 use Rattle.cxx_names.specs.Looked.{looked_up, seen_by}
-use Rattle.cxx_names.specs.Plain.{ArePlain}
+use Rattle.cxx_names.proofs.Clashing.{fact_below}
+use Rattle.cxx_names.specs.Named.{has_the_name, named_among}
 use Rattle.cxx_reading.specs.Givers.{declares_function, giver, giver_beside, givers, is_function_fact, last_of, name_by, or_before, other_giver, outward_from, scope_in, told_by as told_by_row}
 use Rattle.cxx_reading.specs.Linked.{home_of, is_space_at}
 use Rattle.cxx_reading.specs.Seen.{Numbered, declared_in, parent_of}
@@ -99,6 +101,49 @@ found_next types facts function before one number is less =
 pub passed_next : (types : List CxxType) (facts : List Fact) (function : ℕ) (before : Option FactId) (number : FactId) → None ≡ last_of function (looked_up types facts (number ∷ [])) → told types facts before ≡ or_before (last_of function (looked_up types facts (number ∷ []))) (told types facts before)
 passed_next types facts function before number is = ap (λ o. or_before o (told types facts before)) is
 
+abbrev named_of : List CxxType → List Fact → CxxName → List FactId → List Numbered
+named_of types facts name numbers = looked_up types facts (named_among types facts name numbers)
+
+-- ---- the last of those that have a name
+
+named_if : (types : List CxxType) (facts : List Fact) (name : CxxName) (number : FactId) (numbers : List FactId) (t : Bool) → t ≡ has_the_name types name (slice_get facts number.0) → named_of types facts name (number ∷ numbers) ≡ looked_up types facts (if t then number ∷ named_among types facts name numbers else named_among types facts name numbers)
+named_if types facts name number numbers t is = ap (λ b. looked_up types facts (if b then number ∷ named_among types facts name numbers else named_among types facts name numbers)) (sym is)
+
+pub named_next : (types : List CxxType) (facts : List Fact) (name : CxxName) (function : ℕ) (before after : Option FactId) (number : FactId) (t : Bool) → t ≡ has_the_name types name (slice_get facts number.0) → t ≡ true → told types facts after ≡ or_before (last_of function (looked_up types facts (number ∷ []))) (told types facts before) → told types facts after ≡ or_before (last_of function (looked_up types facts (named_among types facts name (number ∷ [])))) (told types facts before)
+named_next types facts name function before after number t is holds next = next ∙ ap (λ ns. or_before (last_of function ns) (told types facts before)) (sym (named_if types facts name number [] true (sym holds ∙ is)))
+
+pub unnamed_next : (types : List CxxType) (facts : List Fact) (name : CxxName) (function : ℕ) (before : Option FactId) (number : FactId) (t : Bool) → t ≡ has_the_name types name (slice_get facts number.0) → t ≡ false → told types facts before ≡ or_before (last_of function (looked_up types facts (named_among types facts name (number ∷ [])))) (told types facts before)
+unnamed_next types facts name function before number t is fails = sym (ap (λ ns. or_before (last_of function ns) (told types facts before)) (named_if types facts name number [] false (sym fails ∙ is)))
+
+named_more : (types : List CxxType) (facts : List Fact) (name : CxxName) (function : ℕ) (number : FactId) (numbers : List FactId) → last_of function (named_of types facts name (number ∷ numbers)) ≡ or_before (last_of function (named_of types facts name numbers)) (last_of function (named_of types facts name (number ∷ [])))
+named_more types facts name function number numbers = by (has_the_name types name (slice_get facts number.0)) refl
+  where
+    by : (t : Bool) → has_the_name types name (slice_get facts number.0) ≡ t → last_of function (named_of types facts name (number ∷ numbers)) ≡ or_before (last_of function (named_of types facts name numbers)) (last_of function (named_of types facts name (number ∷ [])))
+    by true is =
+        ap (last_of function) (named_if types facts name number numbers true (sym is))
+        ∙ last_more types facts function number (named_among types facts name numbers)
+        ∙ ap (λ ns. or_before (last_of function (named_of types facts name numbers)) (last_of function ns)) (sym (named_if types facts name number [] true (sym is)))
+    by false is =
+        ap (last_of function) (named_if types facts name number numbers false (sym is))
+        ∙ before_none (last_of function (named_of types facts name numbers))
+        ∙ ap (λ ns. or_before (last_of function (named_of types facts name numbers)) (last_of function ns)) (sym (named_if types facts name number [] false (sym is)))
+
+pub last_named_step : (types : List CxxType) (facts : List Fact) (name : CxxName) (function : ℕ) (before after : Option FactId) (numbers : List FactId) (i : ℕ) (number d : FactId) (whole : Option Numbered) → i < length numbers → number ≡ get_or numbers i d → told types facts after ≡ or_before (last_of function (named_of types facts name (number ∷ []))) (told types facts before) → or_before (last_of function (named_of types facts name (drop i numbers))) (told types facts before) ≡ whole → or_before (last_of function (named_of types facts name (drop (i + 1) numbers))) (told types facts after) ≡ whole
+last_named_step types facts name function before after numbers i number d whole less is next same =
+    let rest : Option Numbered = last_of function (named_of types facts name (drop (i + 1) numbers)) in
+    ap (or_before rest) next
+    ∙ sym (before_again rest (last_of function (named_of types facts name (number ∷ []))) (told types facts before))
+    ∙ ap (λ o. or_before o (told types facts before)) (sym (named_more types facts name function number (drop (i + 1) numbers)))
+    ∙ ap (λ (n : FactId). or_before (last_of function (named_of types facts name (n ∷ drop (i + 1) numbers))) (told types facts before)) is
+    ∙ sym (at_drop_more (λ ns. or_before (last_of function (named_of types facts name ns)) (told types facts before)) numbers i d less)
+    ∙ same
+
+pub last_named_end : (types : List CxxType) (facts : List Fact) (name : CxxName) (function : ℕ) (found : Option FactId) (numbers : List FactId) (i : ℕ) (whole : Option Numbered) → length numbers ≤ i → or_before (last_of function (looked_up types facts (named_among types facts name (drop i numbers)))) (told types facts found) ≡ whole → told types facts found ≡ whole
+last_named_end types facts name function found numbers i whole past same = sym (at_drop_all (λ ns. or_before (last_of function (named_of types facts name ns)) (told types facts found)) numbers i past) ∙ same
+
+pub before_all : (o : Option Numbered) → or_before o None ≡ o
+before_all o = sym (before_none o)
+
 pub last_end : (types : List CxxType) (facts : List Fact) (function : ℕ) (found : Option FactId) (numbers : List FactId) (i : ℕ) (whole : Option Numbered) → length numbers ≤ i → or_before (last_of function (looked_up types facts (drop i numbers))) (told types facts found) ≡ whole → told types facts found ≡ whole
 last_end types facts function found numbers i whole past same = sym (at_drop_all (λ ns. or_before (last_of function (looked_up types facts ns)) (told types facts found)) numbers i past) ∙ same
 
@@ -120,6 +165,31 @@ any_step types facts numbers i number d less is at same =
 
 pub any_end : (types : List CxxType) (facts : List Fact) (numbers : List FactId) (i : ℕ) → length numbers ≤ i → are_some (looked_up types facts (drop i numbers)) ≡ are_some (looked_up types facts numbers) → false ≡ are_some (looked_up types facts numbers)
 any_end types facts numbers i past same = sym (at_drop_all (λ ns. are_some (looked_up types facts ns)) numbers i past) ∙ same
+
+-- ---- whether any of those has a name
+
+pub named_this : (types : List CxxType) (facts : List Fact) (name : CxxName) (numbers : List FactId) (i : ℕ) (number d : FactId) (t : Bool) → i < length numbers → number ≡ get_or numbers i d → t ≡ has_the_name types name (slice_get facts number.0) → t ≡ true → are_some (looked_up types facts (named_among types facts name (drop i numbers))) ≡ are_some (looked_up types facts (named_among types facts name numbers)) → true ≡ are_some (looked_up types facts (named_among types facts name numbers))
+named_this types facts name numbers i number d t less is has holds same =
+    by (slice_get facts number.0) refl (sym holds ∙ has)
+    ∙ ap (λ (n : FactId). are_some (named_of types facts name (n ∷ drop (i + 1) numbers))) is
+    ∙ sym (at_drop_more (λ ns. are_some (named_of types facts name ns)) numbers i d less)
+    ∙ same
+  where
+    by : (o : Option Fact) → slice_get facts number.0 ≡ o → true ≡ has_the_name types name o → true ≡ are_some (named_of types facts name (number ∷ drop (i + 1) numbers))
+    by None at named = absurd cc
+    by (Some fact) at named =
+        sym (ap are_some (named_if types facts name number (drop (i + 1) numbers) true (named ∙ ap (has_the_name types name) (sym at)))
+        ∙ ap (λ o. are_some (seen_by types number (named_of types facts name (drop (i + 1) numbers)) o)) at)
+
+pub named_step : (types : List CxxType) (facts : List Fact) (name : CxxName) (numbers : List FactId) (i : ℕ) (number d : FactId) (t : Bool) → i < length numbers → number ≡ get_or numbers i d → t ≡ has_the_name types name (slice_get facts number.0) → t ≡ false → are_some (looked_up types facts (named_among types facts name (drop i numbers))) ≡ are_some (looked_up types facts (named_among types facts name numbers)) → are_some (looked_up types facts (named_among types facts name (drop (i + 1) numbers))) ≡ are_some (looked_up types facts (named_among types facts name numbers))
+named_step types facts name numbers i number d t less is has fails same =
+    sym (ap are_some (named_if types facts name number (drop (i + 1) numbers) false (sym fails ∙ has)))
+    ∙ ap (λ (n : FactId). are_some (named_of types facts name (n ∷ drop (i + 1) numbers))) is
+    ∙ sym (at_drop_more (λ ns. are_some (named_of types facts name ns)) numbers i d less)
+    ∙ same
+
+pub named_end : (types : List CxxType) (facts : List Fact) (name : CxxName) (numbers : List FactId) (i : ℕ) → length numbers ≤ i → are_some (looked_up types facts (named_among types facts name (drop i numbers))) ≡ are_some (looked_up types facts (named_among types facts name numbers)) → false ≡ are_some (looked_up types facts (named_among types facts name numbers))
+named_end types facts name numbers i past same = sym (at_drop_all (λ ns. are_some (named_of types facts name ns)) numbers i past) ∙ same
 
 -- ---- outward
 
@@ -186,25 +256,29 @@ giver_home types graph scope function found fact at out home =
     ∙ ap (λ o. or_before o (last_of function.0 (declared_in all (home_of all fact.scope.0) (name_at types fact.name)))) out
     ∙ sym (giver_is types graph scope function.0 fact at)
 
-unnamed_by : (types : List CxxType) (graph : Graph) (function scope : ℕ) (further : Option Numbered) (b : Bool) → ArePlain graph.facts → further ≡ None → out_by b (told_by_row function (declared_in (graph_at types graph) scope unnamed) further) ≡ None
-unnamed_by types graph function scope further true plain none = refl
-unnamed_by types graph function scope further false plain none = ap (λ all. told_by_row function all further) (sym (no_unnamed types graph scope plain)) ∙ none
+unnamed_by : (types : List CxxType) (graph : Graph) (function scope : ℕ) (further : Option Numbered) (b : Bool) → further ≡ None → out_by b (told_by_row function (declared_in (graph_at types graph) scope unnamed) further) ≡ None
+unnamed_by types graph function scope further true none = refl
+unnamed_by types graph function scope further false none = ap (λ all. told_by_row function all further) (sym (no_unnamed types graph scope)) ∙ none
 
-out_unnamed : (types : List CxxType) (graph : Graph) (function : ℕ) (room scope : ℕ) → ArePlain graph.facts → outward_from (graph_at types graph) function unnamed room scope ≡ None
-out_unnamed types graph function zero scope plain = refl
-out_unnamed types graph function (suc room) scope plain =
+out_unnamed : (types : List CxxType) (graph : Graph) (function : ℕ) (room scope : ℕ) → outward_from (graph_at types graph) function unnamed room scope ≡ None
+out_unnamed types graph function zero scope = refl
+out_unnamed types graph function (suc room) scope =
     let all : CxxGraph = graph_at types graph in
-    unnamed_by types graph function scope (outward_from all function unnamed room (parent_of all scope)) (is_space_at all scope) plain (out_unnamed types graph function room (parent_of all scope) plain)
+    unnamed_by types graph function scope (outward_from all function unnamed room (parent_of all scope)) (is_space_at all scope) (out_unnamed types graph function room (parent_of all scope))
 
-pub giver_none : (types : List CxxType) (graph : Graph) (scope : ℕ) (function : FactId) → ArePlain graph.facts → slice_get graph.facts function.0 ≡ None → None ≡ giver (graph_at types graph) scope function.0
+pub giver_none : (types : List CxxType) (graph : Graph) (scope : ℕ) (function : FactId) → slice_get graph.facts function.0 ≡ None → None ≡ giver (graph_at types graph) scope function.0
 unfolding giver
-giver_none types graph scope function plain at =
+giver_none types graph scope function at =
     let all : CxxGraph = graph_at types graph in
     let here : slice_get all.facts function.0 ≡ None = there_by types graph.facts function.0 None at in
     sym (
     ap (λ o. or_before (outward_from all function.0 (name_by o) scope scope) (last_of function.0 (declared_in all (home_of all (scope_in o)) (name_by o)))) here
-    ∙ ap (λ o. or_before o (last_of function.0 (declared_in all (home_of all zero) unnamed))) (out_unnamed types graph function.0 scope scope plain)
-    ∙ ap (λ ones. last_of function.0 ones) (sym (no_unnamed types graph (home_of all zero) plain)))
+    ∙ ap (λ o. or_before o (last_of function.0 (declared_in all (home_of all zero) unnamed))) (out_unnamed types graph function.0 scope scope)
+    ∙ ap (λ ones. last_of function.0 ones) (sym (no_unnamed types graph (home_of all zero))))
+
+-- the name of a declaration names a type that is there
+pub name_below : (count : ℕ) (facts : List Fact) (number : ℕ) (fact : Fact) → AreFactsBelow count facts → slice_get facts number ≡ Some fact → IsNameBelow count fact.name
+name_below count facts number fact below at = (fact_below count facts number fact below at).name
 
 -- ---- beside the first declarations
 

@@ -4,12 +4,13 @@ use Rattle.std.specs.List.{slice_get}
 use Rattle.cxx_model.specs.declared.facts.Fact.{Fact}
 use Rattle.cxx_model.specs.declared.types.FactId.{FactId}
 use Rattle.cxx_model.specs.declared.types.ScopeId.{ScopeId}
-use Rattle.cxx_model.specs.Facts.Declarations.{CxxGraph, fact_at, graph_at}
+use Rattle.cxx_model.specs.Facts.Declarations.{CxxGraph, CxxName, fact_at, graph_at}
+use Rattle.cxx_model.specs.Facts.Fitted.{IsGraphBelow}
 use Rattle.cxx_model.specs.Types.Trees.{CxxType}
 use Rattle.cxx_reading.specs.Seen.{Numbered}
 use Rattle.cxx_names.specs.Index.{Notes}
 use Rattle.cxx_names.specs.Looked.{looked_up}
-use Rattle.cxx_names.specs.Plain.{ArePlain}
+use Rattle.cxx_names.specs.Named.{named_among}
 use Rattle.cxx_answers.specs.declared.givers.Telling.{Telling}
 
 -- ---- by their numbers
@@ -42,10 +43,10 @@ one_number (Some number) = number ∷ []
 
 -- ---- what is read
 
--- The index is that of the graph, and nothing is declared in classes.
+-- The index is that of the graph, and the types that the graph names are in the table.
 pub record IsTelling (telling : Telling) : Type 0 where
   pub noted : Notes telling.names.now telling.graph.now.facts
-  pub plain : ArePlain telling.graph.now.facts
+  pub below : IsGraphBelow (length telling.types.now) telling.graph.now
 
 abbrev pub graph_of : Telling → CxxGraph
 graph_of telling = graph_at telling.types.now telling.graph.now
@@ -56,6 +57,10 @@ told_in telling number = told telling.types.now telling.graph.now.facts number
 -- the declarations with some numbers
 abbrev pub those_in : Telling → List FactId → List Numbered
 those_in telling numbers = looked_up telling.types.now telling.graph.now.facts numbers
+
+-- those of them that have a name
+abbrev pub named_in : Telling → CxxName → List FactId → List FactId
+named_in telling name numbers = named_among telling.types.now telling.graph.now.facts name numbers
 
 abbrev pub count_in : Telling → ℕ
 count_in telling = length telling.graph.now.facts

@@ -5,7 +5,8 @@ ghost use Rattle.cxx_answers.specs.Answers.{found_in_sets};
 ghost use Rattle.cxx_answers.specs.Told.{IsTelling, graph_of};
 ghost use Rattle.cxx_found.specs.Associated.{given};
 ghost use Rattle.cxx_meaning.specs.Lookups.Associated.{associated};
-ghost use Rattle.cxx_model.specs.Facts.Fitted.{IsGraphBelow};
+ghost use Rattle.cxx_model.specs.Facts.Fitted.{Fitted};
+ghost use Rattle.cxx_names.specs.Plain.{ArePlain};
 ghost use Rattle.cxx_model.specs.Types.Numbers.{AreTypesBelow};
 
 use crate::givers::Telling;
@@ -23,7 +24,8 @@ impl Telling<'_> {
         of: &TypeIdList,
     ) -> Result<FactList, OutOfMemory>
         requires telling { IsTelling self.now }
-        requires below { IsGraphBelow (length self.now.types.now) self.now.graph.now }
+        requires fitted { Fitted self.now.graph.now self.now.types.now }
+        requires plain { ArePlain self.now.graph.now.facts }
         requires of { AreTypesBelow (length self.now.types.now) of.now }
         ensures { IfOk result (λ found. found ≡ found_in_sets (graph_of self.now) word.now (associated (graph_of self.now) (given self.now.types.now of.now))) }
     {

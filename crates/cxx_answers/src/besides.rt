@@ -5,7 +5,8 @@ ghost use Rattle.cxx_found.specs.Associated.{given};
 ghost use Rattle.cxx_answers.specs.Answers as definition;
 ghost use Rattle.cxx_answers.specs.Told.{AreNumbersBelow, IsTelling, count_in, graph_of, those_in};
 ghost use Rattle.cxx_meaning.specs.Lookups.Associated.{associated};
-ghost use Rattle.cxx_model.specs.Facts.Fitted.{IsGraphBelow};
+ghost use Rattle.cxx_model.specs.Facts.Fitted.{Fitted};
+ghost use Rattle.cxx_names.specs.Plain.{ArePlain};
 ghost use Rattle.cxx_model.specs.Types.Numbers.{AreTypesBelow};
 ghost use Rattle.cxx_reading.specs.Givers.{with_givers};
 ghost use Rattle.cxx_reading.specs.Seen.{fact_numbers, numbered_at};
@@ -93,7 +94,8 @@ impl Telling<'_> {
         of: &TypeIdList,
     ) -> Result<FactList, OutOfMemory>
         requires telling { IsTelling self.now }
-        requires below { IsGraphBelow (length self.now.types.now) self.now.graph.now }
+        requires fitted { Fitted self.now.graph.now self.now.types.now }
+        requires plain { ArePlain self.now.graph.now.facts }
         requires functions { AreNumbersBelow (count_in self.now) functions.now }
         requires of { AreTypesBelow (length self.now.types.now) of.now }
         ensures is { IfOk result (λ all. those_in self.now all ≡ with_givers (graph_of self.now) scope.0 (numbered_at (graph_of self.now) (definition.fresh_among (those_in self.now functions.now) (definition.found_in_sets (graph_of self.now) word.now (associated (graph_of self.now) (given self.now.types.now of.now)))))) }

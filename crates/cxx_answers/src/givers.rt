@@ -1,10 +1,11 @@
 //! Which declaration of a function tells the default arguments that are seen from a scope (8.3.6).
 
-ghost use Rattle.std.specs.Prelude.{◌≡◌, ◌<◌, ◌++◌, [], ◌∷◌, nat_eq, if◌then◌else◌, List, Some, None, IfOk, IfSome, OnOk};
+ghost use Rattle.std.specs.Prelude.{◌≡◌, ◌<◌, ◌++◌, [], ◌∷◌, nat_eq, if◌then◌else◌, length, List, Some, None, IfOk, IfSome, OnOk};
 ghost use Rattle.std.specs.List.{slice_get};
 ghost use Rattle.std.specs.Option.{option_copied};
-ghost use Rattle.cxx_answers.specs.Told.{AreNumbersBelow, IsScopeOf, IsTelling, are_some, count_in, graph_of, one_number, those_in, told_in};
+ghost use Rattle.cxx_answers.specs.Told.{AreNumbersBelow, IsScopeOf, IsTelling, are_some, count_in, graph_of, named_in, one_number, those_in, told_in};
 ghost use Rattle.cxx_model.specs.Facts.Declarations.{declares_at, name_at};
+ghost use Rattle.cxx_model.specs.Facts.Fitted.{IsNameBelow};
 ghost use Rattle.cxx_model.specs.Types.Trees.{CxxType};
 ghost use Rattle.cxx_reading.specs.Givers as definition;
 ghost use Rattle.cxx_reading.specs.Linked.{home_of};
@@ -13,7 +14,7 @@ ghost use Rattle.cxx_reading.specs.Seen.{declared_in};
 use crate::typed::first_or;
 use cxx_graph::Graph;
 use cxx_model::{Entity, Fact, FactId, FactList, Listed, Name, ScopeId};
-use cxx_names::Names;
+use cxx_names::{Names, has_name};
 use cxx_types::TypeTable;
 use std::alloc::{AllocError, Global};
 
@@ -107,28 +108,59 @@ impl Telling<'_> {
         found
     }
 
-    // The declarations of a name in a scope.
-    #[tactic(auto, using(cxx_names::proofs::Wordless::no_unnamed, cxx_names::proofs::Wordless::no_operator, cxx_names::proofs::Wordless::no_conversion, cxx_names::proofs::Wordless::no_destructor))]
-    fn row(&self, scope: ScopeId, name: &Name) -> &[FactId]
-        requires { IsTelling self.now }
-        ensures { those_in self.now result.now ≡ declared_in (graph_of self.now) scope.0 (name_at self.now.types.now name.now) }
+    // A declaration, where it has a name and is one of a function, or else the one before.
+    #[tactic(auto, using(crate::proofs::Told::named_next, crate::proofs::Told::unnamed_next))]
+    fn later_named(
+        &self,
+        name: &Name,
+        function: FactId,
+        number: FactId,
+        before: Option<FactId>,
+    ) -> Option<FactId>
+        requires telling { IsTelling self.now }
+        requires name { IsNameBelow (length self.now.types.now) name.now }
+        requires before { IfSome before (λ one. one.0 < count_in self.now) }
+        ensures is { told_in self.now result ≡ definition.or_before (definition.last_of function.0 (those_in self.now (named_in self.now (name_at self.now.types.now name.now) (number ∷ [])))) (told_in self.now before) }
+        ensures there { IfSome result (λ one. one.0 < count_in self.now) }
     {
-        match name {
-            Name::Spelled(word) => self.names.declared_in(self.graph, scope, word.as_slice()),
-            Name::Unnamed => &[],
-            Name::Operator(_) => &[],
-            Name::Conversion(_) => &[],
-            Name::Destructor => &[],
+        if has_name(self.graph, self.types, number, name) {
+            self.later(function, number, before)
+        } else {
+            before
         }
     }
 
+    // The last of some declarations that has a name and is one of a function.
+    #[tactic(auto, using(crate::proofs::Told::last_named_end, crate::proofs::Told::before_all))]
+    fn last_named(&self, name: &Name, function: FactId, numbers: &[FactId]) -> Option<FactId>
+        requires telling { IsTelling self.now }
+        requires name { IsNameBelow (length self.now.types.now) name.now }
+        ensures is { told_in self.now result ≡ definition.last_of function.0 (those_in self.now (named_in self.now (name_at self.now.types.now name.now) numbers.now)) }
+        ensures there { IfSome result (λ one. one.0 < count_in self.now) }
+    {
+        let mut found = None;
+        for number in numbers {
+            found = self.later_named(name, function, *number, found);
+        }
+        found
+    }
+
     // The last declaration of a function that has a name in a scope.
+    #[tactic(auto, using(cxx_names::proofs::Wordless::no_unnamed, cxx_names::proofs::Wordless::named_are))]
     fn last_in(&self, scope: ScopeId, name: &Name, function: FactId) -> Option<FactId>
-        requires { IsTelling self.now }
+        requires telling { IsTelling self.now }
+        requires name { IsNameBelow (length self.now.types.now) name.now }
         ensures is { told_in self.now result ≡ definition.last_of function.0 (declared_in (graph_of self.now) scope.0 (name_at self.now.types.now name.now)) }
         ensures there { IfSome result (λ one. one.0 < count_in self.now) }
     {
-        self.last_of(function, self.row(scope, name))
+        match name {
+            Name::Spelled(word) => {
+                let row = self.names.declared_in(self.graph, scope, word.as_slice());
+                self.last_of(function, row)
+            }
+            Name::Unnamed => None,
+            _ => self.last_named(name, function, self.graph.facts_of(scope)),
+        }
     }
 
     // Whether some declarations are there.
@@ -144,19 +176,44 @@ impl Telling<'_> {
         false
     }
 
+    // Whether one of some declarations has a name.
+    #[tactic(auto, using(crate::proofs::Told::named_this, crate::proofs::Told::named_step, crate::proofs::Told::named_end))]
+    fn any_named(&self, name: &Name, numbers: &[FactId]) -> bool
+        requires telling { IsTelling self.now }
+        requires name { IsNameBelow (length self.now.types.now) name.now }
+        ensures { result ≡ are_some (those_in self.now (named_in self.now (name_at self.now.types.now name.now) numbers.now)) }
+    {
+        for number in numbers {
+            if has_name(self.graph, self.types, *number, name) {
+                return true;
+            }
+        }
+        false
+    }
+
     // Whether a name is declared in a scope.
+    #[tactic(auto, using(cxx_names::proofs::Wordless::no_unnamed, cxx_names::proofs::Wordless::named_are))]
     fn declares(&self, scope: ScopeId, name: &Name) -> bool
-        requires { IsTelling self.now }
+        requires telling { IsTelling self.now }
+        requires name { IsNameBelow (length self.now.types.now) name.now }
         ensures { result ≡ are_some (declared_in (graph_of self.now) scope.0 (name_at self.now.types.now name.now)) }
     {
-        self.are_any(self.row(scope, name))
+        match name {
+            Name::Spelled(word) => {
+                let row = self.names.declared_in(self.graph, scope, word.as_slice());
+                self.are_any(row)
+            }
+            Name::Unnamed => false,
+            _ => self.any_named(name, self.graph.facts_of(scope)),
+        }
     }
 
     // Outward from a scope, up to the innermost namespace: the last declaration of a function in the first block that declares
     // a name (3.3.7).
     #[tactic(auto, using(crate::proofs::Told::out_here, crate::proofs::Told::out_end))]
     fn outward(&self, scope: ScopeId, name: &Name, function: FactId) -> Option<FactId>
-        requires { IsTelling self.now }
+        requires telling { IsTelling self.now }
+        requires name { IsNameBelow (length self.now.types.now) name.now }
         ensures is { told_in self.now result ≡ definition.outward_from (graph_of self.now) function.0 (name_at self.now.types.now name.now) scope.0 scope.0 }
         ensures there { IfSome result (λ one. one.0 < count_in self.now) }
     {
@@ -175,7 +232,8 @@ impl Telling<'_> {
 
     // The last declaration of a function in its namespace.
     fn at_home(&self, function: FactId, fact: &Fact) -> Option<FactId>
-        requires { IsTelling self.now }
+        requires telling { IsTelling self.now }
+        requires name { IsNameBelow (length self.now.types.now) (fact.now).name }
         ensures is { told_in self.now result ≡ definition.last_of function.0 (declared_in (graph_of self.now) (home_of (graph_of self.now) (fact.now).scope.0) (name_at self.now.types.now (fact.now).name)) }
         ensures there { IfSome result (λ one. one.0 < count_in self.now) }
     {
@@ -184,7 +242,7 @@ impl Telling<'_> {
     }
 
     // The declaration of a function that tells its default arguments in a scope, given its first one.
-    #[tactic(auto, using(crate::proofs::Told::giver_outward, crate::proofs::Told::giver_home))]
+    #[tactic(auto, using(crate::proofs::Told::giver_outward, crate::proofs::Told::giver_home, crate::proofs::Told::name_below))]
     fn giver_by(&self, scope: ScopeId, function: FactId, fact: &Fact) -> Option<FactId>
         requires telling { IsTelling self.now }
         requires fact { slice_get self.now.graph.now.facts function.0 ≡ Some fact.now }

@@ -1,10 +1,11 @@
 //! Declarations that tell default arguments in a scope (8.3.6).
 
-ghost use Rattle.std.specs.Prelude.{◌≡◌, length, IfOk, IfSome};
+ghost use Rattle.std.specs.Prelude.{◌≡◌, IfOk, IfSome};
 ghost use Rattle.cxx_answers.specs.Answers as definition;
 ghost use Rattle.cxx_answers.specs.Told.{IsTelling};
 ghost use Rattle.cxx_expr.specs.Views.{AreFactsKnown, numbered};
-ghost use Rattle.cxx_model.specs.Facts.Fitted.{IsGraphBelow};
+ghost use Rattle.cxx_model.specs.Facts.Fitted.{Fitted};
+ghost use Rattle.cxx_names.specs.Plain.{ArePlain};
 ghost use Rattle.cxx_reading.specs.Givers as givers;
 ghost use Rattle.cxx_reading.specs.Seen.{fact_numbers, numbered_at};
 ghost use Rattle.cxx_tree.specs.Held.{meaning};
@@ -19,7 +20,8 @@ pub(crate) fn telling_of<'s>(state: &'s State) -> Telling<'s>
     ensures graph { result.graph.now ≡ (state.now).graph }
     ensures types { result.types.now ≡ (state.now).types }
     ensures telling { IsTelling result }
-    ensures below { IsGraphBelow (length (state.now).types) (state.now).graph }
+    ensures fitted { Fitted (state.now).graph (state.now).types }
+    ensures plain { ArePlain (state.now).graph.facts }
 {
     Telling {
         graph: state.graph(),

@@ -6,7 +6,8 @@ use Rattle.cxx_model.specs.declared.facts.Fact.{Fact}
 use Rattle.cxx_model.specs.declared.place.Place.{Place}
 use Rattle.cxx_model.specs.declared.types.FactId.{FactId}
 use Rattle.cxx_model.specs.declared.types.TypeId.{TypeId}
-use Rattle.cxx_model.specs.Facts.Declarations.{declares_at}
+use Rattle.cxx_model.specs.Facts.Declarations.{declares_at, graph_at}
+use Rattle.cxx_model.specs.Facts.Graph.{Graph}
 use Rattle.cxx_model.specs.Types.Numbers.{type_at}
 use Rattle.cxx_model.specs.Types.Trees.{CxxType, fundamental}
 use Rattle.cxx_reading.specs.Declaring.{begin_body, end_body}
@@ -27,15 +28,15 @@ IsReturned types None of = result_of of ≡ fundamental Void
 IsReturned types (Some number) of = (number.0 < length types) × (result_of of ≡ type_at types number.0)
 
 -- 9.2: the place of a declaration, where it is one of an object whose class is incomplete
-abbrev pub incomplete_by : List CxxType → Option Fact → Option Place
-incomplete_by types None = None
-incomplete_by types (Some fact) = if is_incomplete_object (declares_at types fact.what) then Some fact.place else None
+abbrev pub incomplete_by : Graph → List CxxType → Option Fact → Option Place
+incomplete_by graph types None = None
+incomplete_by graph types (Some fact) = if is_incomplete_object (graph_at types graph) (declares_at types fact.what) then Some fact.place else None
 
 abbrev pub place_or : Option Place → Option Place → Option Place
 place_or None later = later
 place_or (Some place) later = Some place
 
 -- that of the first of some declarations, given their numbers
-abbrev pub first_incomplete : List CxxType → List Fact → List FactId → Option Place
-first_incomplete types facts [] = None
-first_incomplete types facts (number ∷ others) = place_or (incomplete_by types (slice_get facts number.0)) (first_incomplete types facts others)
+abbrev pub first_incomplete : Graph → List CxxType → List Fact → List FactId → Option Place
+first_incomplete graph types facts [] = None
+first_incomplete graph types facts (number ∷ others) = place_or (incomplete_by graph types (slice_get facts number.0)) (first_incomplete graph types facts others)

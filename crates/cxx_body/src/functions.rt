@@ -3,8 +3,8 @@
 ghost use Rattle.std.specs.Prelude.{◌≡◌, ◌<◌, [], length, Some, true};
 ghost use Rattle.std.specs.List.{slice_get};
 ghost use Rattle.std.specs.Option.{option_copied};
-ghost use Rattle.cxx_model.specs.Facts.Declarations.{declares_at, facts_at};
-ghost use Rattle.cxx_model.specs.Facts.Fitted.{IsEntityBelow, IsGraphBelow};
+ghost use Rattle.cxx_model.specs.Facts.Declarations.{declares_at, facts_at, graph_at};
+ghost use Rattle.cxx_model.specs.Facts.Fitted.{Fitted, IsEntityBelow};
 ghost use Rattle.cxx_reading.specs.Units.{is_incomplete as is_incomplete_of};
 ghost use Rattle.cxx_body.specs.Opened.{IsReturned, incomplete_by, statements_opened as statements_opened_of};
 ghost use Rattle.cxx_language.specs.Bodies as definition;
@@ -178,22 +178,24 @@ fn body_tree(
     push(state, node)
 }
 
-fn is_incomplete_object(types: &TypeTable, what: Entity) -> bool
-    requires { IsEntityBelow (length types.now) what }
-    ensures { result ≡ definition.is_incomplete_object (declares_at types.now what) }
+fn is_incomplete_object(graph: &Graph, types: &TypeTable, what: Entity) -> bool
+    requires fitted { Fitted graph.now types.now }
+    requires below { IsEntityBelow (length types.now) what }
+    ensures { result ≡ definition.is_incomplete_object (graph_at types.now graph.now) (declares_at types.now what) }
 {
     match what {
-        Entity::Object { of, .. } => is_incomplete(types, of),
+        Entity::Object { of, .. } => is_incomplete(graph, types, of),
         _ => false,
     }
 }
 
 // The place of a declaration, where it is one of an object whose class is incomplete.
-fn incomplete_place(types: &TypeTable, fact: &Fact) -> Option<Place>
-    requires { IsEntityBelow (length types.now) fact.now.what }
-    ensures { result ≡ incomplete_by types.now (Some fact.now) }
+fn incomplete_place(graph: &Graph, types: &TypeTable, fact: &Fact) -> Option<Place>
+    requires fitted { Fitted graph.now types.now }
+    requires below { IsEntityBelow (length types.now) fact.now.what }
+    ensures { result ≡ incomplete_by graph.now types.now (Some fact.now) }
 {
-    if is_incomplete_object(types, fact.what) {
+    if is_incomplete_object(graph, types, fact.what) {
         Some(fact.place)
     } else {
         None
@@ -208,19 +210,19 @@ fn fact_of(graph: &Graph, number: FactId) -> Option<&Fact>
 }
 
 fn incomplete_at(graph: &Graph, types: &TypeTable, number: FactId) -> Option<Place>
-    requires { IsGraphBelow (length types.now) graph.now }
-    ensures { result ≡ incomplete_by types.now (slice_get graph.now.facts number.0) }
+    requires { Fitted graph.now types.now }
+    ensures { result ≡ incomplete_by graph.now types.now (slice_get graph.now.facts number.0) }
 {
     match fact_of(graph, number) {
-        Some(fact) => incomplete_place(types, fact),
+        Some(fact) => incomplete_place(graph, types, fact),
         None => None,
     }
 }
 
 // The place of the first parameter in a list whose class is incomplete (9.2).
 fn incomplete_among(graph: &Graph, types: &TypeTable, list: ScopeId) -> Option<Place>
-    requires { IsGraphBelow (length types.now) graph.now }
-    ensures { result ≡ definition.incomplete_among list.0 (facts_at types.now graph.now.facts) }
+    requires { Fitted graph.now types.now }
+    ensures { result ≡ definition.incomplete_among (graph_at types.now graph.now) list.0 (facts_at types.now graph.now.facts) }
 {
     for number in graph.facts_of(list) {
         if let Some(place) = incomplete_at(graph, types, *number) {
@@ -230,12 +232,13 @@ fn incomplete_among(graph: &Graph, types: &TypeTable, list: ScopeId) -> Option<P
     None
 }
 
-fn returns_incomplete(types: &TypeTable, of: TypeId) -> bool
-    requires { of.0 < length types.now }
-    ensures { result ≡ is_incomplete_of (definition.result_of (type_at types.now of.0)) }
+fn returns_incomplete(graph: &Graph, types: &TypeTable, of: TypeId) -> bool
+    requires fitted { Fitted graph.now types.now }
+    requires of { of.0 < length types.now }
+    ensures { result ≡ is_incomplete_of (graph_at types.now graph.now) (definition.result_of (type_at types.now of.0)) }
 {
     match returned(types, of) {
-        Some(of) => is_incomplete(types, of),
+        Some(of) => is_incomplete(graph, types, of),
         None => false,
     }
 }
@@ -252,7 +255,7 @@ fn complete_head(
     requires { of.0 < length (state.now).types }
     ensures { IsRead itself AnyKnown state.now state.now cursor.now result (definition.complete_head (name_at name.now) (type_of state.now of) list.0 (meaning state.now) cursor.now) }
 {
-    if returns_incomplete(state.types(), of) {
+    if returns_incomplete(state.graph(), state.types(), of) {
         let fault = fault(cursor.alloc(), name.place, FaultText::IncompleteClass)?;
         return Err(Stop::Fault(fault));
     }

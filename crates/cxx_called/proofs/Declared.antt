@@ -6,24 +6,29 @@ use Rattle.std.proofs.lemmas.List.{append-nil, at_drop_more, at_drop_all}
 use Rattle.cxx_model.specs.declared.facts.Entity.{Entity}
 use Rattle.cxx_model.specs.declared.facts.Entity.TheVariants as entity
 use Rattle.cxx_model.specs.declared.facts.Fact.{Fact}
+use Rattle.cxx_model.specs.declared.facts.Name.{Name}
 use Rattle.cxx_model.specs.declared.place.Place.{Place}
 use Rattle.cxx_model.specs.declared.types.FactId.{FactId}
-use Rattle.cxx_model.specs.Facts.Declarations.{CxxFact, CxxGraph, Declares, declares_at, fact_at, facts_at}
-use Rattle.cxx_model.specs.Facts.Fitted.{Fitted, IsEntityBelow}
+use Rattle.cxx_model.specs.Facts.Declarations.{CxxFact, CxxGraph, Declares, declares_at, fact_at, facts_at, graph_at, name_at}
+use Rattle.cxx_model.specs.Facts.Fitted.{Fitted, IsEntityBelow, IsNameBelow}
 use Rattle.cxx_model.specs.Facts.Graph.{EachMayFollow, Graph, InRange, IsEntityInRange, MayFollow, enumerations}
 use Rattle.cxx_model.specs.Types.Trees.{CxxType}
 use Rattle.cxx_meaning.specs.Lookups.Wanted.{hides_types, is_function}
 use Rattle.cxx_reading.specs.Paths.{wrong_kind_at}
-use Rattle.cxx_reading.specs.Seen.{Numbered, fact_numbers, kept, numbered_at, numbered_by}
+use Rattle.cxx_reading.specs.Seen.{Numbered, declared_in, fact_numbers, kept, numbered_at, numbered_by}
 use Rattle.cxx_reading.specs.Trees.{CxxPathPart, CxxTree, Label}
+use Rattle.cxx_graph.specs.Numbered.{is_in_scope, numbers_of}
 use Rattle.cxx_names.proofs.Clashing.{fact_below}
+use Rattle.cxx_names.proofs.Wordless.{named_are}
+use Rattle.cxx_names.specs.Looked.{looked_up, seen_by}
+use Rattle.cxx_names.specs.Named.{has_the_name}
 use Rattle.cxx_tree.proofs.Graphs.{enumerations_append}
 use Rattle.cxx_tree.specs.Held.{Held, meaning}
 use Rattle.cxx_expr.specs.Calls.{called_first, function_call, is_asked_for, is_bare, value_call}
 use Rattle.cxx_expr.specs.Names.{are_one_function, first_type, in_full, in_full_by, is_function_with, known_among, known_at as known_by_fact, means_first, means_value, no_value_at, type_by_fact, type_declared, values_among}
 use Rattle.cxx_expr.specs.Questions.{Questions}
 use Rattle.cxx_expr.specs.Views.{AreFactsBelow, AreFactsKnown, numbered, numbered_in, with_fact}
-use Rattle.cxx_called.specs.Views.{IsOfThere}
+use Rattle.cxx_called.specs.Views.{IsOfThere, named_of}
 
 -- ---- one declaration
 
@@ -111,6 +116,67 @@ numbered_same graph [] = refl
 numbered_same graph (n ∷ numbers) =
     ap (with_fact n.0 (slice_get graph.facts n.0)) (numbered_same graph numbers)
     ∙ with_same n.0 (slice_get graph.facts n.0) (numbered_at graph (fact_numbers numbers))
+
+-- ---- those of a name
+
+named_if : (held : Held) (name : Name) (number : FactId) (numbers : List FactId) (t : Bool) → has_the_name held.types (name_at held.types name) (slice_get held.graph.facts number.0) ≡ t → named_of held name (number ∷ numbers) ≡ (if t then number ∷ named_of held name numbers else named_of held name numbers)
+named_if held name number numbers t is = ap (λ b. if b then number ∷ named_of held name numbers else named_of held name numbers) is
+
+pub named_one : (held : Held) (target : ℕ) (place : Place) (name : Name) (number : FactId) (t : Bool) (o : Option CxxType) → t ≡ has_the_name held.types (name_at held.types name) (slice_get held.graph.facts number.0) → t ≡ true → o ≡ known_among target place (numbered held (number ∷ [])) → o ≡ known_among target place (numbered held (named_of held name (number ∷ [])))
+named_one held target place name number t o is holds same = same ∙ ap (λ ns. known_among target place (numbered held ns)) (sym (named_if held name number [] true (sym is ∙ holds)))
+
+pub named_none : (held : Held) (target : ℕ) (place : Place) (name : Name) (number : FactId) (t : Bool) → t ≡ has_the_name held.types (name_at held.types name) (slice_get held.graph.facts number.0) → t ≡ false → None ≡ known_among target place (numbered held (named_of held name (number ∷ [])))
+named_none held target place name number t is fails = ap (λ ns. known_among target place (numbered held ns)) (sym (named_if held name number [] false (sym is ∙ fails)))
+
+named_more : (held : Held) (target : ℕ) (place : Place) (name : Name) (number : FactId) (numbers : List FactId) → known_among target place (numbered held (named_of held name (number ∷ numbers))) ≡ first_type (known_among target place (numbered held (named_of held name (number ∷ [])))) (known_among target place (numbered held (named_of held name numbers)))
+named_more held target place name number numbers = by (has_the_name held.types (name_at held.types name) (slice_get held.graph.facts number.0)) refl
+  where
+    by : (t : Bool) → has_the_name held.types (name_at held.types name) (slice_get held.graph.facts number.0) ≡ t → known_among target place (numbered held (named_of held name (number ∷ numbers))) ≡ first_type (known_among target place (numbered held (named_of held name (number ∷ [])))) (known_among target place (numbered held (named_of held name numbers)))
+    by true is =
+        ap (λ ns. known_among target place (numbered held ns)) (named_if held name number numbers true is)
+        ∙ again_more held target place number (named_of held name numbers)
+        ∙ ap (λ ns. first_type (known_among target place (numbered held ns)) (known_among target place (numbered held (named_of held name numbers)))) (sym (named_if held name number [] true is))
+    by false is =
+        ap (λ ns. known_among target place (numbered held ns)) (named_if held name number numbers false is)
+        ∙ ap (λ ns. first_type (known_among target place (numbered held ns)) (known_among target place (numbered held (named_of held name numbers)))) (sym (named_if held name number [] false is))
+
+named_at : (held : Held) (target : ℕ) (place : Place) (name : Name) (numbers : List FactId) (i : ℕ) (number d : FactId) (one whole : Option CxxType) → i < length numbers → number ≡ get_or numbers i d → one ≡ known_among target place (numbered held (named_of held name (number ∷ []))) → known_among target place (numbered held (named_of held name (drop i numbers))) ≡ whole → first_type one (known_among target place (numbered held (named_of held name (drop (i + 1) numbers)))) ≡ whole
+named_at held target place name numbers i number d one whole within is here same =
+    let rest : Option CxxType = known_among target place (numbered held (named_of held name (drop (i + 1) numbers))) in
+    ap (λ o. first_type o rest) here
+    ∙ sym (named_more held target place name number (drop (i + 1) numbers))
+    ∙ ap (λ (n : FactId). known_among target place (numbered held (named_of held name (n ∷ drop (i + 1) numbers)))) is
+    ∙ sym (at_drop_more (λ ns. known_among target place (numbered held (named_of held name ns))) numbers i d within)
+    ∙ same
+
+pub named_step : (held : Held) (target : ℕ) (place : Place) (name : Name) (numbers : List FactId) (i : ℕ) (number d : FactId) (whole : Option CxxType) → i < length numbers → number ≡ get_or numbers i d → None ≡ known_among target place (numbered held (named_of held name (number ∷ []))) → known_among target place (numbered held (named_of held name (drop i numbers))) ≡ whole → known_among target place (numbered held (named_of held name (drop (i + 1) numbers))) ≡ whole
+named_step held target place name numbers i number d whole within is here same = named_at held target place name numbers i number d None whole within is here same
+
+pub named_found : (held : Held) (target : ℕ) (place : Place) (name : Name) (numbers : List FactId) (i : ℕ) (number d : FactId) (of : CxxType) (whole : Option CxxType) → i < length numbers → number ≡ get_or numbers i d → Some of ≡ known_among target place (numbered held (named_of held name (number ∷ []))) → known_among target place (numbered held (named_of held name (drop i numbers))) ≡ whole → Some of ≡ whole
+named_found held target place name numbers i number d of whole within is here same = named_at held target place name numbers i number d (Some of) whole within is here same
+
+pub named_end : (held : Held) (target : ℕ) (place : Place) (name : Name) (numbers : List FactId) (i : ℕ) (whole : Option CxxType) → length numbers ≤ i → known_among target place (numbered held (named_of held name (drop i numbers))) ≡ whole → None ≡ whole
+named_end held target place name numbers i whole past same = sym (at_drop_all (λ ns. known_among target place (numbered held (named_of held name ns))) numbers i past) ∙ same
+
+-- the numbers of declarations and the declarations
+looked_same : (types : List CxxType) (graph : Graph) (numbers : List FactId) → numbered_in (graph_at types graph) numbers ≡ looked_up types graph.facts numbers
+looked_same types graph [] = refl
+looked_same types graph (n ∷ numbers) =
+    ap (λ o. with_fact n.0 o (numbered_in (graph_at types graph) numbers)) (seen types graph.facts n.0)
+    ∙ ap (with_fact n.0 (option_map (fact_at types) (slice_get graph.facts n.0))) (looked_same types graph numbers)
+    ∙ by (slice_get graph.facts n.0)
+  where
+    by : (o : Option Fact) → with_fact n.0 (option_map (fact_at types) o) (looked_up types graph.facts numbers) ≡ seen_by types n (looked_up types graph.facts numbers) o
+    by None = refl
+    by (Some fact) = refl
+
+pub numbered_named : (held : Held) (scope : ℕ) (name : Name) (numbers : List FactId) → numbers ≡ numbers_of (is_in_scope scope) held.graph.facts → numbered held (named_of held name numbers) ≡ declared_in (meaning held).graph scope (name_at held.types name)
+unfolding meaning
+numbered_named held scope name numbers is = looked_same held.types held.graph (named_of held name numbers) ∙ named_are held.types held.graph scope (name_at held.types name) numbers is
+
+-- the name of a declaration names a type that is there
+pub name_below : (held : Held) (graph : Graph) (n : ℕ) (fact : Fact) → graph ≡ held.graph → Fitted held.graph held.types → Some fact ≡ slice_get graph.facts n → IsNameBelow (length held.types) fact.name
+name_below held graph n fact same fitted at = (fact_below (length held.types) held.graph.facts n fact fitted.numbers.facts (sym (at ∙ ap (λ (g : Graph). slice_get g.facts n) same))).name
 
 -- by the first declaration
 pub full_some : (held : Held) (target : ℕ) (fact : Fact) (of : CxxType) → slice_get held.graph.facts target ≡ Some fact → in_full_by (meaning held).graph target (slice_get (meaning held).graph.facts target) of ≡ in_full (meaning held).graph target (fact_at held.types fact) of

@@ -2,9 +2,13 @@
 use Rattle.std.specs.Prelude.{ℕ, ◌<◌, List, length, Option, Some, None}
 use Rattle.cxx_model.specs.declared.facts.Entity.{Entity}
 use Rattle.cxx_model.specs.declared.facts.Entity.TheVariants as entity
+use Rattle.cxx_model.specs.declared.facts.Name.{Name}
+use Rattle.cxx_model.specs.declared.types.FactId.{FactId}
+use Rattle.cxx_model.specs.Facts.Declarations.{name_at}
 use Rattle.cxx_model.specs.Facts.Graph.{Graph, enumerations}
 use Rattle.cxx_model.specs.Types.Numbers.{AreTypesBelow, type_at}
 use Rattle.cxx_model.specs.Types.Trees.{CxxType}
+use Rattle.cxx_names.specs.Named.{named_among}
 use Rattle.cxx_standard.specs.Views.{operand_at}
 use Rattle.cxx_tree.specs.Held.{Held}
 use Rattle.cxx_expr.specs.Calls as calls
@@ -26,6 +30,10 @@ IsMeant held meant = meant.operand.of.0 < length held.types
 abbrev pub IsOfThere : Graph → Entity → Type 0
 IsOfThere graph (entity.Enumerator number value) = number.0 < enumerations graph.facts
 IsOfThere graph _ = Unit {0}
+
+-- those of some declarations that have a name
+abbrev pub named_of : Held → Name → List FactId → List FactId
+named_of held name numbers = named_among held.types held.graph.facts (name_at held.types name) numbers
 
 -- ---- types of functions
 

@@ -6,14 +6,14 @@ ghost use Rattle.std.specs.Option.{option_copied};
 ghost use Rattle.cxx_meaning.specs.Lookups.Wanted as wanted;
 ghost use Rattle.cxx_model.specs.Facts.Declarations.{declares_at, fact_at as fact_of_types, graph_at, name_at, type_of_option};
 ghost use Rattle.cxx_model.specs.Facts.Entities as entities;
-ghost use Rattle.cxx_model.specs.Facts.Fitted.{IsEntityBelow, IsFactBelow, IsTypeNumberBelow};
+ghost use Rattle.cxx_model.specs.Facts.Fitted.{IsEntityBelow, IsFactBelow, IsNameBelow, IsTypeNumberBelow};
 ghost use Rattle.cxx_model.specs.Types.Numbers.{type_at};
 ghost use Rattle.cxx_model.specs.Types.Trees.{CxxType};
 ghost use Rattle.cxx_reading.specs.Seen.{declared_in as declared_by};
 ghost use Rattle.cxx_tree.specs.Held.{meaning, type_of};
 ghost use Rattle.cxx_expr.specs.Names as definition;
 ghost use Rattle.cxx_expr.specs.Views.{AreFactsKnown, numbered};
-ghost use Rattle.cxx_called.specs.Views.{IsOfThere};
+ghost use Rattle.cxx_called.specs.Views.{IsOfThere, named_of};
 
 use cxx_expr::operands::referred;
 use cxx_graph::Graph;
@@ -21,6 +21,7 @@ use cxx_model::{
     Bound, Entity, Fact, FactId, FactList, Listed, Name, Pattern, Place, ScopeId, TemplateId,
     TypeId, TypeNode,
 };
+use cxx_names::has_name;
 use cxx_tree::State;
 use cxx_types::TypeTable;
 use std::alloc::{AllocError, Global};
@@ -238,18 +239,69 @@ fn known_among(state: &State, target: FactId, place: Place, numbers: &[FactId]) 
     None
 }
 
-// The declarations of a name in a scope.
-#[tactic(auto, using(crate::proofs::Declared::numbered_same, cxx_names::proofs::Wordless::no_unnamed, cxx_names::proofs::Wordless::no_operator, cxx_names::proofs::Wordless::no_conversion, cxx_names::proofs::Wordless::no_destructor), unfolding(cxx_tree::specs::Held::meaning))]
-fn declared_in<'a>(state: &'a State, scope: ScopeId, name: &Name) -> &'a [FactId]
-    ensures { numbered state.now result.now ≡ declared_by (meaning state.now).graph scope.0 (name_at (state.now).types name.now) }
+// The same by a number, where its declaration has a name.
+#[tactic(auto, using(crate::proofs::Declared::named_one, crate::proofs::Declared::named_none), unfolding(cxx_tree::specs::Held::meaning))]
+fn known_of_named(
+    state: &State,
+    target: FactId,
+    place: Place,
+    name: &Name,
+    number: FactId,
+) -> Option<TypeId>
+    requires { IsNameBelow (length (state.now).types) name.now }
+    ensures is { type_of_option (state.now).types result ≡ definition.known_among target.0 place (numbered state.now (named_of state.now name.now (number ∷ []))) }
+    ensures below { IsTypeNumberBelow (length (state.now).types) result }
 {
-    let names = state.names();
+    if has_name(state.graph(), state.types(), number, name) {
+        known_of(state, target, place, number)
+    } else {
+        None
+    }
+}
+
+// The type by the first of some declarations that has a name and declares an object again at a place.
+#[tactic(auto, using(crate::proofs::Declared::named_end, crate::proofs::Declared::named_found, crate::proofs::Declared::named_step))]
+fn known_named(
+    state: &State,
+    target: FactId,
+    place: Place,
+    name: &Name,
+    numbers: &[FactId],
+) -> Option<TypeId>
+    requires { IsNameBelow (length (state.now).types) name.now }
+    ensures is { type_of_option (state.now).types result ≡ definition.known_among target.0 place (numbered state.now (named_of state.now name.now numbers.now)) }
+    ensures below { IsTypeNumberBelow (length (state.now).types) result }
+{
+    for number in numbers {
+        if let Some(of) = known_of_named(state, target, place, name, *number) {
+            return Some(of);
+        }
+    }
+    None
+}
+
+// The type by the first declaration of a name in a scope that declares an object again at a place.
+#[tactic(auto, using(crate::proofs::Declared::numbered_same, crate::proofs::Declared::numbered_named, cxx_names::proofs::Wordless::no_unnamed), unfolding(cxx_tree::specs::Held::meaning))]
+fn known_in(
+    state: &State,
+    target: FactId,
+    place: Place,
+    scope: ScopeId,
+    name: &Name,
+) -> Option<TypeId>
+    requires { IsNameBelow (length (state.now).types) name.now }
+    ensures is { type_of_option (state.now).types result ≡ definition.known_among target.0 place (declared_by (meaning state.now).graph scope.0 (name_at (state.now).types name.now)) }
+    ensures below { IsTypeNumberBelow (length (state.now).types) result }
+{
     match name {
-        Name::Spelled(word) => names.declared_in(state.graph(), scope, word.as_slice()),
-        Name::Unnamed => &[],
-        Name::Operator(_) => &[],
-        Name::Conversion(_) => &[],
-        Name::Destructor => &[],
+        Name::Spelled(word) => {
+            let row = state
+                .names()
+                .declared_in(state.graph(), scope, word.as_slice());
+            known_among(state, target, place, row)
+        }
+        Name::Unnamed => None,
+        _ => known_named(state, target, place, name, state.graph().facts_of(scope)),
     }
 }
 
@@ -276,13 +328,14 @@ fn type_known(own: TypeId, known: Option<TypeId>) -> TypeId
 
 // A type of an object, with the bound that the initializer of its first declaration gives.
 fn in_full(state: &State, target: FactId, fact: &Fact, of: TypeId) -> TypeId
-    requires { of.0 < length (state.now).types }
+    requires of { of.0 < length (state.now).types }
+    requires name { IsNameBelow (length (state.now).types) (fact.now).name }
     ensures is { type_of state.now result ≡ definition.in_full (meaning state.now).graph target.0 (fact_of_types (state.now).types fact.now) (type_of state.now of) }
     ensures below { result.0 < length (state.now).types }
 {
     if has_no_bound(state.types(), of) {
-        let numbers = declared_in(state, fact.scope, &fact.name);
-        type_known(of, known_among(state, target, fact.place, numbers))
+        let known = known_in(state, target, fact.place, fact.scope, &fact.name);
+        type_known(of, known)
     } else {
         of
     }

@@ -28,7 +28,7 @@ use cxx_expr::nodes::given_over;
 use cxx_expr::operands::plain_type;
 use cxx_model::{
     Base, ConstantKind, Entity, EnumId, Evidence, FactId, FactList, Fault, FaultText, LeftOut,
-    Listed, Node, Operand, Path, PathPart, Place, Stop, TreeId, TypeId, Word,
+    Listed, MemberKind, Node, Operand, Path, PathPart, Place, Stop, TreeId, TypeId, Word,
 };
 use cxx_tree::{State, is_plain_path};
 use std::alloc::{AllocError, Global};
@@ -284,6 +284,34 @@ fn means_function(
     Err(Stop::Fault(several_at(alloc, place)?))
 }
 
+fn is_nonstatic(member: MemberKind) -> bool
+    ensures { result ≡ definition.is_nonstatic member }
+{
+    match member {
+        MemberKind::Nonstatic => true,
+        _ => false,
+    }
+}
+
+// What belongs to an object of its class is not named without one (9.3).
+#[tactic(auto, using(cxx_expr::proofs::Kept::later_refl))]
+fn means_object_by(
+    alloc: Global,
+    state: &State,
+    place: Place,
+    member: MemberKind,
+    target: FactId,
+    own: TypeId,
+) -> Result<Meant, Stop>
+    requires { own.0 < length (state.now).types }
+    ensures { IsAnswered means_of IsMeant state.now state.now result (definition.means_object_by place (definition.is_nonstatic member) (definition.means_object (meaning state.now).graph target.0 (type_of state.now own)) (meaning state.now)) }
+{
+    if is_nonstatic(member) {
+        return Err(Stop::Fault(fault(alloc, place, FaultText::OperandsDoNotFit)?));
+    }
+    Ok(means_object(state, target, own))
+}
+
 #[tactic(auto, using(cxx_expr::proofs::Kept::later_refl))]
 fn means_first(
     alloc: Global,
@@ -299,7 +327,12 @@ fn means_first(
     ensures { IsAnswered means_of IsMeant state.old state.new result (definition.means_first place (meaning state.old).graph (meaning state.old).here.enumeration (numbered state.old all.now) number.0 (declares_at (state.old).types what) (meaning state.old)) }
 {
     match what {
-        Entity::Object { of, first, .. } => Ok(means_object(state, first_or(number, first), of)),
+        Entity::Object {
+            of,
+            member,
+            first,
+            ..
+        } => means_object_by(alloc, state, place, member, first_or(number, first), of),
         Entity::Enumerator {
             number: list,
             value,

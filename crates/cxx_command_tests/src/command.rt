@@ -66,7 +66,7 @@ fn reports_what_is_not_built(rt: HostRuntime) -> Result<(), Fail> {
         out: b"",
         err: b"1:12: not built\n",
     };
-    assert!(rt; ends(rt.alloc(), b"void f() { class C { }; }", &[], &end)?);
+    assert!(rt; ends(rt.alloc(), b"int *xxx = new int;", &[], &end)?);
     Ok(())
 }
 
@@ -113,7 +113,7 @@ fn a_report_that_cannot_be_written_leaves_a_part(rt: HostRuntime) -> Result<(), 
 }
 
 fn leaves_a_part_of_a_report(alloc: Global) -> Result<bool, Fail> {
-    let mut source = MemorySource::new(alloc, b"void f() { class C { }; }", ROOM, &[])?;
+    let mut source = MemorySource::new(alloc, b"int *xxx = new int;", ROOM, &[])?;
     let mut out = MemorySink::new(alloc, ROOM, ROOM, &[])?;
     let mut err = MemorySink::new(alloc, 3, ROOM, &[])?;
     let status = run(alloc, &[], &mut source, &mut out, &mut err);

@@ -19,6 +19,6 @@ pub use nodes::{
     joined, last_part, last_place, node_from, path_to, path_to_option, place_of, push,
 };
 pub use outline::{Fits, Outline, Run};
-pub use specifiers::Specifiers;
+pub use specifiers::{Specifiers, no_specifiers_yet};
 pub use turn::Turn;
 pub use words::{TypeWord, base_of_words, storage_word, type_word, with_word};

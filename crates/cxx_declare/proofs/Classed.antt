@@ -49,7 +49,7 @@ plain_below count name.Unnamed plain = tt
 plain_below count (name.Spelled word) plain = tt
 plain_below count _ plain = absurd plain
 
-ready_by : (held : Held) (class : ClassId) (is_union : Bool) (fact : Fact) → fact.scope.0 < scopes held.graph.facts → class.0 < length held.graph.classes → fact.what ≡ entity.Class class is_union → IsPlainName fact.name → IsReady held fact
+pub ready_by : (held : Held) (class : ClassId) (is_union : Bool) (fact : Fact) → fact.scope.0 < scopes held.graph.facts → class.0 < length held.graph.classes → fact.what ≡ entity.Class class is_union → IsPlainName fact.name → IsReady held fact
 ready_by held class is_union fact there known what plain = record {
   follows = may_follow held.graph fact there (subst (λ (e : Entity). IsEntityInRange held.graph fact e) (sym what) known);
   below = record { name = plain_below (length held.types) fact.name plain; what = subst (IsEntityBelow (length held.types)) (sym what) tt };
@@ -71,7 +71,7 @@ again_answered old new scope n part is_union fact r is plain answered =
     subst (λ (word : List ℕ). IsAnswered type_of IsTypeThere old new r (declared_as n (class_fact scope part n is_union) word (meaning old))) (word_is old.types fact.name part.word plain (ap (λ (f : CxxFact). f.name) is))
     (subst (λ (f : CxxFact). IsAnswered type_of IsTypeThere old new r (declared_as n f (word_in fact.name) (meaning old))) is answered)
 
-count_is : (held : Held) → length (meaning held).graph.classes ≡ length held.graph.classes
+pub count_is : (held : Held) → length (meaning held).graph.classes ≡ length held.graph.classes
 unfolding meaning
 count_is held = length_classes held.types held.graph.classes
 
@@ -92,7 +92,8 @@ class_found graph types (number ∷ others) n fitted ok is = by (slice_get (fact
   where
     on : (fact : CxxFact) (what : Declares) → IsTypeInRange graph (type_in (record { number = number; fact = record fact { what = what } } ∷ [])) → or_other (class_by what) (first_class (numbered_at (graph_at types graph) others)) ≡ Some n
         → (first_class (numbered_at (graph_at types graph) others) ≡ Some n → n.number < length graph.classes) → n.number < length graph.classes
-    on fact (facts.class class is_union) there is later = (let same : record { number = class.0; is_union = is_union } ≡ n = cc in subst (λ (one : ClassNamed). one.number < length graph.classes) same there)
+    on fact (facts.class class is_union) there is later = (let same : record { number = class.0; is_union = Some is_union } ≡ n = cc in subst (λ (one : ClassNamed). one.number < length graph.classes) same there)
+    on fact (facts.injected class) there is later = (let same : record { number = class.0; is_union = None } ≡ n = cc in subst (λ (one : ClassNamed). one.number < length graph.classes) same there)
     on fact _ there is later = later is
 
     by : (o : Option CxxFact) → IsTypeInRange graph (type_in (numbered_by number o [])) → first_class (numbered_by number o (numbered_at (graph_at types graph) others)) ≡ Some n

@@ -1,5 +1,5 @@
 -- Definitions of objects.
-use Rattle.std.specs.Prelude.{ℕ, zero, suc, ◌≡◌, List, [], ◌∷◌, length, Some, Result, Ok, Err, IfErr, OnOk, refl}
+use Rattle.std.specs.Prelude.{ℕ, zero, suc, ◌≡◌, List, [], ◌∷◌, length, Option, Some, Result, Ok, Err, IfErr, OnOk, refl}
 use Rattle.std.specs.List.{slice_get}
 use Rattle.std.proofs.Common.{ap, sym, subst, ◌∙◌}
 use Rattle.cxx_model.specs.declared.stop.Stop.{Stop}
@@ -15,7 +15,7 @@ use Rattle.cxx_model.specs.Types.Trees.{CxxType}
 use Rattle.cxx_model.specs.Facts.Declarations.{CxxFact, Declares, declares_at, fact_at, facts_at, spelled}
 use Rattle.cxx_model.specs.Facts.Entities.{CxxEntity, of_fact}
 use Rattle.cxx_model.specs.Stops.{Answer, Gives, Stops, ◌>>=◌}
-use Rattle.cxx_reading.specs.Declaring.{declares_by, define_declared, define_object, fact_here, free, object_here, undefined, undefined_by, with_definition}
+use Rattle.cxx_reading.specs.Declaring.{declares_by, define_declared, define_object, fact_here, free, object_here, undefined, with_definition}
 use Rattle.cxx_reading.specs.State.{CxxState}
 use Rattle.cxx_declare.specs.Made.{added_defined, definable_by, defined_by, token, word_in}
 use Rattle.cxx_paths.proofs.Stopping.{stopped_on}
@@ -25,8 +25,8 @@ use Rattle.cxx_tree.specs.Later.{Later}
 use Rattle.cxx_tree.proofs.Graphs.{length_facts}
 use Rattle.cxx_tree.proofs.Steps.{Later_refl}
 
-pub undefined_is : (state : CxxState) (place : Place) (word : List ℕ) (entity : CxxEntity) (first : ℕ) → entity ≡ of_fact first → undefined_by state place word (defined_before state.graph.facts state.defined (of_fact first)) ≡ undefined_by state place word (defined_before state.graph.facts state.defined entity)
-undefined_is state place word entity first is = ap (λ e. undefined_by state place word (defined_before state.graph.facts state.defined e)) (sym is)
+pub before_is : (all : List CxxFact) (defined : List ℕ) (found : Option ℕ) (entity : CxxEntity) (first : ℕ) → entity ≡ of_fact first → found ≡ defined_before all defined (of_fact first) → found ≡ defined_before all defined entity
+before_is all defined found entity first same is = is ∙ ap (defined_before all defined) (sym same)
 
 what_at : (types : List CxxType) (facts : List Fact) (n : ℕ) (fact : Fact) → slice_get facts n ≡ Some fact → declares_by (slice_get (facts_at types facts) n) ≡ declares_at types fact.what
 what_at types [] n fact at = absurd (cc)

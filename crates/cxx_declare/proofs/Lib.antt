@@ -1,5 +1,6 @@
 pub mod Agreeing
 pub mod Asking
+pub mod Begun
 pub mod Bringing
 pub mod Brought
 pub mod Clashing

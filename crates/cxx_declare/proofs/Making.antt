@@ -41,7 +41,7 @@ object_ready held place word one scope first n fact there earlier below named ma
     subst (λ (f : Fact). IsReady held f) (sym (made_is ∙ ap (λ m. made scope place m (object_first one first)) named)) (record {
       follows = may_follow held.graph (made scope place (name.Spelled word) (object_first one first)) there (object_after held.graph word (made scope place (name.Spelled word) (object_first one first)) one first refl earlier);
       below = record { name = tt; what = below };
-      plain = record { name = tt; what = refl };
+      plain = record { name = tt; what = tt };
     })
 
 pub object_is : (held : Held) (place : Place) (word : List ℕ) (one : TypeId) (scope : ScopeId) (first : Option FactId) (n : Name) (fact : Fact) → scope ≡ held.scope → n ≡ name.Spelled word → fact ≡ made scope place n (object_first one first)
@@ -56,7 +56,7 @@ function_ready held place word one count scope first n fact there earlier below 
     subst (λ (f : Fact). IsReady held f) (sym (made_is ∙ ap (λ m. made scope place m (function_first one count first)) named)) (record {
       follows = may_follow held.graph (made scope place (name.Spelled word) (function_first one count first)) there (function_after held.graph word (made scope place (name.Spelled word) (function_first one count first)) one count first refl earlier);
       below = record { name = tt; what = below };
-      plain = record { name = tt; what = refl };
+      plain = record { name = tt; what = tt };
     })
 
 pub function_is : (held : Held) (place : Place) (word : List ℕ) (one : TypeId) (count : ℕ) (scope : ScopeId) (first : Option FactId) (n : Name) (fact : Fact) → scope ≡ held.scope → n ≡ name.Spelled word → fact ≡ made scope place n (function_first one count first)

@@ -1,5 +1,7 @@
 pub mod Agreed
+pub mod Begun
 pub mod Brought
+pub mod ClassDefinitions
 pub mod Classes
 pub mod Functions
 pub mod Given

@@ -49,6 +49,13 @@ pub record IsReady (held : Held) (fact : Fact) : Type 0 where
   pub below : IsFactBelow (length held.types) fact
   pub plain : IsPlain fact
 
+-- an object, a function or a template
+abbrev pub IsNoClass : Entity → Type 0
+IsNoClass (entity.Object of member is_mutable value first) = Unit {0}
+IsNoClass (entity.Function of member flags defaults first) = Unit {0}
+IsNoClass (entity.Template template member defaults is_explicit first) = Unit {0}
+IsNoClass _ = ⊥
+
 -- a declaration outside classes
 abbrev pub made : ScopeId → Place → Name → Entity → Fact
 made scope place name what = record { place = place; scope = scope; name = name; access = Public; what = what }

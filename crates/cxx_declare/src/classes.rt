@@ -93,6 +93,7 @@ fn declare_again(
 }
 
 // Adds the first declaration of a class that was reserved.
+#[tactic(auto, using(cxx_names::proofs::Plain::plain_fact))]
 fn add_next(state: &mut State, fact: Fact, class: ClassId) -> Result<TypeId, Stop>
     requires ready { IsReady state.old fact }
     requires there { class.0 < length (state.old).graph.classes }
@@ -118,8 +119,8 @@ fn declare_next(state: &mut State, fact: Fact, class: ClassId) -> Result<TypeId,
     }
 }
 
-// The number of the next class.
-fn next_class(state: &State) -> ClassId
+/// The number of the next class.
+pub(crate) fn next_class(state: &State) -> ClassId
     ensures { result.0 ≡ length (state.now).graph.classes }
 {
     ClassId(state.graph().class_count())
@@ -141,8 +142,8 @@ fn declare_new(
     }
 }
 
-// The class that a name declares in a scope already.
-fn class_in(state: &State, scope: ScopeId, word: &[u8]) -> Option<NamedClass>
+/// The class that a name declares in a scope already.
+pub(crate) fn class_in(state: &State, scope: ScopeId, word: &[u8]) -> Option<NamedClass>
     ensures is { option_map class_named_at result ≡ definition.first_class (declared_in (meaning state.now).graph scope.0 (spelled_name word.now)) }
     ensures there { IfSome result (λ one. one.class.0 < length (state.now).graph.classes) }
 {
@@ -201,6 +202,16 @@ fn class_of(state: &State, numbers: &[FactId]) -> Option<NamedClass>
     first_class(graph, numbers)
 }
 
+// Whether a class may be named by the key of a union, or by another one.
+fn is_of_key(one: Option<bool>, is_union: bool) -> bool
+    ensures { result ≡ definition.is_of_key one is_union }
+{
+    match one {
+        None => true,
+        Some(one) => same_bool(one, is_union),
+    }
+}
+
 // A union is named by its key alone (7.1.5.3).
 fn class_taken(
     state: &mut State,
@@ -213,7 +224,7 @@ fn class_taken(
     ensures { IsAnswered type_of IsTypeThere state.old state.new result (definition.class_taken (last_part (path_at path.now).parts) other is_union (option_map class_named_at named) (meaning state.old)) }
 {
     match named {
-        Some(one) if same_bool(one.is_union, is_union) => class_type(state, one.class),
+        Some(one) if is_of_key(one.is_union, is_union) => class_type(state, one.class),
         _ => Err(wrong_name(state, path, other)),
     }
 }

@@ -2,8 +2,9 @@
 
 ghost use Rattle.std.specs.Prelude.{◌≡◌, ◌&&◌, not, [], ◌∷◌, false, true, List, length, None, Some, if◌then◌else◌, IfOk, option_map};
 ghost use Rattle.std.specs.List.{slice_get};
-ghost use Rattle.cxx_model.specs.Facts.Conflicts.{first_conflict as first_conflict_of};
+ghost use Rattle.cxx_model.specs.Facts.Conflicts.{defined_before, first_conflict as first_conflict_of};
 ghost use Rattle.cxx_model.specs.Facts.Declarations.{declares_at, fact_at, name_at};
+ghost use Rattle.cxx_model.specs.Facts.Entities.{entity_by};
 ghost use Rattle.cxx_model.specs.Facts.Fitted.{IsFactBelow};
 ghost use Rattle.cxx_model.specs.Stops.{Gives};
 ghost use Rattle.cxx_model.specs.Types.Same.{same_bool as same_bool_of};
@@ -314,8 +315,20 @@ fn undefined_with(
     }
 }
 
+// The first definition of what a fact with a number declares.
+#[tactic(auto, using(crate::proofs::Defining::before_is), unfolding(cxx_tree::specs::Held::meaning))]
+fn definition_of(state: &State, number: FactId, what: Entity) -> Option<FactId>
+    requires { IsOwnEntity what }
+    ensures { option_map number_in result ≡ defined_before (meaning state.now).graph.facts (meaning state.now).defined (entity_by number.0 (declares_at (state.now).types what)) }
+{
+    if let Entity::Class { class, .. } = what {
+        return state.definitions().first_of_class(class);
+    }
+    state.definitions().before(first_of(number, what))
+}
+
 /// What a fact with a number declares has no definition yet (3.2).
-#[tactic(auto, using(crate::proofs::Defining::undefined_is), unfolding(cxx_tree::specs::Held::meaning, cxx_reading::specs::Declaring::undefined))]
+#[tactic(auto, unfolding(cxx_reading::specs::Declaring::undefined))]
 pub(crate) fn undefined(
     state: &State,
     place: Place,
@@ -326,8 +339,7 @@ pub(crate) fn undefined(
     requires { IsOwnEntity what }
     ensures { Gives (λ unit. unit) result (declaring.undefined (meaning state.now) place word.now number.0 (declares_at (state.now).types what)) }
 {
-    let first = first_of(number, what);
-    let definition = state.definitions().before(first);
+    let definition = definition_of(state, number, what);
     undefined_with(state, place, word, definition)
 }
 

@@ -77,6 +77,7 @@ fn checked(state: &State, fact: &Fact, number: EnumId, value: &i128) -> Result<(
     held(state, fact.place, number, value)
 }
 
+#[tactic(auto, using(cxx_names::proofs::Plain::plain_fact))]
 fn add(state: &mut State, fact: Fact) -> Result<(), Stop>
     requires { IsReady state.old fact }
     ensures { IsAnswered itself AnyKnown state.old state.new result (told_added (fact_at (state.old).types fact) (meaning state.old)) }

@@ -37,6 +37,7 @@ pub(crate) fn fact_in(scope: ScopeId, place: Place, name: Name, what: Entity) ->
 }
 
 /// A name is declared (3.3.1): what conflicts with it comes before the limit.
+#[tactic(auto, using(cxx_names::proofs::Plain::plain_fact))]
 pub(crate) fn declare(state: &mut State, fact: Fact) -> Result<FactId, Stop>
     requires { IsReady state.old fact }
     ensures answered { IsAnswered fact_number IsFactKnown state.old state.new result (declaring.declare (fact_at (state.old).types fact) (word_in fact.name) (meaning state.old)) }

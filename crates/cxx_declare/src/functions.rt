@@ -285,6 +285,7 @@ fn give(state: &mut State, number: FactId, offers: &[Offer]) -> Result<FactId, S
     }
 }
 
+#[tactic(auto, using(cxx_names::proofs::Plain::plain_fact))]
 fn add_giving(state: &mut State, fact: Fact, offers: &[Offer]) -> Result<FactId, Stop>
     requires ready { IsReady state.old fact }
     requires below { AreOffersBelow (length (trees state.old)) offers.now }

@@ -5,6 +5,7 @@ ghost use Rattle.std.specs.List.{slice_get};
 ghost use Rattle.cxx_model.specs.declared.token.TokenKind.{TokenKind};
 ghost use Rattle.cxx_model.specs.declared.stop.Stop.TheVariants as stop;
 ghost use Rattle.cxx_model.specs.Facts.Declarations.{CxxFact, fact_at};
+ghost use Rattle.cxx_model.specs.Facts.Graph.{appended};
 ghost use Rattle.cxx_model.specs.Text.Lexemes.{Lexeme};
 ghost use Rattle.cxx_defined.specs.Defined.{IsOwn, IsOwnEntity};
 ghost use Rattle.cxx_names.specs.Clashes.{IsPlainName};
@@ -56,6 +57,7 @@ pub fn declare_object(
 }
 
 // Adds a declaration that is linked.
+#[tactic(auto, using(cxx_names::proofs::Plain::plain_fact))]
 fn add_linked(state: &mut State, fact: Fact) -> Result<FactId, Stop>
     requires { IsReady state.old fact }
     ensures { IsAnswered fact_number IsFactKnown state.old state.new result (linking (added (fact_at (state.old).types fact) (meaning state.old))) }
@@ -133,7 +135,8 @@ fn note(state: &mut State, number: FactId) -> Result<(), Stop>
 
 fn noted(state: &mut State, number: FactId) -> Result<FactId, Stop>
     requires { IsOwn (slice_get (state.old).graph.facts number.0) }
-    ensures { (old : Held) (fact : CxxFact) → IsAnswered fact_number IsFactKnown old state.old (Ok number) (added fact (meaning old)) → IsAnswered fact_number IsFactKnown old state.new result (added_defined fact (meaning old)) }
+    ensures answered { (old : Held) (fact : CxxFact) → IsAnswered fact_number IsFactKnown old state.old (Ok number) (added fact (meaning old)) → IsAnswered fact_number IsFactKnown old state.new result (added_defined fact (meaning old)) }
+    ensures held { OnOk result ((state.new).graph ≡ (state.old).graph) }
 {
     match note(state, number) {
         Ok(()) => Ok(number),
@@ -141,11 +144,13 @@ fn noted(state: &mut State, number: FactId) -> Result<FactId, Stop>
     }
 }
 
-// Adds a declaration that is a definition.
-fn add_defined(state: &mut State, fact: Fact) -> Result<FactId, Stop>
+/// Adds a declaration that is a definition.
+#[tactic(auto, using(cxx_names::proofs::Plain::plain_fact))]
+pub(crate) fn add_defined(state: &mut State, fact: Fact) -> Result<FactId, Stop>
     requires ready { IsReady state.old fact }
     requires own { IsOwnEntity fact.what }
-    ensures { IsAnswered fact_number IsFactKnown state.old state.new result (added_defined (fact_at (state.old).types fact) (meaning state.old)) }
+    ensures answered { IsAnswered fact_number IsFactKnown state.old state.new result (added_defined (fact_at (state.old).types fact) (meaning state.old)) }
+    ensures held { OnOk result ((state.new).graph ≡ appended (state.old).graph fact) }
 {
     match state.add(fact) {
         Ok(number) => noted(state, number),

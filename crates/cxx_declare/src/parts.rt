@@ -13,7 +13,7 @@ ghost use Rattle.cxx_model.specs.Stops.{Faulty, fault as fault_of};
 ghost use Rattle.cxx_model.specs.Types.Trees.{CxxType};
 ghost use Rattle.cxx_defined.specs.Defined.{IsOwn, IsOwnEntity};
 ghost use Rattle.cxx_reading.specs.Declaring.{conflicting_at, declares_by};
-ghost use Rattle.cxx_declare.specs.Made.{word_in};
+ghost use Rattle.cxx_declare.specs.Made.{IsNoClass, word_in};
 
 use cxx_graph::Graph;
 use cxx_model::{
@@ -44,9 +44,9 @@ pub(crate) fn fact_of(graph: &Graph, number: FactId) -> Option<&Fact>
     graph.facts().get(number.0 as usize)
 }
 
-/// The first declaration of what a fact with a number declares.
+/// The first declaration of what a fact with a number declares, where that is no class.
 pub(crate) fn first_of(number: FactId, what: Entity) -> FactId
-    requires { IsOwnEntity what }
+    requires { IsNoClass what }
     ensures { (types : List CxxType) → entity_by number.0 (declares_at types what) ≡ of_fact result.0 }
 {
     match what {

@@ -28,6 +28,7 @@ use cxx_tree::State;
 // ---- a namespace begins
 
 // Adds a declaration, and the reader stands in a scope then.
+#[tactic(auto, using(cxx_names::proofs::Plain::plain_fact))]
 fn add_within(state: &mut State, fact: Fact, inner: ScopeId) -> Result<(), Stop>
     requires ready { IsReady state.old fact }
     requires there { inner.0 < scopes (state.old).graph.facts }
@@ -118,6 +119,7 @@ pub fn open_space(state: &mut State, place: Place, word: &[u8]) -> Result<(), St
 // ---- an unnamed one (7.3.1.1)
 
 // It is declared with a directive that nominates it.
+#[tactic(auto, using(cxx_names::proofs::Plain::plain_fact))]
 fn declare_unnamed(state: &mut State, place: Place, inner: ScopeId) -> Result<(), Stop>
     requires { inner.0 < scopes (state.old).graph.facts }
     ensures { IsAnswered itself AnyKnown state.old state.new result (spaces.declare_unnamed place inner.0 (meaning state.old)) }
@@ -192,6 +194,7 @@ pub fn declare_alias(
 }
 
 /// A using-directive nominates a namespace (7.3.4).
+#[tactic(auto, using(cxx_names::proofs::Plain::plain_fact))]
 pub fn declare_directive(state: &mut State, place: Place, inner: ScopeId) -> Result<(), Stop>
     requires { inner.0 < scopes (state.old).graph.facts }
     ensures { IsAnswered itself AnyKnown state.old state.new result (spaces.declare_directive place inner.0 (meaning state.old)) }

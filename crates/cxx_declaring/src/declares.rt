@@ -36,9 +36,10 @@ impl Declares for Declaring {
         state: &mut State,
         cursor: &mut Cursor<'_>,
         place: SpecifierPlace,
+        so_far: Specifiers,
         room: u32,
     ) -> Result<Specifiers, Stop> {
-        read_specifiers(self, state, cursor, place, room)
+        read_specifiers(self, state, cursor, place, so_far, room)
     }
 
     #[tactic(auto, unfolding(cxx_language::specs::Answers::asking))]

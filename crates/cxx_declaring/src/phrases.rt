@@ -1,4 +1,4 @@
-//! The expressions and the bodies that declarations hold, and namespaces.
+//! The expressions and the bodies that declarations hold, namespaces, and classes.
 
 ghost use Rattle.cxx_language.specs.Asked.{inner_at, phrases_at};
 ghost use Rattle.cxx_language.specs.Blocks as blocks;
@@ -14,7 +14,9 @@ use cxx_cursor::{Cursor, NameToken, Spelled, is_punct};
 use cxx_declare as declare;
 use cxx_heads::Head;
 use cxx_knot::{condition_ahead, head_ahead, read_phrase};
-use cxx_model::{FactId, Form, Listed, Place, ScopeId, Stop, TreeId, TypeId, punct};
+use cxx_model::{
+    Access, ClassId, FactId, Form, Listed, Place, ScopeId, Stop, TreeId, TypeId, punct,
+};
 use cxx_phrases::{Initializer, Level};
 use cxx_space::Defines;
 use cxx_tree::State;
@@ -121,5 +123,33 @@ impl Defines for Declaring {
     #[tactic(auto, using(crate::proofs::Answering::asked))]
     fn close_space(&self, state: &mut State) -> Result<(), Stop> {
         declare::close_space(state)
+    }
+
+    fn begin_class(
+        &self,
+        state: &mut State,
+        is_union: bool,
+        name: Spelled<'_>,
+    ) -> Result<ClassId, Stop> {
+        declare::begin_class(state, is_union, name.place, name.spelling)
+    }
+
+    fn declare_member(
+        &self,
+        state: &mut State,
+        access: Access,
+        name: &NameToken,
+        of: TypeId,
+    ) -> Result<FactId, Stop> {
+        declare::declare_member(state, access, name.place, name.spelling.as_slice(), of)
+    }
+
+    #[tactic(auto, using(crate::proofs::Answering::asked, cxx_cursor::proofs::Kept::later_refl))]
+    fn end_class(&self, state: &mut State, class: ClassId, place: Place) -> Result<(), Stop> {
+        // No reader asks for the end of a class that did not begin.
+        if class.0 >= state.graph().class_count() {
+            return Err(Stop::OutOfMemory);
+        }
+        declare::end_class(state, class, place)
     }
 }

@@ -1,4 +1,4 @@
-//! Which definition of an object, a function or a template stands first (3.2).
+//! Which definition of an object, a function, a template or a class stands first (3.2).
 #![tactic(auto)]
 
 mod defined;

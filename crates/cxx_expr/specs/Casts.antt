@@ -3,6 +3,7 @@ use Rattle.std.specs.Prelude.{ℕ, Bool, true, false, ◌||◌, if◌then◌else
 use Rattle.cxx_model.specs.declared.base.Base.TheVariants as base
 use Rattle.cxx_model.specs.declared.fault.FaultText.TheVariants as says
 use Rattle.cxx_model.specs.declared.place.Place.{Place}
+use Rattle.cxx_model.specs.Facts.Declarations.{CxxGraph}
 use Rattle.cxx_model.specs.Stops.{Answer, Stopped, fault, not_built_at}
 use Rattle.cxx_model.specs.Types.Trees.{CxxType, fundamental}
 use Rattle.cxx_meaning.specs.Conversions.Asking.{Asked}
@@ -80,15 +81,15 @@ explicit_built q tree front one state = explicit_by tree front one (found_at tre
 abbrev pub needs_class : CxxTree → CxxTree → Bool
 needs_class tree one = is_of_class one || is_class (kind_of (referred (target_of tree)))
 
--- 9.2: no object is made of an incomplete class, and none is complete yet
-abbrev pub class_needed_at : CxxType → Place → Stopped
-class_needed_at of place = if is_incomplete of then fault place says.IncompleteClass else not_built_at place
+-- 9.2: no object is made of an incomplete class
+abbrev pub class_needed_at : CxxGraph → CxxType → Place → Stopped
+class_needed_at graph of place = if is_incomplete graph of then fault place says.IncompleteClass else not_built_at place
 
-abbrev pub class_needed : CxxTree → Stopped
-class_needed tree = class_needed_at (target_of tree) tree.label.place
+abbrev pub class_needed : CxxState → CxxTree → Stopped
+class_needed state tree = class_needed_at state.graph (target_of tree) tree.label.place
 
 unfoldable pub explicit : Questions → CxxTree → List CxxTree → CxxTree → Asks CxxState CxxTree
-explicit q tree front one state = if needs_class tree one then Err (class_needed tree) else explicit_built q tree front one state
+explicit q tree front one state = if needs_class tree one then Err (class_needed state tree) else explicit_built q tree front one state
 
 -- ---- the named casts
 
@@ -105,7 +106,7 @@ unfoldable pub static_built : Questions → CxxTree → List CxxTree → CxxTree
 static_built q tree front one state = static_by tree front one (casts.static_cast state.graph false (judged_to q (target_of tree) one state) (target_of tree)) state
 
 unfoldable pub static_cast_of : Questions → CxxTree → List CxxTree → CxxTree → Asks CxxState CxxTree
-static_cast_of q tree front one state = if needs_class tree one then Err (class_needed tree) else static_built q tree front one state
+static_cast_of q tree front one state = if needs_class tree one then Err (class_needed state tree) else static_built q tree front one state
 
 -- 5.2.11
 unfoldable pub constant : CxxTree → List CxxTree → CxxTree → Asks CxxState CxxTree
@@ -149,12 +150,12 @@ zero_tree tree = tree_of (record tree.label { operand = Some (value_operand (tar
 
 unfoldable pub zero : CxxTree → Asks CxxState CxxTree
 zero tree state =
-    if is_class (kind_of (target_of tree)) then Err (fault tree.label.place says.IncompleteClass) else (
+    if is_class (kind_of (target_of tree)) then Err (class_needed state tree) else (
     if has_zero (kind_of (target_of tree)) then Ok (zero_tree tree, state) else
     Err (fault tree.label.place says.OperandsDoNotFit))
 
 unfoldable pub several : CxxTree → Asks CxxState CxxTree
-several tree state = if is_class (kind_of (target_of tree)) then Err (fault tree.label.place says.IncompleteClass) else Err (fault tree.label.place says.OperandsDoNotFit)
+several tree state = if is_class (kind_of (target_of tree)) then Err (class_needed state tree) else Err (fault tree.label.place says.OperandsDoNotFit)
 
 abbrev pub functional_of : Questions → CxxTree → List CxxTree → Asks CxxState CxxTree
 functional_of q tree [] = zero tree

@@ -1,5 +1,5 @@
 -- Implicit conversions of expressions (clause 4, 8.5, 8.5.3).
-use Rattle.std.specs.Prelude.{Bool, ◌||◌, if◌then◌else◌, List, [], ◌∷◌, ◌++◌, Option, Some, None, Ok, Err}
+use Rattle.std.specs.Prelude.{Bool, false, not, ◌&&◌, ◌||◌, nat_eq, if◌then◌else◌, List, [], ◌∷◌, ◌++◌, Option, Some, None, Ok, Err}
 use Rattle.cxx_model.specs.declared.fault.FaultText.TheVariants as says
 use Rattle.cxx_model.specs.declared.place.Place.{Place}
 use Rattle.cxx_model.specs.declared.sequence.Second.{Second}
@@ -8,7 +8,8 @@ use Rattle.cxx_model.specs.Types.Same.{same_type}
 use Rattle.cxx_model.specs.Types.Trees.{CxxType, unqualified}
 use Rattle.cxx_meaning.specs.Conversions.Asking.{Asked}
 use Rattle.cxx_meaning.specs.Conversions.Sizes.{referred}
-use Rattle.cxx_meaning.specs.Conversions.Standard.{CxxStandard, standard_sequence}
+use Rattle.cxx_meaning.specs.Conversions.Kinds.{CxxKind, kind_of, of_class}
+use Rattle.cxx_meaning.specs.Conversions.Standard.{CxxOperand, CxxStandard, is_class, standard_sequence}
 use Rattle.cxx_reading.specs.Initializers.{conversion_tree, operand_of}
 use Rattle.cxx_reading.specs.Reads.{Asks}
 use Rattle.cxx_reading.specs.State.{CxxState}
@@ -40,16 +41,29 @@ convert_known q place of tree state = by_sequence place of tree (sequence_to q o
 abbrev pub stays : CxxType → CxxTree → Bool
 stays of tree = is_none tree.label.operand || same_type (operand_of tree).of of
 
--- 8.5, 9.2: no object is made of an incomplete class, and none is complete yet
+-- 8.5, 9.2: no object is made of an incomplete class
 abbrev pub class_value : CxxTree → Asks CxxState CxxTree
 class_value tree state = if is_none tree.label.operand then Ok (tree, state) else Err (fault tree.label.start says.IncompleteClass)
+
+abbrev pub is_same_class : CxxKind → CxxKind → Bool
+is_same_class (of_class one) (of_class two) = nat_eq one two
+is_same_class _ _ = false
+
+-- 12.8: a value of the class itself, cv words aside, is the object that it makes
+abbrev pub is_own_value : CxxType → CxxOperand → Bool
+is_own_value of operand = not operand.lvalue && is_same_class (kind_of of) (kind_of operand.of)
+
+-- 8.5, 12.1: an object of a class is made of another expression by a constructor, of which nothing is read yet
+abbrev pub is_constructed : CxxType → CxxTree → Bool
+is_constructed of tree = is_class (kind_of of) && not (is_none tree.label.operand || is_own_value of (operand_of tree))
 
 -- 13.3.3.1: an expression as it is converted to a type, asked at a place
 unfoldable pub convert : Questions → Place → CxxType → CxxTree → Asks CxxState CxxTree
 convert q place of tree state =
-    if is_incomplete of then class_value tree state else (
+    if is_incomplete state.graph of then class_value tree state else (
+    if is_constructed of tree then Err (not_built_at tree.label.start) else (
     if stays of tree then Ok (tree, state) else
-    convert_known q place of tree state)
+    convert_known q place of tree state))
 
 -- ---- one after another
 

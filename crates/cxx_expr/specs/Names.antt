@@ -3,6 +3,8 @@ use Rattle.std.specs.Prelude.{ℕ, ℤ, Bool, true, false, ◌&&◌, nat_eq, if�
 use Rattle.std.specs.List.{slice_get}
 use Rattle.cxx_model.specs.declared.base.Base.{Base}
 use Rattle.cxx_model.specs.declared.fault.FaultText.TheVariants as says
+use Rattle.cxx_model.specs.declared.facts.MemberKind.{MemberKind}
+use Rattle.cxx_model.specs.declared.facts.MemberKind.TheVariants as member
 use Rattle.cxx_model.specs.declared.fault.LeftOut.TheVariants as form
 use Rattle.cxx_model.specs.declared.place.Place.{Place}
 use Rattle.cxx_model.specs.declared.sequence.ConstantKind.TheVariants as constant
@@ -125,8 +127,17 @@ no_value_at part (one ∷ others) = wrong_kind_at part one.fact.place
 abbrev pub means_function : Place → CxxGraph → ℕ → CxxType → List Numbered → Asks CxxState Means
 means_function place graph target own all state = if are_one_function target all then Ok (means_object graph target own, state) else Err (several_at place)
 
+abbrev pub is_nonstatic : MemberKind → Bool
+is_nonstatic member.Nonstatic = true
+is_nonstatic _ = false
+
+-- 9.3: what belongs to an object of its class is not named without one
+abbrev pub means_object_by : Place → Bool → Means → Asks CxxState Means
+means_object_by place true means = stop (fault place says.OperandsDoNotFit)
+means_object_by place false means = give means
+
 abbrev pub means_first : Place → CxxGraph → Option ℕ → List Numbered → ℕ → Declares → Asks CxxState Means
-means_first place graph list all number (facts.object of kind is_mutable value first) = give (means_object graph (first_or number first) of)
+means_first place graph list all number (facts.object of kind is_mutable value first) = means_object_by place (is_nonstatic kind) (means_object graph (first_or number first) of)
 means_first place graph list all number (facts.enumerator n value) = give (means_enumerator list number n value)
 means_first place graph list all number (facts.function of kind flags defaults first) = means_function place graph (first_or number first) of all
 means_first place graph list all number _ = stop (several_at place)

@@ -270,7 +270,8 @@ fn incomplete(alloc: Global, place: Place) -> Result<Box<Fault>, AllocError>
     fault(alloc, place, FaultText::IncompleteClass)
 }
 
-// What constructors and conversion functions do is not read yet, and no class is complete yet.
+// What constructors and conversion functions do is not read yet.
+#[tactic(auto, unfolding(cxx_tree::specs::Held::meaning))]
 fn class_fault(
     alloc: Global,
     state: &State,
@@ -278,9 +279,9 @@ fn class_fault(
     place: Place,
 ) -> Result<Box<Fault>, AllocError>
     requires { of.0 < length (state.now).types }
-    ensures { IfOk result (λ at. Faulty at.value ≡ definition.class_needed_at (type_of state.now of) place) }
+    ensures { IfOk result (λ at. Faulty at.value ≡ definition.class_needed_at (meaning state.now).graph (type_of state.now of) place) }
 {
-    if is_incomplete(state.types(), of) {
+    if is_incomplete(state.graph(), state.types(), of) {
         incomplete(alloc, place)
     } else {
         not_built_at(alloc, place)
@@ -559,7 +560,7 @@ fn zero(alloc: Global, state: &mut State, of: TypeId, node: Node) -> Result<Tree
 {
     let kind = kind_of(state.graph(), state.types(), of);
     if is_class(kind) {
-        return Err(Stop::Fault(incomplete(alloc, node.place)?));
+        return Err(Stop::Fault(class_fault(alloc, state, of, node.place)?));
     }
     if has_zero(kind) {
         return zero_tree(alloc, state, of, node);
@@ -574,7 +575,7 @@ fn several(alloc: Global, state: &mut State, of: TypeId, node: &Node) -> Result<
     ensures { IsAnswered tree IsTreeKnown state.old state.new result (definition.several (node_tree state.old node.now) (meaning state.old)) }
 {
     if is_class(kind_of(state.graph(), state.types(), of)) {
-        return Err(Stop::Fault(incomplete(alloc, node.place)?));
+        return Err(Stop::Fault(class_fault(alloc, state, of, node.place)?));
     }
     Err(Stop::Fault(no_fit(alloc, node.place)?))
 }

@@ -1,19 +1,22 @@
 //! Implicit conversions of expressions (clause 4, 8.5, 8.5.3).
 
-ghost use Rattle.std.specs.Prelude.{ℕ, List, ◌≡◌, ◌<◌, length};
+ghost use Rattle.std.specs.Prelude.{ℕ, List, ◌≡◌, ◌<◌, ◌||◌, not, length};
 ghost use Rattle.cxx_meaning.specs.Conversions.Asking.{Gives};
 ghost use Rattle.cxx_meaning.specs.Conversions.Standard as standard;
 ghost use Rattle.cxx_model.specs.Types.Numbers.{AreTypesBelow};
 ghost use Rattle.cxx_model.specs.Types.Trees.{CxxType};
 ghost use Rattle.cxx_reading.specs.Initializers as reading;
-ghost use Rattle.cxx_standard.specs.Views.{found_at, operand_at};
+ghost use Rattle.cxx_reading.specs.Initializers.{operand_of as operand_of_tree};
+ghost use Rattle.cxx_standard.specs.Views.{found_at, kind_at, operand_at};
 ghost use Rattle.cxx_tree.specs.Answered.{IsAnswered};
 ghost use Rattle.cxx_tree.specs.Arena.{IsNodeBelow, tree_over};
 ghost use Rattle.cxx_tree.specs.Held.{meaning, tree, trees, type_of};
 ghost use Rattle.cxx_expr.specs.Converting as definition;
 ghost use Rattle.cxx_expr.specs.Making.{AreTreesHeld, Gathers, GrowsTree, IsTreeKnown, trees_held};
+ghost use Rattle.cxx_expr.specs.Operands.{is_none};
 ghost use Rattle.cxx_expr.specs.Views.{types_in};
 
+use crate::conditional::is_class;
 use crate::faults::{fault, not_built_at};
 use crate::operands::{bare_type, judged_to, operand_of, referred, value_operand};
 use crate::production::CAST;
@@ -23,7 +26,7 @@ use cxx_model::{
     TypeId, Wait,
 };
 use cxx_names::is_incomplete;
-use cxx_standard::standard_sequence;
+use cxx_standard::{TypeKind, kind_of, standard_sequence};
 use cxx_tree::State;
 use std::alloc::Global;
 
@@ -156,8 +159,54 @@ fn class_value(alloc: Global, state: &State, number: TreeId) -> Result<TreeId, S
     }
 }
 
+// The classes that two types are, and whether they are the same.
+fn is_same_class(one: TypeKind, two: TypeKind) -> bool
+    ensures { (types : List CxxType) → result ≡ definition.is_same_class (kind_at types one) (kind_at types two) }
+{
+    match one {
+        TypeKind::Class(one) => match two {
+            TypeKind::Class(two) => one.0 == two.0,
+            _ => false,
+        },
+        _ => false,
+    }
+}
+
+// A value of the class itself is the object that it makes (12.8).
+fn is_own_value(state: &State, of: TypeId, operand: Operand) -> bool
+    requires of { of.0 < length (state.now).types }
+    requires operand { operand.of.0 < length (state.now).types }
+    ensures { result ≡ definition.is_own_value (type_of state.now of) (operand_at (state.now).types operand) }
+{
+    let one = kind_of(state.graph(), state.types(), of);
+    let two = kind_of(state.graph(), state.types(), operand.of);
+    !operand.lvalue && is_same_class(one, two)
+}
+
+// An expression of which no object of the type is made without a constructor.
+fn is_no_own_value(state: &State, of: TypeId, number: TreeId) -> bool
+    requires of { of.0 < length (state.now).types }
+    requires number { number.0 < length (trees state.now) }
+    ensures { result ≡ not (is_none (tree state.now number).label.operand || definition.is_own_value (type_of state.now of) (operand_of_tree (tree state.now number))) }
+{
+    match state.node(number).operand {
+        None => false,
+        Some(operand) => !is_own_value(state, of, operand),
+    }
+}
+
+// An object of a class is made of another expression by a constructor (8.5, 12.1).
+fn is_constructed(state: &State, of: TypeId, number: TreeId) -> bool
+    requires of { of.0 < length (state.now).types }
+    requires number { number.0 < length (trees state.now) }
+    ensures { result ≡ definition.is_constructed (type_of state.now of) (tree state.now number) }
+{
+    let kind = kind_of(state.graph(), state.types(), of);
+    is_class(kind) && is_no_own_value(state, of, number)
+}
+
 /// An expression as it is converted to a type, asked at a place (13.3.3.1).
-#[tactic(auto, using(crate::proofs::Kept::later_refl), unfolding(crate::specs::Converting::convert))]
+#[tactic(auto, using(crate::proofs::Kept::later_refl), unfolding(crate::specs::Converting::convert, cxx_tree::specs::Held::meaning))]
 pub fn convert<Q: Questions>(
     alloc: Global,
     questions: &Q,
@@ -171,8 +220,12 @@ pub fn convert<Q: Questions>(
     requires number { number.0 < length (trees state.old) }
     ensures { IsAnswered tree IsTreeKnown state.old state.new result (definition.convert (Q.asks questions.now) place (type_of state.old of) (tree state.old number) (meaning state.old)) }
 {
-    if is_incomplete(state.types(), of) {
+    if is_incomplete(state.graph(), state.types(), of) {
         return class_value(alloc, state, number);
+    }
+    if is_constructed(state, of, number) {
+        let start = state.node(number).start;
+        return Err(Stop::Fault(not_built_at(alloc, start)?));
     }
     if stays(state, of, number) {
         return Ok(number);

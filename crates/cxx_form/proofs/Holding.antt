@@ -10,7 +10,7 @@ use Rattle.cxx_meaning.specs.Lookups.Gathered.{before, gathered}
 use Rattle.cxx_reading.specs.Declaring.{is_object}
 use Rattle.cxx_form.specs.Giving.{held_given, if_held, scope_if, scope_of_object, AreObjects, HasGiven}
 use Rattle.cxx_form.specs.Lines.{numbers_in}
-use Rattle.cxx_form.specs.Order.{parameters_in}
+use Rattle.cxx_form.specs.Order.{objects_in}
 use Rattle.cxx_form.specs.Rows.{row_at}
 use Rattle.cxx_form.proofs.Gathering.{given_more}
 
@@ -26,11 +26,11 @@ if_there n number scope rest others false false e same = same
 if_there n number scope rest others true true e same = rw e (ap (λ (ns : List ℕ). number ∷ ns) same)
 if_there n number scope rest others true false e same = rw e same
 
-pub parameters_gathered : (n number : ℕ) (all : List CxxFact) → parameters_in n number all ≡ numbers_in (gathered (held_given scope_of_object n) number all)
-parameters_gathered n number [] = refl
-parameters_gathered n number (fact ∷ others) =
-    if_there n number fact.scope (parameters_in n (suc number) others) (gathered (held_given scope_of_object n) (number + 1) others) (is_object fact.what) (nat_eq fact.scope n) refl
-    (parameters_gathered n (suc number) others ∙ ap (λ m. numbers_in (gathered (held_given scope_of_object n) m others)) (sym (add-one number)))
+pub objects_gathered : (n number : ℕ) (all : List CxxFact) → objects_in n number all ≡ numbers_in (gathered (held_given scope_of_object n) number all)
+objects_gathered n number [] = refl
+objects_gathered n number (fact ∷ others) =
+    if_there n number fact.scope (objects_in n (suc number) others) (gathered (held_given scope_of_object n) (number + 1) others) (is_object fact.what) (nat_eq fact.scope n) refl
+    (objects_gathered n (suc number) others ∙ ap (λ m. numbers_in (gathered (held_given scope_of_object n) m others)) (sym (add-one number)))
 
-pub row_of_list : (all : List CxxFact) (rows : List (List FactId)) (n : ℕ) (row : List FactId) → AreObjects all rows → row ≡ row_at rows n → numbers_in row ≡ parameters_in n 0 all
-row_of_list all rows n row are is = ap numbers_in (is ∙ are n) ∙ sym (parameters_gathered n 0 all)
+pub row_of_scope : (all : List CxxFact) (rows : List (List FactId)) (n : ℕ) (row : List FactId) → AreObjects all rows → row ≡ row_at rows n → numbers_in row ≡ objects_in n 0 all
+row_of_scope all rows n row are is = ap numbers_in (is ∙ are n) ∙ sym (objects_gathered n 0 all)

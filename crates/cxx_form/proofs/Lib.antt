@@ -10,6 +10,7 @@ pub mod Initial
 pub mod Lined
 pub mod Lining
 pub mod Listing
+pub mod Membered
 pub mod Numbers
 pub mod Ordered
 pub mod Rowed

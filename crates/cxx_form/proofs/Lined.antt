@@ -5,6 +5,7 @@ use Rattle.std.specs.List.{slice_get}
 use Rattle.std.proofs.lemmas.List.{at_drop_more, at_drop_all, map-append}
 use Rattle.cxx_model.specs.declared.facts.Access.{Access}
 use Rattle.cxx_model.specs.declared.facts.Fact.{Fact}
+use Rattle.cxx_model.specs.declared.facts.MemberKind.TheVariants.{Free, Nonstatic, Static, Constructor, Destructor, Conversion}
 use Rattle.cxx_model.specs.declared.place.Place.{Place}
 use Rattle.cxx_model.specs.declared.types.FactId.{FactId}
 use Rattle.cxx_model.specs.declared.types.TreeId.{TreeId}
@@ -15,14 +16,14 @@ use Rattle.cxx_meaning.specs.Lookups.Gathered.{before, gathered}
 use Rattle.cxx_form.specs.Order as text
 use Rattle.cxx_reading.specs.TextOrder.{part_tree}
 use Rattle.cxx_statement_text.specs.Objects.{first_by, first_found, first_in, first_of_fact}
-use Rattle.cxx_form.specs.Order.{declarators_of, definitions_of, enumeration_of, enumeration_lines, function_of_fact, function_lines, lines, is_written_out, object_at, object_by, object_lines, object_of_fact, scope_of_fact}
+use Rattle.cxx_form.specs.Order.{class_definitions, definition_of_class, ended_class, declarators_of, definitions_of, enumeration_of, enumeration_lines, function_of_fact, function_lines, lines, is_written_out, object_at, object_by, object_lines, object_of_fact, scope_of_fact}
 use Rattle.cxx_reading.specs.Trees.{CxxTree}
 use Rattle.cxx_tree.specs.Arena.{tree_in, trees_in, AreTreesBelow}
 use Rattle.cxx_tree.specs.Held.{meaning, pieces_at, trees, Held}
 use Rattle.cxx_tree.proofs.Graphs.{length_classes}
 use Rattle.cxx_form.specs.declared.lines.Line.{Line}
 use Rattle.cxx_form.specs.declared.lines.Line.TheVariants as line
-use Rattle.cxx_form.specs.Giving.{declared_or, enumeration_by, enumeration_given, function_by, function_given, given_at, AreFirst}
+use Rattle.cxx_form.specs.Giving.{class_definition_by, class_definition_given, declared_or, enumeration_by, enumeration_given, function_by, function_given, given_at, AreFirst}
 use Rattle.cxx_form.specs.Lines.{line_at, lines_at, object_line_by, AddsLines, AreLinesBelow, IsLineBelow}
 use Rattle.cxx_form.specs.Slots.{slot_at}
 use Rattle.cxx_form.specs.Views.{facts_in}
@@ -163,24 +164,57 @@ four ones twos threes fours = append_assoc (ones ++ twos) threes fours ∙ appen
 five : {A : Type 0} (ones twos threes fours fives : List A) → (((ones ++ twos) ++ threes) ++ fours) ++ fives ≡ ones ++ (twos ++ (threes ++ (fours ++ fives)))
 five ones twos threes fours fives = append_assoc ((ones ++ twos) ++ threes) fours fives ∙ four ones twos threes (fours ++ fives)
 
-pub all_lines : (trees : List CxxTree) (facts : List CxxFact) (count : ℕ) (found defined : List TreeId) (declarators definitions : List CxxTree) (none zero one two three last : List Line) → none ≡ [] → trees_in trees found ≡ declarators → trees_in trees defined ≡ definitions
-    → AddsLines trees none zero (text.class_lines facts 0 count) → AddsLines trees zero one (enumeration_lines 0 facts) → AddsLines trees one two (function_lines 0 facts) → AddsLines trees two three (object_lines facts (trees_in trees found)) → AddsLines trees three last (map text.definition_lines (trees_in trees defined))
-    → (lines_at trees last ≡ text.class_lines facts 0 count ++ (enumeration_lines 0 facts ++ (function_lines 0 facts ++ (object_lines facts declarators ++ map text.definition_lines definitions)))) × AreLinesBelow (length trees) last
-all_lines trees facts count found defined declarators definitions none zero one two three last empty are so classes first second third fourth =
+six : {A : Type 0} (ones twos threes fours fives sixes : List A) → ((((ones ++ twos) ++ threes) ++ fours) ++ fives) ++ sixes ≡ ones ++ (twos ++ (threes ++ (fours ++ (fives ++ sixes))))
+six ones twos threes fours fives sixes = append_assoc (((ones ++ twos) ++ threes) ++ fours) fives sixes ∙ five ones twos threes fours (fives ++ sixes)
+
+-- the lines by what they are made of
+abbrev all_of : List CxxFact → ℕ → List CxxTree → List CxxTree → List text.Line
+all_of facts count declarators definitions =
+    text.class_lines facts 0 count ++ (enumeration_lines 0 facts ++ (class_definitions facts facts ++ (function_lines 0 facts ++ (object_lines facts declarators ++ map text.definition_lines definitions))))
+
+pub all_lines : (trees : List CxxTree) (facts : List CxxFact) (count : ℕ) (found defined : List TreeId) (declarators definitions : List CxxTree) (none zero one ended two three last : List Line) → none ≡ [] → trees_in trees found ≡ declarators → trees_in trees defined ≡ definitions
+    → AddsLines trees none zero (text.class_lines facts 0 count) → AddsLines trees zero one (enumeration_lines 0 facts) → AddsLines trees one ended (class_definitions facts facts) → AddsLines trees ended two (function_lines 0 facts) → AddsLines trees two three (object_lines facts (trees_in trees found)) → AddsLines trees three last (map text.definition_lines (trees_in trees defined))
+    → (lines_at trees last ≡ all_of facts count declarators definitions) × AreLinesBelow (length trees) last
+all_lines trees facts count found defined declarators definitions none zero one ended two three last empty are so classes first ends second third fourth =
     let begins : List text.Line = text.class_lines facts 0 count in
+    let bodies_of_classes : List text.Line = class_definitions facts facts in
     let objects : List text.Line = object_lines facts (trees_in trees found) in
-    let bodies : List text.Line = map text.definition_lines (trees_in trees defined) in (
+    let bodies : List text.Line = map text.definition_lines (trees_in trees defined) in
+    let to_classes : lines_at trees zero ≡ begins = classes.is ∙ ap (λ (xs : List Line). lines_at trees xs ++ begins) empty in
+    let to_enumerations : lines_at trees one ≡ begins ++ enumeration_lines 0 facts = first.is ∙ ap (λ (xs : List text.Line). xs ++ enumeration_lines 0 facts) to_classes in
+    let to_ends : lines_at trees ended ≡ (begins ++ enumeration_lines 0 facts) ++ bodies_of_classes = ends.is ∙ ap (λ (xs : List text.Line). xs ++ bodies_of_classes) to_enumerations in
+    let to_functions : lines_at trees two ≡ ((begins ++ enumeration_lines 0 facts) ++ bodies_of_classes) ++ function_lines 0 facts = second.is ∙ ap (λ (xs : List text.Line). xs ++ function_lines 0 facts) to_ends in
+    let to_objects : lines_at trees three ≡ (((begins ++ enumeration_lines 0 facts) ++ bodies_of_classes) ++ function_lines 0 facts) ++ objects = third.is ∙ ap (λ (xs : List text.Line). xs ++ objects) to_functions in (
       fourth.is
-          ∙ ap (λ (xs : List text.Line). xs ++ bodies) (third.is ∙ ap (λ (xs : List text.Line). xs ++ objects) (second.is ∙ ap (λ (xs : List text.Line). xs ++ function_lines 0 facts) (first.is ∙ ap (λ (xs : List text.Line). xs ++ enumeration_lines 0 facts) (classes.is ∙ ap (λ (xs : List Line). lines_at trees xs ++ begins) empty))))
-          ∙ five begins (enumeration_lines 0 facts) (function_lines 0 facts) objects bodies
-          ∙ ap (λ (ts : List CxxTree). begins ++ (enumeration_lines 0 facts ++ (function_lines 0 facts ++ (object_lines facts ts ++ bodies)))) are
-          ∙ ap (λ (ts : List CxxTree). begins ++ (enumeration_lines 0 facts ++ (function_lines 0 facts ++ (object_lines facts declarators ++ map text.definition_lines ts)))) so,
-      fourth.below (third.below (second.below (first.below (classes.below (subst (λ (xs : List Line). AreLinesBelow (length trees) xs) (sym empty) tt))))),
+          ∙ ap (λ (xs : List text.Line). xs ++ bodies) to_objects
+          ∙ six begins (enumeration_lines 0 facts) bodies_of_classes (function_lines 0 facts) objects bodies
+          ∙ ap (λ (ts : List CxxTree). all_of facts count ts (trees_in trees defined)) are
+          ∙ ap (λ (ts : List CxxTree). all_of facts count declarators ts) so,
+      fourth.below (third.below (second.below (ends.below (first.below (classes.below (subst (λ (xs : List Line). AreLinesBelow (length trees) xs) (sym empty) tt)))))),
     )
 
-pub lines_are : (held : Held) (found : List Line) → lines_at (trees held) found ≡ text.class_lines (facts_in held) 0 (length held.graph.classes) ++ (enumeration_lines 0 (facts_in held) ++ (function_lines 0 (facts_in held) ++ (object_lines (facts_in held) (flat_map declarators_of (map part_tree (pieces_at (trees held) held.pieces))) ++ map text.definition_lines (flat_map definitions_of (map part_tree (pieces_at (trees held) held.pieces)))))) → lines_at (trees held) found ≡ lines (meaning held)
+abbrev pieces_of : Held → List CxxTree
+pieces_of held = map part_tree (pieces_at (trees held) held.pieces)
+
+pub lines_are : (held : Held) (found : List Line) → lines_at (trees held) found ≡ all_of (facts_in held) (length held.graph.classes) (flat_map declarators_of (pieces_of held)) (flat_map definitions_of (pieces_of held)) → lines_at (trees held) found ≡ lines (meaning held)
 unfolding meaning lines
-lines_are held found is = is ∙ ap (λ (count : ℕ). text.class_lines (facts_in held) 0 count ++ (enumeration_lines 0 (facts_in held) ++ (function_lines 0 (facts_in held) ++ (object_lines (facts_in held) (flat_map declarators_of (map part_tree (pieces_at (trees held) held.pieces))) ++ map text.definition_lines (flat_map definitions_of (map part_tree (pieces_at (trees held) held.pieces))))))) (sym (length_classes held.types held.graph.classes))
+lines_are held found is = is ∙ ap (λ (count : ℕ). all_of (facts_in held) count (flat_map declarators_of (pieces_of held)) (flat_map definitions_of (pieces_of held))) (sym (length_classes held.types held.graph.classes))
+
+-- ---- the definitions of classes
+
+pub class_definition_is : (held : Held) (slots : List ℕ) (scope : ℕ) (ended : Option ℕ) (n count place : ℕ) → ended ≡ Some n → AreFirst (facts_in held) slots → count ≡ length held.graph.facts → place ≡ declared_or (slot_at slots n) count → Some (text.class_definition place scope) ≡ class_definition_by (facts_in held) scope ended
+class_definition_is held slots scope ended n count place some are all is =
+    ap (λ m. Some (text.class_definition m scope)) (class_first held slots n count place are all is) ∙ ap (class_definition_by (facts_in held) scope) (sym some)
+
+definition_first : (all : List CxxFact) (scope : ℕ) (ended : Option ℕ) (others : List text.Line) → definition_of_class all scope ended ++ others ≡ before (class_definition_by all scope ended) others
+definition_first all scope None others = refl
+definition_first all scope (Some n) others = refl
+
+pub definitions_gathered : (all : List CxxFact) (number : ℕ) (left : List CxxFact) → class_definitions all left ≡ gathered (class_definition_given all) number left
+definitions_gathered all number [] = refl
+definitions_gathered all number (fact ∷ others) =
+    ap (λ (xs : List text.Line). definition_of_class all fact.scope (ended_class fact.what) ++ xs) (definitions_gathered all (number + 1) others)
+    ∙ definition_first all fact.scope (ended_class fact.what) (gathered (class_definition_given all) (number + 1) others)
 
 -- ---- the lines of enumerations, and of functions
 
@@ -227,8 +261,13 @@ function_first number (facts.using target) others = refl
 function_first number (facts.friend class target) others = refl
 function_first number (facts.enumeration n) others = refl
 function_first number (facts.enumerator n value) others = refl
-function_first number (facts.function of member flags defaults None) others = refl
-function_first number (facts.function of member flags defaults (Some first)) others = refl
+function_first number (facts.function of Free flags defaults None) others = refl
+function_first number (facts.function of Free flags defaults (Some first)) others = refl
+function_first number (facts.function of Nonstatic flags defaults first) others = refl
+function_first number (facts.function of Static flags defaults first) others = refl
+function_first number (facts.function of Constructor flags defaults first) others = refl
+function_first number (facts.function of Destructor flags defaults first) others = refl
+function_first number (facts.function of Conversion flags defaults first) others = refl
 
 pub functions_gathered : (number : ℕ) (all : List CxxFact) → function_lines number all ≡ gathered function_given number all
 functions_gathered number [] = refl

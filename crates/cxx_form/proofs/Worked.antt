@@ -6,11 +6,12 @@ use Rattle.cxx_model.specs.declared.facts.Access.TheVariants as access
 use Rattle.cxx_model.specs.declared.facts.FunctionFlags.{FunctionFlags}
 use Rattle.cxx_model.specs.declared.facts.MemberKind.TheVariants as member
 use Rattle.cxx_model.specs.declared.facts.ScopeKind.TheVariants as kind
+use Rattle.cxx_model.specs.declared.types.ClassId.{ClassId}
 use Rattle.cxx_model.specs.Facts.Declarations as facts
 use Rattle.cxx_model.specs.Facts.Declarations.{CxxFact, CxxName, Declares, spelled, unnamed}
 use Rattle.cxx_model.specs.Printing.Names.{printed_name, stem}
 use Rattle.cxx_model.specs.Text.Lexemes.{nowhere}
-use Rattle.cxx_model.specs.Types.Trees.{CxxType, CxxTypes, fundamental, function_of, pointer_to, no_types, type_then}
+use Rattle.cxx_model.specs.Types.Trees.{CxxType, CxxTypes, class_type, fundamental, function_of, pointer_to, no_types, type_then}
 use Rattle.cxx_reading.specs.Declarators.{no_cv}
 use Rattle.cxx_reading.specs.State.{CxxPart, CxxState, first_state, unit_scope}
 use Rattle.cxx_reading.specs.TextOrder.{text_name}
@@ -163,3 +164,29 @@ returns_a_pointer =
 result_round_the_list : text returns_a_pointer ≡ codes "int (*r__1(int))(char);\nint (*r__1(int a__2))(char) {\n  return 0;\n}\n"
 unfolding names_of_text text_order lines text_name printed_name stem definition_words body_lines digits
 result_round_the_list = refl
+
+-- struct S { int a; char *b; } *p; void g();
+abbrev class_member : CxxName → CxxType → CxxFact
+class_member name of = fact 1 name (facts.object of member.Nonstatic false None None)
+
+abbrev implicit_flags : FunctionFlags
+implicit_flags = record flags { is_implicit = true }
+
+abbrev class_tree : List CxxTree → CxxTree
+class_tree members = tree_of (label 53 []) (tree_of (label 10 (codes "struct")) members ∷ [])
+
+abbrev with_class : CxxState
+with_class =
+    let struct : ClassId = record { 0 = 0 } in
+    let of : CxxType = pointer_to (class_type 0) in
+    let g : CxxType = function_type (fundamental base.Void) no_types in
+    let all : List CxxFact =
+    fact 0 (spelled (codes "S")) (facts.class struct false) ∷ fact 0 unnamed (facts.scope (Some (record { 0 = 0 })) (kind.Class struct)) ∷ fact 1 (spelled (codes "S")) (facts.injected struct) ∷ class_member (spelled (codes "a")) int
+    ∷ class_member (spelled (codes "b")) (pointer_to char) ∷ fact 1 unnamed (facts.function g member.Constructor implicit_flags 0 None) ∷ fact 1 unnamed (facts.complete struct) ∷ object_in 0 (spelled (codes "p")) of ∷ list_in 0 ∷ function (codes "g") g ∷ [] in
+    let members : List CxxTree = simple (declarator 4 int [] ∷ []) ∷ simple (declarator 5 (pointer_to char) [] ∷ []) ∷ [] in
+    let read : CxxState = reading all (tree_of (label 8 []) (class_tree members ∷ declarator 8 of [] ∷ []) ∷ simple (declarator 10 g [] ∷ []) ∷ []) in
+    record read { graph = record { facts = read.graph.facts; classes = None ∷ []; patterns = [] } }
+
+definition_of_a_class : text with_class ≡ codes "struct S__1;\nstruct S__1 {\n  int a__2;\n  char *b__3;\n};\nvoid g__4();\nS__1 *p__5;\n"
+unfolding names_of_text text_order lines text_name printed_name stem definition_words body_lines digits
+definition_of_a_class = refl

@@ -1,12 +1,13 @@
 -- What each declaration gives to the plain form.
 use Rattle.std.specs.Prelude.{ℕ, Bool, true, false, zero, suc, ◌+◌, ◌≡◌, List, [], ◌++◌, length, Option, Some, None, nat_eq, if◌then◌else◌}
+use Rattle.cxx_model.specs.declared.facts.MemberKind.TheVariants.{Free}
 use Rattle.cxx_model.specs.declared.types.FactId.{FactId}
 use Rattle.cxx_model.specs.Facts.Declarations as facts
 use Rattle.cxx_model.specs.Facts.Declarations.{CxxFact, Declares}
 use Rattle.cxx_meaning.specs.Lookups.Gathered.{before, gathered}
 use Rattle.cxx_reading.specs.Declaring.{is_object}
 use Rattle.cxx_reading.specs.Plain.{number_of_enumeration}
-use Rattle.cxx_form.specs.Order.{Line, enumeration_line, function_line, named_or, number_of_class}
+use Rattle.cxx_form.specs.Order.{Line, class_definition, ended_class, enumeration_line, function_line, named_or, number_of_class}
 use Rattle.cxx_form.specs.Rows.{row_at}
 use Rattle.cxx_form.specs.Slots.{slot_at}
 
@@ -21,12 +22,19 @@ abbrev pub enumeration_by : ℕ → Declares → Option Line
 enumeration_by number (facts.enumeration n) = Some (enumeration_line n number)
 enumeration_by number _ = None
 
+abbrev pub class_definition_by : List CxxFact → ℕ → Option ℕ → Option Line
+class_definition_by all scope None = None
+class_definition_by all scope (Some n) = Some (class_definition (number_of_class n 0 all) scope)
+
 abbrev pub function_by : ℕ → Declares → Option Line
-function_by number (facts.function of member flags defaults None) = Some (function_line number)
+function_by number (facts.function of Free flags defaults None) = Some (function_line number)
 function_by number _ = None
 
 abbrev pub enumeration_given : ℕ → CxxFact → Option Line
 enumeration_given number fact = enumeration_by number fact.what
+
+abbrev pub class_definition_given : List CxxFact → ℕ → CxxFact → Option Line
+class_definition_given all number fact = class_definition_by all fact.scope (ended_class fact.what)
 
 abbrev pub function_given : ℕ → CxxFact → Option Line
 function_given number fact = function_by number fact.what

@@ -11,6 +11,7 @@ use Rattle.cxx_form.specs.declared.lines.Line.TheVariants as line
 abbrev pub line_at : List CxxTree → Line → text.Line
 line_at trees (line.Class number) = text.class_line number.0
 line_at trees (line.Enumeration n number) = text.enumeration_line n.0 number.0
+line_at trees (line.ClassDefinition number scope) = text.class_definition number.0 scope.0
 line_at trees (line.Function number) = text.function_line number.0
 line_at trees (line.Object tree number) = text.object_line (tree_in trees tree.0) number.0
 line_at trees (line.Definition tree) = text.definition_lines (tree_in trees tree.0)

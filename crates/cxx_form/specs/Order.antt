@@ -1,10 +1,12 @@
 -- What the plain form of a reading with bodies declares, line by line, and the number of each declared name.
 --
--- Classes stand first, by their numbers, then enumerations, by the end of their lists, then functions, by their first
--- declarations, then objects of namespaces, each declaration of one in its place, then definitions of functions in the
--- order of reading. A name has its number by where it stands first in the text.
-use Rattle.std.specs.Prelude.{ℕ, zero, suc, Bool, false, not, ◌&&◌, ◌||◌, nat_eq, if◌then◌else◌, List, [], ◌∷◌, ◌++◌, length, flat_map, map, Option, Some, None}
+-- Classes stand first, by their numbers, then enumerations, by the end of their lists, then definitions of classes, by
+-- their ends, then functions that are no members, by their first declarations, then objects of namespaces, each
+-- declaration of one in its place, then definitions of functions in the order of reading. A name has its number by where it
+-- stands first in the text.
+use Rattle.std.specs.Prelude.{ℕ, zero, suc, Bool, true, false, not, ◌&&◌, ◌||◌, nat_eq, if◌then◌else◌, List, [], ◌∷◌, ◌++◌, length, flat_map, map, Option, Some, None}
 use Rattle.std.specs.List.{slice_get}
+use Rattle.cxx_model.specs.declared.facts.MemberKind.TheVariants.{Free}
 use Rattle.cxx_model.specs.Facts.Conflicts.{has_name}
 use Rattle.cxx_model.specs.Facts.Declarations as facts
 use Rattle.cxx_model.specs.Facts.Declarations.{CxxFact, Declares}
@@ -19,11 +21,13 @@ use Rattle.cxx_statement_text.specs.Objects.{first_in, printed_in}
 use Rattle.cxx_statement_text.specs.Productions as statement
 
 -- Lines of the plain form: of a class, by its first declaration; of an enumeration, by its number and that of its
--- declaration; of a function, by its first declaration; of an object, by the tree of a declarator of it, and its first
--- declaration; and those of the definition of a function, by its tree.
+-- declaration; those of the definition of a class, by its first declaration and its scope; of a function, by its first
+-- declaration; of an object, by the tree of a declarator of it, and its first declaration; and those of the definition of
+-- a function, by its tree.
 pub data Line : Type 0 where
   class_line : ℕ → Line
   enumeration_line : ℕ → ℕ → Line
+  class_definition : ℕ → ℕ → Line
   function_line : ℕ → Line
   object_line : CxxTree → ℕ → Line
   definition_lines : CxxTree → Line
@@ -57,8 +61,23 @@ abbrev pub enumeration_lines : ℕ → List CxxFact → List Line
 enumeration_lines number [] = []
 enumeration_lines number (fact ∷ others) = enumeration_of number fact.what ++ enumeration_lines (suc number) others
 
+-- 9.2: the class whose end it is
+abbrev pub ended_class : Declares → Option ℕ
+ended_class (facts.complete class) = Some class.0
+ended_class _ = None
+
+-- a class ends in its own scope, which holds its members
+abbrev pub definition_of_class : List CxxFact → ℕ → Option ℕ → List Line
+definition_of_class all scope None = []
+definition_of_class all scope (Some n) = class_definition (number_of_class n zero all) scope ∷ []
+
+abbrev pub class_definitions : List CxxFact → List CxxFact → List Line
+class_definitions all [] = []
+class_definitions all (fact ∷ others) = definition_of_class all fact.scope (ended_class fact.what) ++ class_definitions all others
+
+-- 9.3: a function that is a member of a class has no line of its own
 abbrev pub function_of_fact : ℕ → Declares → List Line
-function_of_fact number (facts.function of member flags defaults None) = function_line number ∷ []
+function_of_fact number (facts.function of Free flags defaults None) = function_line number ∷ []
 function_of_fact number _ = []
 
 abbrev pub function_lines : ℕ → List CxxFact → List Line
@@ -120,9 +139,10 @@ unfoldable pub lines : CxxState → List Line
 lines state =
     class_lines state.graph.facts zero (length state.graph.classes) ++
     (enumeration_lines zero state.graph.facts ++
+    (class_definitions state.graph.facts state.graph.facts ++
     (function_lines zero state.graph.facts ++
     (object_lines state.graph.facts (flat_map declarators_of (map part_tree state.parts)) ++
-    map definition_lines (flat_map definitions_of (map part_tree state.parts)))))
+    map definition_lines (flat_map definitions_of (map part_tree state.parts))))))
 
 -- ---- the parts of a definition (8.4)
 
@@ -142,15 +162,15 @@ declarator_of tree = first_tree (parts_of_production production.declarator tree.
 abbrev pub body_of : CxxTree → Option CxxTree
 body_of tree = first_tree (parts_of_production statement.block tree.children)
 
--- ---- parameters of a definition
+-- ---- parameters of a definition, and members of a class
 
--- the declarations of the parameters in the list with a scope, in order
-abbrev pub is_in_list : ℕ → CxxFact → Bool
-is_in_list scope fact = nat_eq fact.scope scope && is_object fact.what
+-- the declarations of the objects in a scope, in order
+abbrev pub is_object_in : ℕ → CxxFact → Bool
+is_object_in scope fact = nat_eq fact.scope scope && is_object fact.what
 
-abbrev pub parameters_in : ℕ → ℕ → List CxxFact → List ℕ
-parameters_in scope number [] = []
-parameters_in scope number (fact ∷ others) = if is_in_list scope fact then number ∷ parameters_in scope (suc number) others else parameters_in scope (suc number) others
+abbrev pub objects_in : ℕ → ℕ → List CxxFact → List ℕ
+objects_in scope number [] = []
+objects_in scope number (fact ∷ others) = if is_object_in scope fact then number ∷ objects_in scope (suc number) others else objects_in scope (suc number) others
 
 abbrev pub list_by : List CxxFact → Option ℕ → ℕ
 list_by all None = zero
@@ -163,7 +183,25 @@ list_of_body all (Some body) = list_by all body.label.target
 
 -- the parameters of a definition, by their declarations
 abbrev pub parameters_of : List CxxFact → CxxTree → List ℕ
-parameters_of all tree = parameters_in (list_of_body all (body_of tree)) zero all
+parameters_of all tree = objects_in (list_of_body all (body_of tree)) zero all
+
+abbrev pub is_first_object : Declares → Bool
+is_first_object (facts.object of member is_mutable value None) = true
+is_first_object _ = false
+
+abbrev pub is_first : Option CxxFact → Bool
+is_first None = false
+is_first (Some fact) = is_first_object fact.what
+
+abbrev pub if_first : List CxxFact → ℕ → List ℕ
+if_first all number = if is_first (slice_get all number) then number ∷ [] else []
+
+abbrev pub firsts_among : List CxxFact → List ℕ → List ℕ
+firsts_among all numbers = flat_map (if_first all) numbers
+
+-- 9.2: the data members of the class with a scope, by their first declarations
+abbrev pub members_of : List CxxFact → ℕ → List ℕ
+members_of all scope = firsts_among all (objects_in scope zero all)
 
 -- ---- numbers
 
@@ -193,6 +231,7 @@ locals_in all (Some body) = flat_map (declared_by all) (printed_in all body.chil
 abbrev pub declared_on : List CxxFact → Line → List ℕ
 declared_on all (class_line number) = number ∷ []
 declared_on all (enumeration_line n number) = number ∷ enumerators_of n zero all
+declared_on all (class_definition number scope) = members_of all scope
 declared_on all (function_line number) = number ∷ []
 declared_on all (object_line tree number) = number ∷ []
 declared_on all (definition_lines tree) = named_among all (parameters_of all tree) ++ locals_in all (body_of tree)

@@ -1,5 +1,5 @@
 -- The lines of a plain form, part by part, as they are written.
-use Rattle.std.specs.Prelude.{ℕ, zero, ℤ, pos, Bool, true, false, if◌then◌else◌, List, [], ◌∷◌, ◌++◌, map, codes, Option, Some, None}
+use Rattle.std.specs.Prelude.{ℕ, zero, ℤ, pos, Bool, true, false, if◌then◌else◌, List, [], ◌∷◌, ◌++◌, flat_map, map, codes, Option, Some, None}
 use Rattle.std.specs.List.{slice_get}
 use Rattle.cxx_model.specs.declared.tree.Node.{Node}
 use Rattle.cxx_model.specs.declared.types.FactId.{FactId}
@@ -19,7 +19,8 @@ use Rattle.cxx_form.specs.Books.{facts_of, graph_of, names_of, trees_of, type_fo
 use Rattle.cxx_form.specs.declared.lines.Line.{Line}
 use Rattle.cxx_form.specs.Lines.{line_at}
 use Rattle.cxx_form.specs.Definitions.{ellipsis_words, first_of_declarator, has_ellipsis, inner_lines, parameter_words, result_of, type_of_declarator}
-use Rattle.cxx_form.specs.Text.{initializer_words, initializers_in, words_on}
+use Rattle.cxx_form.specs.Order.{if_first}
+use Rattle.cxx_form.specs.Text.{class_end, class_front, initializer_words, initializers_in, member_lines, words_on}
 
 -- ---- enumerations (7.2)
 
@@ -57,6 +58,22 @@ initializer_among book children = initializer_words (names_of book) (initializer
 unfoldable pub object_parts : Book → Node → ℕ → List Word
 object_parts book node number =
     extern_words node.spelling ++ (declared (names_of book).tags no_cv (type_for book node.of) (name_word ((names_of book).name_of number) ∷ []) ++ (initializer_among book node.children ++ semicolon_word ∷ []))
+
+-- ---- definitions of classes (9.2)
+
+-- a declaration in the scope of a class, where it is the first one of a data member
+unfoldable pub member_at : Book → FactId → Lines
+member_at book number = flat_map (member_lines (names_of book) (facts_of book)) (if_first (facts_of book) number.0)
+
+abbrev pub member_if : Book → FactId → Bool → Lines
+member_if book number true = member_lines (names_of book) (facts_of book) number.0
+member_if book number false = []
+
+abbrev pub members_at : Book → List FactId → Lines
+members_at book row = flat_map (member_at book) row
+
+unfoldable pub class_parts : Book → List FactId → ℕ → Lines
+class_parts book row number = class_front (names_of book) (facts_of book) number ∷ (members_at book row ++ class_end ∷ [])
 
 -- ---- definitions of functions (8.4)
 

@@ -13,8 +13,9 @@ use Rattle.cxx_reading.specs.Units.{CxxReading}
 use Rattle.cxx_reading.specs.Words.{Word, keyword_word, name_word, semicolon_word, declared, line_text}
 use Rattle.cxx_phrase_text.specs.Calls.{CallOfText, calls_of}
 use Rattle.cxx_phrase_text.specs.Phrases as phrases
-use Rattle.cxx_form.specs.Definitions.{definition_calls, definition_words}
-use Rattle.cxx_form.specs.Order.{Line, class_line, enumeration_line, function_line, object_line, definition_lines, lines, names_of_text, parts_of_production}
+use Rattle.cxx_statement_text.specs.Statements.{Lines, close_brace, line, open_brace}
+use Rattle.cxx_form.specs.Definitions.{definition_calls, definition_words, object_type}
+use Rattle.cxx_form.specs.Order.{Line, class_line, enumeration_line, class_definition, function_line, object_line, definition_lines, lines, members_of, names_of_text, parts_of_production}
 
 -- the initializers among the parts of a declarator
 abbrev pub initializers_in : CxxTrees → List CxxTree
@@ -42,10 +43,31 @@ class_key_of (Some fact) = by fact.what
 abbrev pub class_words : NamesOfText → List CxxFact → ℕ → List Word
 class_words names all number = keyword_word (class_key_of (slice_get all number)) ∷ name_word (names.name_of number) ∷ semicolon_word ∷ []
 
+-- ---- definitions of classes (9.2)
+
+abbrev pub class_front : NamesOfText → List CxxFact → ℕ → List Word
+class_front names all number = keyword_word (class_key_of (slice_get all number)) ∷ name_word (names.name_of number) ∷ open_brace ∷ []
+
+abbrev pub class_end : List Word
+class_end = close_brace ∷ semicolon_word ∷ []
+
+abbrev pub member_words : NamesOfText → List CxxFact → ℕ → List Word
+member_words names all number = declared names.tags no_cv (object_type (slice_get all number)) (name_word (names.name_of number) ∷ []) ++ semicolon_word ∷ []
+
+-- a data member, on a line
+abbrev pub member_lines : NamesOfText → List CxxFact → ℕ → Lines
+member_lines names all number = line 1 (member_words names all number)
+
+abbrev pub class_definition_words : NamesOfText → List CxxFact → ℕ → ℕ → Lines
+class_definition_words names all number scope = class_front names all number ∷ (flat_map (member_lines names all) (members_of all scope) ++ class_end ∷ [])
+
+-- ---- lines
+
 -- the words of each line
 abbrev pub words_on : NamesOfText → CxxGraph → Line → List (List Word)
 words_on names graph (class_line number) = class_words names graph.facts number ∷ []
 words_on names graph (enumeration_line n number) = enumeration_words names graph.facts n number ∷ []
+words_on names graph (class_definition number scope) = class_definition_words names graph.facts number scope
 words_on names graph (function_line number) = function_words names graph.facts number ∷ []
 words_on names graph (object_line tree number) = object_words names tree number ∷ []
 words_on names graph (definition_lines tree) = definition_words names graph tree

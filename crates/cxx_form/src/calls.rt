@@ -46,7 +46,10 @@ fn add_calls_on(
     match line {
         Line::Object(tree, _) => add_among(state, parts_of(state, tree), found),
         Line::Definition(tree) => add_defined(state, alloc, tree, found),
-        Line::Class(_) | Line::Enumeration(_, _) | Line::Function(_) => Ok(()),
+        Line::Class(_)
+        | Line::Enumeration(_, _)
+        | Line::ClassDefinition(_, _)
+        | Line::Function(_) => Ok(()),
     }
 }
 

@@ -6,7 +6,7 @@ ghost use Rattle.cxx_model.specs.Types.Trees.{CxxType};
 ghost use Rattle.cxx_form.specs.Giving.{AreObjects};
 ghost use Rattle.cxx_form.specs.Lines.{number_in, numbers_in};
 ghost use Rattle.cxx_form.specs.Order as text;
-ghost use Rattle.cxx_form.specs.Order.{declared_by, declared_on, definition_lines, if_named, locals_in, named_among, parameters_in};
+ghost use Rattle.cxx_form.specs.Order.{declared_by, declared_on, definition_lines, if_named, locals_in, named_among, objects_in};
 ghost use Rattle.cxx_form.specs.Views.{facts_in};
 ghost use Rattle.cxx_reading.specs.Plain.{is_empty};
 ghost use Rattle.cxx_statement_text.specs.Objects as objects;
@@ -45,7 +45,7 @@ fn list_of_body(state: &State, body: Option<TreeId>) -> u32
 pub(crate) fn parameters<'a>(state: &State, objects: &'a Rows, body: Option<TreeId>) -> &'a [FactId]
     requires objects { AreObjects (facts_in state.now) objects.now }
     requires below { IfSome body (λ number. number.0 < length (trees state.now)) }
-    ensures { numbers_in result.now ≡ parameters_in (text.list_of_body (facts_in state.now) (option_map (tree state.now) body)) 0 (facts_in state.now) }
+    ensures { numbers_in result.now ≡ objects_in (text.list_of_body (facts_in state.now) (option_map (tree state.now) body)) 0 (facts_in state.now) }
 {
     objects.row(list_of_body(state, body))
 }

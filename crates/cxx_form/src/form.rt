@@ -69,9 +69,9 @@ fn printed_by(alloc: Global, book: &Book<'_>, lines: &[Line]) -> Result<Printed,
     Ok(Printed { text, functions })
 }
 
-/// Prints the reading whose state this is. Its plain form has a line for each class, each enumeration, each function and each
-/// declaration of an object, and the lines of each definition of a function, each name with a number and each conversion
-/// as a cast.
+/// Prints the reading whose state this is. Its plain form has a line for each class, each enumeration, each function that
+/// is no member and each declaration of an object, and the lines of each definition of a class and of a function, each name
+/// with a number and each conversion as a cast.
 pub fn print_reading(alloc: Global, state: &State) -> Result<Printed, PlainFault>
     ensures is { (options : Options) → IfOk result (IsPrinted (record { options = options; state = meaning state.now })) }
     ensures full { (options : Options) → result ≡ Err PlainFault.Limit → is_past_output (record { options = options; state = meaning state.now }) ≡ true }

@@ -43,8 +43,8 @@ fn object_type_in(what: Entity) -> Option<TypeId>
     }
 }
 
-// The type of an object, by its declaration.
-fn object_type(state: &State, number: FactId) -> Option<TypeId>
+/// The type of an object, by its declaration.
+pub(crate) fn object_type(state: &State, number: FactId) -> Option<TypeId>
     ensures is { type_or_void (type_of_option (state.now).types result) ≡ definitions.object_type (slice_get (facts_in state.now) number.0) }
     ensures below { IsTypeNumberBelow (length (state.now).types) result }
 {

@@ -1,7 +1,7 @@
 //! The plain form of a reading, from the state that the reading leaves.
 //!
-//! Its lines are listed once: enumerations, then functions, then objects, then definitions of functions. What they
-//! declare, in their order, gives each name its number. Tables hold the number of each declaration, where each enumeration
+//! Its lines are listed once: classes, enumerations, then definitions of classes, then functions, then objects, then
+//! definitions of functions. What they declare, in their order, gives each name its number. Tables hold the number of each declaration, where each enumeration
 //! is declared, its enumerators and its printed name, and the objects of each scope; each is made in one pass, so the time
 //! is that of the declarations, the trees and the text.
 #![tactic(auto)]
@@ -9,6 +9,7 @@
 mod book;
 mod called;
 mod calls;
+mod classes;
 mod constants;
 mod defined;
 mod definitions;
@@ -21,6 +22,7 @@ mod heads;
 mod held;
 mod initializers;
 mod lines;
+mod members;
 mod names;
 mod numbering;
 mod objects;

@@ -4,11 +4,11 @@ ghost use Rattle.std.specs.List.{slice_get};
 ghost use Rattle.cxx_model.specs.Facts.Declarations.{declares_at};
 ghost use Rattle.cxx_model.specs.Types.Trees.{CxxType};
 ghost use Rattle.cxx_meaning.specs.Lookups.Gathered.{before};
-ghost use Rattle.cxx_form.specs.Order.{class_lines, definition_lines, enumeration_lines, function_lines, is_of_namespace as is_of_a_namespace, is_written_out as is_written_out_by, lines as lines_of, object_by, object_lines, scope_of_fact};
+ghost use Rattle.cxx_form.specs.Order.{class_definitions, class_lines, definition_lines, ended_class as ended_class_of, enumeration_lines, function_lines, is_of_namespace as is_of_a_namespace, is_written_out as is_written_out_by, lines as lines_of, object_by, object_lines, scope_of_fact};
 ghost use Rattle.cxx_reading.specs.Trees.{CxxTree};
 ghost use Rattle.cxx_tree.specs.Arena.{tree_in, trees_in, AreTreesBelow};
 ghost use Rattle.cxx_tree.specs.Held.{meaning, trees};
-ghost use Rattle.cxx_form.specs.Giving.{AreFirst, enumeration_by, enumeration_given, function_by, function_given, given_at};
+ghost use Rattle.cxx_form.specs.Giving.{class_definition_by, class_definition_given, AreFirst, enumeration_by, enumeration_given, function_by, function_given, given_at};
 ghost use Rattle.cxx_form.specs.Lines.{number_in, line_at, lines_at, AddsLines, AreLinesBelow, IsGivenBelow};
 ghost use Rattle.cxx_form.specs.Views.{facts_in};
 
@@ -17,7 +17,7 @@ use crate::enumerations::{classes, declaration};
 use crate::facts::{fact, find};
 use crate::found::{declarators, definitions};
 use crate::slots::Slots;
-use cxx_model::{Entity, EnumId, FactId, ScopeId, TreeId};
+use cxx_model::{Entity, EnumId, FactId, MemberKind, ScopeId, TreeId};
 use cxx_tree::State;
 use std::alloc::{AllocError, Global};
 
@@ -28,7 +28,9 @@ pub enum Line {
     Class(FactId),
     /// An enumeration, and where it is declared (7.2).
     Enumeration(EnumId, FactId),
-    /// The first declaration of a function.
+    /// The first declaration of a class, and its scope, for its definition (9.2), which has lines of its own.
+    ClassDefinition(FactId, ScopeId),
+    /// The first declaration of a function that is no member.
     Function(FactId),
     /// The tree of a declarator of an object, and the object's first declaration.
     Object(TreeId, FactId),
@@ -46,12 +48,45 @@ fn enumeration_line(number: FactId, what: Entity) -> Option<Line>
     }
 }
 
+// The class whose end it is (9.2).
+fn ended_class(what: Entity) -> Option<u32>
+    ensures { (types : List CxxType) → result ≡ ended_class_of (declares_at types what) }
+{
+    match what {
+        Entity::Complete { class } => Some(class.0),
+        _ => None,
+    }
+}
+
+// The definition of a class that ends in its scope, where one ends.
+fn class_definition(
+    state: &State,
+    places: &Slots,
+    scope: ScopeId,
+    ended: Option<u32>,
+) -> Option<Line>
+    requires { AreFirst (facts_in state.now) places.now }
+    ensures is { option_map (line_at (trees state.now)) result ≡ class_definition_by (facts_in state.now) scope.0 ended }
+    ensures below { IsGivenBelow (length (trees state.now)) result }
+{
+    let Some(class) = ended else {
+        return None;
+    };
+    let count = state.graph().length();
+    let number = declaration(places, class, count);
+    Some(Line::ClassDefinition(number, scope))
+}
+
 fn function_line(number: FactId, what: Entity) -> Option<Line>
     ensures is { (types : List CxxType) (trees : List CxxTree) → option_map (line_at trees) result ≡ function_by number.0 (declares_at types what) }
     ensures below { (count : ℕ) → IsGivenBelow count result }
 {
     match what {
-        Entity::Function { first: None, .. } => Some(Line::Function(number)),
+        Entity::Function {
+            member: MemberKind::Free,
+            first: None,
+            ..
+        } => Some(Line::Function(number)),
         _ => None,
     }
 }
@@ -75,6 +110,25 @@ fn add_enumeration(state: &State, number: u32, lines: &mut Vec<Line>) -> Result<
 {
     let fact = fact(state, FactId(number));
     add(state, lines, enumeration_line(FactId(number), fact.what))?;
+    Ok(())
+}
+
+fn add_class_definition(
+    state: &State,
+    places: &Slots,
+    number: u32,
+    lines: &mut Vec<Line>,
+) -> Result<(), AllocError>
+    requires places { AreFirst (facts_in state.now) places.now }
+    requires there { number < length (state.now).graph.facts }
+    ensures { OnOk result (AddsLines (trees state.now) lines.old.items lines.new.items (given_at (class_definition_given (facts_in state.now)) number (slice_get (facts_in state.now) number))) }
+{
+    let fact = fact(state, FactId(number));
+    add(
+        state,
+        lines,
+        class_definition(state, places, fact.scope, ended_class(fact.what)),
+    )?;
     Ok(())
 }
 
@@ -110,7 +164,22 @@ fn add_enumerations(state: &State, lines: &mut Vec<Line>) -> Result<(), AllocErr
     Ok(())
 }
 
-// Adds a line for each function.
+// Adds the definition of each class that ends.
+fn add_class_definitions(
+    state: &State,
+    places: &Slots,
+    lines: &mut Vec<Line>,
+) -> Result<(), AllocError>
+    requires { AreFirst (facts_in state.now) places.now }
+    ensures { OnOk result (AddsLines (trees state.now) lines.old.items lines.new.items (class_definitions (facts_in state.now) (facts_in state.now))) }
+{
+    for number in 0..state.graph().length() {
+        add_class_definition(state, places, number, lines)?;
+    }
+    Ok(())
+}
+
+// Adds a line for each function that is no member.
 fn add_functions(state: &State, lines: &mut Vec<Line>) -> Result<(), AllocError>
     ensures { OnOk result (AddsLines (trees state.now) lines.old.items lines.new.items (function_lines 0 (facts_in state.now))) }
 {
@@ -212,6 +281,7 @@ pub(crate) fn lines_by(
     let definitions = definitions(state, alloc)?;
     add_classes(state, places, &mut found)?;
     add_enumerations(state, &mut found)?;
+    add_class_definitions(state, places, &mut found)?;
     add_functions(state, &mut found)?;
     add_objects(state, declarators.as_slice(), &mut found)?;
     add_definitions(state, definitions.as_slice(), &mut found)?;

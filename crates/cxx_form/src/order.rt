@@ -10,6 +10,7 @@ ghost use Rattle.cxx_form.specs.Views.{facts_in};
 
 use crate::defined::add_defined;
 use crate::lines::Line;
+use crate::members::add_members;
 use crate::numbering::Numbering;
 use crate::rows::Rows;
 use cxx_model::FactId;
@@ -41,6 +42,7 @@ fn add_declared(
             found.push(number)?;
             Ok(())
         }
+        Line::ClassDefinition(_, scope) => add_members(state, objects, scope, found),
         Line::Definition(tree) => add_defined(state, alloc, objects, tree, found),
     }
 }

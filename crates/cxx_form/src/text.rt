@@ -1,31 +1,28 @@
 //! The lines of a plain form, one behind another.
-ghost use Rattle.std.specs.Prelude.{◌≡◌, ◌<◌, [], ◌∷◌, ◌++◌, Some, flat_map, length};
+ghost use Rattle.std.specs.Prelude.{◌≡◌, ◌<◌, [], ◌∷◌, ◌++◌, flat_map, length};
 ghost use Rattle.std.specs.List.{slice_get};
 ghost use Rattle.cxx_model.specs.Facts.Declarations.{declares_at, type_of_option};
 ghost use Rattle.cxx_model.specs.Facts.Fitted.{IsEntityBelow, IsTypeNumberBelow};
 ghost use Rattle.cxx_page.specs.Sheets.{Writes, put, put_lines};
-ghost use Rattle.cxx_model.specs.declared.facts.Access.{Access};
-ghost use Rattle.cxx_model.specs.declared.place.Place.{Place};
-ghost use Rattle.cxx_model.specs.Facts.Declarations.{CxxName};
-ghost use Rattle.cxx_reading.specs.Specifiers.{class_key};
 ghost use Rattle.cxx_reading.specs.Plain.{enumeration_words, function_words, type_of_function, type_or_void};
 ghost use Rattle.cxx_form.specs.Books.{facts_of, names_of, trees_of, IsBook};
 ghost use Rattle.cxx_form.specs.Functions.{function_type_by};
 ghost use Rattle.cxx_form.specs.Lines.{AreLinesBelow, IsLineBelow};
 ghost use Rattle.cxx_form.specs.Parts.{lines_written};
-ghost use Rattle.cxx_form.specs.Text.{class_key_of, class_words, object_words};
+ghost use Rattle.cxx_form.specs.Text.{object_words};
 ghost use Rattle.cxx_form.specs.Views.{facts_in};
 ghost use Rattle.cxx_tree.specs.Arena.{tree_in};
 ghost use Rattle.std.specs.Prelude.{ℕ, List};
 ghost use Rattle.cxx_model.specs.Types.Trees.{CxxType};
 
 use crate::book::Book;
+use crate::classes::{write_class_definition, write_class_line};
 use crate::definitions::write_definition;
 use crate::enumerators::write_enumeration;
 use crate::facts::find;
 use crate::lines::Line;
 use crate::objects::write_object;
-use crate::words::{write_declared, write_name};
+use crate::words::write_declared;
 use cxx_model::{Entity, EnumId, FactId, TreeId, TypeId};
 use cxx_page::{Page, PlainFault};
 use cxx_reading::Role;
@@ -81,43 +78,6 @@ pub(crate) fn write_function(
     write_typed(book, page, function_type(book.state, number), number)
 }
 
-fn key_by(is_union: bool) -> &'static [u8]
-    ensures { result.now ≡ class_key is_union }
-{
-    if is_union { b"union" } else { b"struct" }
-}
-
-fn key_in(what: Entity) -> &'static [u8]
-    ensures { (types : List CxxType) (place : Place) (scope : ℕ) (name : CxxName) (rights : Access) → result.now ≡ class_key_of (Some (record { place = place; scope = scope; name = name; access = rights; what = declares_at types what })) }
-{
-    match what {
-        Entity::Class { is_union, .. } => key_by(is_union),
-        _ => key_by(false),
-    }
-}
-
-// The key of a class, by its declaration.
-fn key_at(state: &State, number: FactId) -> &'static [u8]
-    ensures { result.now ≡ class_key_of (slice_get (facts_in state.now) number.0) }
-{
-    match find(state, number) {
-        Some(fact) => key_in(fact.what),
-        None => key_by(false),
-    }
-}
-
-// Writes the line of a class.
-#[tactic(auto, using(crate::proofs::Listing::one_line, cxx_page::proofs::Put::put_more), unfolding(cxx_page::specs::Sheets::put_line))]
-fn write_class_line(book: &Book<'_>, page: &mut Page, number: FactId) -> Result<(), PlainFault>
-    requires { IsBook book.now }
-    ensures { Writes result page.new (put_lines (class_words (names_of book.now) (facts_of book.now) number.0 ∷ []) page.old) }
-{
-    page.word(Role::Alone, key_at(book.state, number))?;
-    write_name(book, page, number)?;
-    page.word(Role::Follows, b";")?;
-    page.end_line()
-}
-
 // Writes the line of an enumeration.
 #[tactic(auto, using(crate::proofs::Listing::one_line), unfolding(cxx_page::specs::Sheets::put_line))]
 fn write_enumeration_line(
@@ -168,6 +128,7 @@ fn write_line(alloc: Global, book: &Book<'_>, page: &mut Page, line: Line) -> Re
     match line {
         Line::Class(number) => write_class_line(book, page, number),
         Line::Enumeration(named, number) => write_enumeration_line(book, page, named, number),
+        Line::ClassDefinition(number, scope) => write_class_definition(book, page, number, scope),
         Line::Function(number) => write_function_line(book, page, number),
         Line::Object(tree, number) => write_object_line(book, page, tree, number),
         Line::Definition(tree) => write_definition(alloc, book, page, tree),

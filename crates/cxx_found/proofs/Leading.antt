@@ -12,7 +12,7 @@ use Rattle.cxx_model.specs.Types.Trees.{CxxType, CxxTypes, fundamental, class_ty
 use Rattle.cxx_meaning.specs.Lookups.Associated.{Part, adl, associated, befriended, class_at_scope, class_of, collected, each_of, everything, followed, functions_among, holds_part, leads_to, member_scope_of, of_base, of_type, own_classes, parts, scope_of, sets_of, space_at_scope, spaces_of, standing_in_each, target_of, template_scope_of, unless_pending, with_member_classes, with_option, with_part, with_parts, with_spaces}
 use Rattle.cxx_meaning.specs.Lookups.Gathered.{before, gathered, with_facts}
 use Rattle.cxx_meaning.specs.Lookups.Sightings.{entities}
-use Rattle.cxx_found.specs.Associated.{AreFoundBy}
+use Rattle.cxx_found.specs.Associated.{AreFoundBy, found_in_sets}
 use Rattle.cxx_found.specs.Nowhere.{are_simple, is_simple, lead_nowhere, leads_nowhere}
 
 -- ---- what such types lead to
@@ -259,7 +259,7 @@ adl_nothing graph word cut =
     ∙ no_entities
 
 pub found_nothing : (graph : CxxGraph) (name : CxxName) (ts : List CxxType) → lead_nowhere ts ≡ true → AreFoundBy graph ts name []
-found_nothing graph name ts are = record { sets = no_sets; are = associated_nothing graph ts are; given_by = sym (adl_nothing graph name (length graph.facts)) }
+found_nothing graph name ts are = sym (ap (found_in_sets graph name) (associated_nothing graph ts are) ∙ adl_nothing graph name (length graph.facts))
 
 -- ---- by their numbers
 

@@ -1,7 +1,7 @@
 pub mod Alone
 pub mod Chained
 pub mod Facts
-pub mod Here
+pub mod Inside
 pub mod Leading
 pub mod Outer
 pub mod Outside

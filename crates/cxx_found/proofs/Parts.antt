@@ -1,87 +1,133 @@
--- What the types of arguments find where nothing is declared in classes (3.4.2): classes have no members, no bases and no
--- friends, and no class has to be complete first.
-use Rattle.std.specs.Prelude.{ℕ, ◌≡◌, ◌+◌, Bool, true, false, ◌&&◌, List, [], ◌∷◌, ◌++◌, length, map, find, Option, Some, None, refl}
-use Rattle.std.proofs.Common.{◌⊎◌, inl, inr, ap, sym, subst, ◌∙◌, cond, append-nil, append_assoc}
+-- What the types of arguments find where there are no templates and no friends (3.4.2).
+use Rattle.std.specs.Prelude.{ℕ, ◌≡◌, ◌+◌, Bool, true, false, ◌||◌, nat_eq, nat_lt, List, [], ◌∷◌, ◌++◌, length, map, find, Option, Some, None, Ok, refl}
+use Rattle.std.proofs.Common.{ap, sym, subst, ◌∙◌, cond, append-nil, append_assoc}
+use Rattle.std.proofs.lemmas.Bool.{eqb-true}
 use Rattle.std.specs.List.{slice_get}
 use Rattle.cxx_model.specs.declared.facts.Entity.{Entity}
 use Rattle.cxx_model.specs.declared.facts.Entity.TheVariants as entity
 use Rattle.cxx_model.specs.declared.facts.Fact.{Fact}
+use Rattle.cxx_model.specs.declared.lookup.Associated.{Associated}
 use Rattle.cxx_model.specs.declared.types.FactId.{FactId}
 use Rattle.cxx_model.specs.declared.types.ScopeId.{ScopeId}
 use Rattle.cxx_model.specs.declared.types.TypeId.{TypeId}
 use Rattle.cxx_model.specs.Facts.Declarations.{CxxGraph, CxxName, CxxSpecialisation, Declares, declares_at, fact_at, facts_at, graph_at}
 use Rattle.cxx_model.specs.Facts.Graph.{Graph}
-use Rattle.cxx_model.specs.Facts.Pending.{is_defined_since, is_pending}
+use Rattle.cxx_model.specs.Facts.Pending.{is_pending}
 use Rattle.cxx_model.specs.Types.Trees.{CxxType, fundamental, class_type, enumeration, pointer_to, reference_to, array_of, function_of, qualified, type_parameter, specialisation, nested_in}
-use Rattle.cxx_meaning.specs.Lookups.Associated.{Part, adl, associated, befriended, collected, declares_template, first_scope, functions_among, of_base, of_type, own_classes, parts, scope_of_pattern, scope_of_template, sets_of, space_at_scope, space_id, spaces_of, standing_in_each, target_by, target_of, template_scope_of, unless_pending, with_option, with_spaces}
+use Rattle.cxx_meaning.specs.Lookups.Associated.{Part, adl, associated, befriended, class_of, collected, declares_template, first_scope, functions_among, of_base, of_type, own_classes, parts, scope_of_pattern, scope_of_template, sets_of, space_at_scope, space_id, spaces_of, standing_in_each, target_by, target_of, template_scope_of, unless_pending, with_number, with_option, with_spaces}
 use Rattle.cxx_meaning.specs.Lookups.Gathered.{before, gathered}
 use Rattle.cxx_meaning.specs.Lookups.Scopes.{home}
 use Rattle.cxx_meaning.specs.Lookups.Sightings.{entities, standing}
 use Rattle.cxx_meaning.specs.Lookups.Wanted.{Wanted, any_name}
 use Rattle.cxx_members.specs.declared.sightings.Sighting.{Sighting as OneSeen}
 use Rattle.cxx_members.specs.Sighted.{Adds, sighting_at}
-use Rattle.cxx_names.specs.Clashes.{IsPlain, IsPlainEntity}
-use Rattle.cxx_names.specs.Plain.{ArePlain, IsPlainScope}
+use Rattle.cxx_names.specs.Plain.{ArePlain, IsPlainFact}
 use Rattle.cxx_reading.specs.Linked.{home_of}
-use Rattle.cxx_found.specs.Associated.{AreFoundBy, given}
+use Rattle.cxx_found.specs.Associated.{AreFoundBy, any_pending, found_in_sets, given, is_pending_by}
 
--- ---- what is declared outside classes
+-- ---- neither templates nor friends
 
-abbrev IsOutside : Entity → Type 0
-IsOutside what = IsPlainScope what ⊎ IsPlainEntity what
-
-outside : (fact : Fact) → IsPlainScope fact.what ⊎ IsPlain fact → IsOutside fact.what
-outside fact (inl scope) = inl scope
-outside fact (inr plain) = inr plain.what
-
-no_template : (types : List CxxType) (n : ℕ) (what : Entity) → IsOutside what → declares_template n (declares_at types what) ≡ false
-no_template types n (entity.Template template member defaults is_explicit first) (inl bad) = absurd bad
-no_template types n (entity.Template template member defaults is_explicit first) (inr bad) = absurd bad
+no_template : (types : List CxxType) (n : ℕ) (what : Entity) → IsPlainFact what → declares_template n (declares_at types what) ≡ false
+no_template types n (entity.Template template member defaults is_explicit first) bad = absurd bad
 no_template types n _ is = refl
 
-no_target : (types : List CxxType) (classes : List ℕ) (what : Entity) → IsOutside what → target_of classes (declares_at types what) ≡ None
-no_target types classes (entity.Friend class target) (inl bad) = absurd bad
-no_target types classes (entity.Friend class target) (inr bad) = absurd bad
+no_target : (types : List CxxType) (classes : List ℕ) (what : Entity) → IsPlainFact what → target_of classes (declares_at types what) ≡ None
+no_target types classes (entity.Friend class target) bad = absurd bad
 no_target types classes _ is = refl
 
-first_none : (test : Declares → Bool) (types : List CxxType) (facts : List Fact) → ((what : Entity) → IsOutside what → test (declares_at types what) ≡ false) → ArePlain facts → first_scope test (facts_at types facts) ≡ None
+first_none : (test : Declares → Bool) (types : List CxxType) (facts : List Fact) → ((what : Entity) → IsPlainFact what → test (declares_at types what) ≡ false) → ArePlain facts → first_scope test (facts_at types facts) ≡ None
 first_none test types [] never plain = refl
 first_none test types (fact ∷ facts) never plain =
-    ap (λ b. cond b (Some (record { 0 = (fact_at types fact).scope })) (first_scope test (facts_at types facts))) (never fact.what (outside fact plain.0))
+    ap (λ b. cond b (Some (record { 0 = (fact_at types fact).scope })) (first_scope test (facts_at types facts))) (never fact.what plain.0)
     ∙ first_none test types facts never plain.1
 
 no_template_scope : (types : List CxxType) (graph : Graph) (n : ℕ) → ArePlain graph.facts → scope_of_template (graph_at types graph) n ≡ None
 no_template_scope types graph n plain = first_none (declares_template n) types graph.facts (no_template types n) plain
 
--- ---- no class has to be complete first
+-- ---- whether a class has to be complete first
 
-undefined : (types : List CxxType) (defining : List ℕ) (class : ℕ) (facts : List Fact) → ArePlain facts → is_defined_since defining class false (facts_at types facts) ≡ false
-undefined types defining class [] plain = refl
-undefined types defining class (fact ∷ facts) plain = by fact.what (outside fact plain.0) (undefined types defining class facts plain.1)
-  where
-    by : (what : Entity) → IsOutside what → is_defined_since defining class false (facts_at types facts) ≡ false → is_defined_since defining class false (fact_at types (record fact { what = what }) ∷ facts_at types facts) ≡ false
-    by (entity.Complete number) (inl bad) later = absurd bad
-    by (entity.Complete number) (inr bad) later = absurd bad
-    by (entity.Passed number) (inl bad) later = absurd bad
-    by (entity.Passed number) (inr bad) later = absurd bad
-    by _ is later = later
+abbrev is_there : Option ℕ → Bool
+is_there None = false
+is_there (Some n) = true
 
-and_false : (a b : Bool) → b ≡ false → (a && b) ≡ false
-and_false true b e = e
-and_false false b e = refl
+module _ (test : ℕ → Bool) where
+  abbrev any_in : List ℕ → Bool
+  any_in xs = is_there (find test xs)
 
-not_pending : (types : List CxxType) (graph : Graph) (n : ℕ) → ArePlain graph.facts → is_pending (graph_at types graph) n ≡ false
-unfolding is_pending
-not_pending types graph n plain = by (slice_get (graph_at types graph).classes n) refl
-  where
-    by : (o : Option (Option CxxSpecialisation)) → slice_get (graph_at types graph).classes n ≡ o → is_pending (graph_at types graph) n ≡ false
-    by None e = rw e refl
-    by (Some None) e = rw e refl
-    by (Some (Some of)) e = rw e (and_false _ _ (undefined types _ n graph.facts plain))
+  abbrev tested : Option ℕ → Bool
+  tested None = false
+  tested (Some n) = test n
 
-find_none : (test : ℕ → Bool) (xs : List ℕ) → ((n : ℕ) → test n ≡ false) → find test xs ≡ None
-find_none test [] never = refl
-find_none test (x ∷ xs) never = ap (λ b. cond b (Some x) (find test xs)) (never x) ∙ find_none test xs never
+  -- a number in front
+  before_any : (t : Bool) (n : ℕ) (xs : List ℕ) → is_there (cond t (Some n) (find test xs)) ≡ (t || any_in xs)
+  before_any true n xs = refl
+  before_any false n xs = refl
+
+  behind_any : (t s : Bool) (x : ℕ) (o p : Option ℕ) → is_there o ≡ (s || is_there p) → is_there (cond t (Some x) o) ≡ (s || is_there (cond t (Some x) p))
+  behind_any true true x o p e = refl
+  behind_any true false x o p e = refl
+  behind_any false s x o p e = e
+
+  -- the same number
+  same_any : (t : Bool) (x : ℕ) (o : Option ℕ) → is_there (cond t (Some x) o) ≡ (t || is_there (cond t (Some x) o))
+  same_any true x o = refl
+  same_any false x o = refl
+
+  number_any : (n : ℕ) (xs : List ℕ) → any_in (with_number n xs) ≡ (test n || any_in xs)
+  number_any n [] = before_any (test n) n []
+  number_any n (x ∷ xs) = by (nat_lt x n) (nat_eq x n) refl (number_any n xs)
+    where
+      by : (less same : Bool) → nat_eq x n ≡ same → any_in (with_number n xs) ≡ (test n || any_in xs) → any_in (cond less (x ∷ with_number n xs) (cond same (x ∷ xs) (n ∷ x ∷ xs))) ≡ (test n || any_in (x ∷ xs))
+      by true same e rest = behind_any (test x) (test n) x (find test (with_number n xs)) (find test xs) rest
+      by false true e rest = ap (λ m. any_in (m ∷ xs)) (eqb-true x n e) ∙ (same_any (test n) n (find test xs) ∙ ap (λ m. test n || any_in (m ∷ xs)) (sym (eqb-true x n e)))
+      by false false e rest = before_any (test n) n (x ∷ xs)
+
+  option_any : (o : Option ℕ) (xs : List ℕ) → any_in (with_option o xs) ≡ (tested o || any_in xs)
+  option_any None xs = refl
+  option_any (Some n) xs = number_any n xs
+
+module _ (graph : CxxGraph) where
+  swapped : (a b c : Bool) → ((a || b) || c) ≡ (b || (a || c))
+  swapped true true c = refl
+  swapped true false c = refl
+  swapped false b c = refl
+
+  pending_by : (o : Option ℕ) → tested (is_pending graph) o ≡ is_pending_by graph o
+  pending_by None = refl
+  pending_by (Some n) = refl
+
+  collected_any : (found : List ℕ) (all : List Part) → any_in (is_pending graph) (collected class_of found all) ≡ (any_in (is_pending graph) found || any_pending graph all)
+  unfolding collected
+  collected_any found [] = by (any_in (is_pending graph) found)
+    where
+      by : (t : Bool) → t ≡ (t || false)
+      by true = refl
+      by false = refl
+  collected_any found (part ∷ all) =
+      collected_any (with_option (class_of part) found) all
+      ∙ ap (λ t. t || any_pending graph all) (option_any (is_pending graph) (class_of part) found ∙ ap (λ t. t || any_in (is_pending graph) found) (pending_by (class_of part)))
+      ∙ swapped (is_pending_by graph (class_of part)) (any_in (is_pending graph) found) (any_pending graph all)
+
+  own_any : (all : List Part) → any_in (is_pending graph) (own_classes all) ≡ any_pending graph all
+  own_any all = collected_any [] all
+
+  none_there : (o : Option ℕ) → is_there o ≡ false → o ≡ None
+  none_there None e = refl
+  none_there (Some n) e = absurd cc
+
+  -- none has
+  associated_by : (ts : List CxxType) → any_pending graph (parts graph ts) ≡ false → associated graph ts ≡ Ok (sets_of graph (parts graph ts))
+  unfolding associated
+  associated_by ts e = ap (λ o. unless_pending o (sets_of graph (parts graph ts))) (none_there (find (is_pending graph) (own_classes (parts graph ts))) (own_any (parts graph ts) ∙ e))
+
+  needed_first : (name : CxxName) (o : Option ℕ) (sets : Associated) → is_there o ≡ true → found_in_sets graph name (unless_pending o sets) ≡ []
+  needed_first name None sets e = absurd cc
+  needed_first name (Some n) sets e = refl
+
+  -- one has
+  pub found_pending : (ts : List CxxType) (name : CxxName) → any_pending graph (parts graph ts) ≡ true → AreFoundBy graph ts name []
+  unfolding associated
+  found_pending ts name e = sym (needed_first name (find (is_pending graph) (own_classes (parts graph ts))) (sets_of graph (parts graph ts)) (own_any (parts graph ts) ∙ e))
 
 -- ---- namespaces
 
@@ -129,32 +175,27 @@ each_more types graph cut wanted name old new space others is adds =
 
 -- ---- what is found
 
-befriended_none : (types : List CxxType) (graph : CxxGraph) (name : CxxName) (classes : List ℕ) (number : ℕ) (fact : Fact) → IsOutside fact.what → befriended graph name classes number (fact_at types fact) ≡ None
+befriended_none : (types : List CxxType) (graph : CxxGraph) (name : CxxName) (classes : List ℕ) (number : ℕ) (fact : Fact) → IsPlainFact fact.what → befriended graph name classes number (fact_at types fact) ≡ None
 unfolding befriended
 befriended_none types graph name classes number fact is = ap (target_by graph name) (no_target types classes fact.what is)
 
 gathered_none : (types : List CxxType) (graph : CxxGraph) (name : CxxName) (classes : List ℕ) (number : ℕ) (facts : List Fact) → ArePlain facts → gathered (befriended graph name classes) number (facts_at types facts) ≡ []
 gathered_none types graph name classes number [] plain = refl
 gathered_none types graph name classes number (fact ∷ facts) plain =
-    ap (λ o. before o (gathered (befriended graph name classes) (number + 1) (facts_at types facts))) (befriended_none types graph name classes number fact (outside fact plain.0))
+    ap (λ o. before o (gathered (befriended graph name classes) (number + 1) (facts_at types facts))) (befriended_none types graph name classes number fact plain.0)
     ∙ gathered_none types graph name classes (number + 1) facts plain.1
 
-pub found_are : (types : List CxxType) (graph : Graph) (ts : List CxxType) (name : CxxName) (spaces : List ℕ) (found : List FactId) → ArePlain graph.facts → spaces ≡ spaces_of (graph_at types graph) (parts (graph_at types graph) ts)
+pub found_are : (types : List CxxType) (graph : Graph) (ts : List CxxType) (name : CxxName) (spaces : List ℕ) (found : List FactId) → ArePlain graph.facts → any_pending (graph_at types graph) (parts (graph_at types graph) ts) ≡ false → spaces ≡ spaces_of (graph_at types graph) (parts (graph_at types graph) ts)
     → found ≡ entities (functions_among (graph_at types graph) (standing_in_each (graph_at types graph) (length (facts_at types graph.facts)) name spaces)) → AreFoundBy (graph_at types graph) ts name found
-unfolding associated adl
-found_are types graph ts name spaces found plain are is =
+unfolding adl
+found_are types graph ts name spaces found plain ready are is =
     let g : CxxGraph = graph_at types graph in
-    let all : List Part = parts g ts in
-    let sets = sets_of g all in
+    let sets : Associated = sets_of g (parts g ts) in
     let cut : ℕ = length (facts_at types graph.facts) in
-    record {
-      sets = sets;
-      are = ap (λ o. unless_pending o sets) (find_none (is_pending g) (own_classes all) (λ n. not_pending types graph n plain));
-      given_by =
-          is
-          ∙ (ap (λ ss. entities (functions_among g (standing_in_each g cut name ss))) are
-          ∙ ap (λ ones. entities (functions_among g ones)) (sym (append-nil (standing_in_each g cut name sets.spaces)) ∙ ap (λ more. standing_in_each g cut name sets.spaces ++ more) (sym (gathered_none types g name sets.classes 0 graph.facts plain))));
-    }
+    is
+    ∙ ap (λ ss. entities (functions_among g (standing_in_each g cut name ss))) are
+    ∙ ap (λ ones. entities (functions_among g ones)) (sym (append-nil (standing_in_each g cut name sets.spaces)) ∙ ap (λ more. standing_in_each g cut name sets.spaces ++ more) (sym (gathered_none types g name sets.classes 0 graph.facts plain)))
+    ∙ sym (ap (found_in_sets g name) (associated_by g ts ready))
 
 -- the same, where it is seen otherwise
 pub found_as : (g g' : CxxGraph) (types types' : List CxxType) (name name' : CxxName) (numbers : List TypeId) (found : List FactId) → g ≡ g' → types ≡ types' → name ≡ name' → AreFoundBy g (given types numbers) name found → AreFoundBy g' (given types' numbers) name' found

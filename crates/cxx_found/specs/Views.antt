@@ -5,7 +5,7 @@ use Rattle.cxx_model.specs.declared.lookup.Found.TheVariants as found
 use Rattle.cxx_model.specs.Facts.Declarations.{CxxFact, CxxGraph, CxxName, facts_at, graph_at, spelled}
 use Rattle.cxx_model.specs.Facts.Entities.{CxxEntity, of_fact, of_space, of_type}
 use Rattle.cxx_model.specs.Types.Numbers.{type_at}
-use Rattle.cxx_model.specs.Facts.Fitted.{IsGraphBelow}
+use Rattle.cxx_model.specs.Facts.Fitted.{Fitted}
 use Rattle.cxx_model.specs.Types.Trees.{CxxType}
 use Rattle.cxx_meaning.specs.Lookups.Directives.{Shown as ShownMeant}
 use Rattle.cxx_meaning.specs.Lookups.Ordinary.{found_in_sightings}
@@ -27,11 +27,11 @@ use Rattle.cxx_found.specs.declared.shown.Shown.{Shown}
 
 -- ---- what a lookup reads
 
--- The index is that of the graph, each type that the graph names stands in the table, nothing is declared in classes, and
--- what is known of the word is so.
+-- The index is that of the graph, the graph and the table of types fit together, nothing is declared of templates, bases and
+-- friends, and what is known of the word is so.
 pub record IsSeeking (seeking : Seeking) : Type 0 where
   pub noted : Notes seeking.names.now seeking.looking.graph.now.facts
-  pub below : IsGraphBelow (length seeking.looking.types.now) seeking.looking.graph.now
+  pub fitted : Fitted seeking.looking.graph.now seeking.looking.types.now
   pub plain : ArePlain seeking.looking.graph.now.facts
   pub met : IsMetAs seeking.names.now.words seeking.word.now seeking.met
 

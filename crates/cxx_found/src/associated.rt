@@ -2,9 +2,9 @@
 
 ghost use Rattle.std.specs.Prelude.{◌≡◌, ◌<◌, [], ◌∷◌, length, map, option_map, IfOk, IfSome, OnOk};
 ghost use Rattle.cxx_adl.specs.Views.{ArePartsBelow, IsPartBelow, part_at};
-ghost use Rattle.cxx_found.specs.Associated.{AreFoundBy, given};
+ghost use Rattle.cxx_found.specs.Associated.{AreFoundBy, any_pending as any_pending_of, given, is_pending_by};
 ghost use Rattle.cxx_found.specs.Views.{IsSeeking, cut_of, graph_of, name_of, types_of, wanted_of};
-ghost use Rattle.cxx_meaning.specs.Lookups.Associated.{functions_among, of_type, scope_of as scope_of_part, space_at_scope, spaces_of, standing_in_each, with_spaces};
+ghost use Rattle.cxx_meaning.specs.Lookups.Associated.{class_of as class_of_part, functions_among, of_type, scope_of as scope_of_part, space_at_scope, spaces_of, standing_in_each, with_spaces};
 ghost use Rattle.cxx_meaning.specs.Lookups.Gathered.{before};
 ghost use Rattle.cxx_meaning.specs.Lookups.Sightings.{entities};
 ghost use Rattle.cxx_meaning.specs.Lookups.Wanted.{any_name};
@@ -16,7 +16,7 @@ use crate::nowhere::lead_nowhere;
 use crate::seeking::Seeking;
 use cxx_adl::{Part, add_option, reached};
 use cxx_members::Sighting;
-use cxx_model::{FactList, ScopeId, TypeId, TypeNode};
+use cxx_model::{ClassId, FactList, ScopeId, TypeId, TypeNode};
 use std::alloc::AllocError;
 
 impl Seeking<'_> {
@@ -84,6 +84,51 @@ impl Seeking<'_> {
         Ok(spaces)
     }
 
+    // ---- classes
+
+    fn class_of_node(&self, node: &TypeNode) -> Option<u32>
+        ensures { result ≡ class_of_part (of_type (type_over (types_of self.now) node.now)) }
+    {
+        match node {
+            TypeNode::Class(class) => Some(class.0),
+            _ => None,
+        }
+    }
+
+    // A class, or a base of one.
+    fn class_in(&self, part: Part) -> Option<u32>
+        requires { IsPartBelow (length (types_of self.now)) part }
+        ensures { result ≡ class_of_part (part_at (types_of self.now) part) }
+    {
+        match part {
+            Part::Type(of) => self.class_of_node(self.looking.types.node(of)),
+            Part::Base(class) => Some(class.0),
+        }
+    }
+
+    // Whether a class has to be complete first (14.7.1).
+    fn is_pending(&self, class: Option<u32>) -> bool
+        ensures { result ≡ is_pending_by (graph_of self.now) class }
+    {
+        match class {
+            Some(class) => self.looking.graph.pending(ClassId(class)),
+            None => false,
+        }
+    }
+
+    // Whether one among some parts has to be complete first.
+    fn any_pending(&self, parts: &[Part]) -> bool
+        requires { ArePartsBelow (length (types_of self.now)) parts.now }
+        ensures { result ≡ any_pending_of (graph_of self.now) (map (part_at (types_of self.now)) parts.now) }
+    {
+        for part in parts {
+            if self.is_pending(self.class_in(*part)) {
+                return true;
+            }
+        }
+        false
+    }
+
     // ---- functions
 
     // Adds the declarations of the name in some namespaces.
@@ -148,7 +193,7 @@ impl Seeking<'_> {
     }
 
     /// The functions of the name that some types find, by their first declarations.
-    #[tactic(auto, using(crate::proofs::Parts::found_are, crate::proofs::Leading::found_nothing))]
+    #[tactic(auto, using(crate::proofs::Parts::found_are, crate::proofs::Parts::found_pending, crate::proofs::Leading::found_nothing))]
     pub fn found_by_types(&self, of: &[TypeId]) -> Result<FactList, AllocError>
         requires seeking { IsSeeking self.now }
         requires wanted { wanted_of self.now ≡ any_name }
@@ -164,6 +209,9 @@ impl Seeking<'_> {
             self.looking.types,
             of,
         )?;
+        if self.any_pending(&parts) {
+            return Ok(FactList::new(self.looking.alloc));
+        }
         let spaces = self.spaces(&parts)?;
         self.found_in(&spaces)
     }

@@ -4,6 +4,7 @@
 mod again;
 mod associated;
 mod entities;
+mod here;
 mod lookups;
 mod nearest;
 mod nowhere;

@@ -2,7 +2,7 @@
 
 ghost use Rattle.std.specs.Prelude.{◌≡◌, Ok, length, IfOk};
 ghost use Rattle.cxx_model.specs.Facts.Declarations.{facts_at, graph_at, spelled};
-ghost use Rattle.cxx_model.specs.Facts.Fitted.{IsGraphBelow};
+ghost use Rattle.cxx_model.specs.Facts.Fitted.{Fitted};
 ghost use Rattle.cxx_meaning.specs.Lookups.Qualified.{brought as brought_from, qualified as qualified_from};
 ghost use Rattle.cxx_members.specs.Views.{wanted_at};
 ghost use Rattle.cxx_reading.specs.Seen.{fact_numbers, found as found_from, found_types as found_types_from, kind_of_found, numbered_at, sought_from};
@@ -29,7 +29,7 @@ fn seeking<'a>(
     word: &'a [u8],
 ) -> Seeking<'a>
     requires noted { Notes names.now graph.now.facts }
-    requires below { IsGraphBelow (length types.now) graph.now }
+    requires fitted { Fitted graph.now types.now }
     requires plain { ArePlain graph.now.facts }
     ensures graph { graph_of result ≡ graph_at types.now graph.now }
     ensures types { types_of result ≡ types.now }
@@ -62,7 +62,7 @@ pub fn sought(
     word: &[u8],
 ) -> Result<Found, OutOfMemory>
     requires noted { Notes names.now graph.now.facts }
-    requires below { IsGraphBelow (length types.now) graph.now }
+    requires fitted { Fitted graph.now types.now }
     requires plain { ArePlain graph.now.facts }
     ensures { IfOk result (λ found. found ≡ sought_from (graph_at types.now graph.now) (wanted_at wanted) scope.0 (spelled word.now)) }
 {
@@ -81,7 +81,7 @@ pub fn found(
     word: &[u8],
 ) -> Result<FactList, OutOfMemory>
     requires noted { Notes names.now graph.now.facts }
-    requires below { IsGraphBelow (length types.now) graph.now }
+    requires fitted { Fitted graph.now types.now }
     requires plain { ArePlain graph.now.facts }
     ensures numbered { IfOk result (λ all. numbered_at (graph_at types.now graph.now) (fact_numbers all) ≡ found_from (graph_at types.now graph.now) scope.0 (spelled word.now)) }
     ensures numbers { IfOk result (λ all. all ≡ numbers_in (found_from (graph_at types.now graph.now) scope.0 (spelled word.now))) }
@@ -101,7 +101,7 @@ pub fn found_types(
     word: &[u8],
 ) -> Result<FactList, OutOfMemory>
     requires noted { Notes names.now graph.now.facts }
-    requires below { IsGraphBelow (length types.now) graph.now }
+    requires fitted { Fitted graph.now types.now }
     requires plain { ArePlain graph.now.facts }
     ensures numbered { IfOk result (λ all. numbered_at (graph_at types.now graph.now) (fact_numbers all) ≡ found_types_from (graph_at types.now graph.now) scope.0 (spelled word.now)) }
     ensures numbers { IfOk result (λ all. all ≡ numbers_in (found_types_from (graph_at types.now graph.now) scope.0 (spelled word.now))) }
@@ -121,7 +121,7 @@ pub fn kind(
     word: &[u8],
 ) -> Result<Kind, OutOfMemory>
     requires noted { Notes names.now graph.now.facts }
-    requires below { IsGraphBelow (length types.now) graph.now }
+    requires fitted { Fitted graph.now types.now }
     requires plain { ArePlain graph.now.facts }
     ensures { IfOk result (λ kind. kind ≡ kind_of_found (graph_at types.now graph.now) (found_from (graph_at types.now graph.now) scope.0 (spelled word.now))) }
 {
@@ -140,7 +140,7 @@ pub fn qualified_in(
     word: &[u8],
 ) -> Result<Found, OutOfMemory>
     requires noted { Notes names.now graph.now.facts }
-    requires below { IsGraphBelow (length types.now) graph.now }
+    requires fitted { Fitted graph.now types.now }
     requires plain { ArePlain graph.now.facts }
     ensures { IfOk result (λ found. qualified_from (graph_at types.now graph.now) (wanted_at wanted) space (spelled word.now) (length (facts_at types.now graph.now.facts)) ≡ Ok found) }
 {
@@ -159,7 +159,7 @@ pub fn brought(
     word: &[u8],
 ) -> Result<Found, OutOfMemory>
     requires noted { Notes names.now graph.now.facts }
-    requires below { IsGraphBelow (length types.now) graph.now }
+    requires fitted { Fitted graph.now types.now }
     requires plain { ArePlain graph.now.facts }
     ensures { IfOk result (λ found. brought_from (graph_at types.now graph.now) space (spelled word.now) (length (facts_at types.now graph.now.facts)) ≡ Ok found) }
 {
@@ -177,7 +177,7 @@ pub fn found_by_types(
     word: &[u8],
 ) -> Result<FactList, OutOfMemory>
     requires noted { Notes names.now graph.now.facts }
-    requires below { IsGraphBelow (length types.now) graph.now }
+    requires fitted { Fitted graph.now types.now }
     requires plain { ArePlain graph.now.facts }
     requires of { AreTypesBelow (length types.now) of.now }
     ensures { IfOk result (AreFoundBy (graph_at types.now graph.now) (given types.now of.now) (spelled word.now)) }

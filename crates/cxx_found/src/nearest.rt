@@ -1,12 +1,13 @@
-//! What is found in one scope.
+//! What is found in one scope that is no class's.
 
-ghost use Rattle.std.specs.Prelude.{◌≡◌, ℕ, [], ◌∷◌, List, Ok, is_none, length, map, option_map, IfOk, OnOk};
+ghost use Rattle.std.specs.Prelude.{◌≡◌, ℕ, [], ◌∷◌, List, None, Ok, is_none, length, map, option_map, IfOk, OnOk};
 ghost use Rattle.cxx_model.specs.Facts.Declarations.{CxxGraph};
 ghost use Rattle.cxx_model.specs.Types.Trees.{CxxType};
+ghost use Rattle.cxx_meaning.specs.Lookups.Member.{class_of_scope};
 ghost use Rattle.cxx_meaning.specs.Lookups.Ordinary.{found_in_scope, found_in_sightings, sightings_at, standing_if, standing_shown};
 ghost use Rattle.cxx_members.specs.Sighted.{Adds, AreBelow, sighting_at};
 ghost use Rattle.cxx_found.specs.Rows.{sighted_in};
-ghost use Rattle.cxx_found.specs.Views.{IsNearBelow, IsSeeking, cut_of, found_near, graph_of, name_of, or_nothing, shown_of, types_of, wanted_of};
+ghost use Rattle.cxx_found.specs.Views.{IsNearBelow, IsSeeking, cut_of, facts_of, found_near, graph_of, name_of, or_nothing, shown_of, types_of, wanted_of};
 
 use crate::seeking::Seeking;
 use crate::shown::Shown;
@@ -75,9 +76,10 @@ impl Seeking<'_> {
         }
     }
 
-    // What is found in a scope in which no other namespace shows.
+    // What is found in a scope that is no class's, in which no other namespace shows.
     fn own(&self, scope: ScopeId) -> Result<Nearest, AllocError>
-        requires { IsSeeking self.now }
+        requires seeking { IsSeeking self.now }
+        requires none { class_of_scope (facts_of self.now) scope ≡ None }
         ensures is { IfOk result (λ near. found_in_scope (graph_of self.now) (wanted_of self.now) (name_of self.now) (cut_of self.now) [] scope ≡ Ok (found_near (types_of self.now) (graph_of self.now) near)) }
         ensures below { IfOk result (IsNearBelow (length (types_of self.now))) }
     {
@@ -133,9 +135,10 @@ impl Seeking<'_> {
         self.add_shown_standing(shown, scope, found)
     }
 
-    // What is found in a scope, of itself and by what shows there.
+    // What is found in a scope that is no class's, of itself and by what shows there.
     fn with_shown(&self, shown: &[Shown], scope: ScopeId) -> Result<Nearest, AllocError>
-        requires { IsSeeking self.now }
+        requires seeking { IsSeeking self.now }
+        requires none { class_of_scope (facts_of self.now) scope ≡ None }
         ensures is { IfOk result (λ near. found_in_scope (graph_of self.now) (wanted_of self.now) (name_of self.now) (cut_of self.now) (map shown_of shown.now) scope ≡ Ok (found_near (types_of self.now) (graph_of self.now) near)) }
         ensures below { IfOk result (IsNearBelow (length (types_of self.now))) }
     {
@@ -144,9 +147,10 @@ impl Seeking<'_> {
         Ok(self.nearest_of(found))
     }
 
-    /// What is found in a scope, of itself and by what shows there.
-    pub fn at(&self, shown: &[Shown], scope: ScopeId) -> Result<Nearest, AllocError>
-        requires { IsSeeking self.now }
+    /// What is found in a scope that is no class's, of itself and by what shows there.
+    pub fn declared_at(&self, shown: &[Shown], scope: ScopeId) -> Result<Nearest, AllocError>
+        requires seeking { IsSeeking self.now }
+        requires none { class_of_scope (facts_of self.now) scope ≡ None }
         ensures is { IfOk result (λ near. found_in_scope (graph_of self.now) (wanted_of self.now) (name_of self.now) (cut_of self.now) (map shown_of shown.now) scope ≡ Ok (found_near (types_of self.now) (graph_of self.now) near)) }
         ensures below { IfOk result (IsNearBelow (length (types_of self.now))) }
     {

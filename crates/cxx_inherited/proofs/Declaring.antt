@@ -14,11 +14,11 @@ use Rattle.cxx_meaning.specs.Lookups.Sightings.{Sighting as SightingMeant, is_na
 use Rattle.cxx_meaning.specs.Lookups.Wanted.{Wanted}
 use Rattle.cxx_members.specs.declared.sightings.Sighting.{Sighting}
 use Rattle.cxx_members.specs.Sighted.{Adds, sighting_at}
+use Rattle.cxx_names.specs.Holders.{held_from}
 use Rattle.cxx_names.specs.Index.{numbers_in, of_class}
 use Rattle.cxx_reading.specs.Seen.{Numbered, declared_from, declared_in, declares_in}
 use Rattle.cxx_inherited.specs.Rows.{declared_in_any, declares_in_any, is_sighted, passing, row_of, rows_after, sighted, sighted_in}
-use Rattle.cxx_inherited.specs.Scopes.{filed_from}
-use Rattle.cxx_inherited.proofs.Filing.{of_class_is}
+use Rattle.cxx_inherited.proofs.Holding.{of_class_is}
 
 -- ---- growing
 
@@ -161,10 +161,10 @@ member_gathered graph wanted name class test same k (fact ∷ facts) at =
     by false rest = rest
 
 -- 10.2: the declarations of a name in a class
-pub members_are : (types : List CxxType) (graph : Graph) (wanted : Wanted) (name : CxxName) (class : ClassId) → sighted_in (graph_at types graph) wanted (declared_in_any (graph_at types graph) (of_class class (filed_from 0 graph.facts)) name) ≡ members_in (graph_at types graph) wanted name class
+pub members_are : (types : List CxxType) (graph : Graph) (wanted : Wanted) (name : CxxName) (class : ClassId) → sighted_in (graph_at types graph) wanted (declared_in_any (graph_at types graph) (of_class class (held_from 0 graph.facts)) name) ≡ members_in (graph_at types graph) wanted name class
 unfolding members_in declared_in_any
 members_are types graph wanted name class =
-    sym (member_gathered (graph_at types graph) wanted name class (declares_in_any (of_class class (filed_from 0 graph.facts)) name) (λ fact. ap (λ t. is_named name fact && t) (of_class_is types graph.facts class (record { 0 = fact.scope })) ∙ any_with (is_named name fact) (λ one. nat_eq fact.scope one.0) (of_class class (filed_from 0 graph.facts))) zero (facts_at types graph.facts) (λ m. (let e : zero + m ≡ m = omega arith in ap (slice_get (facts_at types graph.facts)) e)))
+    sym (member_gathered (graph_at types graph) wanted name class (declares_in_any (of_class class (held_from 0 graph.facts)) name) (λ fact. ap (λ t. is_named name fact && t) (of_class_is types graph.facts class (record { 0 = fact.scope })) ∙ any_with (is_named name fact) (λ one. nat_eq fact.scope one.0) (of_class class (held_from 0 graph.facts))) zero (facts_at types graph.facts) (λ m. (let e : zero + m ≡ m = omega arith in ap (slice_get (facts_at types graph.facts)) e)))
 
 -- ---- whether there is one
 
@@ -217,10 +217,10 @@ any_row graph name good [] = sym (ap (list_any good) (passing_none zero graph.fa
 any_row graph name good (scope ∷ scopes) = ap (λ b. list_any good (passing (declares_in scope.0 name) zero graph.facts) || b) (any_row graph name good scopes) ∙ sym (any_either good (declares_in scope.0 name) (declares_in_any scopes name) zero graph.facts)
 
 -- 10.2: whether a class itself declares a name
-pub declares_is : (types : List CxxType) (graph : Graph) (wanted : Wanted) (name : CxxName) (class : ClassId) → list_any (λ scope. list_any (is_sighted (graph_at types graph) wanted) (row_of (graph_at types graph) name scope)) (of_class class (filed_from 0 graph.facts)) ≡ declares_member (graph_at types graph) wanted name class
+pub declares_is : (types : List CxxType) (graph : Graph) (wanted : Wanted) (name : CxxName) (class : ClassId) → list_any (λ scope. list_any (is_sighted (graph_at types graph) wanted) (row_of (graph_at types graph) name scope)) (of_class class (held_from 0 graph.facts)) ≡ declares_member (graph_at types graph) wanted name class
 unfolding declares_member
 declares_is types graph wanted name class =
-    any_row (graph_at types graph) name (is_sighted (graph_at types graph) wanted) (of_class class (filed_from 0 graph.facts)) ∙ (some_sighted (graph_at types graph) wanted (declared_in_any (graph_at types graph) (of_class class (filed_from 0 graph.facts)) name) ∙ ap (λ xs. not (is_nothing xs)) (members_are types graph wanted name class))
+    any_row (graph_at types graph) name (is_sighted (graph_at types graph) wanted) (of_class class (held_from 0 graph.facts)) ∙ (some_sighted (graph_at types graph) wanted (declared_in_any (graph_at types graph) (of_class class (held_from 0 graph.facts)) name) ∙ ap (λ xs. not (is_nothing xs)) (members_are types graph wanted name class))
 
 -- where there is one scope
 pub alone_is : (graph : CxxGraph) (name : CxxName) (scopes : List ScopeId) (d : ScopeId) → 1 ≤ length scopes → length scopes < 2 → row_of graph name (get_or scopes 0 d) ≡ declared_in_any graph scopes name

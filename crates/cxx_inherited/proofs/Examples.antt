@@ -11,9 +11,9 @@ use Rattle.cxx_model.specs.declared.types.ScopeId.{ScopeId}
 use Rattle.std.specs.Prelude.{None, Some}
 use Rattle.cxx_meaning.specs.Lookups.Member.{with_base}
 use Rattle.cxx_model.specs.Facts.Declarations.{facts_at}
+use Rattle.cxx_names.specs.Holders.{held_from, scopes_from}
 use Rattle.cxx_names.specs.Index.{of_class}
 use Rattle.cxx_inherited.specs.Paths.{paths_of}
-use Rattle.cxx_inherited.specs.Scopes.{filed_from, scopes_from}
 use Rattle.cxx_inherited.specs.Tables.{own_by, ways_by}
 use Rattle.std.specs.Prelude.{nat_eq, Bool}
 
@@ -33,7 +33,7 @@ base : ℕ → ℕ → ℕ → Fact
 base derived parent index = declared (entity.Ancestor (class derived) (class parent) index Public)
 
 -- 9.2: a class with two scopes, behind that of the unit
-two_scopes : of_class (class 1) (filed_from 0 (unit ∷ scope_of 1 ∷ scope_of 0 ∷ scope_of 1 ∷ [])) ≡ record { 0 = 1 } ∷ record { 0 = 3 } ∷ []
+two_scopes : of_class (class 1) (held_from 0 (unit ∷ scope_of 1 ∷ scope_of 0 ∷ scope_of 1 ∷ [])) ≡ record { 0 = 1 } ∷ record { 0 = 3 } ∷ []
 unfolding class declared unit scope_of
 two_scopes = refl
 

@@ -1,7 +1,7 @@
 pub mod Awaiting
 pub mod Declaring
 mod Examples
-pub mod Filing
+pub mod Holding
 pub mod Joining
 pub mod Keeping
 pub mod Leading

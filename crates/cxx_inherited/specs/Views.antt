@@ -7,17 +7,14 @@ use Rattle.cxx_model.specs.Facts.Fitted.{IsGraphBelow}
 use Rattle.cxx_model.specs.Types.Trees.{CxxType}
 use Rattle.cxx_meaning.specs.Lookups.Wanted.{Wanted}
 use Rattle.cxx_members.specs.Views.{wanted_at}
-use Rattle.cxx_names.specs.Index.{Notes as NotesNames}
+use Rattle.cxx_names.specs.Holders.{held_from}
+use Rattle.cxx_names.specs.Index.{Notes, of_class}
 use Rattle.cxx_names.specs.Words.{IsMetAs}
-use Rattle.cxx_names.specs.Index.{of_class}
-use Rattle.cxx_inherited.specs.Scopes.{Notes, filed_from}
 use Rattle.cxx_inherited.specs.declared.seeking.Seeking.{Seeking}
 
--- Both indexes are those of the graph, each type that the graph names stands in the table, and what is known of the word is
--- so.
+-- The index is that of the graph, each type that the graph names stands in the table, and what is known of the word is so.
 pub record IsSeeking (seeking : Seeking) : Type 0 where
-  pub noted : NotesNames seeking.names.now seeking.looking.graph.now.facts
-  pub classes : Notes seeking.classes.now seeking.looking.graph.now.facts
+  pub noted : Notes seeking.names.now seeking.looking.graph.now.facts
   pub below : IsGraphBelow (length seeking.looking.types.now) seeking.looking.graph.now
   pub met : IsMetAs seeking.names.now.words seeking.word.now seeking.met
 
@@ -38,4 +35,4 @@ name_of seeking = spelled seeking.word.now
 
 -- the scopes of a class, in order
 abbrev pub scopes_of_class : Seeking → ClassId → List ScopeId
-scopes_of_class seeking class = of_class class (filed_from 0 seeking.looking.graph.now.facts)
+scopes_of_class seeking class = of_class class (held_from 0 seeking.looking.graph.now.facts)

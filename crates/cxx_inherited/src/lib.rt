@@ -4,11 +4,9 @@
 
 mod bases;
 mod declared;
-mod filed;
 mod lookup;
 mod paths;
 mod rows;
-mod scopes;
 mod seeking;
 mod table;
 mod ways;
@@ -16,4 +14,3 @@ mod ways;
 pub use cxx_members::Wanted;
 pub use cxx_model::{Hit, MemberFound};
 pub use lookup::member;
-pub use scopes::ClassScopes;

@@ -11,13 +11,11 @@ ghost use Rattle.cxx_meaning.specs.Lookups.Wanted.{is_nonstatic as is_one_nonsta
 ghost use Rattle.cxx_members.specs.Answers.{Answers, member_of_three};
 ghost use Rattle.cxx_members.specs.Sighted.{AreBelow, sighting_at};
 ghost use Rattle.cxx_members.specs.Views.{wanted_at};
-ghost use Rattle.cxx_names.specs.Index.{Notes as NotesNames};
-ghost use Rattle.cxx_inherited.specs.Scopes.{Notes};
+ghost use Rattle.cxx_names.specs.Index.{Notes};
 ghost use Rattle.cxx_inherited.specs.Tables.{IsSound};
 ghost use Rattle.cxx_inherited.specs.Views.{IsSeeking, graph_of, name_of, types_of, wanted_of};
 ghost use Rattle.cxx_inherited.specs.Ways.{AreKnown, IsWayKnown, three_at, way_at};
 
-use crate::scopes::ClassScopes;
 use crate::seeking::Seeking;
 use crate::table::Table;
 use crate::ways::{Three, Way};
@@ -282,7 +280,6 @@ impl Seeking<'_> {
 /// the class and in its bases take, and each base once, however many paths lead to it.
 pub fn member(
     alloc: Global,
-    classes: &ClassScopes,
     names: &Names,
     graph: &Graph,
     types: &TypeTable,
@@ -290,8 +287,7 @@ pub fn member(
     class: ClassId,
     word: &[u8],
 ) -> Result<MemberFound, Wait>
-    requires classes { Notes classes.now graph.now.facts }
-    requires names { NotesNames names.now graph.now.facts }
+    requires noted { Notes names.now graph.now.facts }
     requires fitted { Fitted graph.now types.now }
     ensures { Answers result (member_named (graph_at types.now graph.now) (wanted_at wanted) class (spelled word.now)) }
 {
@@ -303,7 +299,6 @@ pub fn member(
             scopes: &[],
         },
         names,
-        classes,
         wanted,
         word,
         met: names.met_as(word),

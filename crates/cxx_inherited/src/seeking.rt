@@ -1,5 +1,4 @@
-//! What a lookup reads: the facts of a graph, the indexes of their names and of the scopes of classes, and the table of their
-//! types.
+//! What a lookup reads: the facts of a graph, the index of their names, and the table of their types.
 
 ghost use Rattle.std.specs.Prelude.{◌≡◌, length, option_map, IfSome};
 ghost use Rattle.std.specs.List.{slice_get};
@@ -11,7 +10,6 @@ ghost use Rattle.cxx_members.specs.Sighted.{sighting_at};
 ghost use Rattle.cxx_inherited.specs.Rows.{is_sighted, row_of, sighted};
 ghost use Rattle.cxx_inherited.specs.Views.{IsSeeking, facts_of, graph_of, name_of, scopes_of_class, types_of, wanted_of};
 
-use crate::scopes::ClassScopes;
 use cxx_graph::Graph;
 use cxx_members::{Looking, Sighting, Wanted};
 use cxx_model::{ClassId, Entity, Fact, FactId, ScopeId};
@@ -22,7 +20,6 @@ use cxx_names::{MetWord, Names};
 pub(crate) struct Seeking<'a> {
     pub looking: Looking<'a>,
     pub names: &'a Names,
-    pub classes: &'a ClassScopes,
     pub wanted: Wanted,
     pub word: &'a [u8],
     /// What the word is among the names that were met.
@@ -109,6 +106,6 @@ impl Seeking<'_> {
         requires { IsSeeking self.now }
         ensures { result.now ≡ scopes_of_class self.now class }
     {
-        self.classes.row(class)
+        self.names.scopes_of_class(self.looking.graph, class)
     }
 }

@@ -5,7 +5,7 @@ ghost use Rattle.cxx_knot.specs.Knot.{Follows, Nests, asking_by};
 ghost use Rattle.cxx_knot.specs.Readers.{both, both_by, here, too_deep as too_deep_readers};
 ghost use Rattle.cxx_phrases.specs.Initializers.{expression_at, initializer_at};
 ghost use Rattle.cxx_phrases.specs.Views.{IsInitializer, initializer_of};
-ghost use Rattle.cxx_reading.specs.Specifiers.{specifiers_at};
+ghost use Rattle.cxx_reading.specs.Specifiers.{specifiers_from};
 ghost use Rattle.cxx_reading.specs.Syntax.{declarator_at};
 ghost use Rattle.cxx_cursor.specs.Asking.{AnyKnown, IsTreeKnown, itself};
 ghost use Rattle.cxx_cursor.specs.Reading.{IsRead};
@@ -129,17 +129,19 @@ pub(crate) fn read<K: Asking>(
     opened(&behind, state, cursor, what)
 }
 
-/// The specifiers of a declaration (7.1), with room for so many brackets and operators inside one another. A limit is that
-/// of nesting, that of parameters or that of arguments, or one of the user's.
+/// The specifiers of a declaration behind those that were read (7.1), with room for so many brackets and operators inside one
+/// another. A limit is that of nesting, that of parameters or that of arguments, or one of the user's.
 pub fn read_specifiers<K: Asking>(
     kinds: &K,
     state: &mut State,
     cursor: &mut Cursor<'_>,
     place: SpecifierPlace,
+    so_far: Specifiers,
     room: u32,
 ) -> Result<Specifiers, Stop>
-    requires { K.is_ready kinds.now }
-    ensures { IsRead specifiers_of AreSpecifiers state.old state.new cursor.new result (specifiers_at (K.asks kinds.now room) (both (asking_by K.asks K.wholes K.offers kinds.now) room).types place (meaning state.old) cursor.old) }
+    requires known { AreSpecifiers state.old so_far }
+    requires ready { K.is_ready kinds.now }
+    ensures { IsRead specifiers_of AreSpecifiers state.old state.new cursor.new result (specifiers_from (K.asks kinds.now room) (both (asking_by K.asks K.wholes K.offers kinds.now) room).types place (specifiers_of state.old so_far) (meaning state.old) cursor.old) }
 {
     let behind = Behind {
         kinds,
@@ -151,7 +153,7 @@ pub fn read_specifiers<K: Asking>(
         room,
         nested: &behind,
     };
-    reader.specifiers_at(state, cursor, place)
+    reader.specifiers_from(state, cursor, place, so_far)
 }
 
 /// A declarator (8), with room for so many brackets and operators inside one another. A limit is that of nesting, that of

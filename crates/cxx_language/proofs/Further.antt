@@ -74,4 +74,4 @@ known_range graph fact word of value first spells (Some other) at e =
 pub known_ready : (held : Held) (place : Place) (word : List ℕ) (of : TypeId) (value : Option ℤ) (first : FactId) (fact : Fact) → fact ≡ made held.scope place (name.Spelled word) (entity.Object of Free false value (Some first)) → held.scope.0 < scopes held.graph.facts → of.0 < length held.types → names_object word (slice_get held.graph.facts first.0) ≡ true → IsReady held fact
 known_ready held place word of value first fact is there below named =
     let whole : Fact = made held.scope place (name.Spelled word) (known_entity of value first) in
-    subst (λ (f : Fact). IsReady held f) (sym is) (record { follows = may_follow held.graph whole there (known_range held.graph whole word of value first refl (slice_get held.graph.facts first.0) refl named); below = record { name = tt; what = below }; plain = record { name = tt; what = refl } })
+    subst (λ (f : Fact). IsReady held f) (sym is) (record { follows = may_follow held.graph whole there (known_range held.graph whole word of value first refl (slice_get held.graph.facts first.0) refl named); below = record { name = tt; what = below }; plain = record { name = tt; what = tt } })

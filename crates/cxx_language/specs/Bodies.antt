@@ -5,7 +5,7 @@ use Rattle.cxx_model.specs.declared.fault.FaultText.TheVariants as says
 use Rattle.cxx_model.specs.declared.place.Place.{Place}
 use Rattle.cxx_model.specs.declared.stop.LimitKind.TheVariants.{Nesting}
 use Rattle.cxx_model.specs.Facts.Declarations as facts
-use Rattle.cxx_model.specs.Facts.Declarations.{CxxFact, Declares}
+use Rattle.cxx_model.specs.Facts.Declarations.{CxxFact, CxxGraph, Declares}
 use Rattle.cxx_model.specs.Text.Lexemes.{Lexeme}
 use Rattle.cxx_model.specs.Types.Trees.{CxxType, fundamental, function_of}
 use Rattle.cxx_reading.specs.Declaring.{begin_body, define_declared, end_body}
@@ -43,16 +43,16 @@ statements_within (suc room) list number result = do
   give statements
 
 -- 9.2: the place of the first parameter in a list whose class is incomplete
-abbrev pub is_incomplete_object : Declares → Bool
-is_incomplete_object (facts.object of kind is_mutable value first) = is_incomplete of
-is_incomplete_object _ = false
+abbrev pub is_incomplete_object : CxxGraph → Declares → Bool
+is_incomplete_object graph (facts.object of kind is_mutable value first) = is_incomplete graph of
+is_incomplete_object graph _ = false
 
-abbrev pub is_incomplete_in : ℕ → CxxFact → Bool
-is_incomplete_in list fact = nat_eq fact.scope list && is_incomplete_object fact.what
+abbrev pub is_incomplete_in : CxxGraph → ℕ → CxxFact → Bool
+is_incomplete_in graph list fact = nat_eq fact.scope list && is_incomplete_object graph fact.what
 
-abbrev pub incomplete_among : ℕ → List CxxFact → Option Place
-incomplete_among list [] = None
-incomplete_among list (fact ∷ others) = if is_incomplete_in list fact then Some fact.place else incomplete_among list others
+abbrev pub incomplete_among : CxxGraph → ℕ → List CxxFact → Option Place
+incomplete_among graph list [] = None
+incomplete_among graph list (fact ∷ others) = if is_incomplete_in graph list fact then Some fact.place else incomplete_among graph list others
 
 abbrev pub whole_by : Option Place → Reads CxxState (Unit {0})
 whole_by None = give tt
@@ -61,8 +61,8 @@ whole_by (Some place) = fault_at place says.IncompleteClass
 -- 8.3.5: what a function that is defined returns, and its parameters, are of complete types
 unfoldable pub complete_head : Lexeme → CxxType → ℕ → Reads CxxState (Unit {0})
 complete_head name of list state ahead =
-    if is_incomplete (result_of of) then fault_at name.place says.IncompleteClass state ahead else
-    whole_by (incomplete_among list state.graph.facts) state ahead
+    if is_incomplete state.graph (result_of of) then fault_at name.place says.IncompleteClass state ahead else
+    whole_by (incomplete_among state.graph list state.graph.facts) state ahead
 
 -- 3.2: A function is defined once. Its body stands for the block that it is, by the declaration of its scope.
 unfoldable pub function_body : ℕ → Lexeme → CxxType → ℕ → ℕ → Reads CxxState CxxTree

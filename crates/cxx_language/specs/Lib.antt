@@ -11,5 +11,6 @@ pub mod Spaces
 pub mod Blocks
 pub mod Statements
 pub mod Bodies
+pub mod Classes
 pub mod Units
 pub mod Views

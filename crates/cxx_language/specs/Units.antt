@@ -11,13 +11,11 @@ use Rattle.cxx_model.specs.Stops.{Answer}
 use Rattle.cxx_model.specs.Text.Lexemes.{Lexeme, first_place}
 use Rattle.cxx_model.specs.Types.Trees.{CxxType}
 use Rattle.cxx_reading.specs.declared.specifier.Naming.TheVariants as naming
-use Rattle.cxx_reading.specs.declared.specifier.SpecifierPlace.TheVariants as where_
 use Rattle.cxx_reading.specs.Declarators.{Specifiers, Declarator, declared_type, is_function_type, own_parameters}
 use Rattle.cxx_reading.specs.Labels.{label_from}
 use Rattle.cxx_reading.specs.Members.{agree_here, stand_in}
 use Rattle.cxx_reading.specs.Productions as production
 use Rattle.cxx_reading.specs.Reads.{Reads, Ahead, Turn, More, Done, ◌>>=◌, got, give, ask, fault_at, limited, looked, kind_ahead, place_ahead, count_ahead, behind, repeat}
-use Rattle.cxx_reading.specs.Specifiers.{specifiers_at}
 use Rattle.cxx_reading.specs.State.{CxxState, first_state}
 use Rattle.cxx_reading.specs.Syntax.{declarator_at}
 use Rattle.cxx_reading.specs.Tokens.{is_punct, is_keyword, is_end, no_declaration, refused}
@@ -27,6 +25,7 @@ use Rattle.cxx_declare.specs.Functions.{declare_function}
 use Rattle.cxx_statements.specs.Productions as statement
 use Rattle.cxx_language.specs.Asked.{asked, inner_at}
 use Rattle.cxx_language.specs.Bodies.{function_body, standing}
+use Rattle.cxx_language.specs.Classes.{declaration_specifiers}
 use Rattle.cxx_language.specs.Made.{defined_object, extern_object}
 use Rattle.cxx_language.specs.Spaces.{namespace_at, using_at}
 
@@ -122,7 +121,7 @@ declaration_tree specifiers declarators from to =
 unfoldable pub simple_declaration_at : ℕ → Bool → Reads CxxState CxxTree
 simple_declaration_at room counts_as_extern = do
   from ← looked
-  specifiers ← specifiers_at (asked room).kinds (inner_at room).types where_.Declaration
+  specifiers ← declaration_specifiers room
   between ← looked
   declarators ← declarators_of room counts_as_extern specifiers
   to ← looked

@@ -10,7 +10,7 @@ ghost use Rattle.cxx_units.specs.Said.{IsDeclared, IsListed, IsListedTurn, IsSai
 
 use crate::declares::{Declares, Reader};
 use crate::spaces::{local_alias_at, using_at};
-use cxx_cursor::{Cursor, Declarator, Specifiers, Turn, is_keyword, is_punct};
+use cxx_cursor::{Cursor, Declarator, Specifiers, Turn, is_keyword, is_punct, no_specifiers_yet};
 use cxx_model::{Stop, TreeId, TreeIdList, TypeId, keyword, punct};
 use cxx_reading::{Naming, SpecifierPlace};
 use cxx_syntax::declared;
@@ -145,9 +145,10 @@ impl<D: Declares> Reader<'_, D> {
         ensures { IsRead tree IsTreeKnown state.old state.new cursor.new result (definition.simple_local_at self.now.room (meaning state.old) cursor.old) }
     {
         let from = cursor.mark();
+        let none = no_specifiers_yet(cursor.alloc());
         let specifiers = self
             .declares
-            .specifiers(state, cursor, SpecifierPlace::Block, self.room)?;
+            .specifiers(state, cursor, SpecifierPlace::Block, none, self.room)?;
         let between = cursor.mark();
         let declarators = self.local_declarators_of(state, cursor, &specifiers)?;
         declaration_tree(state, specifiers, declarators, &from, &between, cursor)

@@ -19,7 +19,9 @@ ghost use Rattle.cxx_units.specs.Said.{IsDeclared, IsSaid, said_of};
 
 use crate::declares::{Declares, Reader};
 use crate::initializers::initializer_node;
-use cxx_cursor::{Cursor, Declarator, NameToken, Specifiers, joined, node_from, push};
+use cxx_cursor::{
+    Cursor, Declarator, NameToken, Specifiers, joined, no_specifiers_yet, node_from, push,
+};
 use cxx_expr::operands::referred;
 use cxx_model::{ConstantKind, FactId, Listed, Operand, Place, Stop, TreeId, TreeIdList, TypeId};
 use cxx_reading::{Naming, SpecifierPlace};
@@ -287,9 +289,10 @@ impl<D: Declares> Reader<'_, D> {
         ensures { IsRead tree IsTreeKnown state.old state.new cursor.new result (definition.declared_condition_at self.now.room (meaning state.old) cursor.old) }
     {
         let from = cursor.mark();
+        let none = no_specifiers_yet(cursor.alloc());
         let specifiers = self
             .declares
-            .specifiers(state, cursor, SpecifierPlace::TypeId, self.room)?;
+            .specifiers(state, cursor, SpecifierPlace::TypeId, none, self.room)?;
         let between = cursor.mark();
         let said = said_by(state, false, &specifiers)?;
         let declarator = self.tested_declarator_at(state, cursor, said)?;

@@ -14,7 +14,7 @@ ghost use Rattle.cxx_phrases.specs.Views.{IsInitializer, initializer_of};
 ghost use Rattle.cxx_reading.specs.Declaring as definition;
 ghost use Rattle.cxx_reading.specs.Members as members;
 ghost use Rattle.cxx_reading.specs.Spaces as spaces;
-ghost use Rattle.cxx_reading.specs.Specifiers.{specifiers_at};
+ghost use Rattle.cxx_reading.specs.Specifiers.{specifiers_from};
 ghost use Rattle.cxx_reading.specs.Syntax.{declarator_at};
 ghost use Rattle.cxx_reading.specs.Usings as usings;
 ghost use Rattle.cxx_cursor.specs.Asking.{AnyKnown, IsAsked, IsTreeKnown, itself, scope_number};
@@ -33,15 +33,17 @@ use cxx_tree::State;
 /// Who reads specifiers, declarators and initializers, declares names, and says what expressions mean and what their values
 /// are. What a reader takes is room for so many brackets inside one another.
 pub trait Declares {
-    /// The specifiers of a declaration (7.1), by where it stands.
+    /// The specifiers of a declaration behind those that were read (7.1), by where it stands.
     fn specifiers(
         &self,
         state: &mut State,
         cursor: &mut Cursor<'_>,
         place: SpecifierPlace,
+        so_far: Specifiers,
         room: u32,
     ) -> Result<Specifiers, Stop>
-        ensures { IsRead specifiers_of AreSpecifiers state.old state.new cursor.new result (specifiers_at (asked room).kinds (inner_at room).types place (meaning state.old) cursor.old) };
+        requires { AreSpecifiers state.old so_far }
+        ensures { IsRead specifiers_of AreSpecifiers state.old state.new cursor.new result (specifiers_from (asked room).kinds (inner_at room).types place (specifiers_of state.old so_far) (meaning state.old) cursor.old) };
 
     /// A declarator (8), by which names it may have.
     fn declarator(

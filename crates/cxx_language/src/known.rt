@@ -216,6 +216,7 @@ fn known_fact(
     Ok(fact)
 }
 
+#[tactic(auto, using(cxx_names::proofs::Plain::plain_fact))]
 fn add(state: &mut State, fact: Fact) -> Result<(), Stop>
     requires { IsReady state.old fact }
     ensures { IsAsked itself AnyKnown state.old state.new result (told_added (fact_at (state.old).types fact) (meaning state.old)) }

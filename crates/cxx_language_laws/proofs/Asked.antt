@@ -64,7 +64,7 @@ elaborated_found_tells : (state : CxxState) (ahead : Ahead) → begins_name ahea
     → ToldBy IsLater Told state ahead (elaborated_found (last_ahead ahead) x state)
 elaborated_found_tells state ahead begins whole where_ means (sought.Ambiguous one two) is = tells_refusal _ (twofold_ahead types_only tt state ahead begins whole where_ means one two is)
 elaborated_found_tells state ahead begins whole where_ means sought.Empty is = elaborated_by_tells state ahead (last_ahead ahead) [] (nothing_ahead types_only tt state ahead begins whole where_ means sought.Empty is tt) (enumeration_in [])
-elaborated_found_tells state ahead begins whole where_ means (sought.Member class found) is = elaborated_by_tells state ahead (last_ahead ahead) [] (nothing_ahead types_only tt state ahead begins whole where_ means (sought.Member class found) is tt) (enumeration_in [])
+elaborated_found_tells state ahead begins whole where_ means (sought.Member class found) is = elaborated_by_tells state ahead (last_ahead ahead) (set_in state.graph (sought.Member class found)) (nothing_ahead types_only tt state ahead begins whole where_ means (sought.Member class found) is tt) (enumeration_in (set_in state.graph (sought.Member class found)))
 elaborated_found_tells state ahead begins whole where_ means (sought.Set all) is = elaborated_by_tells state ahead (last_ahead ahead) (set_in state.graph (sought.Set all)) (nothing_ahead types_only tt state ahead begins whole where_ means (sought.Set all) is tt) (enumeration_in (set_in state.graph (sought.Set all)))
 
 elaborated_tells : (state : CxxState) (ahead : Ahead) → begins_name ahead ≡ true → is_whole_name ahead ≡ true → ToldBy IsLater Told state ahead (elaborated_here (path_ahead ahead) state)

@@ -9,12 +9,11 @@ use Rattle.cxx_model.specs.declared.types.ScopeId.{ScopeId}
 use Rattle.cxx_model.specs.Facts.Conflicts.{scope_facts}
 use Rattle.cxx_model.specs.Facts.Declarations.{CxxFact}
 use Rattle.cxx_model.specs.Stops.{Answer, Limited, ◌>>=◌, undeclared_at}
-use Rattle.cxx_model.specs.Types.Same.{same_bool}
 use Rattle.cxx_model.proofs.Champion.{first_or_later}
 use Rattle.cxx_meaning.specs.Lookups.Scopes.{chain, kind_of, parent_of as parent_in, up}
 use Rattle.cxx_meaning.specs.Lookups.Wanted.{types_only}
 use Rattle.cxx_reading.specs.declared.region.Region.{Region}
-use Rattle.cxx_reading.specs.Classes.{ClassNamed, class_as, class_count, class_fact, class_found, class_here, class_missing, class_named, class_seen, declare_again, declare_by, declare_class, declare_new, first_class, first_open, is_open, open_of, reserved, scope_or_unit, with_class}
+use Rattle.cxx_reading.specs.Classes.{ClassNamed, class_as, class_count, class_fact, class_found, class_here, class_missing, class_named, class_seen, declare_again, declare_by, declare_class, declare_new, first_class, first_open, is_of_key, is_open, open_of, reserved, scope_or_unit, with_class}
 use Rattle.cxx_reading.specs.Declaring.{declare, most_facts}
 use Rattle.cxx_reading.specs.Linked.{scope_id}
 use Rattle.cxx_reading.specs.Paths.{name_in, region_of, sought_in}
@@ -69,7 +68,7 @@ unfolding open_of
 open_within state is = open_below state.graph.facts (scope_id state.here.scope) is.held is.within
 
 -- a scope that there is stays one
-still_within : (s t : CxxState) (scope : ℕ) → IsGrown s t → scope < length (scope_facts s.graph.facts) → scope < length (scope_facts t.graph.facts)
+pub still_within : (s t : CxxState) (scope : ℕ) → IsGrown s t → scope < length (scope_facts s.graph.facts) → scope < length (scope_facts t.graph.facts)
 still_within s t scope grown there =
     let more = ap (λ (fs : List CxxFact). length fs) (scopes_beside s.graph.facts grown.own) in
     let count = length-append (scope_facts s.graph.facts) (scope_facts grown.own) in
@@ -78,9 +77,9 @@ still_within s t scope grown there =
 -- ---- a class is declared
 
 reserved_later : (state : CxxState) → IsLater state (with_class state)
-reserved_later state = later_by state (with_class state) (record { own = []; reserved = None ∷ []; declared = sym (append-nil state.graph.facts); classes = refl; patterns = refl }) (λ is. record { within = is.within; held = is.held; sound = is.sound; opened = is.opened; unnamed = is.unnamed }) refl refl
+reserved_later state = later_by state (with_class state) (record { own = []; reserved = None ∷ []; declared = sym (append-nil state.graph.facts); classes = refl; patterns = refl }) (λ is. record { within = is.within; held = is.held; sound = is.sound; opened = is.opened; unnamed = is.unnamed; unit = is.unit }) refl refl
 
-reserved_tells : (state : CxxState) (ahead : Ahead) → ToldBy IsLater Quietly state ahead (reserved state)
+pub reserved_tells : (state : CxxState) (ahead : Ahead) → ToldBy IsLater Quietly state ahead (reserved state)
 unfolding reserved
 reserved_tells state ahead = if_by (nat_eq (length state.graph.facts + length state.graph.classes) most_facts) (tells_refusal (Limited Facts) refl) (tells_answer (class_count state.graph, with_class state) (reserved_later state))
 
@@ -114,13 +113,13 @@ missing_tells path is_union state ahead unknown = if_by (is_plain_path path) (ca
 seen_tells : (path : CxxPath) (is_union : Bool) (state : CxxState) (ahead : Ahead) (all : List Numbered) → (all ≡ [] → Told state ahead (undeclared_at (last_part path.parts).place (last_part path.parts).word)) → (named : Option ClassNamed) → ToldBy IsLater Told state ahead (class_seen path is_union named (place_of_first all) state)
 seen_tells path is_union state ahead [] unknown named = missing_tells path is_union state ahead (unknown refl)
 seen_tells path is_union state ahead (one ∷ others) unknown None = quiet_by later_is_told refl
-seen_tells path is_union state ahead (one ∷ others) unknown (Some class) = if_by (same_bool class.is_union is_union) (same_by later_is_told _ state ahead) (quiet_by later_is_told refl)
+seen_tells path is_union state ahead (one ∷ others) unknown (Some class) = if_by (is_of_key class.is_union is_union) (same_by later_is_told _ state ahead) (quiet_by later_is_told refl)
 
 found_tells : (is_union : Bool) (state : CxxState) (ahead : Ahead) → begins_name ahead ≡ true → is_whole_name ahead ≡ true → (where_ : Region) → region_of state.graph state.here.scope (path_ahead ahead) ≡ Ok where_ → (x : Found) → sought_in state.graph types_only where_ (name_in (path_ahead ahead)) ≡ x
     → ToldBy IsLater Told state ahead (class_found (path_ahead ahead) is_union x state)
 found_tells is_union state ahead begins whole where_ means (sought.Ambiguous one two) is = tells_refusal _ (twofold_ahead types_only tt state ahead begins whole where_ means one two is)
 found_tells is_union state ahead begins whole where_ means sought.Empty is = seen_tells (path_ahead ahead) is_union state ahead [] (nothing_ahead types_only tt state ahead begins whole where_ means sought.Empty is tt) (first_class [])
-found_tells is_union state ahead begins whole where_ means (sought.Member class found) is = seen_tells (path_ahead ahead) is_union state ahead [] (nothing_ahead types_only tt state ahead begins whole where_ means (sought.Member class found) is tt) (first_class [])
+found_tells is_union state ahead begins whole where_ means (sought.Member class found) is = seen_tells (path_ahead ahead) is_union state ahead (set_in state.graph (sought.Member class found)) (nothing_ahead types_only tt state ahead begins whole where_ means (sought.Member class found) is tt) (first_class (set_in state.graph (sought.Member class found)))
 found_tells is_union state ahead begins whole where_ means (sought.Set all) is = seen_tells (path_ahead ahead) is_union state ahead (set_in state.graph (sought.Set all)) (nothing_ahead types_only tt state ahead begins whole where_ means (sought.Set all) is tt) (first_class (set_in state.graph (sought.Set all)))
 
 named_tells : (is_union : Bool) (state : CxxState) (ahead : Ahead) → begins_name ahead ≡ true → is_whole_name ahead ≡ true → ToldBy IsLater Told state ahead (class_named (path_ahead ahead) is_union state)

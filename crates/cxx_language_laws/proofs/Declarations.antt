@@ -10,7 +10,6 @@ use Rattle.cxx_model.specs.Stops.{Answer, Stopped, Limited}
 use Rattle.cxx_model.specs.Text.Lexemes.{Lexeme}
 use Rattle.cxx_model.specs.Types.Trees.{CxxType}
 use Rattle.cxx_reading.specs.declared.specifier.Naming.TheVariants as naming
-use Rattle.cxx_reading.specs.declared.specifier.SpecifierPlace.TheVariants as where_
 use Rattle.cxx_reading.specs.Declarators.{Declarator, declared_type, Specifiers, is_function_type, own_parameters}
 use Rattle.cxx_reading.specs.Declaring.{at_scope, begin_body, declare_object, define_object, define_declared, end_body, number_id, scope_count}
 use Rattle.cxx_reading.specs.Reads.{Ahead, Asks, Got, Reads, More, Done, ◌>>=◌, then_read, answered, ask, fault_at, taken, give, count_ahead, kind_ahead, place_ahead, behind}
@@ -31,11 +30,12 @@ use Rattle.cxx_language.specs.Objects.{begins_initializer}
 use Rattle.cxx_language.specs.Spaces.{behind_namespace, give_part, namespace_at, part_tree, space_opened, space_or_alias}
 use Rattle.cxx_language.specs.Statements.{parts_at}
 use Rattle.cxx_language.specs.Units.{Declares, alone, behind_list, declaration_at, declaration_by, declaration_tree, declarator_step, declarators_at, declarators_of, declared_by, declared_function, ended_behind, ended_by, function_ended, init_declarator_at, linkage_by, member_agrees, linkage_opened, linked_by, linked_one, not_ended, plain_declaration_at, simple_declaration_at}
-use Rattle.cxx_language_laws.specs.Stopping.{BeginsBody, Gives, Initializes, IsLinked, IsNoSpace, Leads, OpensSpace, Part, a_body, a_declaration, a_namespace, a_simple_declaration, alias_name, an_initializer, begins_body, by_definition, by_extern, declarator_of, in_alias, in_declaration, in_declarator, in_space, in_specifiers, next_declaration, opens_named, opens_unnamed, some_declarations, to_using, to_linked_using, to_linked_namespace, to_namespace, next_declarator, some_declarators, to_body, to_braces, to_declarators, to_initializer, to_linked, to_unlinked}
+use Rattle.cxx_language_laws.specs.Stopping.{BeginsBody, Gives, Initializes, IsLinked, IsNoSpace, Leads, OpensSpace, Part, a_body, a_declaration, a_namespace, a_simple_declaration, alias_name, an_initializer, begins_body, by_definition, by_extern, declarator_of, in_alias, in_declaration, in_declarator, in_space, next_declaration, opens_named, opens_unnamed, some_declarations, to_using, to_linked_using, to_linked_namespace, to_namespace, next_declarator, some_declarators, to_body, to_braces, to_declarators, to_initializer, to_linked, to_unlinked}
 use Rattle.cxx_language_laws.specs.Told.{EndsIn}
 use Rattle.cxx_language_laws.proofs.Begun.{Begun, Brings, HaveBegun, brings, brings_none, declarator_has_begun, own_has_begun}
+use Rattle.cxx_language_laws.proofs.ClassStops.{all_specifiers_stop}
 use Rattle.cxx_language_laws.proofs.Declared.{declared_synonym_tells, declarator_ended_tells, give_trees_tells, linkages_tell, linked_tree_tells, no_declaration_tells, nothing_tells, one_tree_tells}
-use Rattle.cxx_language_laws.proofs.DeclaratorsStop.{agrees_stops, defined_part_stops, extern_part_stops, fits_stops, member_stops, specifiers_stop, which_reads}
+use Rattle.cxx_language_laws.proofs.DeclaratorsStop.{agrees_stops, defined_part_stops, extern_part_stops, fits_stops, member_stops, which_reads}
 use Rattle.cxx_language_laws.proofs.Later.{IsLater, declared_is_there, defined_is_there, define_later_tells, define_tells, function_answer_tells, grown_later, grown_same, later_is_kept, same_calls, later_is_quiet, object_tells}
 use Rattle.cxx_language_laws.proofs.Opened.{InSpace, open_space_tells, open_unnamed_tells, space_closed}
 use Rattle.cxx_language_laws.proofs.Reached.{IsElsewhere, behind_by, behind_by_later, behind_later, count_more}
@@ -84,7 +84,7 @@ LeadsToBody part state ahead room name of number list between rest = (less : ℕ
 head_held : {kept : CxxState → CxxState → Type 0} → IsHeld kept → {B : Type 0} {part : Part} {state : CxxState} {ahead : Ahead} (name : Lexeme) (of : CxxType) (list : ℕ) (between : CxxState) (rest : Ahead) (go : Unit {0} → Reads CxxState B)
     → InsideBy kept part state ahead (go tt between rest) → InsideBy kept part state ahead (then_read (complete_head name of list between rest) go)
 unfolding complete_head
-head_held {kept = kept} held {part = part} {state = state} {ahead = ahead} name of list between rest go next = by (is_incomplete (result_of of)) (incomplete_among list between.graph.facts)
+head_held {kept = kept} held {part = part} {state = state} {ahead = ahead} name of list between rest go next = by (is_incomplete between.graph (result_of of)) (incomplete_among between.graph list between.graph.facts)
   where
     by : (b : Bool) (o : Option Place) → InsideBy kept part state ahead (then_read (if b then fault_at name.place says.IncompleteClass between rest else whole_by o between rest) go)
     by true o = quiet_held refl
@@ -258,7 +258,7 @@ declarators_of_stop room as_extern specifiers state ahead = if_in (is_punct punc
 simple_stops : (room : ℕ) (as_extern : Bool) (state : CxxState) (ahead : Ahead) → Stops (a_simple_declaration room as_extern) state ahead (simple_declaration_at room as_extern state ahead)
 unfolding simple_declaration_at
 simple_stops room as_extern state ahead =
-    whole_stops (λ fault is. is) (then_from _ (leads_here in_specifiers (specifiers_stop room where_.Declaration state ahead)) (λ one is later stands.
+    whole_stops (λ fault is. is) (then_from _ (all_specifiers_stop room as_extern state ahead) (λ one is later stands.
     then_calm (leads_in (to_declarators is) later stands (declarators_of_stop room as_extern one.value one.state one.rest)) (λ declarators state rest.
     then_in later_is_quiet (looked_in later_is_quiet state rest) (λ to. give_in later_is_quiet (declaration_tree (specifiers_tree one.value ahead one.rest) declarators ahead to)))))
 

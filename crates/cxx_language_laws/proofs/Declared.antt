@@ -14,18 +14,18 @@ use Rattle.cxx_reading.specs.Reads.{Ahead, More, Done, give, count_ahead, kind_a
 use Rattle.cxx_reading.specs.State.{CxxState}
 use Rattle.cxx_reading.specs.Tokens.{is_punct, begins_unbuilt, form_of_keyword, form_of_kind, no_declaration}
 use Rattle.cxx_reading.specs.Trees.{CxxTree}
-use Rattle.cxx_reading.specs.Units.{complete_object, is_incomplete, is_unbounded, declarator_tree, name_in as name_of_declarator, is_const_type, uninitialized, ends_declarator, one_tree, synonym_ended, declared_synonym, with_declarator, declarator_ended, give_trees, is_some_storage, nothing_declared, is_linkage, is_language, linkage_step, linkages_passed, linkage_tree, linked_tree, Said, Listed}
+use Rattle.cxx_reading.specs.Units.{complete_object, is_incomplete, is_made_of_class, is_unbounded, declarator_tree, name_in as name_of_declarator, is_const_type, uninitialized, ends_declarator, one_tree, synonym_ended, declared_synonym, with_declarator, declarator_ended, give_trees, is_some_storage, nothing_declared, is_linkage, is_language, linkage_step, linkages_passed, linkage_tree, linked_tree, Said, Listed}
 use Rattle.cxx_language_laws.proofs.Later.{IsLater, later_is_quiet, synonym_tells}
 use Rattle.cxx_language_laws.proofs.Tells.{IsTold, saying, nothing, Quietly, Tells, quiet_in, if_in, past_in, then_in, ask_in, same_in, next_in, repeat_tells, looked_in, give_in}
 use Rattle.cxx_language_laws.proofs.TellsSyntax.{quiet_if}
 
 pub complete_tells : {told : CxxState → Ahead → Stopped → Type 0} → IsTold IsLater told → (name : Lexeme) (of : CxxType) → Tells IsLater told (complete_object name of)
 unfolding complete_object
-complete_tells is name of state ahead = if_in (is_incomplete of) (quiet_in is refl) (same_in is tt state ahead)
+complete_tells is name of state ahead = if_in (is_incomplete state.graph of) (quiet_in is refl) (same_in is tt state ahead)
 
 pub uninitialized_tells : (name : Lexeme) (of : CxxType) → Tells IsLater Quietly (uninitialized name of)
 unfolding uninitialized
-uninitialized_tells name of state ahead = if_in (is_unbounded of || is_incomplete of) (quiet_in later_is_quiet refl) (if_in (is_reference of || is_const_type of) (quiet_in later_is_quiet refl) (same_in later_is_quiet ([]) state ahead))
+uninitialized_tells name of state ahead = if_in (is_unbounded of || is_incomplete state.graph of) (quiet_in later_is_quiet refl) (if_in (is_made_of_class of) (quiet_in later_is_quiet refl) (if_in (is_reference of || is_const_type of) (quiet_in later_is_quiet refl) (same_in later_is_quiet ([]) state ahead)))
 
 pub one_tree_tells : (tree : CxxTree) → Tells IsLater Quietly (one_tree tree)
 one_tree_tells tree = give_in later_is_quiet (tree ∷ [])

@@ -145,7 +145,7 @@ undefined_by_quiet : (state : CxxState) (place : Place) (word : List ℕ) (numbe
 undefined_by_quiet state place word None = quiet_answer tt
 undefined_by_quiet state place word (Some number) = quiet_refusal _ refl
 
-undefined_quiet : (state : CxxState) (place : Place) (word : List ℕ) (number : ℕ) (what : facts.Declares) → QuietBy (undefined state place word number what)
+pub undefined_quiet : (state : CxxState) (place : Place) (word : List ℕ) (number : ℕ) (what : facts.Declares) → QuietBy (undefined state place word number what)
 unfolding undefined
 undefined_quiet state place word number what = undefined_by_quiet state place word _
 

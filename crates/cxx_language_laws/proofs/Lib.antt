@@ -41,6 +41,8 @@ pub mod TellsBodies
 pub mod Stopping
 pub mod DeclaratorsStop
 pub mod StatementsStop
+pub mod ClassBegins
+pub mod ClassStops
 pub mod Declarations
 pub mod Whole
 mod Rows

@@ -18,7 +18,7 @@ use Rattle.cxx_reading.specs.State.{CxxState}
 use Rattle.cxx_language_laws.specs.Told.{IsGrown}
 use Rattle.cxx_language_laws.proofs.Later.{IsLater, grown_by, grown_later, grown_same, same_calls}
 use Rattle.cxx_language_laws.proofs.Reached.{IsBehind, IsReached, behind_by, count_more, Told, later_is_told, told_sooner}
-use Rattle.cxx_language_laws.proofs.Scopes.{IsPlain, entered, scope_within, scopes_beside, scopes_counted, scopes_entered, scopes_left}
+use Rattle.cxx_language_laws.proofs.Scopes.{entered, scope_within, scopes_beside, scopes_counted, scopes_entered, scopes_left}
 use Rattle.cxx_language_laws.proofs.Tells.{ToldIn, tells_read, tells_stop, Tells, quiet_in, whole_stands}
 
 -- ---- a scope that begins
@@ -47,21 +47,21 @@ parent_is kind state t grown here =
 pub entered_grown : (kind : ScopeKind) (state : CxxState) → IsGrown state (entered kind state)
 entered_grown kind state = grown_by state (entered kind state) (scope_within kind state ∷ []) refl
 
-pub entered_reached : (kind : ScopeKind) → IsPlain kind → (state : CxxState) → IsReached state (entered kind state)
-entered_reached kind plain state = record { grown = entered_grown kind state; scopes = scopes_entered kind plain state; scope = λ is. inr (omega arith) }
+pub entered_reached : (kind : ScopeKind) (state : CxxState) → IsReached state (entered kind state)
+entered_reached kind state = record { grown = entered_grown kind state; scopes = scopes_entered kind state; scope = λ is. inr (omega arith) }
 
-pub entered_behind : (kind : ScopeKind) → IsPlain kind → (state : CxxState) → IsBehind state (entered kind state)
-entered_behind kind plain state = behind_by state (entered kind state) (entered_reached kind plain state)
+pub entered_behind : (kind : ScopeKind) (state : CxxState) → IsBehind state (entered kind state)
+entered_behind kind state = behind_by state (entered kind state) (entered_reached kind state)
 
 abbrev pub left : CxxState → CxxState
 left state = at_scope (parent_of state.graph state.here.scope) state
 
-pub left_later : (kind : ScopeKind) → IsPlain kind → (state t : CxxState) → IsLater (entered kind state) t → IsLater state (left t)
-left_later kind plain state t later = record {
+pub left_later : (kind : ScopeKind) (state t : CxxState) → IsLater (entered kind state) t → IsLater state (left t)
+left_later kind state t later = record {
   grown = grown_later state (entered kind state) (left t) (entered_grown kind state) (grown_later (entered kind state) t (left t) later.grown (grown_same t (left t) refl));
-  scopes = λ is. scopes_left t (later.scopes (scopes_entered kind plain state is));
+  scopes = λ is. scopes_left t (later.scopes (scopes_entered kind state is));
   best = λ is. same_calls t (left t) (grown_same t (left t) refl) refl (later.best (same_calls state (entered kind state) (entered_grown kind state) refl is));
-  here = λ is. parent_is kind state t later.grown (later.here (scopes_entered kind plain state is));
+  here = λ is. parent_is kind state t later.grown (later.here (scopes_entered kind state is));
 }
 
 -- ---- a list
@@ -78,8 +78,8 @@ in_scope list state ahead = then_read (ask enter_parameters state ahead) (begun 
 
 ended_tells : (state : CxxState) (ahead : Ahead) {r : Answer (Got CxxState ParameterTypes)} → ToldIn IsLater Told (entered scope_kind.Parameters state) ahead r → ToldIn IsLater Told state ahead (then_read r ended)
 unfolding leave_parameters
-ended_tells state ahead (tells_read one later stands) = tells_read (record { value = one.value; state = left one.state; rest = one.rest }) (left_later scope_kind.Parameters tt state one.state later) stands
-ended_tells state ahead (tells_stop why told) = tells_stop why (told_sooner state (entered scope_kind.Parameters state) ahead ahead why (entered_reached scope_kind.Parameters tt state) (whole_stands ahead.tokens) told)
+ended_tells state ahead (tells_read one later stands) = tells_read (record { value = one.value; state = left one.state; rest = one.rest }) (left_later scope_kind.Parameters state one.state later) stands
+ended_tells state ahead (tells_stop why told) = tells_stop why (told_sooner state (entered scope_kind.Parameters state) ahead ahead why (entered_reached scope_kind.Parameters state) (whole_stands ahead.tokens) told)
 
 pub listed_tells : (list : ℕ → Reads CxxState ParameterTypes) → ((scope : ℕ) → Tells IsLater Told (list scope)) → Tells IsLater Told (in_scope list)
 unfolding enter_parameters added
@@ -107,7 +107,7 @@ begun_count state t later =
 
 ended_begun : (state : CxxState) (ahead : Ahead) {r : Answer (Got CxxState ParameterTypes)} → ToldIn IsLater Told (entered scope_kind.Parameters state) ahead r → ((one : Got CxxState ParameterTypes) → r ≡ Ok one → one.value.scope ≡ scope_count state.graph) → ListIn state (then_read r ended)
 unfolding leave_parameters
-ended_begun state ahead (tells_read one later stands) of = let count = begun_count state one.state later in let is = of one refl in list_in (record { value = one.value; state = left one.state; rest = one.rest }) (left_later scope_kind.Parameters tt state one.state later) (omega (arith, count, is))
+ended_begun state ahead (tells_read one later stands) of = let count = begun_count state one.state later in let is = of one refl in list_in (record { value = one.value; state = left one.state; rest = one.rest }) (left_later scope_kind.Parameters state one.state later) (omega (arith, count, is))
 ended_begun state ahead (tells_stop why told) of = no_list why
 
 -- it has begun, and the list has its number

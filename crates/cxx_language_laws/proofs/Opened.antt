@@ -5,13 +5,17 @@ use Rattle.std.specs.List.{slice_get}
 use Rattle.std.proofs.lemmas.Bool.{eqb-true}
 use Rattle.std.proofs.lemmas.List.{length-append}
 use Rattle.std.proofs.lemmas.Option.{same_Some}
+use Rattle.cxx_model.specs.declared.facts.ScopeKind.{ScopeKind}
+use Rattle.cxx_model.specs.declared.facts.ScopeKind.TheVariants as scope_kind
 use Rattle.cxx_model.specs.declared.place.Place.{Place}
 use Rattle.cxx_model.specs.declared.stop.LimitKind.TheVariants.{Facts}
 use Rattle.cxx_model.specs.Facts.Conflicts.{has_name, same_name, scope_facts}
+use Rattle.cxx_model.specs.Facts.Declarations as facts
 use Rattle.cxx_model.specs.Facts.Declarations.{CxxFact, CxxGraph, CxxName, spelled, unnamed}
 use Rattle.cxx_model.specs.Stops.{Answer, Limited, ◌>>=◌}
 use Rattle.cxx_model.specs.Text.Lexemes.{Lexeme}
-use Rattle.cxx_reading.specs.Declaring.{added, at_scope, most_facts, scope_count, with_fact}
+use Rattle.cxx_reading.specs.Declaring.{added, at_scope, fact_here, most_facts, scope_count, with_fact}
+use Rattle.cxx_reading.specs.Linked.{scope_id}
 use Rattle.cxx_reading.specs.Paths.{or_later, space_in}
 use Rattle.cxx_reading.specs.Reads.{Ahead}
 use Rattle.cxx_reading.specs.Seen.{Numbered, declared_in, scope_of_option}
@@ -31,7 +35,7 @@ pub record IsRound (scope : ℕ) (graph : CxxGraph) (inner : ℕ) : Type 0 where
   pub within : inner < length (scope_facts graph.facts)
   pub round : round_of graph.facts inner ≡ scope
 
-round_grown : (scope : ℕ) (s t : CxxState) (inner : ℕ) → IsGrown s t → IsRound scope s.graph inner → IsRound scope t.graph inner
+pub round_grown : (scope : ℕ) (s t : CxxState) (inner : ℕ) → IsGrown s t → IsRound scope s.graph inner → IsRound scope t.graph inner
 round_grown scope s t inner grown is =
     let more = ap (λ (fs : List CxxFact). length fs) (scopes_beside s.graph.facts grown.own) in
     let count = length-append (scope_facts s.graph.facts) (scope_facts grown.own) in
@@ -48,7 +52,7 @@ pub record InSpace (old new : CxxState) : Type 0 where
   pub round : InScopes old → IsRound old.here.scope new.graph new.here.scope
   pub best : AreBestCalls old → AreBestCalls new
 
-stands_in : (old between : CxxState) (inner : ℕ) → IsLater old between → (InScopes old → IsRound old.here.scope between.graph inner) → InSpace old (at_scope inner between)
+pub stands_in : (old between : CxxState) (inner : ℕ) → IsLater old between → (InScopes old → IsRound old.here.scope between.graph inner) → InSpace old (at_scope inner between)
 stands_in old between inner later round = record {
   grown = grown_later old between (at_scope inner between) later.grown (grown_same between (at_scope inner between) refl);
   scopes = λ is. let counted = scopes_counted between.graph.facts in let there = (round is).within in scopes_at inner between (omega (arith, counted, there)) (later.scopes is);
@@ -66,18 +70,18 @@ space_closed old new last opened later = record {
 }
 
 -- an answer that comes behind others
-quiet_then : {A B : Type 0} {kept : CxxState → CxxState → Type 0} (state : CxxState) (ahead : Ahead) {first : Answer A} (go : A → Answer (B × CxxState)) → QuietBy first → ((x : A) → ToldBy kept Quietly state ahead (go x)) → ToldBy kept Quietly state ahead (first >>= go)
+pub quiet_then : {A B : Type 0} {kept : CxxState → CxxState → Type 0} (state : CxxState) (ahead : Ahead) {first : Answer A} (go : A → Answer (B × CxxState)) → QuietBy first → ((x : A) → ToldBy kept Quietly state ahead (go x)) → ToldBy kept Quietly state ahead (first >>= go)
 quiet_then state ahead go (quiet_answer one) more = more one
 quiet_then state ahead go (quiet_refusal why quiet) more = tells_refusal why quiet
 
-then_answer : {A B : Type 0} {kept : CxxState → CxxState → Type 0} (state : CxxState) (t : CxxState) (ahead : Ahead) {first : Answer (A × CxxState)} (go : A × CxxState → Answer (B × CxxState)) → ToldBy IsLater Quietly t ahead first → ((x : A × CxxState) → first ≡ Ok x → IsLater t x.1 → ToldBy kept Quietly state ahead (go x)) → ToldBy kept Quietly state ahead (first >>= go)
+pub then_answer : {A B : Type 0} {kept : CxxState → CxxState → Type 0} (state : CxxState) (t : CxxState) (ahead : Ahead) {first : Answer (A × CxxState)} (go : A × CxxState → Answer (B × CxxState)) → ToldBy IsLater Quietly t ahead first → ((x : A × CxxState) → first ≡ Ok x → IsLater t x.1 → ToldBy kept Quietly state ahead (go x)) → ToldBy kept Quietly state ahead (first >>= go)
 then_answer state t ahead go (tells_answer one later) more = more one refl later
 then_answer state t ahead go (tells_refusal why quiet) more = tells_refusal why quiet
 
 abbrev AreAdded : Answer (ℕ × CxxState) → Answer (ℕ × CxxState) → Type 0
 AreAdded one two = one ≡ two
 
-added_is : (fact : CxxFact) (state : CxxState) (answer : ℕ × CxxState) → added fact state ≡ Ok answer → answer.1 ≡ with_fact fact state
+pub added_is : (fact : CxxFact) (state : CxxState) (answer : ℕ × CxxState) → added fact state ≡ Ok answer → answer.1 ≡ with_fact fact state
 unfolding added
 added_is fact state answer e = by (nat_eq (length state.graph.facts + length state.graph.classes) most_facts) e
   where
@@ -124,11 +128,14 @@ original_round state name (one ∷ others) inner e is = by (space_in one.fact.wh
     by None e later = later e
     by (Some n) e later = chosen n (is_original_by state.here.scope name (first_opening n state.graph.facts)) refl e later
 
--- a new one
-new_round : (state : CxxState) (place : Place) → IsRound state.here.scope (with_fact (new_space state place) state).graph (scope_count state.graph)
-new_round state place =
+-- a new one, of any kind
+abbrev pub scope_here : ScopeKind → CxxState → Place → CxxFact
+scope_here kind state place = fact_here state unnamed place (facts.scope (Some (scope_id state.here.scope)) kind)
+
+pub scope_round : (kind : ScopeKind) (state : CxxState) (place : Place) → IsRound state.here.scope (with_fact (scope_here kind state place) state).graph (scope_count state.graph)
+scope_round kind state place =
     let all = state.graph.facts in
-    let last = new_space state place in
+    let last = scope_here kind state place in
     let beside = scopes_beside all (last ∷ []) in
     let counted = scopes_counted all in
     let more = ap (λ (fs : List CxxFact). length fs) beside in
@@ -141,6 +148,9 @@ new_round state place =
     last_there : (xs : List CxxFact) (x : CxxFact) → slice_get (xs ++ x ∷ []) (length xs) ≡ Some x
     last_there [] x = refl
     last_there (y ∷ ys) x = last_there ys x
+
+new_round : (state : CxxState) (place : Place) → IsRound state.here.scope (with_fact (new_space state place) state).graph (scope_count state.graph)
+new_round state place = scope_round scope_kind.Space state place
 
 new_later : (state : CxxState) (place : Place) (ahead : Ahead) → ToldBy IsLater Quietly state ahead (added (new_space state place) state)
 new_later state place ahead = added_tells (new_space state place) state ahead refl (may_be_added state (new_space state place) refl tt)

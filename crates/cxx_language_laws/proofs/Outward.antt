@@ -1,28 +1,32 @@
 -- The declarations that a lookup sees, scope by scope outward, and what it finds in them (3.3.7, 3.4.1).
-use Rattle.std.proofs.Common.{arith, ◌≡◌, ◌⊎◌, inl, inr, ℕ, zero, suc, ◌+◌, Bool, true, false, not, cond, ◌&&◌, ◌||◌, nat_lt, List, [], ◌∷◌, ◌++◌, map, Option, Some, None, Ok, refl, sym, ap, subst, ◌∙◌, ◌<◌, nat_eq}
-use Rattle.std.proofs.lemmas.Bool.{cases_order, eqb-false, ltb-false, ltb-true}
+use Rattle.std.proofs.Common.{arith, ◌≡◌, ◌⊎◌, inl, inr, ℕ, zero, suc, ◌+◌, Bool, true, false, not, cond, ◌&&◌, ◌||◌, nat_lt, List, [], ◌∷◌, ◌++◌, map, Option, Some, None, Ok, Err, refl, sym, ap, subst, ◌∙◌, ◌<◌, nat_eq}
+use Rattle.std.proofs.lemmas.Bool.{cases_order, eq-eqb, eqb-false, eqb-true, ltb-false, ltb-true}
 use Rattle.std.proofs.lemmas.Option.{same_Some}
 use Rattle.std.specs.List.{find, AllByRecursion, Contains, filter, list_any, slice_get}
 use Rattle.cxx_model.specs.declared.facts.ScopeKind.{ScopeKind}
 use Rattle.cxx_model.specs.declared.facts.ScopeKind.TheVariants as scope_kind
 use Rattle.cxx_model.specs.declared.lookup.Found.{Found}
 use Rattle.cxx_model.specs.declared.lookup.Found.TheVariants as found
+use Rattle.cxx_model.specs.declared.lookup.MemberFound.{MemberFound}
+use Rattle.cxx_model.specs.declared.lookup.MemberFound.TheVariants as member
+use Rattle.cxx_model.specs.declared.types.ClassId.{ClassId}
 use Rattle.cxx_model.specs.declared.types.FactId.{FactId}
 use Rattle.cxx_model.specs.declared.types.ScopeId.{ScopeId}
 use Rattle.cxx_model.specs.Facts.Declarations as facts
-use Rattle.cxx_model.specs.Facts.Declarations.{CxxFact, CxxGraph, CxxName, Declares}
-use Rattle.cxx_model.specs.Facts.Entities.{CxxEntity, Meant, meant_by, of_fact, of_space, of_type, same_entity, scope_kinds}
+use Rattle.cxx_model.specs.Facts.Declarations.{CxxFact, CxxGraph, CxxName, CxxSpecialisation, Declares}
+use Rattle.cxx_model.specs.Facts.Entities.{CxxEntity, Meant, is_seen, meant_by, of_fact, of_space, of_type, same_entity, scope_kinds}
+use Rattle.cxx_model.specs.Facts.Pending.{begins_or_ends, is_pending}
 use Rattle.cxx_model.proofs.Champion.{first_of, first_or_later, later_of}
 use Rattle.cxx_meaning.specs.Lookups.Directives.{Shown, shows}
 use Rattle.cxx_meaning.specs.Lookups.Gathered.{before, gathered, same_scope, with_fact, with_facts}
-use Rattle.cxx_meaning.specs.Lookups.Member.{class_of_scope}
-use Rattle.cxx_meaning.specs.Lookups.Ordinary.{Here, IsFirst, Nowhere, Outside, found_in_scope, found_in_sightings, sightings_at, standing_if, standing_shown}
+use Rattle.cxx_meaning.specs.Lookups.Member.{Way, class_of_scope, declared_in, declares_member, is_brought, is_of_class, is_redeclared, is_redeclared_by, member as member_named, member_by, member_in, member_of, members_in, not_redeclared, own_ways, same_lists, ways, ways_after, with_base}
+use Rattle.cxx_meaning.specs.Lookups.Ordinary.{Here, IsFirst, Nowhere, Outside, found_in_member, found_in_scope, found_in_sightings, sightings_at, standing_if, standing_shown}
 use Rattle.cxx_meaning.specs.Lookups.Pending.{Asked}
 use Rattle.cxx_meaning.specs.Lookups.Scopes.{kind_of}
-use Rattle.cxx_meaning.specs.Lookups.Sightings.{Sighting, both_functions, entities, entity_meant, found_of, is_hidden_among, is_hidden_by, least_of, looked_up, named_by, odd_pair, sighting_in, sighting_of, standing, unhidden, wanted_one, when}
+use Rattle.cxx_meaning.specs.Lookups.Sightings.{Sighting, both_functions, entities, entity_meant, found_of, is_by_friend, is_hidden_among, is_hidden_by, is_named, least_of, looked_up, named_by, odd_pair, sighting_in, sighting_of, standing, unhidden, wanted_one, when}
 use Rattle.cxx_meaning.specs.Lookups.Wanted.{Wanted, hides_types, is_hideable, is_wanted}
 use Rattle.cxx_meaning.proofs.Nearest.{nothing_is_none}
-use Rattle.cxx_language_laws.proofs.Scopes.{AreSound, IsPlain, IsSound, none_is_past}
+use Rattle.cxx_language_laws.proofs.Scopes.{AreSound, IsSound, none_is_past}
 
 -- ---- lists
 
@@ -100,10 +104,10 @@ if_some : (t : Bool) (o : Option Sighting) (y : Sighting) → cond t o None ≡ 
 if_some true o y e = e
 if_some false o y e = absurd cc
 
-one_seen : (graph : CxxGraph) (cut : ℕ) (wanted : Wanted) (name : CxxName) (scope : ScopeId) (number : ℕ) (fact : CxxFact) (one : Sighting) → AreSound graph.facts → slice_get graph.facts number ≡ Some fact → sighting_in graph cut wanted name scope number fact ≡ Some one → IsOne graph wanted one
-unfolding sighting_in
-one_seen graph cut wanted name scope number fact one sound at e =
-    let kept = when_some (is_wanted graph wanted (sighting_of graph.facts number fact).what) (sighting_of graph.facts number fact) one (if_some _ (wanted_one graph wanted (sighting_of graph.facts number fact)) one e) in
+-- what is wanted of a declaration is one
+one_wanted : (graph : CxxGraph) (wanted : Wanted) (number : ℕ) (fact : CxxFact) (one : Sighting) → AreSound graph.facts → slice_get graph.facts number ≡ Some fact → wanted_one graph wanted (sighting_of graph.facts number fact) ≡ Some one → IsOne graph wanted one
+one_wanted graph wanted number fact one sound at e =
+    let kept = when_some (is_wanted graph wanted (sighting_of graph.facts number fact).what) (sighting_of graph.facts number fact) one e in
     let there = meant_there graph.facts number fact at fact.what refl (sound number fact at) in
     record {
       number = (meant_by graph.facts number fact.what).number;
@@ -113,6 +117,10 @@ one_seen graph cut wanted name scope number fact one sound at e =
       what = sym (ap (λ (s : Sighting). s.what) kept.1) ∙ there.what;
       is_wanted_so = subst (λ (s : Sighting). is_wanted graph wanted s.what ≡ true) kept.1 kept.0;
     }
+
+one_seen : (graph : CxxGraph) (cut : ℕ) (wanted : Wanted) (name : CxxName) (scope : ScopeId) (number : ℕ) (fact : CxxFact) (one : Sighting) → AreSound graph.facts → slice_get graph.facts number ≡ Some fact → sighting_in graph cut wanted name scope number fact ≡ Some one → IsOne graph wanted one
+unfolding sighting_in
+one_seen graph cut wanted name scope number fact one sound at e = one_wanted graph wanted number fact one sound at (if_some _ (wanted_one graph wanted (sighting_of graph.facts number fact)) one e)
 
 pub each_seen : (graph : CxxGraph) (cut : ℕ) (wanted : Wanted) (name : CxxName) (scope : ScopeId) → AreSound graph.facts → AllByRecursion (IsOne graph wanted) (standing graph cut wanted name scope)
 unfolding standing
@@ -297,10 +305,11 @@ pub record IsTwo (P : ℕ → Type 0) (graph : CxxGraph) (one two : FactId) : Ty
   pub declared : P two.0
   pub no_overloads : both_functions graph one two ≡ false
 
--- an ambiguity, or a set of declarations that there are, where there is something
+-- an ambiguity, or a set of declarations that there are, members of a class or not, where there is something
 pub data IsLooked (P : ℕ → Type 0) (graph : CxxGraph) : Found → Type 0 where
   set_looked : (one : FactId) (others : List FactId) → P one.0 → IsLooked P graph (found.Set (one ∷ others))
   two_looked : (one two : FactId) → IsTwo P graph one two → IsLooked P graph (found.Ambiguous one two)
+  member_looked : (class : ClassId) (one : FactId) (others : List FactId) (path : List ℕ) → P one.0 → IsLooked P graph (found.Member class (member.Set (one ∷ others) path))
 
 found_two : (P : ℕ → Type 0) (graph : CxxGraph) (one two : FactId) (others : List FactId) → Above one.0 others → AllByRecursion (OfNumber P) others → find (λ two. not (both_functions graph one two)) others ≡ Some two → IsTwo P graph one two
 found_two P graph one two [] above each e = absurd cc
@@ -331,31 +340,153 @@ looked_so P graph all is each = found_of_so P graph (entities (unhidden graph al
 
 -- ---- scopes of no class
 
-kind_plain : (all : List CxxFact) → ((i : ℕ) (fact : CxxFact) → slice_get all i ≡ Some fact → (whole : List CxxFact) × IsSound whole fact.what) → (n : ℕ) (kind : ScopeKind) → slice_get (scope_kinds all) n ≡ Some kind → IsPlain kind
-kind_plain [] each n kind e = absurd cc
-kind_plain (fact ∷ others) each n kind e = by fact.what (each 0 fact refl).0 (each 0 fact refl).1 (kind_plain others (λ i one is. each (suc i) one is)) n e
-  where
-    by : (what : Declares) (whole : List CxxFact) → IsSound whole what → ((n : ℕ) (kind : ScopeKind) → slice_get (scope_kinds others) n ≡ Some kind → IsPlain kind) → (n : ℕ) → slice_get (scope_kinds (record fact { what = what } ∷ others)) n ≡ Some kind → IsPlain kind
-    by (facts.scope parent one) whole is later zero e = subst IsPlain (same_Some one kind e) is
-    by (facts.scope parent one) whole is later (suc n) e = later n kind e
-    by _ whole is later n e = later n kind e
+pub scope_finds : (graph : CxxGraph) (wanted : Wanted) (name : CxxName) (cut : ℕ) (shown : List Shown) (scope : ScopeId) → class_of_scope graph.facts scope ≡ None → found_in_scope graph wanted name cut shown scope ≡ Ok (found_in_sightings graph (sightings_at graph cut wanted name shown scope))
+unfolding found_in_scope
+scope_finds graph wanted name cut shown scope none = rw none refl
 
-pub no_class : (all : List CxxFact) (scope : ScopeId) → AreSound all → class_of_scope all scope ≡ None
-no_class all scope sound = by (kind_of all scope) refl
-  where
-    plain : (kind : ScopeKind) → kind_of all scope ≡ Some kind → IsPlain kind
-    plain kind is = kind_plain all (λ i fact at. (all, sound i fact at)) scope.0 kind is
+-- ---- scopes of classes (10.2)
 
-    by : (o : Option ScopeKind) → kind_of all scope ≡ o → class_of_scope all scope ≡ None
+member_seen : (graph : CxxGraph) (wanted : Wanted) (name : CxxName) (class : ClassId) (number : ℕ) (fact : CxxFact) (one : Sighting) → AreSound graph.facts → slice_get graph.facts number ≡ Some fact → member_in graph wanted name class number fact ≡ Some one → IsOne graph wanted one
+unfolding member_in
+member_seen graph wanted name class number fact one sound at e = one_wanted graph wanted number fact one sound at (if_some _ (wanted_one graph wanted (sighting_of graph.facts number fact)) one e)
+
+members_seen : (graph : CxxGraph) (wanted : Wanted) (name : CxxName) (class : ClassId) → AreSound graph.facts → AllByRecursion (IsOne graph wanted) (members_in graph wanted name class)
+unfolding members_in
+members_seen graph wanted name class sound = gathered_all (IsOne graph wanted) (member_in graph wanted name class) graph.facts 0 (λ i fact one there is. member_seen graph wanted name class i fact one sound there (ap (λ n. member_in graph wanted name class n fact) (no_more i) ∙ is))
+  where
+    no_more : (i : ℕ) → i ≡ 0 + i
+    no_more i = omega arith
+
+-- the class that begins with a scope is not pending
+begun_of : (all : List CxxFact) (n : ℕ) (class : ClassId) → slice_get (scope_kinds all) n ≡ Some (scope_kind.Class class) → list_any (λ fact. begins_or_ends class.0 fact.what) all ≡ true
+begun_of [] n class e = absurd cc
+begun_of (fact ∷ others) n class e = by fact.what (begun_of others) n e
+  where
+    further : (b : Bool) → list_any (λ fact. begins_or_ends class.0 fact.what) others ≡ true → (b || list_any (λ fact. begins_or_ends class.0 fact.what) others) ≡ true
+    further true is = refl
+    further false is = is
+
+    begins : (one : ClassId) → one ≡ class → (nat_eq one.0 class.0 || list_any (λ fact. begins_or_ends class.0 fact.what) others) ≡ true
+    begins one is = ap (λ (b : Bool). b || list_any (λ fact. begins_or_ends class.0 fact.what) others) (eq-eqb one.0 class.0 (ap (λ (c : ClassId). c.0) is))
+
+    class_in : ScopeKind → ClassId
+    class_in (scope_kind.Class one) = one
+    class_in _ = class
+
+    first : (kind : ScopeKind) (parent : Option ScopeId) → kind ≡ scope_kind.Class class → (begins_or_ends class.0 (facts.scope parent kind) || list_any (λ fact. begins_or_ends class.0 fact.what) others) ≡ true
+    first (scope_kind.Class one) parent is = begins one (ap class_in is)
+    first scope_kind.Space parent is = absurd cc
+    first scope_kind.Parameters parent is = absurd cc
+    first (scope_kind.Block function) parent is = absurd cc
+
+    by : (what : Declares) → ((n : ℕ) (class : ClassId) → slice_get (scope_kinds others) n ≡ Some (scope_kind.Class class) → list_any (λ fact. begins_or_ends class.0 fact.what) others ≡ true) → (n : ℕ) → slice_get (scope_kinds (record fact { what = what } ∷ others)) n ≡ Some (scope_kind.Class class)
+        → list_any (λ fact. begins_or_ends class.0 fact.what) (record fact { what = what } ∷ others) ≡ true
+    by (facts.scope parent kind) later zero e = first kind parent (same_Some kind (scope_kind.Class class) e)
+    by (facts.scope parent kind) later (suc n) e = further (begins_or_ends class.0 (facts.scope parent kind)) (later n class e)
+    by (facts.complete number) later n e = further (begins_or_ends class.0 (facts.complete number)) (later n class e)
+    by _ later n e = later n class e
+
+-- the class of which a scope is, by its kind
+abbrev pub class_in_kind : Option ScopeKind → Option ClassId
+class_in_kind (Some (scope_kind.Class class)) = Some class
+class_in_kind _ = None
+
+pub class_by_kind : (all : List CxxFact) (scope : ScopeId) → class_of_scope all scope ≡ class_in_kind (kind_of all scope)
+class_by_kind all scope = by (kind_of all scope) refl
+  where
+    by : (o : Option ScopeKind) → kind_of all scope ≡ o → class_of_scope all scope ≡ class_in_kind o
     by None e = rw e refl
     by (Some scope_kind.Space) e = rw e refl
     by (Some scope_kind.Parameters) e = rw e refl
     by (Some (scope_kind.Block function)) e = rw e refl
-    by (Some (scope_kind.Class class)) e = absurd (plain (scope_kind.Class class) e)
+    by (Some (scope_kind.Class class)) e = rw e refl
 
-pub scope_finds : (graph : CxxGraph) (wanted : Wanted) (name : CxxName) (cut : ℕ) (shown : List Shown) (scope : ScopeId) → AreSound graph.facts → found_in_scope graph wanted name cut shown scope ≡ Ok (found_in_sightings graph (sightings_at graph cut wanted name shown scope))
+class_kind : (class : ClassId) (o : Option ScopeKind) → class_in_kind o ≡ Some class → o ≡ Some (scope_kind.Class class)
+class_kind class None is = absurd cc
+class_kind class (Some scope_kind.Space) is = absurd cc
+class_kind class (Some scope_kind.Parameters) is = absurd cc
+class_kind class (Some (scope_kind.Block function)) is = absurd cc
+class_kind class (Some (scope_kind.Class one)) is = ap (λ (c : ClassId). Some (scope_kind.Class c)) (same_Some one class is)
+
+never_pending : (graph : CxxGraph) (scope : ScopeId) (class : ClassId) → class_of_scope graph.facts scope ≡ Some class → is_pending graph class.0 ≡ false
+unfolding is_pending
+never_pending graph scope class is = by (slice_get graph.classes class.0) refl
+  where
+    begun : list_any (λ fact. begins_or_ends class.0 fact.what) graph.facts ≡ true
+    begun = begun_of graph.facts scope.0 class (class_kind class (kind_of graph.facts scope) (sym (class_by_kind graph.facts scope) ∙ is))
+
+    by : (o : Option (Option CxxSpecialisation)) → slice_get graph.classes class.0 ≡ o → is_pending graph class.0 ≡ false
+    by None e = rw e refl
+    by (Some None) e = rw e refl
+    by (Some (Some of)) e = rw e (rw begun refl)
+
+-- no class has bases
+no_bases : (all : List CxxFact) (declares : ClassId → Bool) (facts : List CxxFact) (now : ClassId → List Way) (class : ClassId) → ((n : ℕ) (fact : CxxFact) → slice_get facts n ≡ Some fact → IsSound all fact.what) → ways_after declares now facts class ≡ now class
+unfolding ways_after with_base
+no_bases all declares [] now class each = refl
+no_bases all declares (fact ∷ others) now class each = no_bases all declares others (with_base declares fact now) class (λ n one is. each (suc n) one is) ∙ by fact.what (each 0 fact refl)
+  where
+    by : (what : Declares) → IsSound all what → with_base declares (record fact { what = what }) now class ≡ now class
+    by (facts.ancestor _ _ _ _) is = absurd is
+    by _ is = refl
+
+own_way : (graph : CxxGraph) (wanted : Wanted) (name : CxxName) (class : ClassId) → AreSound graph.facts → ways graph wanted name class ≡ own_ways graph wanted name class
+unfolding ways
+own_way graph wanted name class sound = no_bases graph.facts (declares_member graph wanted name) graph.facts (own_ways graph wanted name) class sound
+
+-- what a class has of a name, by the declarations of it there
+abbrev members_found : CxxGraph → List Sighting → MemberFound
+members_found graph [] = member.Empty
+members_found graph (one ∷ others) = member.Set (entities (unhidden graph (not_redeclared (one ∷ others)))) []
+
+class_has : (graph : CxxGraph) (wanted : Wanted) (name : CxxName) (scope : ScopeId) (class : ClassId) → AreSound graph.facts → class_of_scope graph.facts scope ≡ Some class → member_named graph wanted class name ≡ Ok (members_found graph (members_in graph wanted name class))
+unfolding member_named own_ways declares_member member_of member_by declared_in
+class_has graph wanted name scope class sound is = ap (λ (b : Bool). cond b (Err class) (Ok (member_of graph wanted name (ways graph wanted name class)))) (never_pending graph scope class is) ∙ ap (λ (all : List Way). Ok (member_of graph wanted name all)) (own_way graph wanted name class sound) ∙ ap Ok (by (members_in graph wanted name class) refl)
+  where
+    by : (all : List Sighting) → members_in graph wanted name class ≡ all → member_of graph wanted name (own_ways graph wanted name class) ≡ members_found graph all
+    by [] e = rw e refl
+    by (one ∷ others) e = rw e (ap (λ (all : List Sighting). member.Set (entities (unhidden graph (not_redeclared all))) []) e)
+
+-- what is found in a class, as a lookup finds it
+abbrev found_as_member : CxxGraph → ClassId → List Sighting → Option Found
+found_as_member graph class [] = None
+found_as_member graph class (one ∷ others) = Some (found.Member class (members_found graph (one ∷ others)))
+
+class_finds : (graph : CxxGraph) (wanted : Wanted) (name : CxxName) (cut : ℕ) (shown : List Shown) (scope : ScopeId) (class : ClassId) → AreSound graph.facts → class_of_scope graph.facts scope ≡ Some class → found_in_scope graph wanted name cut shown scope ≡ Ok (found_as_member graph class (members_in graph wanted name class))
 unfolding found_in_scope
-scope_finds graph wanted name cut shown scope sound = rw (no_class graph.facts scope sound) refl
+class_finds graph wanted name cut shown scope class sound is = rw is (ap (found_in_member class) (class_has graph wanted name scope class sound is) ∙ by (members_in graph wanted name class))
+  where
+    by : (all : List Sighting) → found_in_member class (Ok (members_found graph all)) ≡ Ok (found_as_member graph class all)
+    by [] = refl
+    by (one ∷ others) = refl
+
+-- one that is not brought, and hides what is (7.3.3)
+own_in : (one : Sighting) (all : List Sighting) → list_any (is_redeclared_by one) all ≡ true → (two : Sighting) × Contains all two × (is_brought two ≡ false)
+own_in one [] e = absurd cc
+own_in one (x ∷ xs) e = by (is_brought x) refl (same_lists one.what x.what) e (own_in one xs)
+  where
+    later : ((two : Sighting) × Contains xs two × (is_brought two ≡ false)) → (two : Sighting) × Contains (x ∷ xs) two × (is_brought two ≡ false)
+    later found = (found.0, later_of x xs found.0 found.1, found.2)
+
+    by : (brought : Bool) → is_brought x ≡ brought → (same : Bool) → ((not brought && same) || list_any (is_redeclared_by one) xs) ≡ true → (list_any (is_redeclared_by one) xs ≡ true → (two : Sighting) × Contains xs two × (is_brought two ≡ false)) → (two : Sighting) × Contains (x ∷ xs) two × (is_brought two ≡ false)
+    by false own true e further = (x, first_of x xs, own)
+    by false own false e further = later (further e)
+    by true own same e further = later (further e)
+
+not_redeclared_some : (all : List Sighting) → IsSome all → IsSome (not_redeclared all)
+unfolding not_redeclared
+not_redeclared_some [] is = is
+not_redeclared_some (x ∷ xs) is = by (is_brought x) refl (list_any (is_redeclared_by x) (x ∷ xs)) refl
+  where
+    keeps : Sighting → Bool
+    keeps one = not (is_redeclared (x ∷ xs) one)
+
+    by : (brought : Bool) → is_brought x ≡ brought → (hidden : Bool) → list_any (is_redeclared_by x) (x ∷ xs) ≡ hidden → IsSome (filter keeps (x ∷ xs))
+    by false e hidden h = filter_some keeps (x ∷ xs) x (first_of x xs) (ap (λ (b : Bool). not (b && list_any (is_redeclared_by x) (x ∷ xs))) e)
+    by true e false h = filter_some keeps (x ∷ xs) x (first_of x xs) (ap (λ (b : Bool). not (b && list_any (is_redeclared_by x) (x ∷ xs))) e ∙ ap not h)
+    by true e true h = let two = own_in x (x ∷ xs) h in filter_some keeps (x ∷ xs) two.0 two.1 (ap (λ (b : Bool). not (b && list_any (is_redeclared_by two.0) (x ∷ xs))) two.2)
+
+-- ---- what a scope answers
 
 abbrev pub ScopeAnswers : Asked (Option Found) → Asked (Option Found) → Type 0
 ScopeAnswers one two = one ≡ two
@@ -367,31 +498,135 @@ in_sightings P graph (one ∷ others) x each e = subst (IsLooked P graph) (by e)
     by : ScopeAnswers (Ok (Some (looked_up graph (one ∷ others)))) (Ok (Some x)) → looked_up graph (one ∷ others) ≡ x
     by e = cc
 
+in_members : (P : ℕ → Type 0) (graph : CxxGraph) (class : ClassId) (all : List Sighting) (x : Found) → AllByRecursion (IsSo P) all → ScopeAnswers (Ok (found_as_member graph class all)) (Ok (Some x)) → IsLooked P graph x
+unfolding unhidden not_redeclared
+in_members P graph class [] x each e = absurd cc
+in_members P graph class (one ∷ others) x each e = subst (IsLooked P graph) (is_it e) (by (entities chosen) (entities_some chosen (unhidden_some graph own (not_redeclared_some (one ∷ others) tt))) (entities_so P chosen (filtered_all (IsSo P) (λ two. not (is_hidden_among graph own two)) own (filtered_all (IsSo P) (λ two. not (is_redeclared (one ∷ others) two)) (one ∷ others) each))))
+  where
+    own : List Sighting
+    own = not_redeclared (one ∷ others)
+
+    chosen : List Sighting
+    chosen = unhidden graph own
+
+    is_it : ScopeAnswers (Ok (Some (found.Member class (member.Set (entities chosen) [])))) (Ok (Some x)) → found.Member class (member.Set (entities chosen) []) ≡ x
+    is_it e = cc
+
+    by : (all : List FactId) → IsSome all → AllByRecursion (OfNumber P) all → IsLooked P graph (found.Member class (member.Set all []))
+    by [] is each = absurd is
+    by (first ∷ more) is each = member_looked class first more [] each.0
+
+pub each_so : (P : ℕ → Type 0) (graph : CxxGraph) (wanted : Wanted) → ((one : Sighting) → IsOne graph wanted one → IsSo P one) → (all : List Sighting) → AllByRecursion (IsOne graph wanted) all → AllByRecursion (IsSo P) all
+each_so P graph wanted each [] are = tt
+each_so P graph wanted each (one ∷ others) are = (each one are.0, each_so P graph wanted each others are.1)
+
+-- what a scope has, of a class or of none
+pub in_scope : (P : ℕ → Type 0) (graph : CxxGraph) (wanted : Wanted) (name : CxxName) (cut : ℕ) (shown : List Shown) (scope : ScopeId) (x : Found) → AreSound graph.facts → ((one : Sighting) → IsOne graph wanted one → IsSo P one) → found_in_scope graph wanted name cut shown scope ≡ Ok (Some x) → IsLooked P graph x
+in_scope P graph wanted name cut shown scope x sound each e = by (class_of_scope graph.facts scope) refl
+  where
+    by : (o : Option ClassId) → class_of_scope graph.facts scope ≡ o → IsLooked P graph x
+    by None none = in_sightings P graph (sightings_at graph cut wanted name shown scope) x (each_so P graph wanted each (sightings_at graph cut wanted name shown scope) (sightings_seen graph cut wanted name shown scope sound)) (sym (scope_finds graph wanted name cut shown scope none) ∙ e)
+    by (Some class) is = in_members P graph class (members_in graph wanted name class) x (each_so P graph wanted each (members_in graph wanted name class) (members_seen graph wanted name class sound)) (sym (class_finds graph wanted name cut shown scope class sound is) ∙ e)
+
+-- each scope answers
+pub scope_answers : (graph : CxxGraph) (wanted : Wanted) (name : CxxName) (cut : ℕ) (shown : List Shown) (scope : ScopeId) → AreSound graph.facts → (x : Option Found) × (found_in_scope graph wanted name cut shown scope ≡ Ok x)
+scope_answers graph wanted name cut shown scope sound = by (class_of_scope graph.facts scope) refl
+  where
+    by : (o : Option ClassId) → class_of_scope graph.facts scope ≡ o → (x : Option Found) × (found_in_scope graph wanted name cut shown scope ≡ Ok x)
+    by None none = (_, scope_finds graph wanted name cut shown scope none)
+    by (Some class) is = (_, class_finds graph wanted name cut shown scope class sound is)
+
 -- ---- outward
 
 -- what a scope has, of what is wanted
 abbrev pub HasNone : CxxGraph → Wanted → CxxName → ℕ → ScopeId → Type 0
 HasNone graph wanted name cut scope = standing graph cut wanted name scope ≡ []
 
-has_none : (graph : CxxGraph) (wanted : Wanted) (name : CxxName) (cut : ℕ) (shown : List Shown) (scope : ScopeId) → AreSound graph.facts → found_in_scope graph wanted name cut shown scope ≡ Ok None → HasNone graph wanted name cut scope
-unfolding sightings_at
-has_none graph wanted name cut shown scope sound e = none_left (standing graph cut wanted name scope) (standing_shown graph cut wanted name scope shown) (nothing_is_none graph wanted name cut shown scope (no_class graph.facts scope sound) e)
+-- 10.2: nor has the class of which it is
+abbrev pub HasNoMember : CxxGraph → Wanted → CxxName → ScopeId → Type 0
+HasNoMember graph wanted name scope = (class : ClassId) → class_of_scope graph.facts scope ≡ Some class → member_named graph wanted class name ≡ Ok member.Empty
+
+pub record HasNothing (graph : CxxGraph) (wanted : Wanted) (name : CxxName) (cut : ℕ) (scope : ScopeId) : Type 0 where
+  pub none : HasNone graph wanted name cut scope
+  pub no_member : HasNoMember graph wanted name scope
+
+-- what gives nothing where another gives nothing
+none_gathered : {A B : Type 0} (one : ℕ → CxxFact → Option A) (two : ℕ → CxxFact → Option B) → ((n : ℕ) (fact : CxxFact) → one n fact ≡ None → two n fact ≡ None) → (number : ℕ) (all : List CxxFact) → gathered one number all ≡ [] → gathered two number all ≡ []
+none_gathered one two each number [] e = refl
+none_gathered {A = A} {B = B} one two each number (fact ∷ others) e = by (one number fact) refl e (none_gathered one two each (number + 1) others)
+  where
+    none : (o : Option B) → o ≡ None → gathered two (number + 1) others ≡ [] → before o (gathered two (number + 1) others) ≡ []
+    none None is later = later
+    none (Some x) is later = absurd cc
+
+    by : (o : Option A) → one number fact ≡ o → before o (gathered one (number + 1) others) ≡ [] → (gathered one (number + 1) others ≡ [] → gathered two (number + 1) others ≡ []) → gathered two number (fact ∷ others) ≡ []
+    by None is e later = none (two number fact) (each number fact is) (later e)
+    by (Some x) is e later = absurd cc
+
+-- a class that has no member of a name has no declaration of it in its scope
+no_member_none : (graph : CxxGraph) (cut : ℕ) (wanted : Wanted) (name : CxxName) (scope : ScopeId) (class : ClassId) (number : ℕ) (fact : CxxFact) → class_of_scope graph.facts scope ≡ Some class → member_in graph wanted name class number fact ≡ None → sighting_in graph cut wanted name scope number fact ≡ None
+unfolding member_in sighting_in
+no_member_none graph cut wanted name scope class number fact is e = by (nat_eq fact.scope scope.0) refl (is_named name fact) refl (is_seen graph.facts cut number fact && not (is_by_friend graph.facts number fact)) e
+  where
+    seen : Option Sighting
+    seen = wanted_one graph wanted (sighting_of graph.facts number fact)
+
+    of_class : nat_eq fact.scope scope.0 ≡ true → is_of_class class (class_of_scope graph.facts (record { 0 = fact.scope })) ≡ true
+    of_class here = ap (λ (n : ℕ). is_of_class class (class_of_scope graph.facts (record { 0 = n }))) (eqb-true fact.scope scope.0 here) ∙ (ap (is_of_class class) is ∙ eq-eqb class.0 class.0 refl)
+
+    none : (b c : Bool) → c ≡ true → cond c seen None ≡ None → cond b seen None ≡ None
+    none false c is e = refl
+    none true true is e = e
+    none true false is e = absurd cc
+
+    by : (here : Bool) → nat_eq fact.scope scope.0 ≡ here → (named : Bool) → is_named name fact ≡ named → (others : Bool) → cond (named && is_of_class class (class_of_scope graph.facts (record { 0 = fact.scope }))) seen None ≡ None → cond (here && (named && others)) seen None ≡ None
+    by false here named n others e = refl
+    by true here false n others e = refl
+    by true here true n others e = none others (is_of_class class (class_of_scope graph.facts (record { 0 = fact.scope }))) (of_class here) e
+
+no_members_found : (graph : CxxGraph) (class : ClassId) (all : List Sighting) → ScopeAnswers (Ok (found_as_member graph class all)) (Ok None) → all ≡ []
+no_members_found graph class [] e = refl
+no_members_found graph class (one ∷ others) e = absurd cc
+
+has_nothing : (graph : CxxGraph) (wanted : Wanted) (name : CxxName) (cut : ℕ) (shown : List Shown) (scope : ScopeId) → AreSound graph.facts → found_in_scope graph wanted name cut shown scope ≡ Ok None → HasNothing graph wanted name cut scope
+unfolding sightings_at standing members_in
+has_nothing graph wanted name cut shown scope sound e = by (class_of_scope graph.facts scope) refl
+  where
+    no_class : (class : ClassId) → class_of_scope graph.facts scope ≡ None → class_of_scope graph.facts scope ≡ Some class → ⊥
+    no_class class none is = apart (sym none ∙ is)
+      where
+        apart : None ≡ Some class → ⊥
+        apart e = cc
+
+    without : (class : ClassId) → class_of_scope graph.facts scope ≡ Some class → members_in graph wanted name class ≡ []
+    without class is = no_members_found graph class (members_in graph wanted name class) (sym (class_finds graph wanted name cut shown scope class sound is) ∙ e)
+
+    by : (o : Option ClassId) → class_of_scope graph.facts scope ≡ o → HasNothing graph wanted name cut scope
+    by None none = record {
+      none = none_left (standing graph cut wanted name scope) (standing_shown graph cut wanted name scope shown) (nothing_is_none graph wanted name cut shown scope none e);
+      no_member = λ class is. absurd (no_class class none is);
+    }
+    by (Some class) is = record {
+      none = standing_none class is;
+      no_member = λ one so. class_has graph wanted name scope one sound so ∙ ap (λ (all : List Sighting). Ok (members_found graph all)) (without one so);
+    }
+      where
+        standing_none : (class : ClassId) → class_of_scope graph.facts scope ≡ Some class → standing graph cut wanted name scope ≡ []
+        standing_none class is = none_gathered (member_in graph wanted name class) (sighting_in graph cut wanted name scope) (λ n fact none. no_member_none graph cut wanted name scope class n fact is none) 0 graph.facts (without class is)
+
+pub has_none : (graph : CxxGraph) (wanted : Wanted) (name : CxxName) (cut : ℕ) (shown : List Shown) (scope : ScopeId) → AreSound graph.facts → found_in_scope graph wanted name cut shown scope ≡ Ok None → HasNone graph wanted name cut scope
+has_none graph wanted name cut shown scope sound e = (has_nothing graph wanted name cut shown scope sound e).none
 
 -- what is found, or no scope has anything
 pub data Outward (P : ℕ → Type 0) (graph : CxxGraph) (wanted : Wanted) (name : CxxName) (cut : ℕ) (scopes : List ScopeId) : Found → Type 0 where
-  none_outward : AllByRecursion (HasNone graph wanted name cut) scopes → Outward P graph wanted name cut scopes found.Empty
+  none_outward : AllByRecursion (HasNothing graph wanted name cut) scopes → Outward P graph wanted name cut scopes found.Empty
   some_outward : (x : Found) → IsLooked P graph x → Outward P graph wanted name cut scopes x
 
 pub outward : (P : ℕ → Type 0) (graph : CxxGraph) (wanted : Wanted) (name : CxxName) (cut : ℕ) → AreSound graph.facts → ((one : Sighting) → IsOne graph wanted one → IsSo P one) → (shown : List Shown) (scopes : List ScopeId) (x : Found) → IsFirst graph wanted name cut shown scopes x → Outward P graph wanted name cut scopes x
-outward P graph wanted name cut sound each shown scopes x (Here _ scope outer _ e) =
-    some_outward x (in_sightings P graph (sightings_at graph cut wanted name (shown ++ shows graph.facts cut scope) scope) x (each_of (sightings_at graph cut wanted name (shown ++ shows graph.facts cut scope) scope) (sightings_seen graph cut wanted name (shown ++ shows graph.facts cut scope) scope sound)) (sym (scope_finds graph wanted name cut (shown ++ shows graph.facts cut scope) scope sound) ∙ e))
-  where
-    each_of : (all : List Sighting) → AllByRecursion (IsOne graph wanted) all → AllByRecursion (IsSo P) all
-    each_of [] are = tt
-    each_of (one ∷ others) are = (each one are.0, each_of others are.1)
+outward P graph wanted name cut sound each shown scopes x (Here _ scope outer _ e) = some_outward x (in_scope P graph wanted name cut (shown ++ shows graph.facts cut scope) scope x sound each e)
 outward P graph wanted name cut sound each shown scopes x (Outside _ scope outer _ none further) = by x (outward P graph wanted name cut sound each (shown ++ shows graph.facts cut scope) outer x further)
   where
     by : (x : Found) → Outward P graph wanted name cut outer x → Outward P graph wanted name cut (scope ∷ outer) x
-    by _ (none_outward are) = none_outward (has_none graph wanted name cut (shown ++ shows graph.facts cut scope) scope sound none, are)
+    by _ (none_outward are) = none_outward (has_nothing graph wanted name cut (shown ++ shows graph.facts cut scope) scope sound none, are)
     by x (some_outward _ is) = some_outward x is
 outward P graph wanted name cut sound each shown scopes x (Nowhere _) = none_outward tt

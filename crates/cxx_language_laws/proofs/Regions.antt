@@ -128,7 +128,7 @@ numbered_space graph (number ∷ others) inner e = by (slice_get graph.facts num
 pub set_space : (graph : CxxGraph) (x : Found) (inner : ℕ) → first_space (set_in graph x) ≡ Some inner → IsSpaceOf graph inner
 set_space graph (sought.Set all) inner e = numbered_space graph _ inner e
 set_space graph (sought.Ambiguous _ _) inner e = absurd cc
-set_space graph (sought.Member _ _) inner e = absurd cc
+set_space graph (sought.Member _ of) inner e = numbered_space graph _ inner e
 set_space graph sought.Empty inner e = absurd cc
 
 -- ---- what a part before `::` means

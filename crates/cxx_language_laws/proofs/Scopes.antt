@@ -69,21 +69,34 @@ scopes_beside (x ∷ xs) ys = by x.what (scopes_beside xs ys)
     by (facts.scope parent kind) e = ap (λ (fs : List CxxFact). record x { what = facts.scope parent kind } ∷ fs) e
     by _ e = e
 
--- ---- what facts say
+-- the kinds of scopes, with more facts behind
+kinds_beside : (xs ys : List CxxFact) → scope_kinds (xs ++ ys) ≡ scope_kinds xs ++ scope_kinds ys
+kinds_beside [] ys = refl
+kinds_beside (x ∷ xs) ys = by x.what (kinds_beside xs ys)
+  where
+    by : (what : Declares) → scope_kinds (xs ++ ys) ≡ scope_kinds xs ++ scope_kinds ys → scope_kinds (record x { what = what } ∷ (xs ++ ys)) ≡ scope_kinds (record x { what = what } ∷ xs) ++ scope_kinds ys
+    by (facts.scope parent kind) e = ap (λ (kinds : List ScopeKind). kind ∷ kinds) e
+    by _ e = e
 
--- a scope that is none of a class
-abbrev pub IsPlain : ScopeKind → Type 0
-IsPlain (scope_kind.Class class) = ⊥
-IsPlain _ = Unit {0}
+-- 3.3.5: the scope of the unit is that of a namespace
+abbrev pub UnitIsSpace : List CxxFact → Type 0
+UnitIsSpace all = slice_get (scope_kinds all) 0 ≡ Some scope_kind.Space
+
+unit_still : (xs ys : List CxxFact) → UnitIsSpace xs → UnitIsSpace (xs ++ ys)
+unit_still xs ys is = ap (λ (kinds : List ScopeKind). slice_get kinds 0) (kinds_beside xs ys) ∙ still_there (scope_kinds xs) (scope_kinds ys) 0 scope_kind.Space is
+
+-- ---- what facts say
 
 -- 3: the first declaration of an entity is one
 abbrev pub IsFirstThere : ℕ → Option FactId → Type 0
 IsFirstThere count None = Unit {0}
 IsFirstThere count (Some first) = first.0 < count
 
--- nothing is declared but what is read so far: no member of a class, template or friend
+-- nothing is declared but what is read so far: no base of a class, template or friend
 abbrev pub IsSound : List CxxFact → Declares → Type 0
-IsSound all (facts.scope parent kind) = IsPlain kind
+IsSound all (facts.scope parent kind) = Unit {0}
+IsSound all (facts.injected class) = Unit {0}
+IsSound all (facts.complete class) = Unit {0}
 IsSound all (facts.object of member is_mutable value first) = IsFirstThere (length all) first
 IsSound all (facts.function of member flags defaults first) = IsFirstThere (length all) first
 IsSound all (facts.class n is_union) = Unit {0}
@@ -109,7 +122,7 @@ scopes_length : (xs : List CxxFact) (x : CxxFact) → length (scope_facts xs) �
 scopes_length xs x = let e = ap (λ (fs : List CxxFact). length fs) (scopes_beside xs (x ∷ [])) in let f = length-append (scope_facts xs) (scope_facts (x ∷ [])) in omega (arith, e, f)
 
 sound_still : (xs : List CxxFact) (x : CxxFact) (what : Declares) → IsSound xs what → IsSound (xs ++ x ∷ []) what
-sound_still xs x (facts.scope parent kind) is = is
+sound_still xs x (facts.scope parent kind) is = tt
 sound_still xs x (facts.object of member is_mutable value first) is = first_still (length xs) (length (xs ++ x ∷ [])) (length_more xs x) first is
 sound_still xs x (facts.function of member flags defaults first) is = first_still (length xs) (length (xs ++ x ∷ [])) (length_more xs x) first is
 sound_still xs x (facts.class n is_union) is = tt
@@ -121,8 +134,8 @@ sound_still xs x (facts.directive nominated) is = tt
 sound_still xs x (facts.using target) is = let more = length_more xs x in omega (arith, is, more)
 sound_still xs x (facts.template _ _ _ _ _) is = absurd is
 sound_still xs x (facts.value_parameter _ _ _) is = absurd is
-sound_still xs x (facts.injected _) is = absurd is
-sound_still xs x (facts.complete _) is = absurd is
+sound_still xs x (facts.injected _) is = tt
+sound_still xs x (facts.complete _) is = tt
 sound_still xs x (facts.passed _) is = absurd is
 sound_still xs x (facts.ancestor _ _ _ _) is = absurd is
 sound_still xs x (facts.friend _ _) is = absurd is
@@ -236,6 +249,7 @@ pub record InScopes (state : CxxState) : Type 0 where
   pub sound : AreSound state.graph.facts
   pub opened : AreOpened state.graph.facts
   pub unnamed : AreUnnamed state.graph.facts
+  pub unit : UnitIsSpace state.graph.facts
 
 -- by the facts and the scope in which the reader stands
 abbrev StandsIn : List CxxFact → ℕ → Type 0
@@ -250,6 +264,7 @@ scopes_same old new graph here is =
       sound = subst AreSound all is.sound;
       opened = subst AreOpened all is.opened;
       unnamed = subst AreUnnamed all is.unnamed;
+      unit = subst UnitIsSpace all is.unit;
     }
 
 held_last : (scopes : List CxxFact) (last : CxxFact) → last.scope < length scopes → AreHeld scopes → AreHeld (scopes ++ last ∷ [])
@@ -329,6 +344,7 @@ scopes_put state fact there may is =
       sound = sound_more all fact is.sound may.sound;
       opened = opened_more all fact is.sound may is.opened;
       unnamed = unnamed_more all fact is.sound may is.unnamed;
+      unit = unit_still all (fact ∷ []) is.unit;
     }
 
 -- one in the scope where the reader stands
@@ -353,15 +369,15 @@ entered kind state = at_scope (scope_count state.graph) (with_fact (scope_within
 pub scopes_at : (scope : ℕ) (state : CxxState) → scope < scope_count state.graph → InScopes state → InScopes (at_scope scope state)
 scopes_at scope state there is =
     let counted = scopes_counted state.graph.facts in
-    record { within = omega (arith, counted, there); held = is.held; sound = is.sound; opened = is.opened; unnamed = is.unnamed }
+    record { within = omega (arith, counted, there); held = is.held; sound = is.sound; opened = is.opened; unnamed = is.unnamed; unit = is.unit }
 
-pub scopes_entered : (kind : ScopeKind) → IsPlain kind → (state : CxxState) → InScopes state → InScopes (entered kind state)
-scopes_entered kind plain state is =
+pub scopes_entered : (kind : ScopeKind) (state : CxxState) → InScopes state → InScopes (entered kind state)
+scopes_entered kind state is =
     let last = scope_within kind state in
     let more : length (scope_facts (state.graph.facts ++ last ∷ [])) ≡ length (scope_facts state.graph.facts) + 1 = ap (λ (fs : List CxxFact). length fs) (scopes_last state.graph.facts last) ∙ length-append (scope_facts state.graph.facts) (last ∷ []) in
     let counted = scopes_counted state.graph.facts in
     let now = scopes_counted (state.graph.facts ++ last ∷ []) in
-    scopes_at (scope_count state.graph) (with_fact last state) (omega (arith, more, counted, now)) (scopes_added state last refl (may_stand state.graph.facts last refl plain) is)
+    scopes_at (scope_count state.graph) (with_fact last state) (omega (arith, more, counted, now)) (scopes_added state last refl (may_stand state.graph.facts last refl tt) is)
 
 pub scope_is_there : (state : CxxState) → InScopes state → state.here.scope < scope_count state.graph
 scope_is_there state is =
@@ -389,7 +405,7 @@ scopes_left state is =
     ]) is
 
 pub scopes_first : InScopes first_state
-scopes_first = record { within = omega arith; held = held; sound = sound; opened = opened; unnamed = none_unnamed }
+scopes_first = record { within = omega arith; held = held; sound = sound; opened = opened; unnamed = none_unnamed; unit = refl }
   where
     held : AreHeld (scope_facts first_state.graph.facts)
     held zero fact e = inl (sym (ap (λ (o : Option CxxFact). scope_of_option 0 o) e))

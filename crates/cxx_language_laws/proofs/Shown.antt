@@ -2,7 +2,10 @@
 use Rattle.std.proofs.Common.{arith, ◌≡◌, ◌⊎◌, inl, inr, ℕ, zero, suc, ◌<◌, ◌≤◌, Bool, true, false, cond, ◌&&◌, nat_eq, List, [], ◌∷◌, ◌++◌, length, map, Option, Some, None, refl, sym, ap, subst, ◌∙◌}
 use Rattle.std.proofs.lemmas.Bool.{eq-eqb, eqb-true}
 use Rattle.std.proofs.lemmas.List.Elements.{Contains-append_left, Contains-append_right}
+use Rattle.std.proofs.lemmas.Option.{same_Some}
 use Rattle.std.specs.List.{Contains, find, slice_get}
+use Rattle.cxx_model.specs.declared.facts.ScopeKind.{ScopeKind}
+use Rattle.cxx_model.specs.declared.facts.ScopeKind.TheVariants as scope_kind
 use Rattle.cxx_model.specs.declared.lookup.Found.{Found}
 use Rattle.cxx_model.specs.declared.lookup.Found.TheVariants as found
 use Rattle.cxx_model.specs.declared.types.ScopeId.{ScopeId}
@@ -12,14 +15,14 @@ use Rattle.cxx_model.specs.Facts.Entities.{is_space}
 use Rattle.cxx_model.proofs.Champion.{first_of, first_or_later, later_of}
 use Rattle.cxx_meaning.specs.Lookups.Directives.{Shown, reached, shown_from, shows}
 use Rattle.cxx_meaning.specs.Lookups.Gathered.{holds_scope, same_scope}
+use Rattle.cxx_meaning.specs.Lookups.Member.{class_of_scope}
 use Rattle.cxx_meaning.specs.Lookups.Ordinary.{Here, IsFirst, Outside, sightings_at, standing_if, standing_shown}
 use Rattle.cxx_meaning.specs.Lookups.Scopes.{chain, first_common, kind_of, parent_of as parent_in, up, unit_scope}
-use Rattle.cxx_meaning.specs.Lookups.Sightings.{Sighting, standing}
+use Rattle.cxx_meaning.specs.Lookups.Sightings.{standing}
 use Rattle.cxx_meaning.specs.Lookups.Wanted.{Wanted}
 use Rattle.cxx_meaning.proofs.Nearest.{nothing_is_none}
-use Rattle.cxx_language_laws.proofs.Outward.{HasNone, IsLooked, IsOne, IsSo, in_sightings, set_looked, two_looked, no_class, scope_finds, sightings_seen}
-use Rattle.cxx_language_laws.proofs.Scopes.{AreHeld, AreSound, none_is_past}
-use Rattle.std.specs.List.{AllByRecursion}
+use Rattle.cxx_language_laws.proofs.Outward.{HasNone, IsLooked, class_by_kind, class_in_kind, in_scope, member_looked, set_looked, two_looked}
+use Rattle.cxx_language_laws.proofs.Scopes.{AreHeld, AreSound, UnitIsSpace, none_is_past}
 
 -- ---- lists
 
@@ -105,35 +108,65 @@ common_in all held room scope others le within = by (find test (chain all scope)
     by None e = rw e (unit_in all held room scope le within)
     by (Some one) e = rw e (up_more all scope.0 room scope one le (find_in test (chain all scope) one e))
 
+-- and that is a namespace, or the unit
+found_true : {A : Type 0} (test : A → Bool) (xs : List A) (x : A) → find test xs ≡ Some x → test x ≡ true
+found_true test [] x e = absurd cc
+found_true {A = A} test (y ∷ ys) x e = by (test y) refl e (found_true test ys x)
+  where
+    by : (b : Bool) → test y ≡ b → cond b (Some y) (find test ys) ≡ Some x → (find test ys ≡ Some x → test x ≡ true) → test x ≡ true
+    by true is e later = subst (λ z. test z ≡ true) (same_Some y x e) is
+    by false is e later = later e
+
+space_plain : (all : List CxxFact) (scope : ScopeId) → is_space (kind_of all scope) ≡ true → class_of_scope all scope ≡ None
+space_plain all scope is = class_by_kind all scope ∙ by (kind_of all scope) is
+  where
+    by : (o : Option ScopeKind) → is_space o ≡ true → class_in_kind o ≡ None
+    by None is = refl
+    by (Some scope_kind.Space) is = refl
+    by (Some scope_kind.Parameters) is = refl
+    by (Some (scope_kind.Block function)) is = refl
+    by (Some (scope_kind.Class class)) is = absurd cc
+
+common_plain : (all : List CxxFact) → UnitIsSpace all → (ones others : List ScopeId) → class_of_scope all (first_common all ones others) ≡ None
+unfolding first_common
+common_plain all unit ones others = by (find test ones) refl
+  where
+    test : ScopeId → Bool
+    test one = is_space (kind_of all one) && holds_scope others one
+
+    both : (a b : Bool) → (a && b) ≡ true → a ≡ true
+    both true b e = refl
+    both false b e = absurd cc
+
+    unit_plain : class_of_scope all unit_scope ≡ None
+    unit_plain = class_by_kind all unit_scope ∙ ap class_in_kind unit
+
+    by : (o : Option ScopeId) → find test ones ≡ o → class_of_scope all (first_common all ones others) ≡ None
+    by None e = rw e unit_plain
+    by (Some one) e = rw e (space_plain all one (both (is_space (kind_of all one)) (holds_scope others one) (found_true test ones one e)))
+
 -- ---- scopes without anything
 
 abbrev Anything : ℕ → Type 0
 Anything n = Unit {0}
 
-any_so : (graph : CxxGraph) (wanted : Wanted) (all : List Sighting) → AllByRecursion (IsOne graph wanted) all → AllByRecursion (IsSo Anything) all
-any_so graph wanted [] are = tt
-any_so graph wanted (one ∷ others) are = (record { meant = tt; first = λ n e. tt }, any_so graph wanted others are.1)
-
 -- a lookup that finds nothing has passed the first of its scopes
 record IsPassed (graph : CxxGraph) (wanted : Wanted) (name : CxxName) (cut : ℕ) (shown : List Shown) (scope : ScopeId) (outer : List ScopeId) : Type 0 where
-  none : sightings_at graph cut wanted name (shown ++ shows graph.facts cut scope) scope ≡ []
+  none : class_of_scope graph.facts scope ≡ None → sightings_at graph cut wanted name (shown ++ shows graph.facts cut scope) scope ≡ []
   further : IsFirst graph wanted name cut (shown ++ shows graph.facts cut scope) outer found.Empty
 
 passed : (graph : CxxGraph) (wanted : Wanted) (name : CxxName) (cut : ℕ) → AreSound graph.facts → (shown : List Shown) (scope : ScopeId) (outer : List ScopeId) (x : Found) → x ≡ found.Empty → IsFirst graph wanted name cut shown (scope ∷ outer) x → IsPassed graph wanted name cut shown scope outer
-passed graph wanted name cut sound shown scope outer x e (Here _ _ _ _ is) =
-    absurd (no_looked (subst (IsLooked Anything graph) e (in_sightings Anything graph (sightings_at graph cut wanted name now scope) x (any_so graph wanted (sightings_at graph cut wanted name now scope) (sightings_seen graph cut wanted name now scope sound)) (sym (scope_finds graph wanted name cut now scope sound) ∙ is))))
+passed graph wanted name cut sound shown scope outer x e (Here _ _ _ _ is) = absurd (no_looked (subst (IsLooked Anything graph) e (in_scope Anything graph wanted name cut (shown ++ shows graph.facts cut scope) scope x sound (λ one are. record { meant = tt; first = λ n e. tt }) is)))
   where
-    now : List Shown
-    now = shown ++ shows graph.facts cut scope
-
     no_looked : IsLooked Anything graph found.Empty → ⊥
     no_looked is = by found.Empty refl is
       where
         by : (y : Found) → y ≡ found.Empty → IsLooked Anything graph y → ⊥
         by _ e (set_looked one others so) = absurd cc
         by _ e (two_looked one two so) = absurd cc
+        by _ e (member_looked class one others path so) = absurd cc
 passed graph wanted name cut sound shown scope outer x e (Outside _ _ _ _ none further) = record {
-  none = nothing_is_none graph wanted name cut (shown ++ shows graph.facts cut scope) scope (no_class graph.facts scope sound) none;
+  none = λ plain. nothing_is_none graph wanted name cut (shown ++ shows graph.facts cut scope) scope plain none;
   further = subst (IsFirst graph wanted name cut (shown ++ shows graph.facts cut scope) outer) e further;
 }
 
@@ -147,44 +180,45 @@ entry_none graph wanted name cut scope (one ∷ others) entry e m at = elim (fir
 ]
 
 -- what shows in one of the scopes has nothing
-shown_none : (graph : CxxGraph) (wanted : Wanted) (name : CxxName) (cut : ℕ) → AreSound graph.facts → (scopes : List ScopeId) (shown : List Shown) → IsFirst graph wanted name cut shown scopes found.Empty → (entry : Shown) → Contains shown entry → Contains scopes entry.there → HasNone graph wanted name cut entry.space
+shown_none : (graph : CxxGraph) (wanted : Wanted) (name : CxxName) (cut : ℕ) → AreSound graph.facts → (scopes : List ScopeId) (shown : List Shown) → IsFirst graph wanted name cut shown scopes found.Empty → (entry : Shown) → class_of_scope graph.facts entry.there ≡ None → Contains shown entry → Contains scopes entry.there → HasNone graph wanted name cut entry.space
 unfolding sightings_at
-shown_none graph wanted name cut sound [] shown first entry m at = absurd (omega (arith, at.1))
-shown_none graph wanted name cut sound (scope ∷ outer) shown first entry m at =
+shown_none graph wanted name cut sound [] shown first entry plain m at = absurd (omega (arith, at.1))
+shown_none graph wanted name cut sound (scope ∷ outer) shown first entry plain m at =
     let now = shown ++ shows graph.facts cut scope in
     let is = passed graph wanted name cut sound shown scope outer found.Empty refl first in
     let among = Contains-append_left shown (shows graph.facts cut scope) entry m in
     elim (first_or_later scope outer entry.there at) [
-      | inl here ↦ entry_none graph wanted name cut scope now entry (right_none (standing graph cut wanted name scope) (standing_shown graph cut wanted name scope now) is.none) among (sym here)
-      | inr there ↦ shown_none graph wanted name cut sound outer now is.further entry among there
+      | inl here ↦ entry_none graph wanted name cut scope now entry (right_none (standing graph cut wanted name scope) (standing_shown graph cut wanted name scope now) (is.none (subst (λ (one : ScopeId). class_of_scope graph.facts one ≡ None) (sym here) plain))) among (sym here)
+      | inr there ↦ shown_none graph wanted name cut sound outer now is.further entry plain among there
     ]
 
 -- what the directives of the first of them reach
-reached_first : (graph : CxxGraph) (wanted : Wanted) (name : CxxName) (cut : ℕ) → AreSound graph.facts → (scope : ScopeId) (outer : List ScopeId) (shown : List Shown) → IsFirst graph wanted name cut shown (scope ∷ outer) found.Empty
+reached_first : (graph : CxxGraph) (wanted : Wanted) (name : CxxName) (cut : ℕ) → AreSound graph.facts → UnitIsSpace graph.facts → (scope : ScopeId) (outer : List ScopeId) (shown : List Shown) → IsFirst graph wanted name cut shown (scope ∷ outer) found.Empty
     → ((others : List ScopeId) → Contains (scope ∷ outer) (first_common graph.facts (chain graph.facts scope) others)) → (space : ScopeId) → Contains (reached graph.facts cut scope) space → HasNone graph wanted name cut space
 unfolding sightings_at shows
-reached_first graph wanted name cut sound scope outer shown first at space is =
+reached_first graph wanted name cut sound unit scope outer shown first at space is =
     let now = shown ++ shows graph.facts cut scope in
     let past = passed graph wanted name cut sound shown scope outer found.Empty refl first in
     let entry = shown_from graph.facts (chain graph.facts scope) space in
+    let plain : class_of_scope graph.facts entry.there ≡ None = common_plain graph.facts unit (chain graph.facts scope) (chain graph.facts space) in
     let among : Contains now entry = Contains-append_right shown (shows graph.facts cut scope) entry (mapped_in (shown_from graph.facts (chain graph.facts scope)) (reached graph.facts cut scope) space is) in
     elim (first_or_later scope outer entry.there (at (chain graph.facts space))) [
-      | inl here ↦ entry_none graph wanted name cut scope now entry (right_none (standing graph cut wanted name scope) (standing_shown graph cut wanted name scope now) past.none) among (sym here)
-      | inr there ↦ shown_none graph wanted name cut sound outer now past.further entry among there
+      | inl here ↦ entry_none graph wanted name cut scope now entry (right_none (standing graph cut wanted name scope) (standing_shown graph cut wanted name scope now) (past.none (subst (λ (one : ScopeId). class_of_scope graph.facts one ≡ None) (sym here) plain))) among (sym here)
+      | inr there ↦ shown_none graph wanted name cut sound outer now past.further entry plain among there
     ]
 
 -- 7.3.4: nor has what a directive of one of them reaches
-pub reached_none : (graph : CxxGraph) (wanted : Wanted) (name : CxxName) (cut : ℕ) → AreSound graph.facts → AreHeld (scope_facts graph.facts) → (room : ℕ) (scope : ScopeId) → scope.0 ≤ room → scope.0 < length (scope_facts graph.facts)
+pub reached_none : (graph : CxxGraph) (wanted : Wanted) (name : CxxName) (cut : ℕ) → AreSound graph.facts → UnitIsSpace graph.facts → AreHeld (scope_facts graph.facts) → (room : ℕ) (scope : ScopeId) → scope.0 ≤ room → scope.0 < length (scope_facts graph.facts)
     → (shown : List Shown) → IsFirst graph wanted name cut shown (up graph.facts room scope) found.Empty → (one space : ScopeId) → Contains (up graph.facts room scope) one → Contains (reached graph.facts cut one) space → HasNone graph wanted name cut space
 unfolding up
-reached_none graph wanted name cut sound held zero scope le within shown first one space m is = by (first_or_later scope [] one m)
+reached_none graph wanted name cut sound unit held zero scope le within shown first one space m is = by (first_or_later scope [] one m)
   where
     by : (scope ≡ one) ⊎ Contains [] one → HasNone graph wanted name cut space
-    by (inl here) = reached_first graph wanted name cut sound scope [] shown first (λ others. common_in graph.facts held zero scope others le within) space (subst (λ (s : ScopeId). Contains (reached graph.facts cut s) space) (sym here) is)
+    by (inl here) = reached_first graph wanted name cut sound unit scope [] shown first (λ others. common_in graph.facts held zero scope others le within) space (subst (λ (s : ScopeId). Contains (reached graph.facts cut s) space) (sym here) is)
     by (inr there) = absurd (omega (arith, there.1))
-reached_none graph wanted name cut sound held (suc room) scope le within shown first one space m is =
+reached_none graph wanted name cut sound unit held (suc room) scope le within shown first one space m is =
     by (first_or_later scope (cond (nat_eq scope.0 0) [] (up graph.facts room (parent_in graph.facts scope))) one m) (passed graph wanted name cut sound shown scope (cond (nat_eq scope.0 0) [] (up graph.facts room (parent_in graph.facts scope))) found.Empty refl first).further
-    (λ l w next there. reached_none graph wanted name cut sound held room (parent_in graph.facts scope) l w (shown ++ shows graph.facts cut scope) next one space there is)
+    (λ l w next there. reached_none graph wanted name cut sound unit held room (parent_in graph.facts scope) l w (shown ++ shows graph.facts cut scope) next one space there is)
   where
     below : ((parent_in graph.facts scope).0 ≤ room) × ((parent_in graph.facts scope).0 < length (scope_facts graph.facts))
     below = elim (parent_in_below graph.facts scope within held) [
@@ -199,5 +233,5 @@ reached_none graph wanted name cut sound held (suc room) scope le within shown f
 
     by : (scope ≡ one) ⊎ Contains (cond (nat_eq scope.0 0) [] (up graph.facts room (parent_in graph.facts scope))) one → IsFirst graph wanted name cut (shown ++ shows graph.facts cut scope) (cond (nat_eq scope.0 0) [] (up graph.facts room (parent_in graph.facts scope))) found.Empty
         → ((parent_in graph.facts scope).0 ≤ room → (parent_in graph.facts scope).0 < length (scope_facts graph.facts) → IsFirst graph wanted name cut (shown ++ shows graph.facts cut scope) (up graph.facts room (parent_in graph.facts scope)) found.Empty → Contains (up graph.facts room (parent_in graph.facts scope)) one → HasNone graph wanted name cut space) → HasNone graph wanted name cut space
-    by (inl here) next further = reached_first graph wanted name cut sound scope (cond (nat_eq scope.0 0) [] (up graph.facts room (parent_in graph.facts scope))) shown first (λ others. common_in graph.facts held (suc room) scope others le within) space (subst (λ (s : ScopeId). Contains (reached graph.facts cut s) space) (sym here) is)
+    by (inl here) next further = reached_first graph wanted name cut sound unit scope (cond (nat_eq scope.0 0) [] (up graph.facts room (parent_in graph.facts scope))) shown first (λ others. common_in graph.facts held (suc room) scope others le within) space (subst (λ (s : ScopeId). Contains (reached graph.facts cut s) space) (sym here) is)
     by (inr there) next further = outward (nat_eq scope.0 0) there next further

@@ -1,12 +1,13 @@
 -- What a lookup finds where the reader stands: nothing where no scope outward declares the name, and else declarations that
 -- there are (3.4).
-use Rattle.std.proofs.Common.{arith, ◌≡◌, inl, inr, ℕ, zero, suc, ◌<◌, ◌+◌, Bool, true, false, cond, List, [], ◌∷◌, ◌++◌, length, Option, Some, None, Result, Ok, Err, refl, sym, ap, subst, ◌∙◌}
+use Rattle.std.proofs.Common.{arith, ◌≡◌, inl, inr, ℕ, zero, suc, ◌<◌, ◌+◌, Bool, true, false, cond, not, List, [], ◌∷◌, ◌++◌, length, Option, Some, None, Result, Ok, Err, refl, sym, ap, subst, ◌∙◌}
 use Rattle.std.proofs.lemmas.List.Elements.{Contains-append_left}
 use Rattle.std.proofs.lemmas.Option.{slice_get_within}
-use Rattle.std.specs.List.{AllByRecursion, Contains, slice_get}
+use Rattle.std.specs.List.{AllByRecursion, Contains, find, slice_get}
 use Rattle.cxx_model.specs.declared.lookup.Associated.{Associated}
 use Rattle.cxx_model.specs.declared.lookup.Found.{Found}
 use Rattle.cxx_model.specs.declared.lookup.Found.TheVariants as found
+use Rattle.cxx_model.specs.declared.lookup.MemberFound.{MemberFound}
 use Rattle.cxx_model.specs.declared.types.ClassId.{ClassId}
 use Rattle.cxx_model.specs.declared.types.FactId.{FactId}
 use Rattle.cxx_model.specs.declared.types.ScopeId.{ScopeId}
@@ -19,11 +20,11 @@ use Rattle.cxx_meaning.specs.Conversions.Standard.{CxxOperand}
 use Rattle.cxx_meaning.specs.Lookups.Associated.{adl, associated, befriended, functions_among, space_id, standing_in_each, target_by, target_of}
 use Rattle.cxx_meaning.specs.Lookups.Directives.{Shown, shows}
 use Rattle.cxx_meaning.specs.Lookups.Gathered.{gathered, holds_scope, spread, with_facts, with_scope, with_scopes}
-use Rattle.cxx_meaning.specs.Lookups.Ordinary.{IsFirst, found_in_scope, found_in_sightings, or_outside, ordinary, ordinary_in, sightings_at}
+use Rattle.cxx_meaning.specs.Lookups.Ordinary.{IsFirst, found_in_scope, or_outside, ordinary, ordinary_in}
 use Rattle.cxx_meaning.specs.Lookups.Pending.{Asked}
 use Rattle.cxx_meaning.specs.Lookups.Qualified.{leads_to, searched, sightings_of, standing_in}
 use Rattle.cxx_meaning.specs.Lookups.Scopes.{chain, unit_scope}
-use Rattle.cxx_meaning.specs.Lookups.Sightings.{Sighting, entities, found_of, looked_up, standing, unhidden}
+use Rattle.cxx_meaning.specs.Lookups.Sightings.{Sighting, both_functions, entities, found_of, odd_pair, looked_up, standing, unhidden}
 use Rattle.cxx_meaning.specs.Lookups.Wanted.{Wanted, any_name, is_function, names_space, namespaces_only}
 use Rattle.cxx_meaning.proofs.Nearest.{first_is_found}
 use Rattle.cxx_reading.specs.declared.region.Region.{Region}
@@ -34,23 +35,36 @@ use Rattle.cxx_reading.specs.State.{CxxState}
 use Rattle.cxx_answers.specs.Answers.{associated_functions, found_in_sets, fresh_among, types_of_operands}
 use Rattle.cxx_language_laws.specs.Best.{IsClear}
 use Rattle.cxx_language_laws.specs.Told.{IsNotAround, IsNotInside, IsNotThere}
-use Rattle.cxx_language_laws.proofs.Outward.{HasNone, IsLooked, IsOne, IsSo, IsTwo, OfNumber, Outward, ScopeAnswers, all_of, beside_all, each_seen, entities_so, filtered_all, gathered_all, looked_so, none_left, none_outward, outward, scope_finds, set_looked, some_outward, two_looked}
+use Rattle.cxx_language_laws.proofs.Outward.{HasNone, HasNothing, IsLooked, IsOne, IsSo, IsTwo, OfNumber, Outward, ScopeAnswers, all_of, beside_all, each_seen, entities_so, filtered_all, gathered_all, looked_so, member_looked, none_left, none_outward, outward, scope_answers, set_looked, some_outward, two_looked}
 use Rattle.cxx_language_laws.proofs.Shown.{reached_none, right_none, unit_in}
-use Rattle.cxx_language_laws.proofs.Scopes.{AreHeld, AreSound, InScopes, IsFirstThere, IsSound, none_is_past}
+use Rattle.cxx_language_laws.proofs.Scopes.{AreHeld, AreSound, InScopes, IsFirstThere, IsSound, UnitIsSpace, none_is_past}
 
 -- ---- the scopes outward
+
+-- in which the declarations are as they should be
+pub record AreFitting (graph : CxxGraph) : Type 0 where
+  pub sound : AreSound graph.facts
+  pub held : AreHeld (scope_facts graph.facts)
+  pub unit : UnitIsSpace graph.facts
+
+pub fitting : (state : CxxState) → InScopes state → AreFitting state.graph
+fitting state is = record { sound = is.sound; held = is.held; unit = is.unit }
 
 -- from a scope that there is
 abbrev pub IsStanding : CxxGraph → ScopeId → Type 0
 IsStanding graph scope = scope.0 < length (scope_facts graph.facts)
 
-not_around : (graph : CxxGraph) → AreSound graph.facts → AreHeld (scope_facts graph.facts) → (wanted : Wanted) (scope : ScopeId) (name : CxxName) → IsStanding graph scope → AllByRecursion (HasNone graph wanted name (length graph.facts)) (chain graph.facts scope) → IsFirst graph wanted name (length graph.facts) [] (chain graph.facts scope) found.Empty
+not_around : (graph : CxxGraph) → AreFitting graph → (wanted : Wanted) (scope : ScopeId) (name : CxxName) → IsStanding graph scope → AllByRecursion (HasNothing graph wanted name (length graph.facts)) (chain graph.facts scope) → IsFirst graph wanted name (length graph.facts) [] (chain graph.facts scope) found.Empty
     → IsNotAround graph wanted scope name
-not_around graph sound held wanted scope name within each first = record {
-  outward = λ one m. all_of (HasNone graph wanted name (length graph.facts)) (chain graph.facts scope) each one m;
-  by_directives = λ one space m there. reached_none graph wanted name (length graph.facts) sound held scope.0 scope (omega arith) within [] first one space m there;
-  in_unit = all_of (HasNone graph wanted name (length graph.facts)) (chain graph.facts scope) each unit_scope (unit_in graph.facts held scope.0 scope (omega arith) within);
+not_around graph is wanted scope name within each first = record {
+  outward = λ one m. (all_of nothing (chain graph.facts scope) each one m).none;
+  in_classes = λ one class m so. (all_of nothing (chain graph.facts scope) each one m).no_member class so;
+  by_directives = λ one space m there. reached_none graph wanted name (length graph.facts) is.sound is.unit is.held scope.0 scope (omega arith) within [] first one space m there;
+  in_unit = (all_of nothing (chain graph.facts scope) each unit_scope (unit_in graph.facts is.held scope.0 scope (omega arith) within)).none;
 }
+  where
+    nothing : ScopeId → Type 0
+    nothing = HasNothing graph wanted name (length graph.facts)
 
 -- ---- the namespaces that are searched (3.4.3.2)
 
@@ -123,20 +137,12 @@ never_asks graph wanted name cut sound (scope ∷ outer) shown class e = by (fou
     by : (o : Asked (Option Found)) → found_in_scope graph wanted name cut (shown ++ shows graph.facts cut scope) scope ≡ o → FoundAnswers (or_outside o outside) (Err class) → (outside ≡ Err class → ⊥) → ⊥
     by (Ok (Some x)) is e further = no_stop x e
     by (Ok None) is e further = further e
-    by (Err other) is e further = no_class_asked (found_in_sightings graph (sightings_at graph cut wanted name (shown ++ shows graph.facts cut scope) scope)) other (sym (scope_finds graph wanted name cut (shown ++ shows graph.facts cut scope) scope sound) ∙ is)
+    by (Err other) is e further = let answer = scope_answers graph wanted name cut (shown ++ shows graph.facts cut scope) scope sound in no_class_asked answer.0 other (sym answer.1 ∙ is)
 
 -- what is sought in a region: nothing, and then nothing there has it, or something
 pub data IsSoughtSo (P : ℕ → Type 0) (graph : CxxGraph) (wanted : Wanted) (where_ : Region) (name : CxxName) : Found → Type 0 where
   nothing_there : IsNotThere graph wanted where_ name → IsSoughtSo P graph wanted where_ name found.Empty
   some_there : (x : Found) → IsLooked P graph x → IsSoughtSo P graph wanted where_ name x
-
--- in which the declarations are as they should be
-pub record AreFitting (graph : CxxGraph) : Type 0 where
-  pub sound : AreSound graph.facts
-  pub held : AreHeld (scope_facts graph.facts)
-
-pub fitting : (state : CxxState) → InScopes state → AreFitting state.graph
-fitting state is = record { sound = is.sound; held = is.held }
 
 -- a region that there is
 abbrev pub IsRegion : CxxGraph → Region → Type 0
@@ -148,7 +154,7 @@ unfolding sought_from
 outward_so P graph wanted scope name is within each = by (ordinary graph wanted scope name (length graph.facts)) refl
   where
     of_outward : (x : Found) → IsFirst graph wanted name (length graph.facts) [] (chain graph.facts scope) x → Outward P graph wanted name (length graph.facts) (chain graph.facts scope) x → IsSoughtSo P graph wanted (region.Outward scope) name x
-    of_outward _ first (none_outward are) = nothing_there (not_around graph is.sound is.held wanted scope name within are first)
+    of_outward _ first (none_outward are) = nothing_there (not_around graph is wanted scope name within are first)
     of_outward x first (some_outward _ so) = some_there x so
 
     by : (o : Asked Found) → ordinary graph wanted scope name (length graph.facts) ≡ o → IsSoughtSo P graph wanted (region.Outward scope) name (found_or_none o)
@@ -174,6 +180,32 @@ pub sought_so : (P : ℕ → Type 0) (graph : CxxGraph) (wanted : Wanted) (where
 unfolding sought_in
 sought_so P graph wanted (region.Outward scope) name is there each = outward_so P graph wanted scope name is there each
 sought_so P graph wanted (region.Inside space) name is there each = inside_so P graph wanted space name is each
+
+-- 3.4.3.2: no member of a class is found in a namespace
+no_member_found : (graph : CxxGraph) (all : List FactId) (class : ClassId) (of : MemberFound) → found_of graph all ≡ found.Member class of → ⊥
+unfolding found_of odd_pair
+no_member_found graph [] class of e = cc
+no_member_found graph (one ∷ others) class of e = by (find (λ two. not (both_functions graph one two)) others) refl
+  where
+    by : (o : Option FactId) → find (λ two. not (both_functions graph one two)) others ≡ o → ⊥
+    by None is = apart (sym set ∙ e)
+      where
+        set : found_of graph (one ∷ others) ≡ found.Set (one ∷ others)
+        set = rw is refl
+
+        apart : found.Set (one ∷ others) ≡ found.Member class of → ⊥
+        apart e = cc
+    by (Some two) is = apart (sym both ∙ e)
+      where
+        both : found_of graph (one ∷ others) ≡ found.Ambiguous one two
+        both = rw is refl
+
+        apart : found.Ambiguous one two ≡ found.Member class of → ⊥
+        apart e = cc
+
+pub no_member_inside : (graph : CxxGraph) (wanted : Wanted) (space : ScopeId) (name : CxxName) (class : ClassId) (of : MemberFound) → sought_in graph wanted (region.Inside space) name ≡ found.Member class of → ⊥
+unfolding sought_in
+no_member_inside graph wanted space name class of e = no_member_found graph (entities (unhidden graph (sightings_of graph (length graph.facts) wanted name space))) class of e
 
 -- ---- declarations that there are
 
@@ -203,8 +235,8 @@ entity_there all number n (facts.synonym _) below is e = absurd cc
 entity_there all number n (facts.namespace _) below is e = absurd cc
 entity_there all number n (facts.template _ _ _ _ _) below is e = absurd is
 entity_there all number n (facts.value_parameter _ _ _) below is e = absurd is
-entity_there all number n (facts.injected _) below is e = absurd is
-entity_there all number n (facts.complete _) below is e = absurd is
+entity_there all number n (facts.injected _) below is e = absurd cc
+entity_there all number n (facts.complete _) below is e = first_there (length all) number n None below tt e
 entity_there all number n (facts.passed _) below is e = absurd is
 entity_there all number n (facts.ancestor _ _ _ _) below is e = absurd is
 entity_there all number n (facts.friend _ _) below is e = absurd is
@@ -233,10 +265,12 @@ nothing_sought graph wanted where_ name is there x e clear none = by x (subst (I
     by _ (nothing_there none_there) e clear none = (e, none_there)
     by _ (some_there _ (set_looked one others there)) e clear none = absurd (some_numbered graph one.0 (fact_numbers others) there none)
     by _ (some_there _ (two_looked one two so)) e clear none = absurd clear
+    by _ (some_there _ (member_looked class one others path there)) e clear none = absurd (some_numbered graph one.0 (fact_numbers others) there none)
 
 -- 3.4: two that are found are declared
 pub two_looked_so : (P : ℕ → Type 0) (graph : CxxGraph) (x : Found) (one two : FactId) → x ≡ found.Ambiguous one two → IsLooked P graph x → IsTwo P graph one two
 two_looked_so P graph _ one two e (set_looked m others there) = absurd cc
+two_looked_so P graph _ one two e (member_looked class m others path there) = absurd cc
 two_looked_so P graph _ one two e (two_looked m n so) = subst (λ (x : FactId). IsTwo P graph x two) (ap first_in e) (subst (λ (y : FactId). IsTwo P graph m y) (ap second_in e) so)
   where
     first_in : Found → FactId
@@ -292,6 +326,7 @@ no_space_sought graph where_ name is there x e clear none = by x (subst (IsSough
     by _ (nothing_there none_there) e clear none = (e, none_there)
     by _ (some_there _ (set_looked one others there)) e clear none = absurd (first_there_space graph one.0 (fact_numbers others) there none)
     by _ (some_there _ (two_looked one two so)) e clear none = absurd clear
+    by _ (some_there _ (member_looked class one others path there)) e clear none = absurd (first_there_space graph one.0 (fact_numbers others) there none)
 
 -- 7.3.3: what a using-declaration brings is declared
 pub brought_there : (graph : CxxGraph) (space : ScopeId) (name : CxxName) → AreFitting graph → AllByRecursion (OfNumber (IsThere graph)) (entities (sightings_of graph (length graph.facts) any_name name space))

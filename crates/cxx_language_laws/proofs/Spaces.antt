@@ -40,7 +40,7 @@ use Rattle.cxx_language_laws.proofs.Outward.{OfNumber}
 use Rattle.cxx_language_laws.proofs.Reached.{Told, later_is_told}
 use Rattle.cxx_language_laws.proofs.Regions.{IsOfSpace, IsSpaceOf, last_ahead, nothing_ahead, region_inside, region_told, set_space, space_region_there, space_region_told, space_twofold_ahead, space_unknown_ahead, twofold_ahead}
 use Rattle.cxx_language_laws.proofs.Scopes.{InScopes, MayStand, may_stand, opened_within}
-use Rattle.cxx_language_laws.proofs.Sought.{IsThere, brought_there, fitting, no_space_sought}
+use Rattle.cxx_language_laws.proofs.Sought.{IsThere, brought_there, no_member_inside, fitting, no_space_sought}
 use Rattle.cxx_language_laws.proofs.Stopping.{Inside, Stops, calm, innermost_stops, leads_in, later_here, which_in}
 use Rattle.cxx_language_laws.proofs.Tells.{Quietly, ToldBy, tells_answer, tells_refusal, ToldIn, tells_stop, Tells, ask_from, ask_in, behind_stands, ends_later, from_in, give_in, if_in, looked_in, name_stands, path_then, punct_in, quiet_in, taken_in, then_in, tokens_in, unit_is_told}
 
@@ -179,7 +179,7 @@ brought_tells state ahead begins whole space means = by (sought_in state.graph a
     by : (x : Found) → sought_in state.graph any_name (region.Inside space) (name_in (path_ahead ahead)) ≡ x → ToldBy IsLater Told state ahead (bring_found (last_ahead ahead) (brought_by x sightings) state)
     by (sought.Ambiguous one two) is = tells_refusal _ (twofold_ahead any_name tt state ahead begins whole (region.Inside space) means one two is)
     by (sought.Set all) is = calm_by later_is_told (bring_all_tells state ahead (last_ahead ahead) (entities sightings) (λ scopes. brought_there state.graph space (name_in (path_ahead ahead)) (fitting state scopes)) (space_among (numbered_at state.graph (fact_numbers (entities sightings)))))
-    by (sought.Member class found) is = tells_refusal _ (nothing_ahead any_name tt state ahead begins whole (region.Inside space) means (sought.Member class found) is tt refl)
+    by (sought.Member class found) is = absurd (no_member_inside state.graph any_name space (name_in (path_ahead ahead)) class found is)
     by sought.Empty is = tells_refusal _ (nothing_ahead any_name tt state ahead begins whole (region.Inside space) means sought.Empty is tt refl)
 
 bring_tells : (state : CxxState) (ahead : Ahead) → begins_name ahead ≡ true → is_whole_name ahead ≡ true → is_plain_name ahead ≡ false → ToldBy IsLater Told state ahead (bring_here (path_ahead ahead) state)

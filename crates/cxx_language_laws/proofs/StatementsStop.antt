@@ -264,7 +264,7 @@ keyword_of {B = B} {part = part} {s = s} {ahead = ahead} {t = t} {rest = rest} n
 -- ---- blocks that are entered
 
 block_reached : (t u : CxxState) → IsInBlock None t u → IsBehind t u
-block_reached t u first = behind_later t (entered (scope_kind.Block None) t) u (entered_behind (scope_kind.Block None) tt t) (behind_by_later (entered (scope_kind.Block None) t) u first)
+block_reached t u first = behind_later t (entered (scope_kind.Block None) t) u (entered_behind (scope_kind.Block None) t) (behind_by_later (entered (scope_kind.Block None) t) u first)
 
 block_on : (t u v : CxxState) → IsInBlock None t u → IsLater u v → IsInBlock None t v
 block_on t u v first later = later_is_kept.later (entered (scope_kind.Block None) t) u v first later
@@ -294,7 +294,7 @@ outward_of go first tells second = then_entered_of go (stays_of first tells) sec
 
 leave_of : {B : Type 0} {part : Part} {s : CxxState} {ahead : Ahead} {t u : CxxState} {rest : Ahead} {go : Unit {0} → Reads CxxState B} → IsInBlock None t u → ((x : Unit {0}) → Tells IsLater Quietly (go x)) → From part s ahead t rest (then_read (answered (leave_block u) rest) go)
 unfolding leave_block
-leave_of {part = part} {s = s} {ahead = ahead} {t = t} {u = u} {rest = rest} first tells = from_in (of_told part s ahead) t (left u) rest rest (left_later (scope_kind.Block None) tt t u first) (whole_stands rest.tokens) (calm_of (tells tt (left u) rest))
+leave_of {part = part} {s = s} {ahead = ahead} {t = t} {u = u} {rest = rest} first tells = from_in (of_told part s ahead) t (left u) rest rest (left_later (scope_kind.Block None) t u first) (whole_stands rest.tokens) (calm_of (tells tt (left u) rest))
 
 -- ---- statements up to the end of a block
 

@@ -284,6 +284,19 @@ path_then {S = S} {B = B} {kept = kept} {told = told} is go state ahead tells = 
     by true tells = tells refl
     by false tells = none (is_unbuilt_part (lacks_first_part ahead) (kind_ahead (behind_name ahead)))
 
+-- the same of what is told from before on
+pub path_from : {S B : Type 0} {kept : S → S → Type 0} {told : S → Ahead → Stopped → Type 0} → IsTold kept told → (go : CxxPath → Reads S B) (state : S) (from ahead : Ahead) → EndsIn from.tokens ahead.tokens → (is_whole_name ahead ≡ true → ToldIn kept told state from (go (path_ahead ahead) state (behind_name ahead))) → ToldIn kept told state from (then_read (path_taken state ahead) go)
+unfolding path_taken no_part_there
+path_from {S = S} {B = B} {kept = kept} {told = told} is go state from ahead stands tells = by (is_whole_name ahead) tells
+  where
+    none : (b : Bool) → ToldIn kept told state from (then_read (if b then not_built state (behind_name ahead) else refused state (behind_name ahead)) go)
+    none true = quiet_in is refl
+    none false = quiet_in is refl
+
+    by : (b : Bool) → (b ≡ true → ToldIn kept told state from (go (path_ahead ahead) state (behind_name ahead))) → ToldIn kept told state from (then_read (if b then got (path_ahead ahead) state (behind_name ahead) else no_part_there (lacks_first_part ahead) state (behind_name ahead)) go)
+    by true tells = tells refl
+    by false tells = none (is_unbuilt_part (lacks_first_part ahead) (kind_ahead (behind_name ahead)))
+
 -- what is read is not taken
 pub returned_in : {S A : Type 0} {kept : S → S → Type 0} {told : S → Ahead → Stopped → Type 0} {state : S} {r : Answer (Got S A)} (ahead : Ahead) → ToldIn kept told state ahead r → ToldIn kept told state ahead (returned ahead r)
 returned_in ahead (tells_read one keeps stands) = tells_read (record { value = one.value; state = one.state; rest = ahead }) keeps (whole_stands ahead.tokens)

@@ -174,7 +174,7 @@ body_grown list number result state = grown_by state (begun_body list number res
 pub body_reached : (list number : ℕ) (result : CxxType) (state : CxxState) → list < scope_count state.graph → IsReached state (begun_body list number result state)
 body_reached list number result state there = record {
   grown = body_grown list number result state;
-  scopes = λ is. scopes_entered (scope_kind.Block (Some (number_id number))) tt (in_list list result state) (scopes_at list (with_result (Some result) state) there (scopes_same state (with_result (Some result) state) refl refl is));
+  scopes = λ is. scopes_entered (scope_kind.Block (Some (number_id number))) (in_list list result state) (scopes_at list (with_result (Some result) state) there (scopes_same state (with_result (Some result) state) refl refl is));
   scope = λ is. inr (omega arith);
 }
 

@@ -14,7 +14,7 @@ use Rattle.cxx_reading.specs.Reads.{Ahead}
 use Rattle.cxx_reading.specs.State.{CxxState}
 use Rattle.cxx_reading.specs.Trees.{CxxTree}
 use Rattle.cxx_reading.specs.Units.{is_incomplete}
-use Rattle.cxx_expr.specs.Converting.{by_step, by_sequence, sequence_to, convert_known, stays, convert, types_after, convert_next, convert_more, convert_each}
+use Rattle.cxx_expr.specs.Converting.{by_step, by_sequence, is_constructed, sequence_to, convert_known, stays, convert, types_after, convert_next, convert_more, convert_each}
 use Rattle.cxx_expr.specs.Literals.{literal_by, literal, operand_of_literal}
 use Rattle.cxx_expr.specs.Operands.{given_over, is_none}
 use Rattle.cxx_expr.specs.Questions.{Questions}
@@ -43,8 +43,9 @@ by_sequence_tells is place of tree (Err class) state ahead = quiet_by is refl
 pub convert_tells : {kept : CxxState → CxxState → Type 0} {told : CxxState → Ahead → Stopped → Type 0} → IsTold kept told → (q : Questions) (place : Place) (of : CxxType) (tree : CxxTree) → Answers kept told (convert q place of tree)
 unfolding convert convert_known
 convert_tells is q place of tree state ahead =
-    if_by (is_incomplete of) (if_by (is_none tree.label.operand) (same_by is tree state ahead) (quiet_by is refl)) (
-    if_by (stays of tree) (same_by is tree state ahead) (by_sequence_tells is place of tree (sequence_to q of tree state) state ahead))
+    if_by (is_incomplete state.graph of) (if_by (is_none tree.label.operand) (same_by is tree state ahead) (quiet_by is refl)) (
+    if_by (is_constructed of tree) (quiet_by is refl) (
+    if_by (stays of tree) (same_by is tree state ahead) (by_sequence_tells is place of tree (sequence_to q of tree state) state ahead)))
 
 convert_next_tells : {kept : CxxState → CxxState → Type 0} {told : CxxState → Ahead → Stopped → Type 0} → IsTold kept told → (q : Questions) (place : Place) (types : List CxxType) (tree : CxxTree) → Answers kept told (convert_next q place types tree)
 convert_next_tells is q place [] tree = give_by is tree

@@ -15,7 +15,7 @@ use Rattle.cxx_reading.specs.Seen.{Numbered}
 use Rattle.cxx_reading.specs.State.{CxxState}
 use Rattle.cxx_reading.specs.Trees.{CxxPath, CxxPathPart, CxxTree, Label}
 use Rattle.cxx_expr.specs.Calls.{fallback_more, fallbacks, chosen_tree, chosen_call, is_bare, question, function_call, Signature, fits_count, through_tree, through_signature, through_counted, no_callee, through_by, signature_by, through, called_label, without_name, value_call, is_asked_for, called_first, called, name_call}
-use Rattle.cxx_expr.specs.Names.{are_one_function, means_enumerator, means_first, means_function, means_object, means_value, meant_by, named, named_tree, path_in, values_among, word_in}
+use Rattle.cxx_expr.specs.Names.{Means, are_one_function, is_nonstatic, means_enumerator, means_first, means_function, means_object, means_object_by, means_value, meant_by, named, named_tree, path_in, values_among, word_in}
 use Rattle.cxx_expr.specs.Operands.{is_of_class}
 use Rattle.cxx_expr.specs.Questions.{CxxChosen, Questions}
 use Rattle.cxx_reading.specs.Initializers.{operand_of}
@@ -29,8 +29,12 @@ use Rattle.cxx_language_laws.proofs.TellsConversions.{convert_each_tells}
 means_function_tells : {kept : CxxState → CxxState → Type 0} {told : CxxState → Ahead → Stopped → Type 0} → IsTold kept told → (place : Place) (graph : CxxGraph) (target : ℕ) (own : CxxType) (all : List Numbered) → Answers kept told (means_function place graph target own all)
 means_function_tells is place graph target own all state ahead = if_by (are_one_function target all) (same_by is (means_object graph target own) state ahead) (quiet_by is refl)
 
+means_object_tells : {kept : CxxState → CxxState → Type 0} {told : CxxState → Ahead → Stopped → Type 0} → IsTold kept told → (place : Place) (needs_object : Bool) (means : Means) → Answers kept told (means_object_by place needs_object means)
+means_object_tells is place true means state ahead = quiet_by is refl
+means_object_tells is place false means state ahead = give_by is means state ahead
+
 means_first_tells : {kept : CxxState → CxxState → Type 0} {told : CxxState → Ahead → Stopped → Type 0} → IsTold kept told → (place : Place) (graph : CxxGraph) (list : Option ℕ) (all : List Numbered) (number : ℕ) (what : Declares) → Answers kept told (means_first place graph list all number what)
-means_first_tells is place graph list all number (facts.object of kind is_mutable value first) state ahead = give_by is (means_object graph (first_or number first) of) state ahead
+means_first_tells is place graph list all number (facts.object of kind is_mutable value first) state ahead = means_object_tells is place (is_nonstatic kind) (means_object graph (first_or number first) of) state ahead
 means_first_tells is place graph list all number (facts.enumerator n value) state ahead = give_by is (means_enumerator list number n value) state ahead
 means_first_tells is place graph list all number (facts.function of kind flags defaults first) state ahead = means_function_tells is place graph (first_or number first) of all state ahead
 means_first_tells is place graph list all number _ state ahead = quiet_by is refl

@@ -4,6 +4,7 @@ use Rattle.std.specs.Prelude.{ℕ, Bool, true, false, ◌||◌, if◌then◌else
 use Rattle.cxx_model.specs.declared.base.Base.TheVariants as base
 use Rattle.cxx_model.specs.declared.fault.FaultText.TheVariants as says
 use Rattle.cxx_model.specs.declared.place.Place.{Place}
+use Rattle.cxx_model.specs.Facts.Declarations.{CxxGraph}
 use Rattle.cxx_model.specs.Stops.{Stopped, fault, not_built_at}
 use Rattle.cxx_model.specs.Types.Trees.{CxxType, fundamental}
 use Rattle.cxx_meaning.specs.Conversions.Asking.{Asked}
@@ -106,8 +107,8 @@ explicit_by_tells is tree front one (Ok (Some found)) state ahead = same_by is (
 explicit_by_tells is tree front one (Ok None) state ahead = quiet_by is refl
 explicit_by_tells is tree front one (Err class) state ahead = quiet_by is refl
 
-needed_is_quiet : (of : CxxType) (place : Place) → IsQuiet (class_needed_at of place)
-needed_is_quiet of place = by (is_incomplete of)
+needed_is_quiet : (graph : CxxGraph) (of : CxxType) (place : Place) → IsQuiet (class_needed_at graph of place)
+needed_is_quiet graph of place = by (is_incomplete graph of)
   where
     by : (b : Bool) → IsQuiet (if b then fault place says.IncompleteClass else not_built_at place)
     by true = refl
@@ -115,7 +116,7 @@ needed_is_quiet of place = by (is_incomplete of)
 
 explicit_tells : {kept : CxxState → CxxState → Type 0} {told : CxxState → Ahead → Stopped → Type 0} → IsTold kept told → (q : Questions) (tree : CxxTree) (front : List CxxTree) (one : CxxTree) → Answers kept told (explicit q tree front one)
 unfolding explicit explicit_built
-explicit_tells is q tree front one state ahead = if_by (needs_class tree one) (quiet_by is (needed_is_quiet (target_of tree) tree.label.place)) (explicit_by_tells is tree front one (casts.cast state.graph false (judged_to q (target_of tree) one state) (target_of tree)) state ahead)
+explicit_tells is q tree front one state ahead = if_by (needs_class tree one) (quiet_by is (needed_is_quiet state.graph (target_of tree) tree.label.place)) (explicit_by_tells is tree front one (casts.cast state.graph false (judged_to q (target_of tree) one state) (target_of tree)) state ahead)
 
 named_by_tells : {kept : CxxState → CxxState → Type 0} {told : CxxState → Ahead → Stopped → Type 0} → IsTold kept told → (word : List ℕ) (tree : CxxTree) (front : List CxxTree) (one : CxxTree) (allowed : Bool) → Answers kept told (named_by word tree front one allowed)
 named_by_tells is word tree front one true state ahead = same_by is (cast_over word (target_of tree) tree front one) state ahead
@@ -127,7 +128,7 @@ static_by_tells is tree front one (Err class) state ahead = quiet_by is refl
 
 static_tells : {kept : CxxState → CxxState → Type 0} {told : CxxState → Ahead → Stopped → Type 0} → IsTold kept told → (q : Questions) (tree : CxxTree) (front : List CxxTree) (one : CxxTree) → Answers kept told (static_cast_of q tree front one)
 unfolding static_cast_of static_built
-static_tells is q tree front one state ahead = if_by (needs_class tree one) (quiet_by is (needed_is_quiet (target_of tree) tree.label.place)) (static_by_tells is tree front one (casts.static_cast state.graph false (judged_to q (target_of tree) one state) (target_of tree)) state ahead)
+static_tells is q tree front one state ahead = if_by (needs_class tree one) (quiet_by is (needed_is_quiet state.graph (target_of tree) tree.label.place)) (static_by_tells is tree front one (casts.static_cast state.graph false (judged_to q (target_of tree) one state) (target_of tree)) state ahead)
 
 cast_as_tells : {kept : CxxState → CxxState → Type 0} {told : CxxState → Ahead → Stopped → Type 0} → IsTold kept told → (q : Questions) (tree : CxxTree) (front : List CxxTree) (one : CxxTree) → Answers kept told (cast_as q tree front one)
 unfolding cast_as constant reinterpreted
@@ -147,11 +148,11 @@ cast_tells is q tree = cast_of_tells is q tree (split_last (children_of tree))
 
 zero_tells : {kept : CxxState → CxxState → Type 0} {told : CxxState → Ahead → Stopped → Type 0} → IsTold kept told → (tree : CxxTree) → Answers kept told (zero tree)
 unfolding zero
-zero_tells is tree state ahead = if_by (is_class (kind_of (target_of tree))) (quiet_by is refl) (if_by (has_zero (kind_of (target_of tree))) (same_by is (zero_tree tree) state ahead) (quiet_by is refl))
+zero_tells is tree state ahead = if_by (is_class (kind_of (target_of tree))) (quiet_by is (needed_is_quiet state.graph (target_of tree) tree.label.place)) (if_by (has_zero (kind_of (target_of tree))) (same_by is (zero_tree tree) state ahead) (quiet_by is refl))
 
 several_tells : {kept : CxxState → CxxState → Type 0} {told : CxxState → Ahead → Stopped → Type 0} → IsTold kept told → (tree : CxxTree) → Answers kept told (several tree)
 unfolding several
-several_tells is tree state ahead = if_by (is_class (kind_of (target_of tree))) (quiet_by is refl) (quiet_by is refl)
+several_tells is tree state ahead = if_by (is_class (kind_of (target_of tree))) (quiet_by is (needed_is_quiet state.graph (target_of tree) tree.label.place)) (quiet_by is refl)
 
 functional_of_tells : {kept : CxxState → CxxState → Type 0} {told : CxxState → Ahead → Stopped → Type 0} → IsTold kept told → (q : Questions) (tree : CxxTree) (parts : List CxxTree) → Answers kept told (functional_of q tree parts)
 functional_of_tells is q tree [] = zero_tells is tree

@@ -1,6 +1,6 @@
 -- What the readers of specifiers keep of the state, and what stops them.
 use Rattle.std.proofs.Common.{◌≡◌, refl}
-use Rattle.std.specs.Prelude.{ℕ, Bool, true, [], ◌∷◌, ◌++◌, Option, Some, None, ◌==◌, codes}
+use Rattle.std.specs.Prelude.{ℕ, Bool, true, false, [], ◌∷◌, ◌++◌, Option, Some, None, ◌==◌, codes}
 use Rattle.cxx_model.specs.declared.keyword.TheConstants as keyword
 use Rattle.cxx_model.specs.declared.fault.FaultText.TheVariants as says
 use Rattle.cxx_model.specs.Stops.{Stopped, fault}
@@ -12,21 +12,23 @@ use Rattle.cxx_model.specs.declared.tree.Kind.TheVariants as kind
 use Rattle.cxx_model.specs.Text.Lexemes.{Lexeme}
 use Rattle.cxx_model.specs.Types.Trees.{enumeration}
 use Rattle.cxx_reading.specs.declared.specifier.SpecifierPlace.{SpecifierPlace}
+use Rattle.cxx_reading.specs.declared.specifier.SpecifierPlace.TheVariants as where_
 use Rattle.cxx_reading.specs.declared.specifier.StorageWord.{StorageWord}
 use Rattle.cxx_reading.specs.declared.specifier.TypeWords.{TypeWords}
-use Rattle.cxx_reading.specs.Declarators.{Specifiers, TypeWord, has_type, type_word, with_word}
+use Rattle.cxx_reading.specs.Declarators.{Specifiers, TypeWord, has_type, no_specifiers, type_word, with_word}
 use Rattle.cxx_reading.specs.Kinds.{Kinds, Readers}
 use Rattle.cxx_reading.specs.Reads.{Ahead, Reads, More, kind_ahead, place_ahead}
-use Rattle.cxx_reading.specs.Specifiers.{elaborated_tree, enumeration_tree, storage_word, storage_step, inline_step, const_step, volatile_step, word_step, worded, named_step, named_by, type_name_step, elaborated_step, defined_step, enumeration_body, list_step, named_list_step, key_step, enumeration_step, class_key, class_named_step, class_behind, class_name_step, class_key_step, class_step, other_step, stored_by, worded_by, keyword_step, step_by, specifier_step, typed, specifiers_at}
-use Rattle.cxx_language_laws.proofs.Tells.{IsTold, Tells, ToldIn, quiet_in, KindsTell, ReadersTell, if_in, when_in, if_reads, past_in, then_in, ask_from, ask_in, same_in, next_in, repeat_tells, taken_in, looked_in, give_in, kind_tells, name_stands, name_told, path_then, token_told}
+use Rattle.cxx_reading.specs.Specifiers.{elaborated_tree, enumeration_tree, storage_word, storage_step, inline_step, const_step, volatile_step, word_step, worded, named_step, named_by, type_name_step, elaborated_step, defined_step, enumeration_body, list_step, named_list_step, key_step, enumeration_step, class_key, class_named_step, class_behind, class_name_step, class_key_step, class_step, other_step, stored_by, worded_by, keyword_step, step_by, specifier_step, typed, specifiers_from, specifiers_at, head_reached, member_word}
+use Rattle.cxx_language_laws.specs.Told.{EndsIn}
+use Rattle.cxx_language_laws.proofs.Tells.{IsTold, behind_stands, from_in, path_from, Tells, ToldIn, quiet_in, KindsTell, ReadersTell, if_in, when_in, if_reads, past_in, then_in, ask_from, ask_in, same_in, next_in, repeat_tells, taken_in, looked_in, give_in, kind_tells, name_stands, name_told, path_then, token_told}
 
 pub storage_tells : {S : Type 0} {kept : S → S → Type 0} {told : S → Ahead → Stopped → Type 0} → IsTold kept told → (place : SpecifierPlace) (word : StorageWord) (so_far : Specifiers) → Tells kept told (storage_step {S = S} place word so_far)
 unfolding storage_step
-storage_tells is place word so_far state ahead = if_in _ (next_in is _ state ahead) (quiet_in is refl)
+storage_tells is place word so_far state ahead = if_in _ (quiet_in is refl) (if_in _ (next_in is _ state ahead) (quiet_in is refl))
 
 pub inline_tells : {S : Type 0} {kept : S → S → Type 0} {told : S → Ahead → Stopped → Type 0} → IsTold kept told → (place : SpecifierPlace) (so_far : Specifiers) → Tells kept told (inline_step {S = S} place so_far)
 unfolding inline_step
-inline_tells is place so_far state ahead = if_in _ (next_in is _ state ahead) (quiet_in is refl)
+inline_tells is place so_far state ahead = if_in _ (quiet_in is refl) (if_in _ (next_in is _ state ahead) (quiet_in is refl))
 
 pub const_tells : {S : Type 0} {kept : S → S → Type 0} {told : S → Ahead → Stopped → Type 0} → IsTold kept told → (so_far : Specifiers) → Tells kept told (const_step {S = S} so_far)
 unfolding const_step
@@ -74,7 +76,7 @@ defined_tells is asks inner from name so_far state ahead = then_in is (ask_in ah
 
 pub list_tells : {S : Type 0} {kept : S → S → Type 0} {told : S → Ahead → Stopped → Type 0} → IsTold kept told → {asks : Kinds S} → KindsTell kept told asks → {inner : Readers S} → ReadersTell kept told inner → (place : SpecifierPlace) (from : Ahead) (name : Option Lexeme) (so_far : Specifiers) → Tells kept told (list_step asks inner place from name so_far)
 unfolding list_step
-list_tells is asks inner place from name so_far state ahead = if_in _ (defined_tells is asks inner from name so_far state ahead) (quiet_in is refl)
+list_tells is asks inner place from name so_far state ahead = if_in _ (quiet_in is refl) (if_in _ (defined_tells is asks inner from name so_far state ahead) (quiet_in is refl))
 
 named_list_tells : {S : Type 0} {kept : S → S → Type 0} {told : S → Ahead → Stopped → Type 0} → IsTold kept told → {asks : Kinds S} → KindsTell kept told asks → {inner : Readers S} → ReadersTell kept told inner → (place : SpecifierPlace) (from : Ahead) (so_far : Specifiers) → Tells kept told (named_list_step asks inner place from so_far)
 unfolding named_list_step
@@ -93,30 +95,46 @@ class_named_tells : {S : Type 0} {kept : S → S → Type 0} {told : S → Ahead
 unfolding class_named_step
 class_named_tells is asks is_union is_all from so_far state ahead begins whole = then_in is (ask_from (behind_name ahead) (name_stands ahead) (asks.class_named is_union is_all state ahead begins whole)) (λ of state rest. then_in is (looked_in is state rest) (λ to. give_in is (More (record so_far { named = Some of; stands_alone = true; parts = so_far.parts ++ elaborated_tree (class_key is_union) (path_ahead ahead) of from to ∷ [] }))))
 
-class_behind_tells : {S : Type 0} {kept : S → S → Type 0} {told : S → Ahead → Stopped → Type 0} → IsTold kept told → {asks : Kinds S} → KindsTell kept told asks → (is_union : Bool) (place : SpecifierPlace) (from : Ahead) (so_far : Specifiers) (state : S) (ahead : Ahead) → begins_name ahead ≡ true → is_whole_name ahead ≡ true
-    → ToldIn kept told state ahead (class_behind asks is_union place from (path_ahead ahead) so_far state (behind_name ahead))
+-- the head of a class that is defined, up to which the specifiers are read
+head_tells : {S : Type 0} {kept : S → S → Type 0} {told : S → Ahead → Stopped → Type 0} → IsTold kept told → (place : SpecifierPlace) (plain : Bool) (from : Ahead) (so_far : Specifiers) (state : S) (ahead : Ahead) → ToldIn kept told state from (head_reached place plain from so_far state ahead)
+head_tells is where_.Declaration true from so_far state ahead = same_in is _ state from
+head_tells is where_.Declaration false from so_far state ahead = quiet_in is refl
+head_tells is where_.Member plain from so_far state ahead = quiet_in is refl
+head_tells is where_.Block plain from so_far state ahead = quiet_in is refl
+head_tells is where_.Parameter plain from so_far state ahead = quiet_in is refl
+head_tells is where_.TypeId plain from so_far state ahead = quiet_in is refl
+
+class_behind_tells : {S : Type 0} {kept : S → S → Type 0} {told : S → Ahead → Stopped → Type 0} → IsTold kept told → {asks : Kinds S} → KindsTell kept told asks → (is_union : Bool) (place : SpecifierPlace) (from : Ahead) (so_far : Specifiers) (state : S) (ahead : Ahead) → EndsIn from.tokens ahead.tokens → begins_name ahead ≡ true → is_whole_name ahead ≡ true
+    → ToldIn kept told state from (class_behind asks is_union place from (path_ahead ahead) so_far state (behind_name ahead))
 unfolding class_behind
-class_behind_tells is asks is_union place from so_far state ahead begins whole = if_in _ (quiet_in is refl) (class_named_tells is asks is_union _ from so_far state ahead begins whole)
+class_behind_tells is asks is_union place from so_far state ahead stands begins whole = if_in _ (head_tells is place _ from so_far state _) (from_in is state state from ahead (is.keeps.same state) stands (class_named_tells is asks is_union _ from so_far state ahead begins whole))
 
-class_name_tells : {S : Type 0} {kept : S → S → Type 0} {told : S → Ahead → Stopped → Type 0} → IsTold kept told → {asks : Kinds S} → KindsTell kept told asks → (is_union : Bool) (place : SpecifierPlace) (from : Ahead) (so_far : Specifiers) (state : S) (ahead : Ahead) → begins_name ahead ≡ true
-    → ToldIn kept told state ahead (class_name_step asks is_union place from so_far state ahead)
+class_name_tells : {S : Type 0} {kept : S → S → Type 0} {told : S → Ahead → Stopped → Type 0} → IsTold kept told → {asks : Kinds S} → KindsTell kept told asks → (is_union : Bool) (place : SpecifierPlace) (from : Ahead) (so_far : Specifiers) (state : S) (ahead : Ahead) → EndsIn from.tokens ahead.tokens → begins_name ahead ≡ true
+    → ToldIn kept told state from (class_name_step asks is_union place from so_far state ahead)
 unfolding class_name_step
-class_name_tells is asks is_union place from so_far state ahead begins = path_then is _ state ahead (λ whole. class_behind_tells is asks is_union place from so_far state ahead begins whole)
+class_name_tells is asks is_union place from so_far state ahead stands begins = path_from is _ state from ahead stands (λ whole. class_behind_tells is asks is_union place from so_far state ahead stands begins whole)
 
-class_key_tells : {S : Type 0} {kept : S → S → Type 0} {told : S → Ahead → Stopped → Type 0} → IsTold kept told → {asks : Kinds S} → KindsTell kept told asks → (is_union : Bool) (place : SpecifierPlace) (from : Ahead) (so_far : Specifiers) → Tells kept told (class_key_step asks is_union place from so_far)
+class_key_tells : {S : Type 0} {kept : S → S → Type 0} {told : S → Ahead → Stopped → Type 0} → IsTold kept told → {asks : Kinds S} → KindsTell kept told asks → (is_union : Bool) (place : SpecifierPlace) (from : Ahead) (so_far : Specifiers) (state : S) (ahead : Ahead) → EndsIn from.tokens ahead.tokens → ToldIn kept told state from (class_key_step asks is_union place from so_far state ahead)
 unfolding class_key_step
-class_key_tells is asks is_union place from so_far state ahead = when_in (begins_name ahead) (λ begins. class_name_tells is asks is_union place from so_far state ahead begins) (if_in _ (quiet_in is refl) (quiet_in is refl))
+class_key_tells is asks is_union place from so_far state ahead stands = when_in (begins_name ahead) (λ begins. class_name_tells is asks is_union place from so_far state ahead stands begins) (if_in _ (head_tells is place false from so_far state ahead) (quiet_in is refl))
 
 pub class_tells : {S : Type 0} {kept : S → S → Type 0} {told : S → Ahead → Stopped → Type 0} → IsTold kept told → {asks : Kinds S} → KindsTell kept told asks → (place : SpecifierPlace) (n : ℕ) (so_far : Specifiers) → Tells kept told (class_step asks place n so_far)
 unfolding class_step
 class_tells is asks place n so_far state ahead =
     if_in (has_type so_far) (quiet_in is {why = fault (place_ahead ahead) says.SyntaxError} refl)
     (if_in (n == keyword.TYPENAME) (quiet_in is {why = fault (place_ahead ahead) says.NotBuilt} refl)
-    (past_in is (class_key_tells is asks (n == keyword.UNION) place ahead so_far state _)))
+    (class_key_tells is asks (n == keyword.UNION) place ahead so_far state _ (behind_stands ahead)))
+
+member_word_tells : {S : Type 0} {kept : S → S → Type 0} {told : S → Ahead → Stopped → Type 0} → IsTold kept told → (place : SpecifierPlace) → Tells kept told (member_word {S = S} place)
+member_word_tells is where_.Declaration state ahead = quiet_in is refl
+member_word_tells is where_.Member state ahead = quiet_in is refl
+member_word_tells is where_.Block state ahead = quiet_in is refl
+member_word_tells is where_.Parameter state ahead = quiet_in is refl
+member_word_tells is where_.TypeId state ahead = quiet_in is refl
 
 pub other_tells : {S : Type 0} {kept : S → S → Type 0} {told : S → Ahead → Stopped → Type 0} → IsTold kept told → {asks : Kinds S} → KindsTell kept told asks → {inner : Readers S} → ReadersTell kept told inner → (place : SpecifierPlace) (n : ℕ) (so_far : Specifiers) → Tells kept told (other_step asks inner place n so_far)
 unfolding other_step
-other_tells is asks inner place n so_far state ahead = if_in _ (const_tells is so_far state ahead) (if_in _ (volatile_tells is so_far state ahead) (if_in _ (inline_tells is place so_far state ahead) (if_in _ (enumeration_tells is asks inner place so_far state ahead) (if_in _ (class_tells is asks place n so_far state ahead) (if_in _ (quiet_in is refl) (same_in is _ state _))))))
+other_tells is asks inner place n so_far state ahead = if_in _ (const_tells is so_far state ahead) (if_in _ (volatile_tells is so_far state ahead) (if_in _ (inline_tells is place so_far state ahead) (if_in _ (enumeration_tells is asks inner place so_far state ahead) (if_in _ (class_tells is asks place n so_far state ahead) (if_in _ (member_word_tells is place state ahead) (same_in is _ state _))))))
 
 worded_by_tells : {S : Type 0} {kept : S → S → Type 0} {told : S → Ahead → Stopped → Type 0} → IsTold kept told → (word : Option TypeWord) (others : Reads S _) → Tells kept told others → (so_far : Specifiers) → Tells kept told (worded_by word others so_far)
 worded_by_tells is (Some word) others keeps so_far state ahead = word_tells is word so_far state ahead
@@ -147,6 +165,10 @@ pub typed_tells : {S : Type 0} {kept : S → S → Type 0} {told : S → Ahead �
 unfolding typed
 typed_tells is place so_far state ahead = if_in _ (same_in is _ state _) (if_in _ (quiet_in is refl) (quiet_in is refl))
 
+-- behind those that were read
+pub further_tell : {S : Type 0} {kept : S → S → Type 0} {told : S → Ahead → Stopped → Type 0} → IsTold kept told → {asks : Kinds S} → KindsTell kept told asks → {inner : Readers S} → ReadersTell kept told inner → (place : SpecifierPlace) (so_far : Specifiers) → Tells kept told (specifiers_from asks inner place so_far)
+unfolding specifiers_from
+further_tell is asks inner place so_far state ahead = then_in is (repeat_tells is _ _ (specifier_tells is asks inner place) (λ so_far state ahead. same_in is _ state _) _ so_far state ahead) (typed_tells is place)
+
 pub specifiers_tell : {S : Type 0} {kept : S → S → Type 0} {told : S → Ahead → Stopped → Type 0} → IsTold kept told → {asks : Kinds S} → KindsTell kept told asks → {inner : Readers S} → ReadersTell kept told inner → (place : SpecifierPlace) → Tells kept told (specifiers_at asks inner place)
-unfolding specifiers_at
-specifiers_tell is asks inner place state ahead = then_in is (repeat_tells is _ _ (specifier_tells is asks inner place) (λ so_far state ahead. same_in is _ state _) _ _ state ahead) (typed_tells is place)
+specifiers_tell is asks inner place = further_tell is asks inner place no_specifiers

@@ -2,6 +2,7 @@
 -- with which tokens ahead. What stands before is read whole, and the reading of each part round that place stops with the
 -- same fault.
 use Rattle.std.specs.Prelude.{◌≡◌, ℕ, suc, Bool, true, false, ◌||◌, List, [], Some, None, Ok, Err}
+use Rattle.cxx_model.specs.declared.facts.Access.{Access}
 use Rattle.cxx_model.specs.declared.keyword.TheConstants as keyword
 use Rattle.cxx_model.specs.declared.punct.TheConstants as punct
 use Rattle.cxx_model.specs.declared.stop.Fault.{Fault}
@@ -13,12 +14,12 @@ use Rattle.cxx_reading.specs.declared.specifier.Naming.{Naming}
 use Rattle.cxx_reading.specs.declared.specifier.Naming.TheVariants as naming
 use Rattle.cxx_reading.specs.declared.specifier.SpecifierPlace.{SpecifierPlace}
 use Rattle.cxx_reading.specs.declared.specifier.SpecifierPlace.TheVariants as where_
-use Rattle.cxx_reading.specs.Declarators.{Declarator, Specifiers, declared_type, is_function_type, own_parameters}
+use Rattle.cxx_reading.specs.Declarators.{Declarator, Specifiers, declared_type, has_type, is_function_type, own_parameters}
 use Rattle.cxx_reading.specs.Declaring.{begin_body, declare_object, define_declared, define_object, enter_block}
 use Rattle.cxx_reading.specs.Initializers.{operand_of}
 use Rattle.cxx_reading.specs.Reads.{Ahead, Reads, Turn, More, behind, give, got, kind_ahead, place_ahead, repeat}
 use Rattle.cxx_reading.specs.Spaces.{open_space, open_unnamed}
-use Rattle.cxx_reading.specs.Specifiers.{specifiers_at}
+use Rattle.cxx_reading.specs.Specifiers.{specifiers_at, specifiers_from}
 use Rattle.cxx_reading.specs.State.{CxxState}
 use Rattle.cxx_reading.specs.Syntax.{declarator_at}
 use Rattle.cxx_reading.specs.Tokens.{is_keyword, is_name, is_punct, token_in}
@@ -26,7 +27,9 @@ use Rattle.cxx_reading.specs.Trees.{CxxTree}
 use Rattle.cxx_reading.specs.Units.{Said, Listed, give_trees, inside_step, linkages_passed, name_in, no_declarators, said_by}
 use Rattle.cxx_language.specs.Blocks.{condition_part, declared_condition_at, local_declaration_at, local_step}
 use Rattle.cxx_language.specs.Bodies.{result_of}
+use Rattle.cxx_language.specs.Classes.{Head as ClassHead, Members, class_at, declaration_specifiers, give_members, head_at, list_step, member_declaration_at, member_step, no_members}
 use Rattle.cxx_language.specs.Objects.{begins_initializer, initialized_part}
+use Rattle.cxx_declare.specs.ClassDefinitions.{begin_class}
 use Rattle.cxx_declare.specs.Functions.{declare_function}
 use Rattle.cxx_heads.specs.Heads.{is_declared_condition}
 use Rattle.cxx_statements.specs.declared.parts.Head.{Head}
@@ -46,6 +49,10 @@ Gives read state ahead value after rest = read state ahead ≡ got value after r
 -- 7.1: the specifiers of a declaration, or of one in a block or a condition
 abbrev pub specifiers_of : ℕ → SpecifierPlace → Reads CxxState Specifiers
 specifiers_of room place = specifiers_at (asked room).kinds (inner_at room).types place
+
+-- 7.1: those behind a class that is defined among the specifiers of a declaration of a namespace
+abbrev pub further_specifiers_of : ℕ → Specifiers → Reads CxxState Specifiers
+further_specifiers_of room so_far = specifiers_from (asked room).kinds (inner_at room).types where_.Declaration so_far
 
 -- 8.3: a declarator with a name, which may have qualifiers or not
 abbrev pub declarator_of : ℕ → Naming → Reads CxxState Declarator
@@ -102,8 +109,17 @@ pub data Part : Type 0 where
   a_simple_declaration : ℕ → Bool → Part
   -- clause 8: the declarators behind specifiers
   some_declarators : ℕ → Said → Listed → Part
-  -- 7.1: specifiers, with the values of the enumerators in them
+  -- 7.1: specifiers, with the values of the enumerators in them, up to a class that is defined among them
   some_specifiers : ℕ → SpecifierPlace → Part
+  -- clause 9: the definition of a class, from its key on, behind other specifiers
+  a_class : ℕ → Specifiers → Part
+  -- 9.2: the members of the class with a name, up to the end of their list
+  some_members : ℕ → Lexeme → Members → Part
+  -- 9.2: a declaration of members with an access (11)
+  a_member_declaration : ℕ → Access → Part
+  some_member_declarators : ℕ → Access → Said → Listed → Part
+  -- 7.1: the specifiers behind a class that is defined among them
+  some_further_specifiers : ℕ → Specifiers → Part
   -- 8.3: a declarator, with bounds and parameters
   a_declarator : ℕ → Naming → Part
   -- 8.5: an initializer, from `=` or `(` on
@@ -136,6 +152,7 @@ abbrev pub IsInnermost : Part → Type 0
 IsInnermost (an_alias from name) = Unit {0}
 IsInnermost a_using = Unit {0}
 IsInnermost (some_specifiers room place) = Unit {0}
+IsInnermost (some_further_specifiers room so_far) = Unit {0}
 IsInnermost (a_declarator room naming) = Unit {0}
 IsInnermost (an_initializer room name of number) = Unit {0}
 IsInnermost (an_expression room purpose.Whole) = Unit {0}
@@ -158,6 +175,11 @@ IsStopped a_using state ahead fault = using_at state ahead ≡ Err (Faulty fault
 IsStopped (a_simple_declaration room as_extern) state ahead fault = simple_declaration_at room as_extern state ahead ≡ Err (Faulty fault)
 IsStopped (some_declarators room said so_far) state ahead fault = IsStoppedIn (declarator_step room said) give_trees so_far state ahead fault
 IsStopped (some_specifiers room place) state ahead fault = specifiers_of room place state ahead ≡ Err (Faulty fault)
+IsStopped (a_class room so_far) state ahead fault = class_at room so_far state ahead ≡ Err (Faulty fault)
+IsStopped (some_members room name so_far) state ahead fault = IsStoppedIn (list_step room name) give_members so_far state ahead fault
+IsStopped (a_member_declaration room access) state ahead fault = member_declaration_at room access state ahead ≡ Err (Faulty fault)
+IsStopped (some_member_declarators room access said so_far) state ahead fault = IsStoppedIn (member_step room access said) give_trees so_far state ahead fault
+IsStopped (some_further_specifiers room so_far) state ahead fault = further_specifiers_of room so_far state ahead ≡ Err (Faulty fault)
 IsStopped (a_declarator room naming) state ahead fault = declarator_of room naming state ahead ≡ Err (Faulty fault)
 IsStopped (an_initializer room name of number) state ahead fault = initializer_of room name of number state ahead ≡ Err (Faulty fault)
 IsStopped (a_body room) state ahead fault = body_of room state ahead ≡ Err (Faulty fault)
@@ -204,6 +226,11 @@ pub record IsAlias (ahead : Ahead) : Type 0 where
 -- the other name that an alias gives
 abbrev pub alias_name : Ahead → Lexeme
 alias_name ahead = token_in (behind ahead).tokens
+
+-- 9, 3.3.6: The head of a class stands ahead, its key and its name, and the class begins. The reader stands in its scope then,
+-- with its members ahead, behind the brace.
+pub data BeginsClass (state : CxxState) (ahead : Ahead) (head : ClassHead) : CxxState → Ahead → Type 0 where
+  begins_class : (brace : Ahead) (begun : ℕ × CxxState) → Gives head_at state ahead head state brace → begin_class head.is_union head.name state ≡ Ok begun → BeginsClass state ahead head begun.1 (behind brace)
 
 -- 3.1, 3.2, 3.3.1: The name of a declarator is declared, with a number, before its initializer, which is ahead.
 pub data Initializes (said : Said) (declarator : Declarator) (before : CxxState) : ℕ → CxxState → Type 0 where
@@ -272,11 +299,26 @@ pub data Leads : Part → CxxState → Ahead → Part → CxxState → Ahead →
   in_declaration : {room : ℕ} {so_far : List CxxTree} {state : CxxState} {ahead : Ahead} → Leads (some_declarations room so_far) state ahead (a_declaration room) state ahead
   -- clause 7: specifiers, then declarators
   in_specifiers : {room : ℕ} {as_extern : Bool} {state : CxxState} {ahead : Ahead} → Leads (a_simple_declaration room as_extern) state ahead (some_specifiers room where_.Declaration) state ahead
-  to_declarators : {room : ℕ} {as_extern : Bool} {specifiers : Specifiers} {state after : CxxState} {ahead rest : Ahead} → Gives (specifiers_of room where_.Declaration) state ahead specifiers after rest
+  to_declarators : {room : ℕ} {as_extern : Bool} {specifiers : Specifiers} {state after : CxxState} {ahead rest : Ahead} → Gives (declaration_specifiers room) state ahead specifiers after rest
       → Leads (a_simple_declaration room as_extern) state ahead (some_declarators room (said_by as_extern specifiers) no_declarators) after rest
   next_declarator : {room : ℕ} {said : Said} {so_far more : Listed} {state after : CxxState} {ahead rest : Ahead} → Gives (declarator_step room said so_far) state ahead (More more) after rest
       → Leads (some_declarators room said so_far) state ahead (some_declarators room said more) after rest
   in_declarator : {room : ℕ} {said : Said} {so_far : Listed} {state : CxxState} {ahead : Ahead} → Leads (some_declarators room said so_far) state ahead (a_declarator room naming.Qualified) state ahead
+  -- clause 9: a class that is defined where specifiers without a type end, and further specifiers behind it
+  to_class : {room : ℕ} {as_extern : Bool} {specifiers : Specifiers} {state after : CxxState} {ahead rest : Ahead} → Gives (specifiers_of room where_.Declaration) state ahead specifiers after rest → has_type specifiers ≡ false
+      → Leads (a_simple_declaration room as_extern) state ahead (a_class room specifiers) after rest
+  behind_class : {room : ℕ} {as_extern : Bool} {specifiers more : Specifiers} {state between after : CxxState} {ahead middle rest : Ahead} → Gives (specifiers_of room where_.Declaration) state ahead specifiers between middle → has_type specifiers ≡ false
+      → Gives (class_at room specifiers) between middle more after rest → Leads (a_simple_declaration room as_extern) state ahead (some_further_specifiers room more) after rest
+  -- 9.2: its members, one declaration after another, each of specifiers and declarators
+  in_class : {room : ℕ} {so_far : Specifiers} {head : ClassHead} {state after : CxxState} {ahead rest : Ahead} → BeginsClass state ahead head after rest → Leads (a_class (suc room) so_far) state ahead (some_members room head.name (no_members head.access)) after rest
+  next_member : {room : ℕ} {name : Lexeme} {so_far more : Members} {state after : CxxState} {ahead rest : Ahead} → Gives (list_step room name so_far) state ahead (More more) after rest → Leads (some_members room name so_far) state ahead (some_members room name more) after rest
+  in_member : {room : ℕ} {name : Lexeme} {so_far : Members} {state : CxxState} {ahead : Ahead} → Leads (some_members room name so_far) state ahead (a_member_declaration room so_far.access) state ahead
+  in_member_specifiers : {room : ℕ} {access : Access} {state : CxxState} {ahead : Ahead} → Leads (a_member_declaration room access) state ahead (some_specifiers room where_.Member) state ahead
+  to_member_declarators : {room : ℕ} {access : Access} {specifiers : Specifiers} {state after : CxxState} {ahead rest : Ahead} → Gives (specifiers_of room where_.Member) state ahead specifiers after rest
+      → Leads (a_member_declaration room access) state ahead (some_member_declarators room access (said_by false specifiers) no_declarators) after rest
+  next_member_declarator : {room : ℕ} {access : Access} {said : Said} {so_far more : Listed} {state after : CxxState} {ahead rest : Ahead} → Gives (member_step room access said so_far) state ahead (More more) after rest
+      → Leads (some_member_declarators room access said so_far) state ahead (some_member_declarators room access said more) after rest
+  in_member_declarator : {room : ℕ} {access : Access} {said : Said} {so_far : Listed} {state : CxxState} {ahead : Ahead} → Leads (some_member_declarators room access said so_far) state ahead (a_declarator room naming.Required) state ahead
   -- 8.5: the object of a whole declarator is declared, and its initializer is ahead
   to_initializer : {room number : ℕ} {said : Said} {so_far : Listed} {declarator : Declarator} {state between after : CxxState} {ahead rest : Ahead} → Gives (declarator_of room naming.Qualified) state ahead declarator between rest
       → said.is_typedef ≡ false → is_function_type (declared_type declarator.layers said.of) ≡ false → Initializes said declarator between number after → begins_initializer rest ≡ true

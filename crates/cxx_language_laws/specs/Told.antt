@@ -1,5 +1,5 @@
 -- What is true of the fault with which the reading of a unit stops, where that is one of a call (13.3) or of a name (3.4).
-use Rattle.std.specs.Prelude.{ℕ, ◌≤◌, ◌<◌, ◌≡◌, ◌⊎◌, Bool, List, [], ◌∷◌, ◌++◌, length, Option, Ok, Err, true, false}
+use Rattle.std.specs.Prelude.{ℕ, ◌≤◌, ◌<◌, ◌≡◌, ◌⊎◌, Bool, List, [], ◌∷◌, ◌++◌, length, Option, Some, Ok, Err, true, false}
 use Rattle.std.specs.List.{Contains}
 use Rattle.cxx_model.specs.declared.evidence.Evidence.TheVariants as evidence
 use Rattle.cxx_model.specs.declared.fault.FaultText.{FaultText}
@@ -7,9 +7,11 @@ use Rattle.cxx_model.specs.declared.fault.FaultText.TheVariants as says
 use Rattle.cxx_model.specs.declared.limits.TheConstants as limits
 use Rattle.cxx_model.specs.declared.lookup.Found.{Found}
 use Rattle.cxx_model.specs.declared.lookup.Found.TheVariants as sought
+use Rattle.cxx_model.specs.declared.lookup.MemberFound.TheVariants as member_found
 use Rattle.cxx_model.specs.declared.place.Place.{Place}
 use Rattle.cxx_model.specs.declared.punct.TheConstants as punct
 use Rattle.cxx_model.specs.declared.stop.Fault.{Fault}
+use Rattle.cxx_model.specs.declared.types.ClassId.{ClassId}
 use Rattle.cxx_model.specs.declared.types.FactId.{FactId}
 use Rattle.cxx_model.specs.declared.types.ScopeId.{ScopeId}
 use Rattle.cxx_model.specs.Facts.Declarations.{CxxFact, CxxGraph, CxxName, CxxSpecialisation, spelled}
@@ -17,6 +19,7 @@ use Rattle.cxx_model.specs.Stops.{Faulty}
 use Rattle.cxx_model.specs.Text.Lexemes.{Lexeme, first_place}
 use Rattle.cxx_meaning.specs.Conversions.Standard.{CxxOperand}
 use Rattle.cxx_meaning.specs.Lookups.Directives.{reached}
+use Rattle.cxx_meaning.specs.Lookups.Member.{class_of_scope, member}
 use Rattle.cxx_meaning.specs.Lookups.Qualified.{searched}
 use Rattle.cxx_meaning.specs.Lookups.Scopes.{chain}
 use Rattle.cxx_meaning.specs.Lookups.Sightings.{both_functions, standing}
@@ -170,6 +173,8 @@ pub data IsUnknown (at : CxxState) (ahead : Ahead) (fault : Fault) (word : List 
 -- namespace that directives of one of them reach (7.3.4). A using-declaration declares what it brings (7.3.3).
 pub record IsNotAround (graph : CxxGraph) (wanted : Wanted) (scope : ScopeId) (name : CxxName) : Type 0 where
   pub outward : (one : ScopeId) → Contains (chain graph.facts scope) one → standing graph (length graph.facts) wanted name one ≡ []
+  -- 3.4.1, 10.2: nor is a member of a class found whose scope is one of them
+  pub in_classes : (one : ScopeId) (class : ClassId) → Contains (chain graph.facts scope) one → class_of_scope graph.facts one ≡ Some class → member graph wanted class name ≡ Ok member_found.Empty
   pub by_directives : (one space : ScopeId) → Contains (chain graph.facts scope) one → Contains (reached graph.facts (length graph.facts) one) space → standing graph (length graph.facts) wanted name space ≡ []
   pub in_unit : standing graph (length graph.facts) wanted name (scope_id unit_scope.scope) ≡ []
 

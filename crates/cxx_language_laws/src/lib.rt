@@ -22,25 +22,26 @@ pub fn each_call_is_best()
 {}
 
 /// Where the choice of a function stops a reading (13.3), whole declarations were read before, and the reading of the
-/// next stops, part in part: in a namespace or a linkage, in specifiers, a declarator, an initializer or an expression of a
-/// statement. From there on a state is reached that keeps what was declared, in the same scope, in one of parameters that
-/// begins later, or in the namespace of a member that is declared outside of it (8.3), and a call stands there with the
-/// last part of its name where the fault is. Once its arguments are read, none of the functions that it may mean is viable
-/// for them, or none is the best. The evidence has exactly a line for each candidate with its reason, or for each viable
-/// function with the first other one that it is not better than.
+/// next stops, part in part: in a namespace or a linkage, in specifiers, in a member of a class that is defined among them
+/// (9.2), in a declarator, an initializer or an expression of a statement. From there on a state is reached that keeps what
+/// was declared, in the same scope, in one of parameters that begins later, or in the namespace of a member that is declared
+/// outside of it (8.3), and a call stands there with the last part of its name where the fault is. Once its arguments are
+/// read, none of the functions that it may mean is viable for them, or none is the best. The evidence has exactly a line for
+/// each candidate with its reason, or for each viable function with the first other one that it is not better than.
 pub fn choice_faults_are_told()
     ensures { (options : Options) (tokens : List Lexeme) (fault : Fault) → unit_reading options tokens ≡ Err (Faulty fault) → IsChoiceText fault.text → IsToldFault tokens fault }
 {}
 
 /// Where a name stops a reading as undeclared (3.4), whole declarations were read before, and the reading of the next
 /// stops, part in part: in a namespace or a linkage, in another name of a namespace, a using-declaration or a directive, in
-/// specifiers, a declarator, an initializer or an expression of a statement. From there on a state is reached that keeps
-/// what was declared, in the same scope, in one of parameters that begins later, or in the namespace of a member that is
-/// declared outside of it (8.3), and a name stands there of which a part stands where the fault is: the last one, or one
-/// before `::` (3.4.3). Its lookup finds nothing: of a called name once its arguments are read, whose types find nothing
-/// either (3.4.2); behind `enum`, of types alone (3.4.4), and in an alias or a directive, of namespaces (3.4.6). So no scope
-/// from there outward to that of the unit (3.3.5) declares the name, nor does a namespace that a directive of one of them
-/// reaches (7.3.4); behind qualifiers, neither their namespace nor one that is searched by its directives (3.4.3.2).
+/// specifiers, in a member of a class that is defined among them (9.2), in a declarator, an initializer or an expression of a
+/// statement. From there on a state is reached that keeps what was declared, in the same scope, in one of parameters that
+/// begins later, or in the namespace of a member that is declared outside of it (8.3), and a name stands there of which a
+/// part stands where the fault is: the last one, or one before `::` (3.4.3). Its lookup finds nothing: of a called name once
+/// its arguments are read, whose types find nothing either (3.4.2); behind `enum`, of types alone (3.4.4), and in an alias or
+/// a directive, of namespaces (3.4.6). So no scope from there outward to that of the unit (3.3.5) declares the name, nor has
+/// a class whose scope is one of them a member with it (10.2), nor does a namespace that a directive of one of them reaches
+/// declare it (7.3.4); behind qualifiers, neither their namespace nor one that is searched by its directives (3.4.3.2).
 pub fn undeclared_names_are_told()
     ensures { (options : Options) (tokens : List Lexeme) (fault : Fault) (word : List ℕ) → unit_reading options tokens ≡ Err (Faulty fault) → fault.text ≡ says.UndeclaredName word → IsUndeclaredFault tokens fault word }
 {}

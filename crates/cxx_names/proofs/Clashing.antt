@@ -8,13 +8,14 @@ use Rattle.cxx_model.specs.declared.facts.Entity.TheVariants as entity
 use Rattle.cxx_model.specs.declared.facts.Fact.{Fact}
 use Rattle.cxx_model.specs.declared.facts.ScopeKind.{ScopeKind}
 use Rattle.cxx_model.specs.declared.facts.ScopeKind.TheVariants as kind
+use Rattle.cxx_model.specs.declared.types.ClassId.{ClassId}
 use Rattle.cxx_model.specs.declared.types.ScopeId.{ScopeId}
 use Rattle.cxx_model.specs.Facts.Conflicts.{are_parameters, conflicts, conflict_among, declares_name, first_conflict, has_name, is_constructor, is_of_parameters, is_one_scope, is_outermost, is_class_scope, is_closed, of_one_name, same_name, scope_facts, stand_together}
 use Rattle.cxx_model.specs.Facts.Declarations.{CxxFact, CxxGraph, CxxName, declares_at, fact_at, facts_at, graph_at, name_at, spelled, unnamed}
 use Rattle.cxx_model.specs.declared.facts.Name.TheVariants as name
 use Rattle.cxx_model.specs.declared.types.FactId.{FactId}
 use Rattle.cxx_model.specs.Facts.Fitted.{AreFactsBelow, IsFactBelow}
-use Rattle.cxx_model.specs.Facts.Entities.{scope_kinds}
+use Rattle.cxx_model.specs.Facts.Entities.{has_end, scope_kinds}
 use Rattle.cxx_model.specs.Facts.Graph.{Graph}
 use Rattle.cxx_model.specs.Types.Trees.{CxxType}
 use Rattle.cxx_reading.specs.Seen.{declared_from, declared_in, declares_in}
@@ -24,7 +25,7 @@ use Rattle.cxx_names.specs.Looked.{looked_up, seen_by}
 use Rattle.cxx_reading.specs.Linked.{clash_among, rescoped}
 use Rattle.cxx_names.proofs.Looking.{facts_length}
 use Rattle.cxx_names.proofs.Openings.{kinds_are}
-use Rattle.cxx_names.specs.Clashes.{are_parameters_in, block_in, is_block_in, is_class_in, is_one_scope_in, IsNoTemplate, IsPlain, IsPlainEntity, stand_in, conflict_in, conflict_in_scopes, holder_of_block, sooner}
+use Rattle.cxx_names.specs.Clashes.{are_parameters_in, class_in, block_in, is_block_in, is_class_in, is_one_scope_in, IsNoTemplate, IsPlain, IsPlainEntity, stand_in, conflict_in, conflict_in_scopes, holder_of_block, sooner}
 use Rattle.cxx_names.specs.Index.{blocks_from, is_outermost_kind, noted_by, scopes_of}
 
 -- ---- the first of those that pass a test
@@ -348,22 +349,55 @@ classes_are types facts n = by (slice_get (scopes_of facts) n) (kinds_are types 
     by None e = rw e refl
     by (Some noted) e = of_kind noted noted.kind e
 
+abbrev class_by : Option ScopeKind → Option ClassId
+class_by (Some (kind.Class class)) = Some class
+class_by _ = None
+
+abbrev ended_in : List CxxType → List Fact → Option ClassId → Bool
+ended_in types facts None = false
+ended_in types facts (Some class) = has_end class.0 (facts_at types facts)
+
+closed_as : (types : List CxxType) (facts : List Fact) (o : Option ScopeKind) (n : ℕ) → slice_get (scope_kinds (facts_at types facts)) n ≡ o → is_closed (facts_at types facts) n ≡ ended_in types facts (class_by o)
+closed_as types facts None n e = rw e refl
+closed_as types facts (Some kind.Space) n e = rw e refl
+closed_as types facts (Some (kind.Class class)) n e = rw e refl
+closed_as types facts (Some (kind.Block function)) n e = rw e refl
+closed_as types facts (Some kind.Parameters) n e = rw e refl
+
+-- 9.2: whether the end of the class of a scope was read
+pub closed_is : (types : List CxxType) (facts : List Fact) (scopes : List Noted) (n : ℕ) (class : Option ClassId) (closed : Bool) → scopes ≡ scopes_of facts → class ≡ class_in (slice_get scopes n) → closed ≡ ended_in types facts class → closed ≡ is_closed (facts_at types facts) n
+closed_is types facts scopes n class closed s c e =
+    e ∙ ap (ended_in types facts) (c ∙ ap (λ xs. class_in (slice_get xs n)) s ∙ by (slice_get (scopes_of facts) n))
+    ∙ sym (closed_as types facts (slice_get (scope_kinds (facts_at types facts)) n) n refl ∙ ap (λ o. ended_in types facts (class_by o)) (kinds_are types facts n))
+  where
+    of_kind : (noted : Noted) (k : ScopeKind) → class_in (Some (record noted { kind = k })) ≡ class_by (Some k)
+    of_kind noted kind.Space = refl
+    of_kind noted (kind.Class class) = refl
+    of_kind noted (kind.Block function) = refl
+    of_kind noted kind.Parameters = refl
+
+    by : (o : Option Noted) → class_in o ≡ class_by (option_map (λ noted. noted.kind) o)
+    by None = refl
+    by (Some noted) = of_kind noted noted.kind
+
 -- ---- the test of two declarations
 
-pub clash_is : (types : List CxxType) (graph : Graph) (scopes : List Noted) (number : ℕ) (scope : ScopeId) (old new : Fact) (one named first second in_class stands : Bool) → scopes ≡ scopes_of graph.facts
+pub clash_is : (types : List CxxType) (graph : Graph) (scopes : List Noted) (number : ℕ) (scope : ScopeId) (old new : Fact) (one named first second in_class closed stands : Bool) → scopes ≡ scopes_of graph.facts
     → one ≡ is_one_scope_in scopes scope.0 new.scope.0 → named ≡ of_one_name (fact_at types old) (fact_at types new) → first ≡ are_parameters_in (slice_get scopes scope.0) → second ≡ are_parameters_in (slice_get scopes new.scope.0)
     → in_class ≡ (is_class_in (slice_get scopes scope.0) || is_class_in (slice_get scopes new.scope.0))
-    → ((closed : Bool) → stands ≡ stand_in (graph_at types graph) in_class closed number (declares_at types old.what) (length graph.facts) (declares_at types new.what))
+    → closed ≡ (is_closed (facts_at types graph.facts) scope.0 || is_closed (facts_at types graph.facts) new.scope.0)
+    → stands ≡ stand_in (graph_at types graph) in_class closed number (declares_at types old.what) (length graph.facts) (declares_at types new.what)
     → (one && (named && ((first || second) || not stands))) ≡ conflicts (graph_at types graph) number (rescoped scope.0 (fact_at types old)) (fact_at types new)
-clash_is types graph scopes number scope old new one named first second in_class stands s p q r t c w =
+clash_is types graph scopes number scope old new one named first second in_class closed stands s p q r t c d w =
     let all = facts_at types graph.facts in
     let named_too = of_one_name (fact_at types old) (fact_at types new) in
     let classes : in_class ≡ (is_class_scope all scope.0 || is_class_scope all new.scope.0) = c ∙ (ap (λ xs. is_class_in (slice_get xs scope.0) || is_class_in (slice_get xs new.scope.0)) s ∙ (ap (λ b. b || is_class_in (slice_get (scopes_of graph.facts) new.scope.0)) (classes_are types graph.facts scope.0) ∙ ap (λ b. is_class_scope all scope.0 || b) (classes_are types graph.facts new.scope.0))) in
-    let closed = is_closed all scope.0 || is_closed all new.scope.0 in
+    let closed_too = is_closed all scope.0 || is_closed all new.scope.0 in
     let together : stands ≡ stand_together (graph_at types graph) number (rescoped scope.0 (fact_at types old)) (length all) (fact_at types new) =
-    w closed
-    ∙ (ap (λ k. stand_in (graph_at types graph) in_class closed number (declares_at types old.what) k (declares_at types new.what)) (sym (facts_length types graph.facts))
-    ∙ ap (λ b. stand_in (graph_at types graph) b closed number (declares_at types old.what) (length all) (declares_at types new.what)) classes) in
+    w
+    ∙ (ap (λ b. stand_in (graph_at types graph) in_class b number (declares_at types old.what) (length graph.facts) (declares_at types new.what)) d
+    ∙ (ap (λ k. stand_in (graph_at types graph) in_class closed_too number (declares_at types old.what) k (declares_at types new.what)) (sym (facts_length types graph.facts))
+    ∙ ap (λ b. stand_in (graph_at types graph) b closed_too number (declares_at types old.what) (length all) (declares_at types new.what)) classes)) in
     ap (λ b. b && (named && ((first || second) || not stands))) (p ∙ (ap (λ xs. is_one_scope_in xs scope.0 new.scope.0) s ∙ one_scope_is types graph.facts scope.0 new.scope.0))
     ∙ (ap (λ b. is_one_scope all scope.0 new.scope.0 && (b && ((first || second) || not stands))) q
     ∙ (ap (λ b. is_one_scope all scope.0 new.scope.0 && (named_too && ((b || second) || not stands))) (r ∙ (ap (λ xs. are_parameters_in (slice_get xs scope.0)) s ∙ parameters_are types graph.facts scope.0))

@@ -1,6 +1,8 @@
 pub mod Clashing
 pub mod Counting
+pub mod Ended
 pub mod Enumerated
+pub mod Holding
 pub mod Known
 pub mod Looking
 pub mod Meanings

@@ -6,6 +6,7 @@ use Rattle.cxx_model.specs.declared.facts.Entity.{Entity}
 use Rattle.cxx_model.specs.declared.facts.Entity.TheVariants as entity
 use Rattle.cxx_model.specs.declared.facts.Fact.{Fact}
 use Rattle.cxx_model.specs.declared.facts.ScopeKind.{ScopeKind}
+use Rattle.cxx_model.specs.declared.facts.ScopeKind.TheVariants as kind
 use Rattle.cxx_model.specs.declared.types.ClassId.{ClassId}
 use Rattle.cxx_model.specs.declared.types.ScopeId.{ScopeId}
 use Rattle.cxx_model.specs.Facts.Declarations.{CxxFact, CxxGraph, fact_at, facts_at, graph_at}
@@ -13,10 +14,12 @@ use Rattle.cxx_model.specs.Facts.Entities.{scope_kinds}
 use Rattle.cxx_model.specs.Facts.Graph.{Graph}
 use Rattle.cxx_model.specs.Types.Trees.{CxxType}
 use Rattle.cxx_meaning.specs.Lookups.Associated.{declares_class, first_scope, scope_of_class}
+use Rattle.cxx_meaning.specs.Lookups.Member.{class_of_scope}
 use Rattle.cxx_meaning.specs.Lookups.Scopes.{parent_of, up}
 use Rattle.cxx_reading.specs.Classes.{first_open, is_open, open_of}
 use Rattle.cxx_names.specs.declared.entry.Noted.{Noted}
 use Rattle.cxx_names.specs.Index.{class_by, class_scopes, of_class, scopes_of}
+use Rattle.cxx_names.specs.Clashes.{class_in}
 use Rattle.cxx_names.specs.Looked.{is_open_at, is_open_in}
 use Rattle.cxx_names.proofs.Openings.{kinds_are}
 
@@ -72,6 +75,21 @@ open_last all scope e = first_of_more all (record { 0 = scope }) [] false e ∙ 
 pub opened_is : (types : List CxxType) (graph : Graph) (scope : ℕ) → open_from (facts_at types graph.facts) scope scope ≡ open_of (graph_at types graph) scope
 unfolding open_of
 opened_is types graph scope = refl
+
+-- ---- the class of a scope (9.2)
+
+class_at : (all : List CxxFact) (scope : ScopeId) (o : Option Noted) → slice_get (scope_kinds all) scope.0 ≡ option_map (λ noted. noted.kind) o → class_in o ≡ class_of_scope all scope
+class_at all scope None e = rw e refl
+class_at all scope (Some noted) e = by noted.kind e
+  where
+    by : (k : ScopeKind) → slice_get (scope_kinds all) scope.0 ≡ Some k → class_in (Some (record noted { kind = k })) ≡ class_of_scope all scope
+    by kind.Space e = rw e refl
+    by (kind.Class class) e = rw e refl
+    by (kind.Block function) e = rw e refl
+    by kind.Parameters e = rw e refl
+
+pub scope_class_is : (types : List CxxType) (facts : List Fact) (scope : ScopeId) → class_in (slice_get (scopes_of facts) scope.0) ≡ class_of_scope (facts_at types facts) scope
+scope_class_is types facts scope = class_at (facts_at types facts) scope (slice_get (scopes_of facts) scope.0) (kinds_are types facts scope.0)
 
 -- ---- where classes are declared (9.1)
 

@@ -1,4 +1,4 @@
--- Two declarations of one name, of which the later one is no member of a class.
+-- Two declarations of one name.
 use Rattle.std.proofs.Common.{◌≡◌, ℕ, Bool, true, false, cond, ◌&&◌, ◌||◌, List, Option, Some, None, refl, ap, ◌∙◌}
 use Rattle.std.specs.List.{slice_get}
 use Rattle.cxx_model.specs.declared.facts.Entity.{Entity}
@@ -21,34 +21,6 @@ use Rattle.cxx_model.specs.Types.Trees.{CxxType, class_type, enumeration}
 use Rattle.cxx_meaning.specs.Lookups.Wanted.{is_of_functions}
 use Rattle.cxx_names.specs.Clashes.{IsPlain, IsPlainEntity, IsPlainName, same_spelled}
 
-pub functions_free : (closed : Bool) (one : CxxType) (kind : MemberKind) (two : CxxType) → functions_agree closed one kind two Free ≡ cond (same_parameters (is_static kind) one two) (same_type one two && same_member kind Free) true
-functions_free true one member.Free two = ap (λ t. cond (same_parameters false one two) (same_type one two && t) true) refl
-functions_free true one member.Nonstatic two = refl
-functions_free true one member.Static two = refl
-functions_free true one member.Constructor two = refl
-functions_free true one member.Destructor two = refl
-functions_free true one member.Conversion two = refl
-functions_free false one member.Free two = refl
-functions_free false one member.Nonstatic two = refl
-functions_free false one member.Static two = refl
-functions_free false one member.Constructor two = refl
-functions_free false one member.Destructor two = refl
-functions_free false one member.Conversion two = refl
-
-pub objects_free : (closed : Bool) (one : CxxType) (kind : MemberKind) (two : CxxType) → objects_agree closed one kind two Free ≡ (agree one two && same_member kind Free)
-objects_free true one member.Free two = refl
-objects_free true one member.Nonstatic two = refl
-objects_free true one member.Static two = refl
-objects_free true one member.Constructor two = refl
-objects_free true one member.Destructor two = refl
-objects_free true one member.Conversion two = refl
-objects_free false one member.Free two = refl
-objects_free false one member.Nonstatic two = refl
-objects_free false one member.Static two = refl
-objects_free false one member.Constructor two = refl
-objects_free false one member.Destructor two = refl
-objects_free false one member.Conversion two = refl
-
 -- ---- templates
 
 abbrev standing_by : TemplateId → MemberKind → Option CxxPattern → Standing
@@ -59,25 +31,25 @@ standing_by template kind (Some pattern) = by pattern.of
     by None = a_class_template template
     by (Some of) = a_function_template pattern.parameters of kind
 
-pub template_function : (closed : Bool) (graph : CxxGraph) (template : TemplateId) (kind : MemberKind) (defaults : ℕ) (is_explicit : Bool) (first : Option FactId) (of : CxxType) → may_stand closed (standing graph (facts.template template kind defaults is_explicit first)) (a_function of Free) ≡ is_of_functions (slice_get graph.patterns template.0)
-template_function closed graph template kind defaults is_explicit first of = by (slice_get graph.patterns template.0)
+pub template_function : (closed : Bool) (graph : CxxGraph) (template : TemplateId) (kind : MemberKind) (defaults : ℕ) (is_explicit : Bool) (first : Option FactId) (of : CxxType) (other : MemberKind) → may_stand closed (standing graph (facts.template template kind defaults is_explicit first)) (a_function of other) ≡ is_of_functions (slice_get graph.patterns template.0)
+template_function closed graph template kind defaults is_explicit first of other = by (slice_get graph.patterns template.0)
   where
-    of_pattern : (pattern : CxxPattern) (o : Option CxxType) → may_stand closed (standing_by template kind (Some (record pattern { of = o }))) (a_function of Free) ≡ is_of_functions (Some (record pattern { of = o }))
+    of_pattern : (pattern : CxxPattern) (o : Option CxxType) → may_stand closed (standing_by template kind (Some (record pattern { of = o }))) (a_function of other) ≡ is_of_functions (Some (record pattern { of = o }))
     of_pattern pattern None = refl
     of_pattern pattern (Some t) = refl
 
-    by : (o : Option CxxPattern) → may_stand closed (standing_by template kind o) (a_function of Free) ≡ is_of_functions o
+    by : (o : Option CxxPattern) → may_stand closed (standing_by template kind o) (a_function of other) ≡ is_of_functions o
     by None = refl
     by (Some pattern) = of_pattern pattern pattern.of
 
-pub template_object : (closed : Bool) (graph : CxxGraph) (template : TemplateId) (kind : MemberKind) (defaults : ℕ) (is_explicit : Bool) (first : Option FactId) (of : CxxType) → may_stand closed (standing graph (facts.template template kind defaults is_explicit first)) (an_object of Free) ≡ false
-template_object closed graph template kind defaults is_explicit first of = by (slice_get graph.patterns template.0)
+pub template_object : (closed : Bool) (graph : CxxGraph) (template : TemplateId) (kind : MemberKind) (defaults : ℕ) (is_explicit : Bool) (first : Option FactId) (of : CxxType) (other : MemberKind) → may_stand closed (standing graph (facts.template template kind defaults is_explicit first)) (an_object of other) ≡ false
+template_object closed graph template kind defaults is_explicit first of other = by (slice_get graph.patterns template.0)
   where
-    of_pattern : (pattern : CxxPattern) (o : Option CxxType) → may_stand closed (standing_by template kind (Some (record pattern { of = o }))) (an_object of Free) ≡ false
+    of_pattern : (pattern : CxxPattern) (o : Option CxxType) → may_stand closed (standing_by template kind (Some (record pattern { of = o }))) (an_object of other) ≡ false
     of_pattern pattern None = refl
     of_pattern pattern (Some t) = refl
 
-    by : (o : Option CxxPattern) → may_stand closed (standing_by template kind o) (an_object of Free) ≡ false
+    by : (o : Option CxxPattern) → may_stand closed (standing_by template kind o) (an_object of other) ≡ false
     by None = refl
     by (Some pattern) = of_pattern pattern pattern.of
 
@@ -174,7 +146,8 @@ spelled_alike types name.Destructor name.Destructor plain = absurd plain
 
 pub plain_free : (types : List CxxType) (what : Entity) → IsPlainEntity what → is_constructor (declares_at types what) ≡ false
 plain_free types (entity.Object of m is_mutable value first) plain = refl
-plain_free types (entity.Function of m flags defaults first) plain = (let f : MemberKind → Bool = λ k. is_constructor (facts.function (type_at types of.0) k flags defaults first) in ap f plain)
+plain_free types (entity.Function of member.Constructor flags defaults first) plain = absurd plain
+plain_free types (entity.Function of _ flags defaults first) plain = refl
 plain_free types (entity.Class class is_union) plain = refl
 plain_free types (entity.Enumeration number) plain = refl
 plain_free types (entity.Enumerator number value) plain = refl

@@ -3,12 +3,14 @@ use Rattle.std.specs.List.{slice_get}
 use Rattle.cxx_model.specs.declared.facts.Entity.{Entity}
 use Rattle.cxx_model.specs.declared.facts.Entity.TheVariants as entity
 use Rattle.cxx_model.specs.declared.facts.Fact.{Fact}
-use Rattle.cxx_model.specs.declared.facts.MemberKind.TheVariants.{Free}
+use Rattle.cxx_model.specs.declared.facts.MemberKind.{MemberKind}
+use Rattle.cxx_model.specs.declared.facts.MemberKind.TheVariants as member
 use Rattle.cxx_model.specs.declared.facts.Name.{Name}
 use Rattle.cxx_model.specs.declared.facts.ScopeKind.{ScopeKind}
 use Rattle.cxx_model.specs.declared.facts.ScopeKind.TheVariants as kind
 use Rattle.cxx_model.specs.declared.facts.Name.TheVariants as name
 use Rattle.std.specs.Prelude.{ℕ, ◌≡◌, ◌||◌, Bool, true, false, ◌&&◌, nat_eq, nat_lt, if◌then◌else◌, List, [], ◌∷◌, Option, Some, None}
+use Rattle.cxx_model.specs.declared.types.ClassId.{ClassId}
 use Rattle.cxx_model.specs.declared.types.FactId.{FactId}
 use Rattle.cxx_model.specs.declared.types.ScopeId.{ScopeId}
 use Rattle.cxx_model.specs.Facts.Conflicts.{are_parameters, brought_may_stand, conflicts, is_using, may_stand, standing}
@@ -68,13 +70,29 @@ is_class_in (Some noted) = by noted.kind
     by (kind.Class class) = true
     by _ = false
 
--- ---- declarations outside classes
+-- the class of which a scope is
+abbrev pub class_in : Option Noted → Option ClassId
+class_in None = None
+class_in (Some noted) = by noted.kind
+  where
+    by : ScopeKind → Option ClassId
+    by (kind.Class class) = Some class
+    by _ = None
 
--- an object or a function that is no member, a class, an enumeration or an enumerator, another name of a type, a namespace,
+-- ---- declarations that are tested
+
+-- 12: no constructor, no destructor and no conversion function
+abbrev pub IsNamedMember : MemberKind → Type 0
+IsNamedMember member.Constructor = ⊥
+IsNamedMember member.Destructor = ⊥
+IsNamedMember member.Conversion = ⊥
+IsNamedMember _ = Unit {0}
+
+-- an object or a function, also of a class, a class, an enumeration or an enumerator, another name of a type, a namespace,
 -- a using-directive or a using-declaration
 abbrev pub IsPlainEntity : Entity → Type 0
-IsPlainEntity (entity.Object of member is_mutable value first) = member ≡ Free
-IsPlainEntity (entity.Function of member flags defaults first) = member ≡ Free
+IsPlainEntity (entity.Object of member is_mutable value first) = IsNamedMember member
+IsPlainEntity (entity.Function of member flags defaults first) = IsNamedMember member
 IsPlainEntity (entity.Class class is_union) = Unit {0}
 IsPlainEntity (entity.Enumeration number) = Unit {0}
 IsPlainEntity (entity.Enumerator number value) = Unit {0}
@@ -89,7 +107,7 @@ IsPlainName name.Unnamed = Unit {0}
 IsPlainName (name.Spelled word) = Unit {0}
 IsPlainName _ = ⊥
 
--- A declaration outside classes, with a spelled name or none.
+-- A declaration with a spelled name or none.
 pub record IsPlain (fact : Fact) : Type 0 where
   pub name : IsPlainName fact.name
   pub what : IsPlainEntity fact.what

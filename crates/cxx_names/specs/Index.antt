@@ -17,6 +17,7 @@ use Rattle.cxx_model.specs.Types.Trees.{CxxType}
 use Rattle.cxx_meaning.specs.Conversions.Enumerations.{values_in}
 use Rattle.cxx_reading.specs.Seen.{Numbered, declared_from}
 use Rattle.cxx_names.specs.Filed.{row, AreSame, IsMoreBy}
+use Rattle.cxx_names.specs.Holders.{held_from}
 use Rattle.cxx_names.specs.Roles.{AreBelow, representatives}
 use Rattle.cxx_names.specs.Words.{AreSameWords, HasWord, IsSound, same_spelling, word_row}
 use Rattle.cxx_names.specs.declared.entry.Entry.{Entry}
@@ -155,6 +156,7 @@ pub record Keeps (kept : Kept) (facts : List Fact) : Type 0 where
   pub enumerations : kept.enumerations.items ≡ enumeration_scopes facts
   pub values : (number : EnumId) (types : List CxxType) → row same_enumeration kept.values.rows.entries number ≡ values_in number.0 (facts_at types facts)
   pub classes : (class : ClassId) → row same_class kept.classes.rows.entries class ≡ of_class class (class_scopes facts)
+  pub holders : (class : ClassId) → row same_class kept.holders.rows.entries class ≡ of_class class (held_from zero facts)
   pub spaces : KeepsSpaces kept.spaces facts
 
 -- Exactly these facts were noted.
@@ -183,6 +185,7 @@ pub record HasKept (old new : Kept) (one : Entry) : Type 0 where
   pub enumerations : new.enumerations.items ≡ old.enumerations.items ++ option_to_list one.enumeration
   pub values : IsMoreBy same_enumeration old.values.rows.entries new.values.rows.entries one.value
   pub classes : IsMoreBy same_class old.classes.rows.entries new.classes.rows.entries one.class
+  pub holders : IsMoreBy same_class old.holders.rows.entries new.holders.rows.entries one.holder
   pub spaces : HasSpaces old.spaces new.spaces one.space
 
 -- The same is kept.
@@ -192,6 +195,7 @@ pub record AreSameKept (old new : Kept) : Type 0 where
   pub enumerations : new.enumerations.items ≡ old.enumerations.items
   pub values : AreSame same_enumeration old.values.rows.entries new.values.rows.entries
   pub classes : AreSame same_class old.classes.rows.entries new.classes.rows.entries
+  pub holders : AreSame same_class old.holders.rows.entries new.holders.rows.entries
   pub spaces : AreSameSpaces old.spaces new.spaces
 
 pub record HasNoted (old new : Names) (one : Entry) : Type 0 where

@@ -1,8 +1,10 @@
 pub mod Clashes
 pub mod Filed
+pub mod Holders
 pub mod Index
 pub mod Looked
 pub mod Meant
+pub mod Named
 pub mod Plain
 pub mod Roles
 pub mod Words

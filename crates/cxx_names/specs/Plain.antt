@@ -1,22 +1,19 @@
--- What a unit without classes declares.
-use Rattle.std.specs.Prelude.{◌⊎◌, List, [], ◌∷◌}
+-- What a unit declares today: no templates, no bases, no friends.
+use Rattle.std.specs.Prelude.{List, [], ◌∷◌}
 use Rattle.cxx_model.specs.declared.facts.Entity.{Entity}
 use Rattle.cxx_model.specs.declared.facts.Entity.TheVariants as entity
 use Rattle.cxx_model.specs.declared.facts.Fact.{Fact}
-use Rattle.cxx_model.specs.declared.facts.ScopeKind.{ScopeKind}
-use Rattle.cxx_model.specs.declared.facts.ScopeKind.TheVariants as kind
-use Rattle.cxx_names.specs.Clashes.{IsPlain}
 
--- 3.3: the kind of a scope that is no class's
-abbrev pub IsPlainKind : ScopeKind → Type 0
-IsPlainKind (kind.Class class) = ⊥
-IsPlainKind _ = Unit {0}
+-- 14, 10, 11.4: no template, no parameter of one, no base class and no friend
+abbrev pub IsPlainFact : Entity → Type 0
+IsPlainFact (entity.Template template member defaults is_explicit first) = ⊥
+IsPlainFact (entity.Parameter template position default) = ⊥
+IsPlainFact (entity.Passed _) = ⊥
+IsPlainFact (entity.Ancestor _ _ _ _) = ⊥
+IsPlainFact (entity.Friend _ _) = ⊥
+IsPlainFact _ = Unit {0}
 
-abbrev pub IsPlainScope : Entity → Type 0
-IsPlainScope (entity.Scope parent kind) = IsPlainKind kind
-IsPlainScope _ = ⊥
-
--- Each fact is a scope that is no class's, or a declaration outside classes.
+-- Each fact declares something of these.
 abbrev pub ArePlain : List Fact → Type 0
 ArePlain [] = Unit {0}
-ArePlain (fact ∷ facts) = (IsPlainScope fact.what ⊎ IsPlain fact) × ArePlain facts
+ArePlain (fact ∷ facts) = IsPlainFact fact.what × ArePlain facts

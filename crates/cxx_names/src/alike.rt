@@ -2,12 +2,15 @@
 
 ghost use Rattle.std.specs.Prelude.{◌≡◌, ◌<◌, length};
 ghost use Rattle.cxx_model.specs.Facts.Conflicts.{agree as agree_of, array_parts, is_unknown as is_one_unknown, same_but_bound, same_parameters as same_parameter_lists};
+ghost use Rattle.cxx_model.specs.Facts.Declarations.{facts_at, graph_at};
+ghost use Rattle.cxx_model.specs.Facts.Entities.{has_end};
 ghost use Rattle.cxx_model.specs.Types.Numbers.{AreTypesBelow, bound_at, type_at, types_at};
 ghost use Rattle.cxx_model.specs.Types.Same.{same_bool as same_bool_of, same_cv as same_cv_of, same_type, same_types as same_types_of};
 ghost use Rattle.cxx_model.specs.Types.Trees.{CxxType, class_type, enumeration};
 ghost use Rattle.cxx_reading.specs.Units.{is_incomplete as is_incomplete_of};
 ghost use Rattle.std.specs.Prelude.{List};
 
+use cxx_graph::Graph;
 use cxx_model::{Bound, ClassId, Cv, EnumId, TypeId, TypeNode};
 use cxx_types::TypeTable;
 
@@ -133,15 +136,28 @@ pub(crate) fn is_enumeration(types: &TypeTable, of: TypeId, number: EnumId) -> b
     }
 }
 
-/// Whether a type is a class whose end was not read, or an array of such (9.2); the end of none is read yet.
-pub fn is_incomplete(types: &TypeTable, of: TypeId) -> bool
+/// Whether the end of a class was read (9.2).
+#[tactic(auto, using(crate::proofs::Ended::ended_known, crate::proofs::Ended::ended_past))]
+pub(crate) fn is_ended(graph: &Graph, class: ClassId) -> bool
+    ensures { (types : List CxxType) → result ≡ has_end class.0 (facts_at types graph.now.facts) }
+{
+    graph.in_range();
+    if class.0 < graph.class_count() {
+        graph.complete(class)
+    } else {
+        false
+    }
+}
+
+/// Whether a type is a class whose end was not read, or an array of such (9.2).
+pub fn is_incomplete(graph: &Graph, types: &TypeTable, of: TypeId) -> bool
     requires { of.0 < length types.now }
-    ensures { result ≡ is_incomplete_of (type_at types.now of.0) }
+    ensures { result ≡ is_incomplete_of (graph_at types.now graph.now) (type_at types.now of.0) }
 {
     match types.node(of) {
-        TypeNode::Class(_) => true,
-        TypeNode::Array(element, _) => is_incomplete(types, *element),
-        TypeNode::Qualified(_, of) => is_incomplete(types, *of),
+        TypeNode::Class(class) => !is_ended(graph, *class),
+        TypeNode::Array(element, _) => is_incomplete(graph, types, *element),
+        TypeNode::Qualified(_, of) => is_incomplete(graph, types, *of),
         _ => false,
     }
 }

@@ -3,8 +3,8 @@
 ghost use Rattle.std.specs.Prelude.{◌≡◌, ◌&&◌, ◌||◌, not, [], ◌∷◌, length, None, Some, option_map, if◌then◌else◌, List};
 ghost use Rattle.std.specs.Option.{option_to_list};
 ghost use Rattle.cxx_model.specs.declared.facts.Name.TheVariants.{Spelled as SpelledName};
-ghost use Rattle.cxx_model.specs.Facts.Conflicts.{conflicts, first_conflict as first_conflict_of};
-ghost use Rattle.cxx_model.specs.Facts.Declarations.{CxxFact, fact_at, graph_at, spelled};
+ghost use Rattle.cxx_model.specs.Facts.Conflicts.{conflicts, first_conflict as first_conflict_of, is_closed as is_closed_by};
+ghost use Rattle.cxx_model.specs.Facts.Declarations.{CxxFact, fact_at, facts_at, graph_at, spelled};
 ghost use Rattle.cxx_model.specs.Facts.Fitted.{IsFactBelow, IsGraphBelow};
 ghost use Rattle.cxx_model.specs.Types.Trees.{CxxType};
 ghost use Rattle.cxx_reading.specs.Linked.{clash_among, rescoped};
@@ -13,6 +13,7 @@ ghost use Rattle.cxx_names.specs.Clashes.{IsPlain, NoTemplates, conflict_in, con
 ghost use Rattle.cxx_names.specs.Index.{Notes};
 ghost use Rattle.cxx_names.specs.Looked.{looked_up};
 
+use crate::alike::is_ended;
 use crate::looked::fact_of;
 use crate::meant::Meaning;
 use crate::names::Names;
@@ -53,6 +54,18 @@ fn either(one: bool, two: bool) -> bool
 }
 
 impl Names {
+    // Whether a scope is that of a class whose end was read (9.2).
+    #[tactic(auto, using(crate::proofs::Clashing::closed_is))]
+    fn is_closed(&self, graph: &Graph, scope: ScopeId) -> bool
+        requires { Notes self.now graph.now.facts }
+        ensures { (types : List CxxType) → result ≡ is_closed_by (facts_at types graph.now.facts) scope.0 }
+    {
+        match self.kept.class_of(scope) {
+            Some(class) => is_ended(graph, class),
+            None => false,
+        }
+    }
+
     // Whether a new declaration conflicts with another with a number, as if that stood in some scope.
     fn clashes(
         &self,
@@ -74,6 +87,10 @@ impl Names {
         let first = self.kept.is_parameters(scope);
         let second = self.kept.is_parameters(new.scope);
         let in_class = either(self.kept.is_class(scope), self.kept.is_class(new.scope));
+        let closed = either(
+            self.is_closed(graph, scope),
+            self.is_closed(graph, new.scope),
+        );
         let earlier = Meaning {
             number,
             what: old.what,
@@ -82,7 +99,7 @@ impl Names {
             number: FactId(graph.length()),
             what: new.what,
         };
-        let stands = stand_together(graph, types, in_class, earlier, later);
+        let stands = stand_together(graph, types, in_class, closed, earlier, later);
         let named = of_one_name(old, new);
         let one = self.kept.is_one_scope(scope, new.scope);
         is_clash(one, named, either(first, second), stands)
@@ -285,7 +302,7 @@ impl Names {
         self.soonest_in(graph, types, blocks, word, new, held)
     }
 
-    /// The first declaration with which a new one conflicts (3.3). The new one is outside classes.
+    /// The first declaration with which a new one conflicts (3.3).
     #[tactic(auto, using(crate::proofs::Clashing::unnamed_nothing))]
     pub fn first_conflict(&self, graph: &Graph, types: &TypeTable, new: &Fact) -> Option<FactId>
         requires noted { Notes self.now graph.now.facts }

@@ -3,6 +3,7 @@ ghost use Rattle.std.specs.Option.{option_copied};
 ghost use Rattle.cxx_model.specs.Facts.Conflicts.{declares_name as declares_a_name};
 ghost use Rattle.cxx_model.specs.Facts.Declarations.{declares_at};
 ghost use Rattle.cxx_model.specs.Types.Trees.{CxxType};
+ghost use Rattle.cxx_names.specs.Holders.{held_by, kind_in};
 ghost use Rattle.cxx_names.specs.Index.{block_by, class_by, directive_by, enumeration_by, filed_by, is_outermost_kind, noted_by, opening_by, unnamed_by, unnamed_space, value_by};
 ghost use Rattle.cxx_names.specs.Words.{word_declared_by};
 
@@ -47,6 +48,8 @@ pub(crate) struct Entry {
     pub(crate) enumeration: Option<ScopeId>,
     // 9.1: the scope in which a class is declared, under the class.
     pub(crate) class: Option<(ClassId, ScopeId)>,
+    // 9.2: the scope of a class, under the class.
+    pub(crate) holder: Option<(ClassId, ScopeId)>,
     pub(crate) space: SpaceEntry,
 }
 
@@ -133,6 +136,25 @@ fn class_in(scope: ScopeId, what: Entity) -> Option<(ClassId, ScopeId)>
     }
 }
 
+fn kind_of(what: Entity) -> Option<ScopeKind>
+    ensures { result ≡ kind_in what }
+{
+    match what {
+        Entity::Scope { kind, .. } => Some(kind),
+        _ => None,
+    }
+}
+
+// The scope with a number under its class, where it is that of one.
+fn holder_in(number: ScopeId, kind: Option<ScopeKind>) -> Option<(ClassId, ScopeId)>
+    ensures { result ≡ held_by number.0 kind }
+{
+    match kind {
+        Some(ScopeKind::Class(class)) => Some((class, number)),
+        _ => None,
+    }
+}
+
 /// What is filed of a declaration with a number.
 pub(crate) fn filed_name(name: Option<Spelling>, number: FactId) -> Option<(Spelling, FactId)>
     ensures { result ≡ filed_by number name }
@@ -210,6 +232,7 @@ impl Entry {
         ensures value { result.value ≡ value_by fact.now.what }
         ensures enumeration { result.enumeration ≡ enumeration_by fact.now.scope fact.now.what }
         ensures class { result.class ≡ class_by fact.now.scope fact.now.what }
+        ensures holder { result.holder ≡ held_by scopes (kind_in fact.now.what) }
         ensures directive { result.space.directive ≡ directive_by fact.now.scope fact.now.what }
         ensures opening { result.space.opening ≡ opening_by number fact.now.what }
         ensures unnamed { result.space.unnamed ≡ unnamed_by fact.now.scope fact.now.name fact.now.what }
@@ -223,6 +246,7 @@ impl Entry {
             value: value_in(fact.what),
             enumeration: enumeration_in(fact.scope, fact.what),
             class: class_in(fact.scope, fact.what),
+            holder: holder_in(ScopeId(scopes), kind_of(fact.what)),
             space: SpaceEntry::of(fact, number),
         }
     }

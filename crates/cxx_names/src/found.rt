@@ -10,10 +10,12 @@ ghost use Rattle.cxx_model.specs.Types.Numbers.{type_at};
 ghost use Rattle.cxx_model.specs.Types.Trees.{CxxType};
 ghost use Rattle.cxx_meaning.specs.Conversions.Enumerations.{values_in};
 ghost use Rattle.cxx_meaning.specs.Lookups.Associated.{scope_of_class as scope_of_a_class, scope_of_enumeration as scope_of_one};
+ghost use Rattle.cxx_meaning.specs.Lookups.Member.{class_of_scope as class_of_one};
 ghost use Rattle.cxx_reading.specs.Declaring.{enumeration_in, first_function as first_function_by, first_object as first_object_by};
 ghost use Rattle.cxx_reading.specs.Seen.{fact_numbers, kind_of_found as kind_of_all, declared_in as declared_by, numbered_at, parent_of};
 ghost use Rattle.cxx_reading.specs.Paths.{first_space as first_space_by};
-ghost use Rattle.cxx_names.specs.Index.{Notes, numbers_in};
+ghost use Rattle.cxx_names.specs.Holders.{held_from};
+ghost use Rattle.cxx_names.specs.Index.{Notes, numbers_in, of_class};
 ghost use Rattle.cxx_reading.specs.Classes.{first_class as first_class_by};
 ghost use Rattle.cxx_names.specs.Looked.{class_named_at, enumeration_number, looked_up, scope_number};
 ghost use Rattle.cxx_names.specs.Words.{IsMetAs};
@@ -116,6 +118,15 @@ impl Names {
         self.words.row(scope, word)
     }
 
+    /// The scopes of a class, in order (9.2).
+    pub fn scopes_of_class(&self, graph: &Graph, class: ClassId) -> &[ScopeId]
+        requires { Notes self.now graph.now.facts }
+        ensures { result.now ≡ of_class class (held_from 0 graph.now.facts) }
+    {
+        let _ = graph;
+        self.kept.scopes_of_class(class)
+    }
+
     /// The scope that holds a scope (3.3); that of the unit holds itself.
     pub fn parent(&self, graph: &Graph, scope: ScopeId) -> ScopeId
         requires { Notes self.now graph.now.facts }
@@ -164,6 +175,16 @@ impl Names {
     {
         let _ = graph;
         self.kept.scope_of_class(class)
+    }
+
+    /// The class to which a scope belongs (9.2).
+    #[tactic(auto, using(crate::proofs::Outer::scope_class_is))]
+    pub fn class_of_scope(&self, graph: &Graph, scope: ScopeId) -> Option<ClassId>
+        requires { Notes self.now graph.now.facts }
+        ensures { (types : List CxxType) → result ≡ class_of_one (facts_at types graph.now.facts) scope }
+    {
+        let _ = graph;
+        self.kept.class_of(scope)
     }
 
     /// The first declaration of the object that has a name in a scope (3).

@@ -1,7 +1,7 @@
 ghost use Rattle.std.specs.Prelude.{◌≡◌, ◌++◌, List, [], OnOk, OnErr};
 ghost use Rattle.std.specs.List.{slice_get};
 ghost use Rattle.std.specs.Option.{option_to_list};
-ghost use Rattle.cxx_names.specs.Clashes.{are_parameters_in, is_block_in, is_class_in, is_one_scope_in, holder_of_block as holder_of_a_block};
+ghost use Rattle.cxx_names.specs.Clashes.{are_parameters_in, class_in, is_block_in, is_class_in, is_one_scope_in, holder_of_block as holder_of_a_block};
 ghost use Rattle.cxx_names.specs.Filed.{row};
 ghost use Rattle.cxx_names.specs.Index.{AreSameKept, HasKept, Keeps, same_class};
 ghost use Rattle.cxx_names.specs.Looked.{is_open_in, is_space_in, outer_in};
@@ -26,6 +26,8 @@ pub(crate) struct Kept {
     pub(crate) values: Filed<EnumId, i128>,
     // The scopes in which each class is declared.
     pub(crate) classes: Filed<ClassId, ScopeId>,
+    // The scopes of each class (9.2).
+    pub(crate) holders: Filed<ClassId, ScopeId>,
     pub(crate) spaces: Spaces,
 }
 
@@ -57,6 +59,7 @@ impl Kept {
             enumerations: Vec::new(alloc),
             values: Filed::new(alloc, key),
             classes: Filed::new(alloc, key),
+            holders: Filed::new(alloc, key),
             spaces: Spaces::new(alloc, key),
         }
     }
@@ -89,6 +92,13 @@ impl Kept {
             Some(scope) => Some(*scope),
             None => None,
         }
+    }
+
+    /// The scopes of a class, in order (9.2).
+    pub(crate) fn scopes_of_class(&self, class: ClassId) -> &[ScopeId]
+        ensures { result.now ≡ row same_class self.now.holders.rows.entries class }
+    {
+        self.holders.row(&class)
     }
 
     /// Whether a scope is that of the parameters of a function (3.3.2).
@@ -141,6 +151,19 @@ impl Kept {
                 _ => false,
             },
             None => false,
+        }
+    }
+
+    /// The class of which a scope is.
+    pub(crate) fn class_of(&self, scope: ScopeId) -> Option<ClassId>
+        ensures { result ≡ class_in (slice_get self.now.scopes.items scope.0) }
+    {
+        match self.noted(scope) {
+            Some(noted) => match noted.kind {
+                ScopeKind::Class(class) => Some(class),
+                _ => None,
+            },
+            None => None,
         }
     }
 
@@ -203,7 +226,15 @@ impl Kept {
             pop_some(&mut self.scopes, one.noted);
             return Err(fault);
         }
+        if let Err(fault) = self.holders.add(one.holder) {
+            self.classes.take_back(one.class);
+            self.values.take_back(one.value);
+            self.blocks.take_back(one.block);
+            pop_some(&mut self.scopes, one.noted);
+            return Err(fault);
+        }
         if let Err(fault) = self.spaces.note(one.space) {
+            self.holders.take_back(one.holder);
             self.classes.take_back(one.class);
             self.values.take_back(one.value);
             self.blocks.take_back(one.block);
@@ -212,6 +243,7 @@ impl Kept {
         }
         if let Err(fault) = push_some(&mut self.enumerations, one.enumeration) {
             self.spaces.take_back(one.space);
+            self.holders.take_back(one.holder);
             self.classes.take_back(one.class);
             self.values.take_back(one.value);
             self.blocks.take_back(one.block);
@@ -229,6 +261,7 @@ impl Kept {
         self.blocks.take_back(one.block);
         self.values.take_back(one.value);
         self.classes.take_back(one.class);
+        self.holders.take_back(one.holder);
         self.spaces.take_back(one.space);
         pop_some(&mut self.enumerations, one.enumeration);
     }

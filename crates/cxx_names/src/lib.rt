@@ -12,6 +12,7 @@ mod meant;
 mod named;
 mod names;
 mod opened;
+mod other;
 mod pair;
 mod role;
 mod spaces;
@@ -24,4 +25,5 @@ pub use found::{
 pub use looked::NamedClass;
 pub use named::type_in;
 pub use names::Names;
+pub use other::has_name;
 pub use words::{MetWord, Words};

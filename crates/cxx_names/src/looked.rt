@@ -21,11 +21,12 @@ use cxx_model::{
 };
 use cxx_types::TypeTable;
 
-/// A class that a declaration declares (9.1).
+/// A class that a declaration declares (9.1), or that has its name in its own scope (9), which does not say whether it is a
+/// union.
 #[derive(Clone, Copy)]
 pub struct NamedClass {
     pub class: ClassId,
-    pub is_union: bool,
+    pub is_union: Option<bool>,
 }
 
 pub(crate) fn fact_of(graph: &Graph, number: FactId) -> Option<&Fact>
@@ -256,7 +257,14 @@ fn class_at(graph: &Graph, number: FactId) -> Option<NamedClass>
 {
     match fact_of(graph, number) {
         Some(fact) => match fact.what {
-            Entity::Class { class, is_union } => Some(NamedClass { class, is_union }),
+            Entity::Class { class, is_union } => Some(NamedClass {
+                class,
+                is_union: Some(is_union),
+            }),
+            Entity::Injected { class } => Some(NamedClass {
+                class,
+                is_union: None,
+            }),
             _ => None,
         },
         None => None,

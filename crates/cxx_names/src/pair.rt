@@ -1,9 +1,7 @@
-//! Whether two declarations of one name may stand in one scope (3.3, 3.3.7, 7.1.3, 7.3.1, 7.3.3, 13.1), where the later one
-//! is no member of a class.
+//! Whether two declarations of one name may stand in one scope (3.3, 3.3.7, 7.1.3, 7.3.1, 7.3.3, 9.2, 13.1).
 
 ghost use Rattle.std.specs.Prelude.{◌≡◌, ◌<◌, ◌&&◌, Bool, List, None, Some, length};
-ghost use Rattle.cxx_model.specs.declared.facts.MemberKind.TheVariants.{Free as FreeKind};
-ghost use Rattle.cxx_model.specs.Facts.Conflicts.{a_function, a_hidden_name, a_name, an_enumerator, an_object, are_overloads as are_overloads_by, brought_may_stand, functions_agree as functions_agree_by, is_function as is_function_by, is_static as is_static_kind, may_stand, objects_agree as objects_agree_by, of_one_name as of_one_name_by, one_hides as one_hides_by, same_member, standing};
+ghost use Rattle.cxx_model.specs.Facts.Conflicts.{a_function, a_hidden_name, a_name, an_enumerator, an_object, are_overloads as are_overloads_by, brought_may_stand, functions_agree as functions_agree_by, is_function as is_function_by, any_static as any_static_by, is_member as is_member_kind, is_static as is_static_kind, may_repeat as may_repeat_by, may_stand, number_of_member as number_of_kind, objects_agree as objects_agree_by, of_one_name as of_one_name_by, one_hides as one_hides_by, same_member, standing};
 ghost use Rattle.cxx_model.specs.Facts.Declarations.{CxxGraph, declares_at, fact_at, graph_at};
 ghost use Rattle.cxx_model.specs.Facts.Entities.{entity_by, of_space, of_type, same_entity};
 ghost use Rattle.cxx_model.specs.Facts.Fitted.{IsEntityBelow, IsGraphBelow};
@@ -30,50 +28,100 @@ fn is_static(member: MemberKind) -> bool
     }
 }
 
-fn is_free(member: MemberKind) -> bool
-    ensures { result ≡ same_member member FreeKind }
+fn number_of_member(member: MemberKind) -> u32
+    ensures { result ≡ number_of_kind member }
 {
     match member {
-        MemberKind::Free => true,
-        _ => false,
+        MemberKind::Free => 0,
+        MemberKind::Nonstatic => 1,
+        MemberKind::Static => 2,
+        MemberKind::Constructor => 3,
+        MemberKind::Destructor => 4,
+        MemberKind::Conversion => 5,
     }
 }
 
+fn is_same_member(one: MemberKind, two: MemberKind) -> bool
+    ensures { result ≡ same_member one two }
+{
+    number_of_member(one) == number_of_member(two)
+}
+
+fn is_member(member: MemberKind) -> bool
+    ensures { result ≡ is_member_kind member }
+{
+    let is_free = number_of_member(member) == 0;
+    !is_free
+}
+
+fn any_static(one: MemberKind, two: MemberKind) -> bool
+    ensures { result ≡ any_static_by one two }
+{
+    is_static(one) || is_static(two)
+}
+
+// 9.2, 9.3: members are declared again behind the end of their class alone.
+fn may_repeat(closed: bool, one: MemberKind, two: MemberKind) -> bool
+    ensures { result ≡ may_repeat_by closed one two }
+{
+    let both = is_member(one) && is_member(two);
+    closed || !both
+}
+
 // 13.1: with other parameters they are overloads, with the same ones declarations of one function.
-#[tactic(auto, using(crate::proofs::Pairs::functions_free))]
-fn functions_agree(types: &TypeTable, one: TypeId, member: MemberKind, two: TypeId) -> bool
+fn functions_agree(
+    types: &TypeTable,
+    closed: bool,
+    one: TypeId,
+    member: MemberKind,
+    two: TypeId,
+    other: MemberKind,
+) -> bool
     requires one { one.0 < length types.now }
     requires two { two.0 < length types.now }
-    ensures { (closed : Bool) → result ≡ functions_agree_by closed (type_at types.now one.0) member (type_at types.now two.0) FreeKind }
+    ensures { result ≡ functions_agree_by closed (type_at types.now one.0) member (type_at types.now two.0) other }
 {
-    if same_parameters(types, is_static(member), one, two) {
-        types.same(one, two) && is_free(member)
+    if same_parameters(types, any_static(member, other), one, two) {
+        types.same(one, two) && (is_same_member(member, other) && may_repeat(closed, member, other))
     } else {
         true
     }
 }
 
-#[tactic(auto, using(crate::proofs::Pairs::objects_free))]
-fn objects_agree(types: &TypeTable, one: TypeId, member: MemberKind, two: TypeId) -> bool
+fn objects_agree(
+    types: &TypeTable,
+    closed: bool,
+    one: TypeId,
+    member: MemberKind,
+    two: TypeId,
+    other: MemberKind,
+) -> bool
     requires one { one.0 < length types.now }
     requires two { two.0 < length types.now }
-    ensures { (closed : Bool) → result ≡ objects_agree_by closed (type_at types.now one.0) member (type_at types.now two.0) FreeKind }
+    ensures { result ≡ objects_agree_by closed (type_at types.now one.0) member (type_at types.now two.0) other }
 {
-    agree(types, one, two) && is_free(member)
+    agree(types, one, two) && (is_same_member(member, other) && may_repeat(closed, member, other))
 }
 
 #[tactic(auto, using(crate::proofs::Pairs::template_function))]
-fn function_stands(graph: &Graph, types: &TypeTable, old: Entity, of: TypeId) -> bool
+fn function_stands(
+    graph: &Graph,
+    types: &TypeTable,
+    closed: bool,
+    old: Entity,
+    of: TypeId,
+    other: MemberKind,
+) -> bool
     requires old { IsEntityBelow (length types.now) old }
     requires of { of.0 < length types.now }
-    ensures { (closed : Bool) → result ≡ may_stand closed (standing (graph_at types.now graph.now) (declares_at types.now old)) (a_function (type_at types.now of.0) FreeKind) }
+    ensures { result ≡ may_stand closed (standing (graph_at types.now graph.now) (declares_at types.now old)) (a_function (type_at types.now of.0) other) }
 {
     match old {
         Entity::Function {
             of: one,
             member,
             ..
-        } => functions_agree(types, one, member, of),
+        } => functions_agree(types, closed, one, member, of, other),
         Entity::Template { template, .. } => is_of_functions(graph, template),
         Entity::Class { .. } => true,
         Entity::Injected { .. } => true,
@@ -83,17 +131,23 @@ fn function_stands(graph: &Graph, types: &TypeTable, old: Entity, of: TypeId) ->
 }
 
 #[tactic(auto, using(crate::proofs::Pairs::template_object))]
-fn object_stands(types: &TypeTable, old: Entity, of: TypeId) -> bool
+fn object_stands(
+    types: &TypeTable,
+    closed: bool,
+    old: Entity,
+    of: TypeId,
+    other: MemberKind,
+) -> bool
     requires old { IsEntityBelow (length types.now) old }
     requires of { of.0 < length types.now }
-    ensures { (closed : Bool) (graph : CxxGraph) → result ≡ may_stand closed (standing graph (declares_at types.now old)) (an_object (type_at types.now of.0) FreeKind) }
+    ensures { (graph : CxxGraph) → result ≡ may_stand closed (standing graph (declares_at types.now old)) (an_object (type_at types.now of.0) other) }
 {
     match old {
         Entity::Object {
             of: one,
             member,
             ..
-        } => objects_agree(types, one, member, of),
+        } => objects_agree(types, closed, one, member, of, other),
         Entity::Class { .. } => true,
         Entity::Injected { .. } => true,
         Entity::Enumeration { .. } => true,
@@ -190,15 +244,17 @@ fn space_stands(types: &TypeTable, old: Entity, inner: ScopeId) -> bool
 
 // Whether two declarations of one name may stand in one scope, where neither is a using-declaration.
 #[tactic(auto, using(crate::proofs::Pairs::alone_stands))]
-fn stand(graph: &Graph, types: &TypeTable, old: Entity, new: Entity) -> bool
+fn stand(graph: &Graph, types: &TypeTable, closed: bool, old: Entity, new: Entity) -> bool
     requires old { IsEntityBelow (length types.now) old }
     requires new { IsEntityBelow (length types.now) new }
     requires plain { IsPlainEntity new }
-    ensures { (closed : Bool) → result ≡ may_stand closed (standing (graph_at types.now graph.now) (declares_at types.now old)) (standing (graph_at types.now graph.now) (declares_at types.now new)) }
+    ensures { result ≡ may_stand closed (standing (graph_at types.now graph.now) (declares_at types.now old)) (standing (graph_at types.now graph.now) (declares_at types.now new)) }
 {
     match new {
-        Entity::Function { of, .. } => function_stands(graph, types, old, of),
-        Entity::Object { of, .. } => object_stands(types, old, of),
+        Entity::Function { of, member, .. } => {
+            function_stands(graph, types, closed, old, of, member)
+        }
+        Entity::Object { of, member, .. } => object_stands(types, closed, old, of, member),
         Entity::Enumerator { .. } => enumerator_stands(old),
         Entity::Class { class, is_union } => class_stands(graph, types, old, class, is_union),
         Entity::Enumeration { number } => enumeration_stands(graph, types, old, number),
@@ -240,7 +296,7 @@ fn overloads(graph: &Graph, types: &TypeTable, one: Entity, of: TypeId, member: 
             member: other,
             ..
         } => {
-            let any = is_static(other) || is_static(member);
+            let any = any_static(other, member);
             !same_parameters(types, any, one, of)
         }
         Entity::Template { template, .. } => is_of_functions(graph, template),
@@ -302,11 +358,13 @@ fn brought_stands(
     }
 }
 
-/// Whether two declarations of one name, by their numbers, may stand in one scope.
+/// Whether two declarations of one name, by their numbers, may stand in one scope, one of a class or another, and one of a
+/// class whose end was read or another.
 pub(crate) fn stand_together(
     graph: &Graph,
     types: &TypeTable,
     in_class: bool,
+    closed: bool,
     one: Meaning,
     two: Meaning,
 ) -> bool
@@ -315,7 +373,7 @@ pub(crate) fn stand_together(
     requires two { IsEntityBelow (length types.now) two.what }
     requires plain { IsPlainEntity two.what }
     requires templates { NoTemplates graph.now.facts }
-    ensures { (closed : Bool) → result ≡ stand_in (graph_at types.now graph.now) in_class closed one.number.0 (declares_at types.now one.what) two.number.0 (declares_at types.now two.what) }
+    ensures { result ≡ stand_in (graph_at types.now graph.now) in_class closed one.number.0 (declares_at types.now one.what) two.number.0 (declares_at types.now two.what) }
 {
     let old = is_using(one.what);
     let new = is_using(two.what);
@@ -324,7 +382,7 @@ pub(crate) fn stand_together(
         let second = meant_plain(graph, types, two.number, two.what);
         brought_stands(graph, types, in_class, old && new, first, second)
     } else {
-        stand(graph, types, one.what, two.what)
+        stand(graph, types, closed, one.what, two.what)
     }
 }
 
@@ -340,7 +398,7 @@ fn same_spelling(one: &Name, two: &Name) -> bool
     }
 }
 
-/// Whether two facts declare one name, where the later one is no member of a class.
+/// Whether two facts declare one name, where the later one is no constructor.
 #[tactic(auto, using(crate::proofs::Pairs::one_name))]
 pub(crate) fn of_one_name(old: &Fact, new: &Fact) -> bool
     requires { IsPlain new.now }

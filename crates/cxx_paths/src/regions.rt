@@ -12,7 +12,7 @@ ghost use Rattle.cxx_tree.specs.Arena.{path_at, path_part_at, path_parts_at};
 ghost use Rattle.cxx_tree.specs.Held.{meaning};
 
 use crate::faults::{ambiguous, not_wanted, place_among, undeclared};
-use crate::seeking::sought_in;
+use crate::seeking::{members_in, sought_in};
 use crate::spaces::space_among;
 use cxx_found::{Found, Wanted};
 use cxx_model::{FactId, Path, PathPart, ScopeId, Stop};
@@ -52,6 +52,7 @@ fn holder_by(state: &State, part: &PathPart, found: &Found) -> Result<ScopeId, S
 {
     match found {
         Found::Set(facts) => held_among(state, part, facts.as_slice()),
+        Found::Member(_, of) => held_among(state, part, members_in(of)),
         Found::Ambiguous(one, two) => Err(ambiguous(
             state,
             part.place,

@@ -6,14 +6,14 @@ ghost use Rattle.cxx_model.specs.Facts.Declarations.{CxxGraph, spelled};
 ghost use Rattle.cxx_reading.specs.Paths as definition;
 ghost use Rattle.cxx_reading.specs.Paths.{name_in};
 ghost use Rattle.cxx_reading.specs.declared.region.Region.TheVariants.{Inside};
-ghost use Rattle.cxx_reading.specs.Seen.{fact_numbers, numbered_at, set_in as set_in_of, sought_from};
+ghost use Rattle.cxx_reading.specs.Seen.{fact_numbers, members_of, numbered_at, set_in as set_in_of, sought_from};
 ghost use Rattle.cxx_tree.specs.Arena.{path_at};
 ghost use Rattle.cxx_tree.specs.Held.{meaning};
 
 use crate::last::last_word;
 use crate::regions::region_here;
 use cxx_found::{Found, Wanted, qualified_in, sought};
-use cxx_model::{FactId, FactList, OutOfMemory, Path, ScopeId, Stop};
+use cxx_model::{FactId, FactList, MemberFound, OutOfMemory, Path, ScopeId, Stop};
 use cxx_reading::Region;
 use cxx_tree::State;
 
@@ -87,13 +87,34 @@ pub fn name_sought(
     sought_in(state, wanted, region, last_word(path.parts.as_slice()))
 }
 
+/// The entities of a set of members of a class, by their first declarations.
+pub(crate) fn members_in(of: &MemberFound) -> &[FactId]
+    ensures { result.now ≡ members_of of.now }
+{
+    match of {
+        MemberFound::Set(facts, _) => facts.as_slice(),
+        _ => &[],
+    }
+}
+
 /// The entities of a set, by their first declarations.
 pub fn set_in(found: &Found) -> &[FactId]
     ensures { (graph : CxxGraph) → numbered_at graph (fact_numbers result.now) ≡ set_in_of graph found.now }
 {
     match found {
         Found::Set(facts) => facts.as_slice(),
+        Found::Member(_, of) => members_in(of),
         _ => &[],
+    }
+}
+
+// The members of a set, where what was found is used no more.
+fn into_members(state: &State, of: MemberFound) -> FactList
+    ensures { result ≡ members_of of }
+{
+    match of {
+        MemberFound::Set(facts, _path) => facts,
+        _ => FactList::new(state.alloc()),
     }
 }
 
@@ -103,6 +124,7 @@ fn into_set(state: &State, found: Found) -> FactList
 {
     match found {
         Found::Set(facts) => facts,
+        Found::Member(_class, of) => into_members(state, of),
         _ => FactList::new(state.alloc()),
     }
 }

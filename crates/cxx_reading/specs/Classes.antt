@@ -26,13 +26,15 @@ use Rattle.cxx_reading.specs.Trees.{CxxPath, CxxPathPart, is_plain_path, last_pa
 
 -- ---- classes among declarations
 
--- the class that a declaration declares, and whether it is a union
+-- the class that a declaration declares, and whether it is a union; the name of a class in its own scope (9) does not say
+-- that
 pub record ClassNamed : Type 0 where
   pub number : ℕ
-  pub is_union : Bool
+  pub is_union : Option Bool
 
 abbrev pub class_by : Declares → Option ClassNamed
-class_by (facts.class class is_union) = Some (record { number = class.0; is_union = is_union })
+class_by (facts.class class is_union) = Some (record { number = class.0; is_union = Some is_union })
+class_by (facts.injected class) = Some (record { number = class.0; is_union = None })
 class_by _ = None
 
 abbrev pub or_other : Option ClassNamed → Option ClassNamed → Option ClassNamed
@@ -112,10 +114,14 @@ class_missing path is_union state =
     if is_plain_path path then declare_class (open_of state.graph state.here.scope) (last_part path.parts) is_union state else
     Err (undeclared_at (last_part path.parts).place (last_part path.parts).word)
 
+abbrev pub is_of_key : Option Bool → Bool → Bool
+is_of_key None is_union = true
+is_of_key (Some one) is_union = same_bool one is_union
+
 -- 7.1.5.3: a union is named by its key alone
 abbrev pub class_taken : CxxPathPart → Place → Bool → Option ClassNamed → Asks CxxState CxxType
 class_taken part other is_union None state = Err (wrong_kind_at part other)
-class_taken part other is_union (Some one) state = if same_bool one.is_union is_union then Ok (class_type one.number, state) else Err (wrong_kind_at part other)
+class_taken part other is_union (Some one) state = if is_of_key one.is_union is_union then Ok (class_type one.number, state) else Err (wrong_kind_at part other)
 
 -- given the first class among the declarations that were found, and where the first of them stands
 abbrev pub class_seen : CxxPath → Bool → Option ClassNamed → Option Place → Asks CxxState CxxType

@@ -33,6 +33,10 @@ simple_declaration = 8
 abbrev pub elaborated : ℕ
 elaborated = 9
 
+-- clause 9
+abbrev pub class_definition : ℕ
+class_definition = 10
+
 -- 7.2
 abbrev pub enumeration_list : ℕ
 enumeration_list = 11

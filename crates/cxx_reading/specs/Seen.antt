@@ -4,6 +4,8 @@ use Rattle.std.specs.List.{slice_get, list_any}
 use Rattle.cxx_model.specs.declared.base.Base.TheVariants.{Void}
 use Rattle.cxx_model.specs.declared.lookup.Found.{Found}
 use Rattle.cxx_model.specs.declared.lookup.Found.TheVariants as looked
+use Rattle.cxx_model.specs.declared.lookup.MemberFound.{MemberFound}
+use Rattle.cxx_model.specs.declared.lookup.MemberFound.TheVariants as member
 use Rattle.cxx_model.specs.declared.place.Place.{Place}
 use Rattle.cxx_model.specs.declared.tree.Kind.{Kind}
 use Rattle.cxx_model.specs.declared.tree.Kind.TheVariants as kind
@@ -78,8 +80,14 @@ found_or_none (Err class) = looked.Empty
 unfoldable pub sought_from : CxxGraph → Wanted → ℕ → CxxName → Found
 sought_from graph wanted scope name = found_or_none (ordinary graph wanted (record { 0 = scope }) name (length graph.facts))
 
+-- 10.2: what is found as a member of a class; none where two do not go together
+abbrev pub members_of : MemberFound → List FactId
+members_of (member.Set facts path) = facts
+members_of _ = []
+
 abbrev pub set_in : CxxGraph → Found → List Numbered
 set_in graph (looked.Set facts) = numbered_at graph (fact_numbers facts)
+set_in graph (looked.Member class of) = numbered_at graph (fact_numbers (members_of of))
 set_in graph _ = []
 
 -- where the first of some declarations stands

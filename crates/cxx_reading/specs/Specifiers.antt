@@ -1,6 +1,7 @@
 -- How specifiers are read (7.1).
 use Rattle.std.specs.Prelude.{ℕ, Bool, true, false, not, ◌&&◌, ◌||◌, if◌then◌else◌, ◌==◌, List, [], ◌∷◌, ◌++◌, Option, Some, None, codes}
 use Rattle.cxx_model.specs.declared.fault.FaultText.TheVariants as says
+use Rattle.cxx_model.specs.declared.fault.LeftOut.TheVariants as form
 use Rattle.cxx_model.specs.declared.keyword.TheConstants as keyword
 use Rattle.cxx_model.specs.declared.place.Place.{Place}
 use Rattle.cxx_model.specs.declared.punct.TheConstants as punct
@@ -50,6 +51,7 @@ may_store _ _ = false
 abbrev pub is_declaration : SpecifierPlace → Bool
 is_declaration where_.Declaration = true
 is_declaration where_.Block = true
+is_declaration where_.Member = true
 is_declaration _ = false
 
 abbrev pub is_some_storage : Option StorageWord → Bool
@@ -68,17 +70,30 @@ begins_class n = n == keyword.CLASS || (n == keyword.STRUCT || (n == keyword.UNI
 abbrev pub went_on : {S : Type 0} → Specifiers → Reads S (Turn Specifiers Specifiers)
 went_on so_far state ahead = got (More so_far) state (behind ahead)
 
+-- 9.2, 9.4, 7.1.3: of members that are static and of names of types in a class nothing is read yet
+abbrev pub stores_later : SpecifierPlace → StorageWord → Bool
+stores_later where_.Member storage.Static = true
+stores_later where_.Member storage.Typedef = true
+stores_later _ _ = false
+
 unfoldable pub storage_step : {S : Type 0} → SpecifierPlace → StorageWord → Specifiers → Reads S (Turn Specifiers Specifiers)
 storage_step place word so_far state ahead =
+    if stores_later place word then not_built state ahead else (
     if may_store place word && not (is_some_storage so_far.storage)
     then went_on (record so_far { storage = Some word }) state ahead
-    else refused state ahead
+    else refused state ahead)
 
+abbrev pub is_member_place : SpecifierPlace → Bool
+is_member_place where_.Member = true
+is_member_place _ = false
+
+-- 7.1.2: of functions in a class nothing is read yet
 unfoldable pub inline_step : {S : Type 0} → SpecifierPlace → Specifiers → Reads S (Turn Specifiers Specifiers)
 inline_step place so_far state ahead =
+    if is_member_place place then not_built state ahead else (
     if is_declaration place && not so_far.is_inline
     then went_on (record so_far { is_inline = true }) state ahead
-    else refused state ahead
+    else refused state ahead)
 
 abbrev pub with_const : Cv → Cv
 with_const cv = record { is_const = true; is_volatile = cv.is_volatile }
@@ -169,10 +184,11 @@ defined_step asks inner from name so_far = do
   to ← looked
   give (More (record so_far { named = Some (enumeration number); stands_alone = true; parts = so_far.parts ++ enumeration_tree name number values from to ∷ [] }))
 
--- 8.3.5, 5.3.3: no enumeration is defined among parameters and in a type that is named
+-- 8.3.5, 5.3.3: no enumeration is defined among parameters and in a type that is named; one of a class is not read yet
 unfoldable pub list_step : {S : Type 0} → Kinds S → Readers S → SpecifierPlace → Ahead → Option Lexeme → Specifiers → Reads S (Turn Specifiers Specifiers)
 list_step asks inner place from name so_far state ahead =
-    if is_declaration place then defined_step asks inner from name so_far state ahead else refused state ahead
+    if is_member_place place then fault_at (place_ahead from) says.NotBuilt state ahead else (
+    if is_declaration place then defined_step asks inner from name so_far state ahead else refused state ahead)
 
 -- 7.2: one name and its list
 abbrev pub begins_named_list : Ahead → Bool
@@ -215,13 +231,23 @@ class_named_step asks is_union all from path so_far = do
   to ← looked
   give (More (record so_far { named = Some of; stands_alone = true; parts = so_far.parts ++ elaborated_tree (class_key is_union) path of from to ∷ [] }))
 
--- 9, 10: bases or members, which are not read yet
+-- 9, 10: bases or members
 abbrev pub begins_members : TokenKind → Bool
 begins_members kind = is_punct punct.LEFT_BRACE kind || is_punct punct.COLON kind
 
+-- 9: The head of a class that is defined. Among the specifiers of a declaration of a namespace reading stops at its key,
+-- where its name has no qualifiers and its list follows; other heads are not read there yet. In a block the form is left out
+-- (9.8), and elsewhere no class is defined (8.3.5, 5.3.3).
+abbrev pub head_reached : {S : Type 0} → SpecifierPlace → Bool → Ahead → Specifiers → Reads S (Turn Specifiers Specifiers)
+head_reached where_.Declaration true from so_far state ahead = got (Done so_far) state from
+head_reached where_.Declaration false from so_far state ahead = fault_at (place_ahead from) says.NotBuilt state ahead
+head_reached where_.Member plain from so_far state ahead = fault_at (place_ahead from) says.NotBuilt state ahead
+head_reached where_.Block plain from so_far state ahead = fault_at (place_ahead from) (says.LeftOut form.LocalClass) state ahead
+head_reached place plain from so_far state ahead = refused state ahead
+
 unfoldable pub class_behind : {S : Type 0} → Kinds S → Bool → SpecifierPlace → Ahead → CxxPath → Specifiers → Reads S (Turn Specifiers Specifiers)
 class_behind asks is_union place from path so_far state ahead =
-    if begins_members (kind_ahead ahead) then fault_at (place_ahead from) says.NotBuilt state ahead else
+    if begins_members (kind_ahead ahead) then head_reached place (is_plain_path path && is_punct punct.LEFT_BRACE (kind_ahead ahead)) from so_far state ahead else
     class_named_step asks is_union (is_all place so_far path (kind_ahead ahead)) from path so_far state ahead
 
 unfoldable pub class_name_step : {S : Type 0} → Kinds S → Bool → SpecifierPlace → Ahead → Specifiers → Reads S (Turn Specifiers Specifiers)
@@ -231,7 +257,7 @@ class_name_step asks is_union place from so_far = path_taken >>= λ path. class_
 unfoldable pub class_key_step : {S : Type 0} → Kinds S → Bool → SpecifierPlace → Ahead → Specifiers → Reads S (Turn Specifiers Specifiers)
 class_key_step asks is_union place from so_far state ahead =
     if begins_name ahead then class_name_step asks is_union place from so_far state ahead else (
-    if begins_members (kind_ahead ahead) then fault_at (place_ahead from) says.NotBuilt state ahead else
+    if begins_members (kind_ahead ahead) then head_reached place false from so_far state ahead else
     refused state ahead)
 
 -- 14.6: `typename` is not read yet
@@ -241,6 +267,11 @@ class_step asks place n so_far state ahead =
     if n == keyword.TYPENAME then not_built state ahead else
     class_key_step asks (n == keyword.UNION) place ahead so_far state (behind ahead))
 
+-- of a member that has such a word nothing is read yet
+abbrev pub member_word : {S : Type 0} → SpecifierPlace → Reads S (Turn Specifiers Specifiers)
+member_word where_.Member = not_built
+member_word place = refused
+
 -- a keyword that is no storage word and no word of a type
 unfoldable pub other_step : {S : Type 0} → Kinds S → Readers S → SpecifierPlace → ℕ → Specifiers → Reads S (Turn Specifiers Specifiers)
 other_step asks inner place n so_far state ahead =
@@ -249,7 +280,7 @@ other_step asks inner place n so_far state ahead =
     if n == keyword.INLINE then inline_step place so_far state ahead else (
     if n == keyword.ENUM then enumeration_step asks inner place so_far state ahead else (
     if begins_class n then class_step asks place n so_far state ahead else (
-    if is_of_members n then refused state ahead else
+    if is_of_members n then member_word place state ahead else
     got (Done so_far) state ahead)))))
 
 abbrev pub stored_by : {S : Type 0} → Option StorageWord → Reads S (Turn Specifiers Specifiers) → SpecifierPlace → Specifiers → Reads S (Turn Specifiers Specifiers)
@@ -273,12 +304,21 @@ step_by asks inner place _ so_far = give (Done so_far)
 unfoldable pub specifier_step : {S : Type 0} → Kinds S → Readers S → SpecifierPlace → Specifiers → Reads S (Turn Specifiers Specifiers)
 specifier_step asks inner place so_far state ahead = step_by asks inner place (kind_ahead ahead) so_far state ahead
 
--- 7.1.5: a type stands among the specifiers
+-- 9: where no type stands among the specifiers, a key of a class is that of a class that is defined there
+abbrev pub is_head : SpecifierPlace → TokenKind → Bool
+is_head where_.Declaration (Keyword n) = begins_class n
+is_head _ _ = false
+
+-- 7.1.5: a type stands among the specifiers, or a class follows that is one
 unfoldable pub typed : {S : Type 0} → SpecifierPlace → Specifiers → Reads S Specifiers
 typed place specifiers state ahead =
-    if has_type specifiers then got specifiers state ahead else (
+    if has_type specifiers || is_head place (kind_ahead ahead) then got specifiers state ahead else (
     if is_declaration place && is_keyword keyword.OPERATOR (kind_ahead ahead) then not_built state ahead else
     refused state ahead)
 
-unfoldable pub specifiers_at : {S : Type 0} → Kinds S → Readers S → SpecifierPlace → Reads S Specifiers
-specifiers_at asks inner place state ahead = (repeat (specifier_step asks inner place) give (count_ahead ahead) no_specifiers >>= typed place) state ahead
+-- behind those that were read
+unfoldable pub specifiers_from : {S : Type 0} → Kinds S → Readers S → SpecifierPlace → Specifiers → Reads S Specifiers
+specifiers_from asks inner place so_far state ahead = (repeat (specifier_step asks inner place) give (count_ahead ahead) so_far >>= typed place) state ahead
+
+abbrev pub specifiers_at : {S : Type 0} → Kinds S → Readers S → SpecifierPlace → Reads S Specifiers
+specifiers_at asks inner place = specifiers_from asks inner place no_specifiers

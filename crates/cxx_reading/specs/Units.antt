@@ -8,6 +8,8 @@ use Rattle.cxx_model.specs.declared.punct.TheConstants as punct
 use Rattle.cxx_model.specs.declared.token.TokenKind.{TokenKind}
 use Rattle.cxx_model.specs.declared.token.TokenKind.TheVariants.{Keyword, Text, End}
 use Rattle.cxx_model.specs.Facts.Conflicts.{is_unknown}
+use Rattle.cxx_model.specs.Facts.Declarations.{CxxGraph}
+use Rattle.cxx_model.specs.Facts.Entities.{has_end}
 use Rattle.cxx_model.specs.Stops.{Answer}
 use Rattle.cxx_model.specs.Text.Lexemes.{Lexeme, nowhere}
 use Rattle.cxx_model.specs.Types.Trees.{CxxType, array_of, class_type, qualified}
@@ -84,22 +86,31 @@ abbrev pub is_unbounded : CxxType → Bool
 is_unbounded (array_of of bound) = is_unknown bound || is_unbounded of
 is_unbounded _ = false
 
--- 9.2: a class whose end was not read, or an array of such; the end of none is read yet
-abbrev pub is_incomplete : CxxType → Bool
-is_incomplete (class_type n) = true
-is_incomplete (array_of of bound) = is_incomplete of
-is_incomplete (qualified cv of) = is_incomplete of
-is_incomplete _ = false
+-- 9.2: a class whose end was not read, or an array of such
+abbrev pub is_incomplete : CxxGraph → CxxType → Bool
+is_incomplete graph (class_type n) = not (has_end n graph.facts)
+is_incomplete graph (array_of of bound) = is_incomplete graph of
+is_incomplete graph (qualified cv of) = is_incomplete graph of
+is_incomplete graph _ = false
 
 -- 3.9: an object is of a complete type
 unfoldable pub complete_object : Lexeme → CxxType → Reads CxxState (Unit {0})
-complete_object name of state ahead = if is_incomplete of then fault_at name.place says.IncompleteClass state ahead else got tt state ahead
+complete_object name of state ahead = if is_incomplete state.graph of then fault_at name.place says.IncompleteClass state ahead else got tt state ahead
 
+-- 8.5: a class, or an array of such, whose objects are made by constructors
+abbrev pub is_made_of_class : CxxType → Bool
+is_made_of_class (class_type n) = true
+is_made_of_class (array_of of bound) = is_made_of_class of
+is_made_of_class (qualified cv of) = is_made_of_class of
+is_made_of_class _ = false
+
+-- what constructors do is not read yet (12.1)
 unfoldable pub uninitialized : Lexeme → CxxType → Reads CxxState (List CxxTree)
 uninitialized name of state ahead =
-    if is_unbounded of || is_incomplete of then fault_at name.place says.IncompleteClass state ahead else (
+    if is_unbounded of || is_incomplete state.graph of then fault_at name.place says.IncompleteClass state ahead else (
+    if is_made_of_class of then fault_at name.place says.NotBuilt state ahead else (
     if is_reference of || is_const_type of then fault_at name.place says.NoConversion state ahead else
-    got [] state ahead)
+    got [] state ahead))
 
 abbrev pub ends_declarator : TokenKind → Bool
 ends_declarator kind = is_punct punct.COMMA kind || is_punct punct.SEMICOLON kind

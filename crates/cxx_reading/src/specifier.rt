@@ -47,6 +47,8 @@ pub enum SpecifierPlace {
     Declaration,
     /// A declaration in a block.
     Block,
+    /// A declaration in the list of a class (9.2).
+    Member,
     Parameter,
     TypeId,
 }

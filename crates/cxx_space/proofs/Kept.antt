@@ -1,9 +1,11 @@
--- What a declarator leads to stays the same while the state grows.
+-- What a declarator leads to, and a class that has begun, stay the same while the state grows.
 use Rattle.std.specs.Prelude.{◌≡◌, ◌<◌, ◌≤◌, length, List, [], ◌∷◌, Option, Some, None, refl}
-use Rattle.std.proofs.Common.{ap, arith}
+use Rattle.std.proofs.Common.{ap, arith, ◌∙◌}
 use Rattle.cxx_model.specs.declared.types.TreeId.{TreeId}
 use Rattle.cxx_reading.specs.Trees.{CxxTree}
 use Rattle.cxx_space.specs.declared.bodies.Declared.{Declared}
+use Rattle.cxx_space.specs.declared.classes.Begun.{Begun}
+use Rattle.cxx_space.specs.Classes.{IsBegun}
 use Rattle.cxx_space.specs.Views.{IsBodyKnown, IsDeclaredKnown, body_of, declares_of}
 use Rattle.cxx_tree.specs.Held.{Held, tree, trees}
 use Rattle.cxx_tree.specs.Later.{Later}
@@ -25,4 +27,12 @@ pub declared_later : (old new : Held) (one : Declared) → Later old new → IsD
 declared_later old new one later known = record {
   tree = (let more : length (trees old) ≤ length (trees new) = later.trees.grows in let below : one.tree.0 < length (trees old) = known.tree in omega arith);
   body = body_later old new one.body later known.body;
+}
+
+-- ---- a class that has begun
+
+pub begun_later : (old new : Held) (begun : Begun) → Later old new → IsBegun old begun → IsBegun new begun
+begun_later old new begun later is = record {
+  known = (let more : length old.types ≤ length new.types = later.types.grows in let below : begun.of.0 < length old.types = is.known in omega arith);
+  is = later.types.same begun.of.0 is.known ∙ is.is;
 }

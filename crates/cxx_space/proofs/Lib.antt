@@ -1,3 +1,4 @@
 mod Kept
+mod Listing
 mod Opened
 mod Told

@@ -1,3 +1,4 @@
 -- The declarations of namespaces, in the code.
 pub mod Parts
 pub mod Views
+pub mod Classes

@@ -16,7 +16,6 @@ use crate::space::{Defines, Space};
 use cxx_cursor::{Cursor, Specifiers, Turn, is_keyword, is_punct};
 use cxx_language::using_at;
 use cxx_model::{LimitKind, Listed, Stop, TreeId, TreeIdList, keyword, punct};
-use cxx_reading::SpecifierPlace;
 use cxx_tree::State;
 use cxx_units::ends::{another_ahead, no_declaration};
 use cxx_units::linkage::linkages_passed;
@@ -95,9 +94,7 @@ impl<D: Defines> Space<'_, D> {
         ensures { IsRead tree IsTreeKnown state.old state.new cursor.new result (units.simple_declaration_at self.now.room counts_as_extern (meaning state.old) cursor.old) }
     {
         let from = cursor.mark();
-        let specifiers = self
-            .declares
-            .specifiers(state, cursor, SpecifierPlace::Declaration, self.room)?;
+        let specifiers = self.declaration_specifiers(state, cursor)?;
         let between = cursor.mark();
         let declarators = self.declarators_of(state, cursor, counts_as_extern, &specifiers)?;
         declaration_tree(state, specifiers, declarators, &from, &between, cursor)

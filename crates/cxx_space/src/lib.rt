@@ -1,11 +1,13 @@
-//! The declarations of namespaces, and with them those of a unit (3.5, clause 7): the reader of such declarations stands over
-//! anyone who reads what they are made of as the definitions say.
+//! The declarations of namespaces, and with them those of a unit (3.5, clause 7), and the definitions of classes (clause 9):
+//! the reader of such declarations stands over anyone who reads what they are made of as the definitions say.
 #![tactic(auto)]
 
 mod bodies;
+mod classes;
 mod declarations;
 mod declarators;
 mod functions;
+mod members;
 mod namespaces;
 mod space;
 mod unit;

@@ -1,19 +1,21 @@
-//! Who reads the bodies of functions and opens namespaces.
+//! Who reads the bodies of functions, opens namespaces and defines classes.
 
 ghost use Rattle.std.specs.Prelude.{◌<◌, length};
+ghost use Rattle.cxx_declare.specs.ClassDefinitions as classes;
 ghost use Rattle.cxx_language.specs.Bodies.{function_body};
 ghost use Rattle.cxx_reading.specs.Spaces as spaces;
 ghost use Rattle.cxx_cursor.specs.Asking.{AnyKnown, IsAsked, IsTreeKnown, itself};
 ghost use Rattle.cxx_cursor.specs.Reading.{IsRead};
 ghost use Rattle.cxx_cursor.specs.Views.{lexeme_at, name_at};
+ghost use Rattle.cxx_tree.specs.Answered.{IsClassKnown, class_number, fact_number};
 ghost use Rattle.cxx_tree.specs.Held.{meaning, tree, type_of};
 
 use cxx_cursor::{Cursor, NameToken, Spelled};
 use cxx_language::Declares;
-use cxx_model::{FactId, Place, ScopeId, Stop, TreeId, TypeId};
+use cxx_model::{Access, ClassId, FactId, Place, ScopeId, Stop, TreeId, TypeId};
 use cxx_tree::State;
 
-/// Who reads the bodies of functions and opens namespaces too.
+/// Who reads the bodies of functions, opens namespaces and defines classes too.
 pub trait Defines: Declares {
     /// The body of the function with a declaration, whose list of parameters has a scope, from its `{` on (8.4).
     fn body(
@@ -40,6 +42,30 @@ pub trait Defines: Declares {
     /// A namespace ends.
     fn close_space(&self, state: &mut State) -> Result<(), Stop>
         ensures { IsAsked itself AnyKnown state.old state.new result (spaces.close_space (meaning state.old)) };
+
+    /// The definition of a class begins, at its name (3.3.1, clause 9): its number.
+    fn begin_class(
+        &self,
+        state: &mut State,
+        is_union: bool,
+        name: Spelled<'_>,
+    ) -> Result<ClassId, Stop>
+        ensures { IsAsked class_number IsClassKnown state.old state.new result (classes.begin_class is_union (lexeme_at name.entry) (meaning state.old)) };
+
+    /// A nonstatic data member, with the access of the label before it (9.2, 11.1).
+    fn declare_member(
+        &self,
+        state: &mut State,
+        access: Access,
+        name: &NameToken,
+        of: TypeId,
+    ) -> Result<FactId, Stop>
+        requires { of.0 < length (state.old).types }
+        ensures { IsAsked fact_number AnyKnown state.old state.new result (classes.declare_member access (name_at name.now) (type_of state.old of) (meaning state.old)) };
+
+    /// The definition of a class ends, at the place of its name (9.2, 12.1).
+    fn end_class(&self, state: &mut State, class: ClassId, place: Place) -> Result<(), Stop>
+        ensures { IsAsked itself AnyKnown state.old state.new result (classes.end_class class.0 place (meaning state.old)) };
 }
 
 /// A reader of declarations with room for so many more brackets and braces.

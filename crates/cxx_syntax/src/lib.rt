@@ -20,3 +20,4 @@ pub use nested::Nested;
 pub use parameters::specified;
 pub use reader::Reader;
 pub use shapes::brackets_passed;
+pub use steps::{class_key, has_type};

@@ -1,6 +1,6 @@
 ghost use Rattle.std.specs.Prelude.{◌≡◌, ◌++◌, [], ◌∷◌, None, Some, false, true, IfOk, IfErr};
 ghost use Rattle.cxx_model.specs.declared.stop.Stop.TheVariants as stop;
-ghost use Rattle.cxx_reading.specs.Declarators.{has_type as has_type_in, no_cv, no_specifiers, no_words};
+ghost use Rattle.cxx_reading.specs.Declarators.{has_type as has_type_in, no_cv, no_words};
 ghost use Rattle.cxx_reading.specs.Reads.{count_ahead, give, repeat};
 ghost use Rattle.cxx_reading.specs.Specifiers as definition;
 ghost use Rattle.cxx_reading.specs.Tokens.{kind_of_name};
@@ -17,10 +17,11 @@ use crate::reader::Reader;
 use crate::trees::{elaborated_tree, enumeration_tree};
 use cxx_cursor::{
     Cursor, NameToken, Specifiers, Turn, TypeWord, base_of_words, is_keyword, is_name, is_punct,
-    place_of, storage_word, type_word, with_word,
+    no_specifiers_yet, place_of, storage_word, type_word, with_word,
 };
 use cxx_model::{
-    Cv, EnumId, Kind, Listed, Path, Stop, TokenKind, TreeId, TreeIdList, TypeId, keyword, punct,
+    Cv, EnumId, FaultText, Kind, LeftOut, Listed, Path, Stop, TokenKind, TreeId, TreeIdList,
+    TypeId, keyword, punct,
 };
 use cxx_reading::{SpecifierPlace, StorageWord, TypeWords};
 use cxx_tree::{State, is_plain_path};
@@ -38,12 +39,27 @@ fn may_store(place: SpecifierPlace, word: StorageWord) -> bool
             _ => false,
         },
         SpecifierPlace::Block => true,
+        SpecifierPlace::Member => false,
         SpecifierPlace::Parameter => match word {
             StorageWord::Auto => true,
             StorageWord::Register => true,
             _ => false,
         },
         SpecifierPlace::TypeId => false,
+    }
+}
+
+// Members that are static, and names of types in a class, are not read yet (9.2, 9.4, 7.1.3).
+fn stores_later(place: SpecifierPlace, word: StorageWord) -> bool
+    ensures { result ≡ definition.stores_later place word }
+{
+    match place {
+        SpecifierPlace::Member => match word {
+            StorageWord::Static => true,
+            StorageWord::Typedef => true,
+            _ => false,
+        },
+        _ => false,
     }
 }
 
@@ -58,6 +74,9 @@ fn storage_step(
     requires { AreSpecifiers state.now so_far }
     ensures { IsRead specifiers_turn IsSpecifiersTurn state.now state.now cursor.new result (definition.storage_step place word (specifiers_of state.now so_far) (meaning state.now) cursor.old) }
 {
+    if stores_later(place, word) {
+        return Err(Stop::Fault(cursor.not_built()?));
+    }
     if !may_store(place, word) || so_far.storage.is_some() {
         return Err(Stop::Fault(cursor.refused()?));
     }
@@ -73,11 +92,21 @@ fn is_declaration(place: SpecifierPlace) -> bool
     match place {
         SpecifierPlace::Declaration => true,
         SpecifierPlace::Block => true,
+        SpecifierPlace::Member => true,
         _ => false,
     }
 }
 
-// `inline`, once, in a declaration (7.1.2).
+fn is_member_place(place: SpecifierPlace) -> bool
+    ensures { result ≡ definition.is_member_place place }
+{
+    match place {
+        SpecifierPlace::Member => true,
+        _ => false,
+    }
+}
+
+// `inline`, once, in a declaration (7.1.2); functions in a class are not read yet.
 #[tactic(auto, unfolding(cxx_reading::specs::Specifiers::inline_step))]
 fn inline_step(
     state: &State,
@@ -88,6 +117,9 @@ fn inline_step(
     requires { AreSpecifiers state.now so_far }
     ensures { IsRead specifiers_turn IsSpecifiersTurn state.now state.now cursor.new result (definition.inline_step place (specifiers_of state.now so_far) (meaning state.now) cursor.old) }
 {
+    if is_member_place(place) {
+        return Err(Stop::Fault(cursor.not_built()?));
+    }
     if !is_declaration(place) || so_far.is_inline {
         return Err(Stop::Fault(cursor.refused()?));
     }
@@ -167,7 +199,7 @@ fn word_step(
 }
 
 /// Whether a type stands among the specifiers.
-pub(crate) fn has_type(state: &State, so_far: &Specifiers) -> bool
+pub fn has_type(state: &State, so_far: &Specifiers) -> bool
     ensures { result ≡ has_type_in (specifiers_of state.now so_far.now) }
 {
     let _ = state;
@@ -177,7 +209,8 @@ pub(crate) fn has_type(state: &State, so_far: &Specifiers) -> bool
     }
 }
 
-fn class_key(is_union: bool) -> &'static [u8]
+/// The word of a class (9).
+pub fn class_key(is_union: bool) -> &'static [u8]
     ensures { result.now ≡ definition.class_key is_union }
 {
     if is_union { b"union" } else { b"struct" }
@@ -206,7 +239,7 @@ fn is_all(
         && (is_first(state, so_far) && (is_plain_path(path) && is_punct(punct::SEMICOLON, kind)))
 }
 
-// Bases or members, which are not read yet (9, 10).
+// Bases or members (9, 10).
 fn begins_members(kind: TokenKind) -> bool
     ensures { result ≡ definition.begins_members kind }
 {
@@ -226,6 +259,69 @@ pub(crate) fn begins_class(number: u8) -> bool
 {
     number == keyword::CLASS
         || (number == keyword::STRUCT || (number == keyword::UNION || number == keyword::TYPENAME))
+}
+
+// The head of a class that is defined (9). Among the specifiers of a declaration of a namespace reading stops at its key,
+// where its name has no qualifiers and its list follows; other heads are not read there yet. In a block the form is left out
+// (9.8), and elsewhere no class is defined (8.3.5, 5.3.3).
+#[tactic(auto, using(cxx_cursor::proofs::Kept::later_refl))]
+fn head_reached<'a>(
+    state: &State,
+    cursor: &mut Cursor<'a>,
+    place: SpecifierPlace,
+    is_plain: bool,
+    from: &Cursor<'a>,
+    so_far: Specifiers,
+) -> Result<Turn<Specifiers, Specifiers>, Stop>
+    requires { AreSpecifiers state.now so_far }
+    ensures { IsRead specifiers_turn IsSpecifiersTurn state.now state.now cursor.new result (definition.head_reached place is_plain from.now (specifiers_of state.now so_far) (meaning state.now) cursor.old) }
+{
+    match place {
+        SpecifierPlace::Declaration => {
+            if !is_plain {
+                return Err(Stop::Fault(from.not_built()?));
+            }
+            *cursor = from.mark();
+            Ok(Turn::Done(so_far))
+        }
+        SpecifierPlace::Member => Err(Stop::Fault(from.not_built()?)),
+        SpecifierPlace::Block => {
+            let text = FaultText::LeftOut(LeftOut::LocalClass);
+            Err(Stop::Fault(from.faulty(text)?))
+        }
+        SpecifierPlace::Parameter => Err(Stop::Fault(cursor.refused()?)),
+        SpecifierPlace::TypeId => Err(Stop::Fault(cursor.refused()?)),
+    }
+}
+
+// A word that stands among the specifiers of members alone; those are not read yet (7.1.2, 7.1.1, 11.4).
+#[tactic(auto, using(cxx_cursor::proofs::Kept::later_refl))]
+fn member_word(
+    state: &State,
+    cursor: &Cursor<'_>,
+    place: SpecifierPlace,
+) -> Result<Turn<Specifiers, Specifiers>, Stop>
+    ensures { IsRead specifiers_turn IsSpecifiersTurn state.now state.now cursor.now result (definition.member_word place (meaning state.now) cursor.now) }
+{
+    let _ = state;
+    match place {
+        SpecifierPlace::Member => Err(Stop::Fault(cursor.not_built()?)),
+        _ => Err(Stop::Fault(cursor.refused()?)),
+    }
+}
+
+// Where no type stands among the specifiers of a declaration of a namespace, a key of a class is that of a class that is
+// defined there (9).
+fn is_head(place: SpecifierPlace, kind: TokenKind) -> bool
+    ensures { result ≡ definition.is_head place kind }
+{
+    match place {
+        SpecifierPlace::Declaration => match kind {
+            TokenKind::Keyword(number) => begins_class(number),
+            _ => false,
+        },
+        _ => false,
+    }
 }
 
 // The specifiers with a type that a name or an enumeration gives.
@@ -259,28 +355,6 @@ fn with_declared(so_far: Specifiers, of: TypeId, tree: TreeId) -> Result<Specifi
     so_far.stands_alone = true;
     so_far.parts.push(tree)?;
     Ok(so_far)
-}
-
-// No specifier was read yet.
-fn no_specifiers_yet(alloc: Global) -> Specifiers
-    ensures { result ≡ record { storage = None; is_inline = false; cv = no_cv; words = no_words; named = None; stands_alone = false; parts = [] } }
-{
-    Specifiers {
-        storage: None,
-        is_inline: false,
-        cv: Cv {
-            is_const: false,
-            is_volatile: false,
-        },
-        words: TypeWords {
-            core: None,
-            sign: None,
-            size: None,
-        },
-        named: None,
-        stands_alone: false,
-        parts: Listed::new(alloc),
-    }
 }
 
 // One name and its list (7.2).
@@ -401,7 +475,7 @@ impl<K: Kinds, N: Nested> Reader<'_, K, N> {
         Ok(Turn::More(with_declared(so_far, both.1, tree)?))
     }
 
-    // No enumeration is defined among parameters and in a type that is named (8.3.5, 5.3.3).
+    // No enumeration is defined among parameters and in a type that is named (8.3.5, 5.3.3); one of a class is not read yet.
     #[tactic(auto, using(cxx_cursor::proofs::Kept::trees_kept, cxx_cursor::proofs::Kept::trees_later, cxx_cursor::proofs::Kept::trees_append, cxx_cursor::proofs::Kept::trees_below_append, cxx_cursor::proofs::Kept::named_kept, cxx_cursor::proofs::Kept::named_later, cxx_cursor::proofs::Kept::type_kept, cxx_cursor::proofs::Kept::type_later, cxx_cursor::proofs::Kept::later_trans, cxx_cursor::proofs::Kept::later_refl), unfolding(cxx_reading::specs::Specifiers::list_step))]
     fn list_step(
         &self,
@@ -417,6 +491,9 @@ impl<K: Kinds, N: Nested> Reader<'_, K, N> {
         requires open { N.is_open self.now.nested.now }
         ensures { IsRead specifiers_turn IsSpecifiersTurn state.old state.new cursor.new result (definition.list_step (K.asks self.now.kinds.now self.now.room) (N.inner self.now.nested.now) place from.now (name_of_option name.now) (specifiers_of state.old so_far) (meaning state.old) cursor.old) }
     {
+        if is_member_place(place) {
+            return Err(Stop::Fault(from.not_built()?));
+        }
         if !is_declaration(place) {
             return Err(Stop::Fault(cursor.refused()?));
         }
@@ -517,22 +594,23 @@ impl<K: Kinds, N: Nested> Reader<'_, K, N> {
 
     // Behind the name of a class.
     #[tactic(auto, using(cxx_cursor::proofs::Kept::trees_kept, cxx_cursor::proofs::Kept::trees_later, cxx_cursor::proofs::Kept::trees_append, cxx_cursor::proofs::Kept::trees_below_append, cxx_cursor::proofs::Kept::named_kept, cxx_cursor::proofs::Kept::named_later, cxx_cursor::proofs::Kept::type_kept, cxx_cursor::proofs::Kept::type_later, cxx_cursor::proofs::Kept::later_trans, cxx_cursor::proofs::Kept::later_refl), unfolding(cxx_reading::specs::Specifiers::class_behind))]
-    fn class_behind(
+    fn class_behind<'a>(
         &self,
         state: &mut State,
-        cursor: &Cursor<'_>,
+        cursor: &mut Cursor<'a>,
         is_union: bool,
         place: SpecifierPlace,
-        from: &Cursor<'_>,
+        from: &Cursor<'a>,
         path: Path,
         so_far: Specifiers,
     ) -> Result<Turn<Specifiers, Specifiers>, Stop>
         requires known { AreSpecifiers state.old so_far }
         requires ready { K.is_ready self.now.kinds.now }
-        ensures { IsRead specifiers_turn IsSpecifiersTurn state.old state.new cursor.now result (definition.class_behind (K.asks self.now.kinds.now self.now.room) is_union place from.now (path_at path) (specifiers_of state.old so_far) (meaning state.old) cursor.now) }
+        ensures { IsRead specifiers_turn IsSpecifiersTurn state.old state.new cursor.new result (definition.class_behind (K.asks self.now.kinds.now self.now.room) is_union place from.now (path_at path) (specifiers_of state.old so_far) (meaning state.old) cursor.old) }
     {
         if begins_members(cursor.kind()) {
-            return Err(Stop::Fault(from.not_built()?));
+            let is_plain = is_plain_path(&path) && is_punct(punct::LEFT_BRACE, cursor.kind());
+            return head_reached(state, cursor, place, is_plain, from, so_far);
         }
         let is_all = is_all(state, place, &so_far, &path, cursor.kind());
         self.class_named_step(state, cursor, is_union, is_all, from, path, so_far)
@@ -540,13 +618,13 @@ impl<K: Kinds, N: Nested> Reader<'_, K, N> {
 
     // The name of a class.
     #[tactic(auto, using(cxx_cursor::proofs::Kept::trees_kept, cxx_cursor::proofs::Kept::trees_later, cxx_cursor::proofs::Kept::trees_append, cxx_cursor::proofs::Kept::trees_below_append, cxx_cursor::proofs::Kept::named_kept, cxx_cursor::proofs::Kept::named_later, cxx_cursor::proofs::Kept::type_kept, cxx_cursor::proofs::Kept::type_later, cxx_cursor::proofs::Kept::later_trans, cxx_cursor::proofs::Kept::later_refl), unfolding(cxx_reading::specs::Specifiers::class_name_step))]
-    fn class_name_step(
+    fn class_name_step<'a>(
         &self,
         state: &mut State,
-        cursor: &mut Cursor<'_>,
+        cursor: &mut Cursor<'a>,
         is_union: bool,
         place: SpecifierPlace,
-        from: &Cursor<'_>,
+        from: &Cursor<'a>,
         so_far: Specifiers,
     ) -> Result<Turn<Specifiers, Specifiers>, Stop>
         requires known { AreSpecifiers state.old so_far }
@@ -559,13 +637,13 @@ impl<K: Kinds, N: Nested> Reader<'_, K, N> {
 
     // Behind `class`, `struct` or `union`.
     #[tactic(auto, using(cxx_cursor::proofs::Kept::trees_kept, cxx_cursor::proofs::Kept::trees_later, cxx_cursor::proofs::Kept::trees_append, cxx_cursor::proofs::Kept::trees_below_append, cxx_cursor::proofs::Kept::named_kept, cxx_cursor::proofs::Kept::named_later, cxx_cursor::proofs::Kept::type_kept, cxx_cursor::proofs::Kept::type_later, cxx_cursor::proofs::Kept::later_trans, cxx_cursor::proofs::Kept::later_refl), unfolding(cxx_reading::specs::Specifiers::class_key_step))]
-    fn class_key_step(
+    fn class_key_step<'a>(
         &self,
         state: &mut State,
-        cursor: &mut Cursor<'_>,
+        cursor: &mut Cursor<'a>,
         is_union: bool,
         place: SpecifierPlace,
-        from: &Cursor<'_>,
+        from: &Cursor<'a>,
         so_far: Specifiers,
     ) -> Result<Turn<Specifiers, Specifiers>, Stop>
         requires known { AreSpecifiers state.old so_far }
@@ -576,7 +654,7 @@ impl<K: Kinds, N: Nested> Reader<'_, K, N> {
             return self.class_name_step(state, cursor, is_union, place, from, so_far);
         }
         if begins_members(cursor.kind()) {
-            return Err(Stop::Fault(from.not_built()?));
+            return head_reached(state, cursor, place, false, from, so_far);
         }
         Err(Stop::Fault(cursor.refused()?))
     }
@@ -644,7 +722,7 @@ impl<K: Kinds, N: Nested> Reader<'_, K, N> {
             return self.class_step(state, cursor, place, number, so_far);
         }
         if is_of_members(number) {
-            return Err(Stop::Fault(cursor.refused()?));
+            return member_word(state, cursor, place);
         }
         Ok(Turn::Done(so_far))
     }
@@ -701,19 +779,21 @@ impl<K: Kinds, N: Nested> Reader<'_, K, N> {
         }
     }
 
-    // All specifiers (7.1).
-    #[tactic(auto, using(cxx_cursor::proofs::Loops::turn, cxx_cursor::proofs::Loops::no_turn, cxx_cursor::proofs::Kept::later_trans, cxx_cursor::proofs::Kept::later_refl), unfolding(cxx_reading::specs::Specifiers::specifiers_at, cxx_reading::specs::Specifiers::typed))]
+    // All specifiers (7.1), behind those that were read.
+    #[tactic(auto, using(cxx_cursor::proofs::Loops::turn, cxx_cursor::proofs::Loops::no_turn, cxx_cursor::proofs::Kept::later_trans, cxx_cursor::proofs::Kept::later_refl))]
     fn specifiers_run(
         &self,
         state: &mut State,
         cursor: &mut Cursor<'_>,
         place: SpecifierPlace,
+        so_far: Specifiers,
     ) -> Result<Specifiers, Stop>
+        requires known { AreSpecifiers state.old so_far }
         requires ready { K.is_ready self.now.kinds.now }
         requires open { N.is_open self.now.nested.now }
-        ensures { IsRead specifiers_of AreSpecifiers state.old state.new cursor.new result (repeat (definition.specifier_step (K.asks self.now.kinds.now self.now.room) (N.inner self.now.nested.now) place) give (count_ahead cursor.old) no_specifiers (meaning state.old) cursor.old) }
+        ensures { IsRead specifiers_of AreSpecifiers state.old state.new cursor.new result (repeat (definition.specifier_step (K.asks self.now.kinds.now self.now.room) (N.inner self.now.nested.now) place) give (count_ahead cursor.old) (specifiers_of state.old so_far) (meaning state.old) cursor.old) }
     {
-        let mut so_far = no_specifiers_yet(cursor.alloc());
+        let mut so_far = so_far;
         for _turn in 0..cursor.count() {
             match self.specifier_step(state, cursor, place, so_far)? {
                 Turn::More(next) => so_far = next,
@@ -723,8 +803,32 @@ impl<K: Kinds, N: Nested> Reader<'_, K, N> {
         Ok(so_far)
     }
 
-    /// All specifiers, with a type among them (7.1, 7.1.5).
-    #[tactic(auto, using(cxx_cursor::proofs::Kept::later_trans, cxx_cursor::proofs::Kept::later_refl), unfolding(cxx_reading::specs::Specifiers::specifiers_at, cxx_reading::specs::Specifiers::typed))]
+    /// All specifiers, with a type among them, or with the head of a class behind them that is one (7.1, 7.1.5). Some may have
+    /// been read.
+    #[tactic(auto, using(cxx_cursor::proofs::Kept::later_trans, cxx_cursor::proofs::Kept::later_refl), unfolding(cxx_reading::specs::Specifiers::specifiers_from, cxx_reading::specs::Specifiers::typed))]
+    pub fn specifiers_from(
+        &self,
+        state: &mut State,
+        cursor: &mut Cursor<'_>,
+        place: SpecifierPlace,
+        so_far: Specifiers,
+    ) -> Result<Specifiers, Stop>
+        requires known { AreSpecifiers state.old so_far }
+        requires ready { K.is_ready self.now.kinds.now }
+        requires open { N.is_open self.now.nested.now }
+        ensures { IsRead specifiers_of AreSpecifiers state.old state.new cursor.new result (definition.specifiers_from (K.asks self.now.kinds.now self.now.room) (N.inner self.now.nested.now) place (specifiers_of state.old so_far) (meaning state.old) cursor.old) }
+    {
+        let specifiers = self.specifiers_run(state, cursor, place, so_far)?;
+        if has_type(state, &specifiers) || is_head(place, cursor.kind()) {
+            return Ok(specifiers);
+        }
+        if is_declaration(place) && is_keyword(keyword::OPERATOR, cursor.kind()) {
+            return Err(Stop::Fault(cursor.not_built()?));
+        }
+        Err(Stop::Fault(cursor.refused()?))
+    }
+
+    /// The same, where none was read.
     pub fn specifiers_at(
         &self,
         state: &mut State,
@@ -735,13 +839,7 @@ impl<K: Kinds, N: Nested> Reader<'_, K, N> {
         requires open { N.is_open self.now.nested.now }
         ensures { IsRead specifiers_of AreSpecifiers state.old state.new cursor.new result (definition.specifiers_at (K.asks self.now.kinds.now self.now.room) (N.inner self.now.nested.now) place (meaning state.old) cursor.old) }
     {
-        let specifiers = self.specifiers_run(state, cursor, place)?;
-        if has_type(state, &specifiers) {
-            return Ok(specifiers);
-        }
-        if is_declaration(place) && is_keyword(keyword::OPERATOR, cursor.kind()) {
-            return Err(Stop::Fault(cursor.not_built()?));
-        }
-        Err(Stop::Fault(cursor.refused()?))
+        let alloc = cursor.alloc();
+        self.specifiers_from(state, cursor, place, no_specifiers_yet(alloc))
     }
 }

@@ -21,8 +21,8 @@ use Rattle.cxx_model.specs.Facts.Graph.{Graph, IsOneClassMore, IsTypeInRange, wi
 use Rattle.cxx_names.specs.declared.names.Names.{Names}
 use Rattle.cxx_reading.specs.Classes.{class_count, reserved, with_class as with_one_class}
 use Rattle.cxx_reading.specs.State.{CxxState}
-use Rattle.cxx_sizes.specs.declared.layouts.Layouts.{Layouts}
 use Rattle.cxx_tree.specs.Answered.{IsAnswered, IsClassKnown, class_number}
+use Rattle.cxx_tree.specs.declared.noting.Noting.{Noting}
 use Rattle.cxx_tree.specs.Held.{Held, IsSound, meaning}
 use Rattle.cxx_tree.specs.Whole.{IsWhole, stopped_as}
 use Rattle.cxx_tree.proofs.Graphs.{length_classes, length_facts}
@@ -131,20 +131,20 @@ class_answered seen held new r result same stopped number grows stays limit =
     (subst (λ s. IsAnswered class_number IsClassKnown held (record held { graph = new }) s (reserved (meaning held))) (sym stopped)
     (class_by held new r number grows stays limit))
 
-whole_with : (names : Names) (definitions : Definitions) (linkages : Linkages) (openings : List Place) (layouts : Option Layouts) (held : Held) → IsWhole names definitions linkages openings layouts held → IsWhole names definitions linkages openings layouts (record held { graph = with_class held.graph None })
-whole_with names definitions linkages openings layouts held whole = record {
+whole_with : (names : Names) (definitions : Definitions) (linkages : Linkages) (openings : List Place) (noting : Noting) (held : Held) → IsWhole names definitions linkages openings noting held → IsWhole names definitions linkages openings noting (record held { graph = with_class held.graph None })
+whole_with names definitions linkages openings noting held whole = record {
   sound = sound_class held whole.sound;
   noted = whole.noted;
   plain = whole.plain;
   defines = whole.defines;
   links = whole.links;
   opened = whole.opened;
-  measured = whole.measured;
+  remembered = whole.remembered;
 }
 
-pub whole_class : (names : Names) (definitions : Definitions) (linkages : Linkages) (openings : List Place) (layouts : Option Layouts) (held : Held) (new : Graph) (r : Result ClassId AddFault) → IsWhole names definitions linkages openings layouts held → OnOk r (new ≡ with_class held.graph None) → OnErr r (new ≡ held.graph) → IsWhole names definitions linkages openings layouts (record held { graph = new })
-whole_class names definitions linkages openings layouts held new (Ok class) whole grows stays = subst (λ (g : Graph). IsWhole names definitions linkages openings layouts (record held { graph = g })) (sym grows) (whole_with names definitions linkages openings layouts held whole)
-whole_class names definitions linkages openings layouts held new (Err why) whole grows stays = subst (λ (g : Graph). IsWhole names definitions linkages openings layouts (record held { graph = g })) (sym stays) whole
+pub whole_class : (names : Names) (definitions : Definitions) (linkages : Linkages) (openings : List Place) (noting : Noting) (held : Held) (new : Graph) (r : Result ClassId AddFault) → IsWhole names definitions linkages openings noting held → OnOk r (new ≡ with_class held.graph None) → OnErr r (new ≡ held.graph) → IsWhole names definitions linkages openings noting (record held { graph = new })
+whole_class names definitions linkages openings noting held new (Ok class) whole grows stays = subst (λ (g : Graph). IsWhole names definitions linkages openings noting (record held { graph = g })) (sym grows) (whole_with names definitions linkages openings noting held whole)
+whole_class names definitions linkages openings noting held new (Err why) whole grows stays = subst (λ (g : Graph). IsWhole names definitions linkages openings noting (record held { graph = g })) (sym stays) whole
 
 pub class_there : (seen held : Held) (class : ClassId) → held ≡ seen → class.0 < length seen.graph.classes → IsTypeInRange held.graph (class_type class.0)
 class_there seen held class same within = subst (λ (h : Held). class.0 < length h.graph.classes) (sym same) within

@@ -5,6 +5,7 @@ pub mod Classes
 pub mod Graphs
 pub mod Giving
 pub mod Homes
+pub mod Implied
 pub mod Keeping
 pub mod Linking
 pub mod Steps

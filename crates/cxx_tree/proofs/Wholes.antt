@@ -2,9 +2,9 @@
 use Rattle.std.specs.Prelude.{ℕ, ◌≡◌, ◌<◌, ◌+◌, ◌↔◌, Bool, true, false, if◌then◌else◌, List, [], ◌∷◌, ◌++◌, length, take, Option, Some, None, Result, Ok, Err, refl, nat_eq, IfOk, IfSome, OnOk, OnErr}
 use Rattle.std.specs.List.{slice_get}
 use Rattle.std.specs.Borrow.{Bor}
-use Rattle.std.specs.Option.{option_copied}
+use Rattle.std.specs.Option.{option_copied, option_to_list}
 use Rattle.std.proofs.Math.Seq.{take-append_seam}
-use Rattle.std.proofs.Common.{◌⊎◌, inl, inr, ap, sym, subst, ◌∙◌, arith, length-append, append-nil}
+use Rattle.std.proofs.Common.{ap, sym, subst, ◌∙◌, arith, length-append, append-nil}
 use Rattle.std.proofs.lemmas.Bool.{eq-eqb, eqb-true}
 use Rattle.cxx_defined.proofs.Owning.{defines_later}
 use Rattle.cxx_defined.specs.Defined.{Defines}
@@ -22,7 +22,7 @@ use Rattle.cxx_model.specs.declared.facts.Entity.TheVariants as entity
 use Rattle.cxx_model.specs.declared.facts.Fact.{Fact}
 use Rattle.cxx_model.specs.declared.facts.Pattern.{Pattern}
 use Rattle.cxx_model.specs.declared.facts.ScopeKind.{ScopeKind}
-use Rattle.cxx_model.specs.declared.facts.ScopeKind.TheVariants.{Block, Parameters, Space}
+use Rattle.cxx_model.specs.declared.facts.ScopeKind.TheVariants.{Block, Parameters}
 use Rattle.cxx_model.specs.declared.facts.Specialisation.{Specialisation}
 use Rattle.cxx_model.specs.declared.memory.OutOfMemory.{OutOfMemory}
 use Rattle.cxx_model.specs.declared.place.Place.{Place}
@@ -39,11 +39,11 @@ use Rattle.cxx_model.specs.Types.Trees.{CxxType, enumeration}
 use Rattle.cxx_model.specs.Facts.Declarations.{CxxFact, CxxGraph, classes_at, fact_at, facts_at, graph_at}
 use Rattle.cxx_model.specs.Facts.Fitted.{Fitted, IsFactBelow}
 use Rattle.cxx_model.specs.Facts.Graph.{Graph, InRange, IsEntityInRange, IsKindInRange, IsTypeInRange, MayFollow, appended, enumerations, scopes}
-use Rattle.cxx_names.proofs.Plain.{plain_more, plain_scope_more}
-use Rattle.cxx_names.specs.Clashes.{IsNoTemplate, IsPlain, IsPlainEntity, NoTemplates}
+use Rattle.cxx_names.proofs.Plain.{plain_more}
+use Rattle.cxx_names.specs.Clashes.{IsNoTemplate, NoTemplates}
 use Rattle.cxx_names.specs.declared.names.Names.{Names}
 use Rattle.cxx_names.specs.Index.{Notes}
-use Rattle.cxx_names.specs.Plain.{ArePlain, IsPlainKind, IsPlainScope}
+use Rattle.cxx_names.specs.Plain.{ArePlain, IsPlainFact}
 use Rattle.cxx_reading.specs.Declaring.{added, at_scope, enter_block, enter_parameters, entered_as, entered_block, in_enumeration, leave_block, leave_parameters, place_of_scope, scope_count, with_definition, with_fact, with_linked}
 use Rattle.cxx_reading.specs.Seen.{numbered_at, parent_of, type_in}
 use Rattle.cxx_reading.specs.Spaces.{close_space}
@@ -53,6 +53,8 @@ use Rattle.cxx_sizes.specs.Noted.{Notes as Measures}
 use Rattle.cxx_model.specs.declared.tree.Node.{Node}
 use Rattle.cxx_model.specs.Text.Lexemes.{first_place}
 use Rattle.cxx_tree.specs.Answered.{AnyKnown, IsAnswered, IsFactKnown, IsScopeKnown, fact_number, itself, scope_number}
+use Rattle.cxx_tree.specs.declared.noting.Noting.{Noting}
+use Rattle.cxx_tree.specs.Noting.{AreNoted}
 use Rattle.cxx_tree.specs.Held.{Held, IsSound, enumeration_of_option, meaning, numbers_at, trees}
 use Rattle.cxx_tree.specs.Later.{Later, MakesType}
 use Rattle.cxx_tree.specs.declared.kept.Binding.{Binding}
@@ -60,43 +62,39 @@ use Rattle.cxx_tree.specs.declared.kept.Decided.{Decided}
 use Rattle.cxx_tree.specs.declared.kept.Fallback.{Fallback}
 use Rattle.cxx_tree.specs.declared.kept.Offer.{Offer}
 use Rattle.cxx_tree.specs.declared.kept.Piece.{Piece}
-use Rattle.cxx_tree.specs.Whole.{IsFunctionBelow, IsWhole, added_space, entered_scope, left_scope, place_by, scope_at, scope_fact, scope_places, scope_within, stopped_as, unit_fact, unit_graph}
+use Rattle.cxx_tree.specs.Whole.{IsFunctionBelow, IsWhole, entered_scope, left_scope, place_by, scope_at, scope_fact, scope_places, scope_within, stopped_as, unit_fact, unit_graph}
 use Rattle.cxx_tree.proofs.Arenas.{KeepsTrees_refl}
 use Rattle.cxx_tree.proofs.Homes.{keeps_homes}
 use Rattle.cxx_tree.proofs.Graphs.{facts_more, length_classes, length_facts, opened_at, opened_nowhere, parent_there, places_more, scope_next, scopes_later}
 use Rattle.cxx_tree.proofs.Steps.{Later_refl, Later_trans, fitted_by, makes_type, sound_types}
 use Rattle.cxx_types.specs.Makes as table
 
--- The layouts that are kept, if any, are those by some facts.
-abbrev pub AreMeasured : Option Layouts → List CxxFact → Type 0
-AreMeasured layouts all = IfSome layouts (λ kept. Measures kept all)
-
 -- the graph and what is defined stay
-pub still : (names : Names) (definitions : Definitions) (linkages : Linkages) (openings : List Place) (layouts : Option Layouts) (held new : Held) → IsWhole names definitions linkages openings layouts held → new.graph ≡ held.graph → new.types ≡ held.types → new.defined ≡ held.defined → new.linked ≡ held.linked → IsSound new → IsWhole names definitions linkages openings layouts new
-still names definitions linkages openings layouts held new whole same types defined linked sound = record {
+pub still : (names : Names) (definitions : Definitions) (linkages : Linkages) (openings : List Place) (noting : Noting) (held new : Held) → IsWhole names definitions linkages openings noting held → new.graph ≡ held.graph → new.types ≡ held.types → new.defined ≡ held.defined → new.linked ≡ held.linked → IsSound new → IsWhole names definitions linkages openings noting new
+still names definitions linkages openings noting held new whole same types defined linked sound = record {
   sound = sound;
   noted = subst (λ (g : Graph). Notes names g.facts) (sym same) whole.noted;
   plain = subst (λ (g : Graph). ArePlain g.facts) (sym same) whole.plain;
   defines = subst (λ ds. Defines definitions new.graph.facts (numbers_at ds)) (sym defined) (subst (λ (g : Graph). Defines definitions g.facts (numbers_at held.defined)) (sym same) whole.defines);
   links = subst (λ ls. Links linkages new.graph.facts ls) (sym linked) (subst (λ (g : Graph). Links linkages g.facts held.linked) (sym same) whole.links);
   opened = subst (λ (g : Graph). openings ≡ scope_places g.facts) (sym same) whole.opened;
-  measured = subst (λ (g : Graph). AreMeasured layouts (graph_at new.types g).facts) (sym same) (subst (λ (ts : List CxxType). AreMeasured layouts (graph_at ts held.graph).facts) (sym types) whole.measured);
+  remembered = subst (λ (g : Graph). AreNoted noting (graph_at new.types g).facts) (sym same) (subst (λ (ts : List CxxType). AreNoted noting (graph_at ts held.graph).facts) (sym types) whole.remembered);
 }
 
 -- types are made
-pub whole_types : (names : Names) (definitions : Definitions) (linkages : Linkages) (openings : List Place) (layouts : Option Layouts) (held : Held) (new : List CxxType) → IsWhole names definitions linkages openings layouts held → Keeps held.types new → Fitted held.graph new → IsWhole names definitions linkages openings layouts (record held { types = new })
-whole_types names definitions linkages openings layouts held new whole keeps fitted = record {
+pub whole_types : (names : Names) (definitions : Definitions) (linkages : Linkages) (openings : List Place) (noting : Noting) (held : Held) (new : List CxxType) → IsWhole names definitions linkages openings noting held → Keeps held.types new → Fitted held.graph new → IsWhole names definitions linkages openings noting (record held { types = new })
+whole_types names definitions linkages openings noting held new whole keeps fitted = record {
   sound = sound_types held new whole.sound keeps fitted;
   noted = whole.noted;
   plain = whole.plain;
   defines = whole.defines;
   links = whole.links;
   opened = whole.opened;
-  measured = subst (λ (g : CxxGraph). AreMeasured layouts g.facts) (sym (graph-kept held.types new held.graph keeps whole.sound.fitted.numbers)) whole.measured;
+  remembered = subst (λ (g : CxxGraph). AreNoted noting g.facts) (sym (graph-kept held.types new held.graph keeps whole.sound.fitted.numbers)) whole.remembered;
 }
 
-pub whole_type : (names : Names) (definitions : Definitions) (linkages : Linkages) (openings : List Place) (layouts : Option Layouts) (held : Held) (new : List CxxType) (result : Result TypeId OutOfMemory) (t : CxxType) → IsWhole names definitions linkages openings layouts held → table.Makes held.types new result t → IsTypeInRange held.graph t → IsWhole names definitions linkages openings layouts (record held { types = new })
-whole_type names definitions linkages openings layouts held new result t whole makes range = whole_types names definitions linkages openings layouts held new whole makes.keeps (fitted_by held new result t whole.sound makes range)
+pub whole_type : (names : Names) (definitions : Definitions) (linkages : Linkages) (openings : List Place) (noting : Noting) (held : Held) (new : List CxxType) (result : Result TypeId OutOfMemory) (t : CxxType) → IsWhole names definitions linkages openings noting held → table.Makes held.types new result t → IsTypeInRange held.graph t → IsWhole names definitions linkages openings noting (record held { types = new })
+whole_type names definitions linkages openings noting held new result t whole makes range = whole_types names definitions linkages openings noting held new whole makes.keeps (fitted_by held new result t whole.sound makes range)
 
 -- ---- one more fact
 
@@ -188,62 +186,49 @@ fact_answered seen held new fact what r result same is stopped number appends st
     (subst (λ s. IsAnswered fact_number IsFactKnown held (record held { graph = new }) s (added (fact_at held.types fact) (meaning held))) (sym stopped)
     (add_by held fact new r number appends stays limit)))
 
+-- the state behind the call, as it is shown
+pub shown_answered : (seen held shown : Held) (result : Result FactId Stop) (reply : Answer (ℕ × CxxState)) → shown ≡ held → IsAnswered fact_number IsFactKnown seen held result reply → IsAnswered fact_number IsFactKnown seen shown result reply
+shown_answered seen held shown result reply is answered = subst (λ (h : Held). IsAnswered fact_number IsFactKnown seen h result reply) (sym is) answered
+
 -- ---- what is kept beside one more fact
 
-module _ (names : Names) (definitions : Definitions) (linkages : Linkages) (openings : List Place) (layouts : Option Layouts) (held : Held) (fact : Fact) (whole : IsWhole names definitions linkages openings layouts held) (below : IsFactBelow (length held.types) fact) (plain : ArePlain (held.graph.facts ++ fact ∷ [])) (range : InRange held.graph) where
+module _ (names : Names) (definitions : Definitions) (linkages : Linkages) (openings : List Place) (noting : Noting) (held : Held) (fact : Fact) (whole : IsWhole names definitions linkages openings noting held) (below : IsFactBelow (length held.types) fact) (plain : ArePlain (held.graph.facts ++ fact ∷ [])) (range : InRange held.graph) where
   abbrev grown : Held
   grown = record held { graph = appended held.graph fact }
 
-  pub whole_more : (names' : Names) (layouts' : Option Layouts) → Notes names' (held.graph.facts ++ fact ∷ []) → AreMeasured layouts' (graph_at held.types (appended held.graph fact)).facts → IsWhole names' definitions linkages (openings ++ place_by fact.place fact.what) layouts' grown
-  whole_more names' layouts' noted measured = record {
+  pub whole_more : (names' : Names) (noting' : Noting) → Notes names' (held.graph.facts ++ fact ∷ []) → AreNoted noting' (graph_at held.types (appended held.graph fact)).facts → IsWhole names' definitions linkages (openings ++ place_by fact.place fact.what) noting' grown
+  whole_more names' noting' noted remembered = record {
     sound = sound_fact held fact whole.sound below;
     noted = noted;
     plain = plain;
     defines = defines_later definitions held.graph.facts (fact ∷ []) (numbers_at held.defined) whole.defines;
     links = links_later linkages held.graph.facts (fact ∷ []) held.linked (keeps_homes held.graph fact range) whole.links;
     opened = ap (λ ps. ps ++ place_by fact.place fact.what) whole.opened ∙ sym (places_more held.graph.facts fact);
-    measured = measured;
+    remembered = remembered;
   }
 
-no_place : (place : Place) (what : Entity) → IsPlainEntity what → place_by place what ≡ []
-no_place place (entity.Object of member is_mutable value first) ok = refl
-no_place place (entity.Function of member flags defaults first) ok = refl
-no_place place (entity.Enumeration number) ok = refl
-no_place place (entity.Enumerator number value) ok = refl
-no_place place (entity.Synonym of) ok = refl
-no_place place (entity.Scope parent kind) ok = absurd ok
-no_place place (entity.Template number member defaults is_explicit first) ok = absurd ok
-no_place place (entity.Parameter depth index of) ok = absurd ok
-no_place place (entity.Injected number) ok = absurd ok
-no_place place (entity.Class number is_union) ok = refl
-no_place place (entity.Complete number) ok = absurd ok
-no_place place (entity.Passed number) ok = absurd ok
-no_place place (entity.Ancestor number parent index access) ok = absurd ok
-no_place place (entity.Namespace inner) ok = refl
-no_place place (entity.Directive nominated) ok = refl
-no_place place (entity.Using target) ok = refl
-no_place place (entity.Friend number target) ok = absurd ok
-
-whole_plain : (names names' : Names) (definitions : Definitions) (linkages : Linkages) (openings : List Place) (layouts layouts' : Option Layouts) (held : Held) (fact : Fact) → InRange held.graph → IsWhole names definitions linkages openings layouts held → IsFactBelow (length held.types) fact → IsPlain fact → Notes names' (held.graph.facts ++ fact ∷ [])
-    → AreMeasured layouts' (graph_at held.types (appended held.graph fact)).facts → IsWhole names' definitions linkages openings layouts' (record held { graph = appended held.graph fact })
-whole_plain names names' definitions linkages openings layouts layouts' held fact range whole below plain noted measured =
-    subst (λ ps. IsWhole names' definitions linkages ps layouts' (record held { graph = appended held.graph fact })) (ap (λ ps. openings ++ ps) (no_place fact.place fact.what plain.what) ∙ append-nil openings)
-    (whole_more names definitions linkages openings layouts held fact whole below (plain_more held.graph.facts fact whole.plain plain) range names' layouts' noted measured)
-
-whole_same : (names names' : Names) (definitions : Definitions) (linkages : Linkages) (openings : List Place) (layouts : Option Layouts) (held : Held) → IsWhole names definitions linkages openings layouts held → Notes names' held.graph.facts → IsWhole names' definitions linkages openings layouts held
-whole_same names names' definitions linkages openings layouts held whole noted = record { sound = whole.sound; noted = noted; plain = whole.plain; defines = whole.defines; links = whole.links; opened = whole.opened; measured = whole.measured }
+whole_same : (names names' : Names) (definitions : Definitions) (linkages : Linkages) (openings : List Place) (noting : Noting) (held : Held) → IsWhole names definitions linkages openings noting held → Notes names' held.graph.facts → IsWhole names' definitions linkages openings noting held
+whole_same names names' definitions linkages openings noting held whole noted = record { sound = whole.sound; noted = noted; plain = whole.plain; defines = whole.defines; links = whole.links; opened = whole.opened; remembered = whole.remembered }
 
 -- nothing was added
-pub whole_full : (names names' : Names) (definitions : Definitions) (linkages : Linkages) (openings : List Place) (layouts : Option Layouts) (held : Held) (new : Graph) → IsWhole names definitions linkages openings layouts held → new ≡ held.graph → Notes names' new.facts → IsWhole names' definitions linkages openings layouts (record held { graph = new })
-whole_full names names' definitions linkages openings layouts held new whole stays noted =
-    subst (λ (g : Graph). IsWhole names' definitions linkages openings layouts (record held { graph = g })) (sym stays)
-    (whole_same names names' definitions linkages openings layouts held whole (subst (λ (g : Graph). Notes names' g.facts) stays noted))
+pub whole_full : (names names' : Names) (definitions : Definitions) (linkages : Linkages) (openings : List Place) (noting : Noting) (held : Held) (new : Graph) → IsWhole names definitions linkages openings noting held → new ≡ held.graph → Notes names' new.facts → IsWhole names' definitions linkages openings noting (record held { graph = new })
+whole_full names names' definitions linkages openings noting held new whole stays noted =
+    subst (λ (g : Graph). IsWhole names' definitions linkages openings noting (record held { graph = g })) (sym stays)
+    (whole_same names names' definitions linkages openings noting held whole (subst (λ (g : Graph). Notes names' g.facts) stays noted))
 
-pub whole_fact : (names names' : Names) (definitions : Definitions) (linkages : Linkages) (openings : List Place) (layouts layouts' : Option Layouts) (seen held : Held) (new : Graph) (fact : Fact) → held ≡ seen → InRange held.graph → IsWhole names definitions linkages openings layouts held → IsFactBelow (length seen.types) fact → IsPlain fact
-    → new ≡ appended held.graph fact → Notes names' new.facts → AreMeasured layouts' (graph_at held.types new).facts → IsWhole names' definitions linkages openings layouts' (record held { graph = new })
-whole_fact names names' definitions linkages openings layouts layouts' seen held new fact same range whole below plain appends noted measured =
-    subst (λ (g : Graph). IsWhole names' definitions linkages openings layouts' (record held { graph = g })) (sym appends)
-    (whole_plain names names' definitions linkages openings layouts layouts' held fact range whole (below_here seen held fact same below) plain (subst (λ (g : Graph). Notes names' g.facts) appends noted) (subst (λ (g : Graph). AreMeasured layouts' (graph_at held.types g).facts) appends measured))
+pub whole_fact : (names names' : Names) (definitions : Definitions) (linkages : Linkages) (openings opened : List Place) (noting noting' : Noting) (seen held : Held) (new : Graph) (fact : Fact) → held ≡ seen → InRange held.graph → IsWhole names definitions linkages openings noting held → IsFactBelow (length seen.types) fact
+    → IsPlainFact fact.what → new ≡ appended held.graph fact → opened ≡ openings ++ place_by fact.place fact.what → Notes names' new.facts → AreNoted noting' (graph_at held.types new).facts → IsWhole names' definitions linkages opened noting' (record held { graph = new })
+whole_fact names names' definitions linkages openings opened noting noting' seen held new fact same range whole below plain appends opens noted remembered =
+    subst (λ ps. IsWhole names' definitions linkages ps noting' (record held { graph = new })) (sym opens)
+    (subst (λ (g : Graph). IsWhole names' definitions linkages (openings ++ place_by fact.place fact.what) noting' (record held { graph = g })) (sym appends)
+    (whole_more names definitions linkages openings noting held fact whole (below_here seen held fact same below) (plain_more held.graph.facts fact whole.plain plain) range names' noting' (subst (λ (g : Graph). Notes names' g.facts) appends noted) (subst (λ (g : Graph). AreNoted noting' (graph_at held.types g).facts) appends remembered)))
+
+-- what stands behind the places of scopes, where a declaration begins one, and where it does not
+pub opened_one : (openings reserved pushed : List Place) (opened : Option Place) (places : List Place) (place : Place) → reserved ≡ openings → pushed ≡ reserved ++ place ∷ [] → option_to_list opened ≡ places → opened ≡ Some place → pushed ≡ openings ++ places
+opened_one openings reserved pushed opened places place same pushes is at = pushes ∙ (ap (λ ps. ps ++ place ∷ []) same ∙ ap (λ ps. openings ++ ps) (sym (ap option_to_list at) ∙ is))
+
+pub opened_none : (openings reserved : List Place) (opened : Option Place) (places : List Place) → reserved ≡ openings → option_to_list opened ≡ places → opened ≡ None → reserved ≡ openings ++ places
+opened_none openings reserved opened places same is at = same ∙ (sym (append-nil openings) ∙ ap (λ ps. openings ++ ps) (sym (ap option_to_list at) ∙ is))
 
 -- ---- what is kept before the last fact is noted
 
@@ -257,17 +242,16 @@ facts_before types graph fact n is =
     ∙ ap (λ (fs : List CxxFact). take (length all) fs) (facts_more types graph.facts fact)
     ∙ take-append_seam all (fact_at types fact ∷ [])
 
-pub measured_before : (names : Names) (definitions : Definitions) (linkages : Linkages) (openings : List Place) (layouts taken : Option Layouts) (held : Held) (new : Graph) (fact : Fact) (n : ℕ) → IsWhole names definitions linkages openings layouts held → taken ≡ layouts → n ≡ length held.graph.facts → new ≡ appended held.graph fact → AreMeasured taken (take n (graph_at held.types new).facts)
-measured_before names definitions linkages openings layouts taken held new fact n whole is at appends =
-    subst (λ (kept : Option Layouts). AreMeasured kept (take n (graph_at held.types new).facts)) (sym is)
-    (subst (λ (g : Graph). AreMeasured layouts (take n (graph_at held.types g).facts)) (sym appends)
-    (subst (λ (all : List CxxFact). AreMeasured layouts all) (sym (facts_before held.types held.graph fact n at)) whole.measured))
+pub noted_before : (names : Names) (definitions : Definitions) (linkages : Linkages) (openings : List Place) (noting : Noting) (held : Held) (new : Graph) (fact : Fact) (n : ℕ) → IsWhole names definitions linkages openings noting held → n ≡ length held.graph.facts → new ≡ appended held.graph fact → AreNoted noting (take n (graph_at held.types new).facts)
+noted_before names definitions linkages openings noting held new fact n whole at appends =
+    subst (λ (g : Graph). AreNoted noting (take n (graph_at held.types g).facts)) (sym appends)
+    (subst (λ (all : List CxxFact). AreNoted noting all) (sym (facts_before held.types held.graph fact n at)) whole.remembered)
 
 -- the layouts as they are seen
-pub measured_here : (seen held : Held) (layouts : Option Layouts) (shown : Option (Bor Layouts)) → held ≡ seen → AreMeasured layouts (graph_at held.types held.graph).facts → option_copied shown ≡ layouts → IfSome shown (λ kept. Measures kept.now (meaning seen).graph.facts)
+pub measured_here : (seen held : Held) (noting : Noting) (shown : Option (Bor Layouts)) → held ≡ seen → AreNoted noting (graph_at held.types held.graph).facts → option_copied shown ≡ noting.layouts → IfSome shown (λ kept. Measures kept.now (meaning seen).graph.facts)
 unfolding meaning
-measured_here seen held layouts None same measured is = tt
-measured_here seen held layouts (Some kept) same measured is = subst (λ (h : Held). Measures kept.now (graph_at h.types h.graph).facts) same (subst (λ (o : Option Layouts). AreMeasured o (graph_at held.types held.graph).facts) (sym is) measured)
+measured_here seen held noting None same noted is = tt
+measured_here seen held noting (Some kept) same noted is = subst (λ (h : Held). Measures kept.now (graph_at h.types h.graph).facts) same (subst (λ (o : Option Layouts). IfSome o (λ kept. Measures kept (graph_at held.types held.graph).facts)) (sym is) noted.layouts)
 
 pub fact_in_range : (seen held : Held) (fact : Fact) → held ≡ seen → InRange held.graph → MayFollow seen.graph fact → InRange (appended held.graph fact)
 fact_in_range seen held fact same range follows = appended-in-range held.graph fact range (subst (λ (h : Held). MayFollow h.graph fact) (sym same) follows)
@@ -281,22 +265,20 @@ may_follow_by (one ∷ others) classes patterns fact within ok = (within, ok)
 pub may_follow : (graph : Graph) (fact : Fact) → fact.scope.0 < scopes graph.facts → IsEntityInRange graph fact fact.what → MayFollow graph fact
 may_follow graph fact within ok = may_follow_by graph.facts graph.classes graph.patterns fact within ok
 
-pub scope_in_range : (seen held : Held) (kind : ScopeKind) (place : Place) → held ≡ seen → IsSound held → InRange held.graph → IsKindInRange seen.graph kind → InRange (appended held.graph (scope_fact kind place held.scope))
-scope_in_range seen held kind place same sound range ok = appended-in-range held.graph (scope_fact kind place held.scope) range (may_follow held.graph (scope_fact kind place held.scope) sound.scope (refl, subst (λ (h : Held). IsKindInRange h.graph kind) (sym same) ok))
+pub scope_follows : (seen held : Held) (kind : ScopeKind) (place : Place) → held ≡ seen → IsSound held → IsKindInRange seen.graph kind → MayFollow seen.graph (scope_fact kind place held.scope)
+scope_follows seen held kind place same sound ok =
+    subst (λ (h : Held). MayFollow h.graph (scope_fact kind place held.scope)) same
+    (may_follow held.graph (scope_fact kind place held.scope) sound.scope (refl, subst (λ (h : Held). IsKindInRange h.graph kind) (sym same) ok))
 
-pub scope_is : (seen held : Held) (kind : ScopeKind) (place : Place) → held ≡ seen → fact_at held.types (scope_fact kind place held.scope) ≡ scope_at kind place (meaning seen)
+pub scope_answered : (seen held new : Held) (kind : ScopeKind) (place : Place) (result : Result FactId Stop) → held ≡ seen → IsAnswered fact_number IsFactKnown seen new result (added (fact_at seen.types (scope_fact kind place held.scope)) (meaning seen)) → IsAnswered fact_number IsFactKnown seen new result (added (scope_at kind place (meaning seen)) (meaning seen))
 unfolding meaning
-scope_is seen held kind place same = subst (λ (h : Held). fact_at held.types (scope_fact kind place held.scope) ≡ scope_at kind place (meaning h)) same refl
+scope_answered seen held new kind place result same answered = subst (λ (h : Held). IsAnswered fact_number IsFactKnown seen new result (added (fact_at seen.types (scope_fact kind place h.scope)) (meaning seen))) same answered
+
+pub scope_held : (seen held new : Held) (kind : ScopeKind) (place : Place) → held ≡ seen → new ≡ record seen { graph = appended seen.graph (scope_fact kind place held.scope) } → new ≡ record seen { graph = appended seen.graph (scope_fact kind place seen.scope) }
+scope_held seen held new kind place same is = is ∙ ap (λ (h : Held). record seen { graph = appended seen.graph (scope_fact kind place h.scope) }) same
 
 pub scope_below : (count : ℕ) (kind : ScopeKind) (place : Place) (scope : ScopeId) → IsFactBelow count (scope_fact kind place scope)
 scope_below count kind place scope = record { name = tt; what = tt }
-
-pub whole_scope : (names names' : Names) (definitions : Definitions) (linkages : Linkages) (openings : List Place) (layouts layouts' : Option Layouts) (held : Held) (new : Graph) (opened : List Place) (kind : ScopeKind) (place : Place) → IsPlainKind kind → InRange held.graph → IsWhole names definitions linkages openings layouts held
-    → new ≡ appended held.graph (scope_fact kind place held.scope) → opened ≡ openings ++ place ∷ [] → Notes names' new.facts → AreMeasured layouts' (graph_at held.types new).facts → IsWhole names' definitions linkages opened layouts' (record held { graph = new })
-whole_scope names names' definitions linkages openings layouts layouts' held new opened kind place plain range whole appends opens noted measured =
-    subst (λ ps. IsWhole names' definitions linkages ps layouts' (record held { graph = new })) (sym opens)
-    (subst (λ (g : Graph). IsWhole names' definitions linkages (openings ++ place ∷ []) layouts' (record held { graph = g })) (sym appends)
-    (whole_more names definitions linkages openings layouts held (scope_fact kind place held.scope) whole (scope_below (length held.types) kind place held.scope) (plain_scope_more held.graph.facts (scope_fact kind place held.scope) whole.plain plain) range names' layouts' (subst (λ (g : Graph). Notes names' g.facts) appends noted) (subst (λ (g : Graph). AreMeasured layouts' (graph_at held.types g).facts) appends measured)))
 
 -- ---- a definition
 
@@ -304,16 +286,16 @@ numbers_more : (numbers : List FactId) (number : FactId) → numbers_at (numbers
 numbers_more [] number = refl
 numbers_more (one ∷ others) number = ap (λ ns. one.0 ∷ ns) (numbers_more others number)
 
-pub whole_definition : (names : Names) (definitions definitions' : Definitions) (linkages : Linkages) (openings : List Place) (layouts : Option Layouts) (held : Held) (new : List FactId) (number : FactId) → IsWhole names definitions linkages openings layouts held → new ≡ held.defined ++ number ∷ []
-    → Defines definitions' held.graph.facts (numbers_at held.defined ++ number.0 ∷ []) → IsWhole names definitions' linkages openings layouts (record held { defined = new })
-whole_definition names definitions definitions' linkages openings layouts held new number whole is defines = record {
+pub whole_definition : (names : Names) (definitions definitions' : Definitions) (linkages : Linkages) (openings : List Place) (noting : Noting) (held : Held) (new : List FactId) (number : FactId) → IsWhole names definitions linkages openings noting held → new ≡ held.defined ++ number ∷ []
+    → Defines definitions' held.graph.facts (numbers_at held.defined ++ number.0 ∷ []) → IsWhole names definitions' linkages openings noting (record held { defined = new })
+whole_definition names definitions definitions' linkages openings noting held new number whole is defines = record {
   sound = record { fitted = whole.sound.fitted; nodes = whole.sound.nodes; children = whole.sound.children; fallbacks = whole.sound.fallbacks; offers = whole.sound.offers; pieces = whole.sound.pieces; calls = whole.sound.calls; scope = whole.sound.scope; result = whole.sound.result };
   noted = whole.noted;
   plain = whole.plain;
   defines = subst (λ ns. Defines definitions' held.graph.facts (numbers_at ns)) (sym is) (subst (λ ns. Defines definitions' held.graph.facts ns) (sym (numbers_more held.defined number)) defines);
   links = whole.links;
   opened = whole.opened;
-  measured = whole.measured;
+  remembered = whole.remembered;
 }
 
 pub definition_added : (seen held : Held) (new : List FactId) (number : FactId) → held ≡ seen → new ≡ held.defined ++ number ∷ [] → meaning (record held { defined = new }) ≡ with_definition number.0 (meaning seen)
@@ -325,16 +307,16 @@ definition_added seen held new number same is = subst (λ (h : Held). meaning (r
 
 -- ---- a declaration that is linked
 
-pub whole_linked : (names : Names) (definitions : Definitions) (linkages linkages' : Linkages) (openings : List Place) (layouts : Option Layouts) (held : Held) (new : List FactId) (number : FactId) → IsWhole names definitions linkages openings layouts held → new ≡ held.linked ++ number ∷ []
-    → Links linkages' held.graph.facts (held.linked ++ number ∷ []) → IsWhole names definitions linkages' openings layouts (record held { linked = new })
-whole_linked names definitions linkages linkages' openings layouts held new number whole is links = record {
+pub whole_linked : (names : Names) (definitions : Definitions) (linkages linkages' : Linkages) (openings : List Place) (noting : Noting) (held : Held) (new : List FactId) (number : FactId) → IsWhole names definitions linkages openings noting held → new ≡ held.linked ++ number ∷ []
+    → Links linkages' held.graph.facts (held.linked ++ number ∷ []) → IsWhole names definitions linkages' openings noting (record held { linked = new })
+whole_linked names definitions linkages linkages' openings noting held new number whole is links = record {
   sound = record { fitted = whole.sound.fitted; nodes = whole.sound.nodes; children = whole.sound.children; fallbacks = whole.sound.fallbacks; offers = whole.sound.offers; pieces = whole.sound.pieces; calls = whole.sound.calls; scope = whole.sound.scope; result = whole.sound.result };
   noted = whole.noted;
   plain = whole.plain;
   defines = whole.defines;
   links = subst (λ ns. Links linkages' held.graph.facts ns) (sym is) links;
   opened = whole.opened;
-  measured = whole.measured;
+  remembered = whole.remembered;
 }
 
 pub linked_added : (seen held : Held) (new : List FactId) (number : FactId) → held ≡ seen → new ≡ held.linked ++ number ∷ [] → meaning (record held { linked = new }) ≡ with_linked number.0 (meaning seen)
@@ -385,29 +367,33 @@ pub named_made : (seen held : Held) (new : List CxxType) (result : Result TypeId
 unfolding meaning
 named_made seen held new result numbers same sound makes = type_made_by seen held new result (named_in numbers) same sound makes
 
--- ---- the scope of a namespace
+-- ---- a scope in which the reader does not stand
 
-pub space_added : (old new : Held) (place : Place) (number : ScopeId) (fact : FactId) → IsAnswered fact_number IsFactKnown old new (Ok fact) (added (scope_at Space place (meaning old)) (meaning old)) → number.0 ≡ scope_count (graph_at old.types old.graph) → number.0 < scopes new.graph.facts
-    → IsAnswered scope_number IsScopeKnown old new (Ok number) (added_space place (meaning old))
-unfolding meaning
-space_added old new place number fact answered is within = record {
-  is = (
-    ap (λ (a : Answer (ℕ × CxxState)). a >>= λ answer. Ok (scope_count (graph_at old.types old.graph), answer.1)) answered.is.0 ∙ ap (λ n. Ok (n, meaning new)) (sym is),
-    within,
-  );
-  later = answered.later;
-}
+module _ (old new : Held) (kind : ScopeKind) (place : Place) where
+  abbrev added_here : Answer (ℕ × CxxState)
+  added_here = added (scope_at kind place (meaning old)) (meaning old)
 
-pub space_not_added : (old new : Held) (place : Place) (why : Stop) → IsAnswered fact_number IsFactKnown old new (Err why) (added (scope_at Space place (meaning old)) (meaning old)) → IsAnswered scope_number IsScopeKnown old new (Err why) (added_space place (meaning old))
-space_not_added old new place why answered = record { is = by why answered.is; later = answered.later }
-  where
-    go : ℕ × CxxState → Answer (ℕ × CxxState)
-    go answer = Ok (scope_count (meaning old).graph, answer.1)
+  abbrev counted : ℕ × CxxState → Answer (ℕ × CxxState)
+  counted answer = Ok (scope_count (meaning old).graph, answer.1)
 
-    by : (s : Stop) → Stops s (added (scope_at Space place (meaning old)) (meaning old)) → Stops s (added (scope_at Space place (meaning old)) (meaning old) >>= go)
-    by stop.OutOfMemory e = tt
-    by (stop.Fault f) e = ap (λ (a : Answer (ℕ × CxxState)). a >>= go) e
-    by (stop.Limit k) e = ap (λ (a : Answer (ℕ × CxxState)). a >>= go) e
+  pub scope_added : (number : ScopeId) (fact : FactId) → IsAnswered fact_number IsFactKnown old new (Ok fact) added_here → number.0 ≡ scope_count (graph_at old.types old.graph) → number.0 < scopes new.graph.facts
+      → IsAnswered scope_number IsScopeKnown old new (Ok number) (added_here >>= counted)
+  unfolding meaning
+  scope_added number fact answered is within = record {
+    is = (
+      ap (λ (a : Answer (ℕ × CxxState)). a >>= λ answer. Ok (scope_count (graph_at old.types old.graph), answer.1)) answered.is.0 ∙ ap (λ n. Ok (n, meaning new)) (sym is),
+      within,
+    );
+    later = answered.later;
+  }
+
+  pub scope_not_added : (why : Stop) → IsAnswered fact_number IsFactKnown old new (Err why) added_here → IsAnswered scope_number IsScopeKnown old new (Err why) (added_here >>= counted)
+  scope_not_added why answered = record { is = by why answered.is; later = answered.later }
+    where
+      by : (s : Stop) → Stops s added_here → Stops s (added_here >>= counted)
+      by stop.OutOfMemory e = tt
+      by (stop.Fault f) e = ap (λ (a : Answer (ℕ × CxxState)). a >>= counted) e
+      by (stop.Limit k) e = ap (λ (a : Answer (ℕ × CxxState)). a >>= counted) e
 
 pub space_closed : (old new : Held) → meaning new ≡ left_scope (meaning old) → close_space (meaning old) ≡ Ok (tt, meaning new)
 unfolding close_space
@@ -523,29 +509,13 @@ opened_nowhere_here seen held openings n same opened at = subst (λ (h : Held). 
 
 -- ---- templates
 
-plain_untemplated : (what : Entity) → IsPlainEntity what → IsNoTemplate what
-plain_untemplated (entity.Object of member is_mutable value first) ok = tt
-plain_untemplated (entity.Function of member flags defaults first) ok = tt
-plain_untemplated (entity.Enumeration number) ok = tt
-plain_untemplated (entity.Enumerator number value) ok = tt
-plain_untemplated (entity.Synonym of) ok = tt
-plain_untemplated (entity.Namespace inner) ok = tt
-plain_untemplated (entity.Directive nominated) ok = tt
-plain_untemplated (entity.Using target) ok = tt
-plain_untemplated (entity.Class number is_union) ok = tt
-plain_untemplated _ ok = absurd ok
-
-scope_untemplated : (what : Entity) → IsPlainScope what → IsNoTemplate what
-scope_untemplated (entity.Scope parent kind) ok = tt
-scope_untemplated _ ok = absurd ok
+untemplated : (what : Entity) → IsPlainFact what → IsNoTemplate what
+untemplated (entity.Template template member defaults is_explicit first) plain = absurd plain
+untemplated _ plain = tt
 
 pub no_templates : (facts : List Fact) → ArePlain facts → NoTemplates facts
 no_templates [] all = tt
-no_templates (fact ∷ facts) all = (one all.0, no_templates facts all.1)
-  where
-    one : (IsPlainScope fact.what ⊎ IsPlain fact) → IsNoTemplate fact.what
-    one (inl ok) = scope_untemplated fact.what ok
-    one (inr ok) = plain_untemplated fact.what ok.what
+no_templates (fact ∷ facts) all = (untemplated fact.what all.0, no_templates facts all.1)
 
 -- ---- the beginning
 
@@ -576,16 +546,16 @@ module _ (names : Names) (definitions : Definitions) (linkages : Linkages) (grap
     result = tt;
   }
 
-  pub whole_first : (openings : List Place) (layouts : Option Layouts) → openings ≡ first_place ∷ [] → Notes names graph.facts → ((facts : List Fact) → Defines definitions facts []) → ((facts : List Fact) → Links linkages facts []) → AreMeasured layouts (graph_at types graph).facts → IsWhole names definitions linkages openings layouts (begun graph types nodes defined linked fallbacks offers calls pieces uses)
-  whole_first openings layouts opens noted defines links measured =
-      subst (λ (h : Held). IsWhole names definitions linkages openings layouts h) (sym is_begun) (record {
+  pub whole_first : (openings : List Place) (noting : Noting) → openings ≡ first_place ∷ [] → Notes names graph.facts → ((facts : List Fact) → Defines definitions facts []) → ((facts : List Fact) → Links linkages facts []) → AreNoted noting (graph_at types graph).facts → IsWhole names definitions linkages openings noting (begun graph types nodes defined linked fallbacks offers calls pieces uses)
+  whole_first openings noting opens noted defines links remembered =
+      subst (λ (h : Held). IsWhole names definitions linkages openings noting h) (sym is_begun) (record {
         sound = sound_first;
         noted = subst (λ (x : Graph). Notes names x.facts) g noted;
-        plain = (inl tt, tt);
+        plain = (tt, tt);
         defines = defines (unit_fact ∷ []);
         links = links (unit_fact ∷ []);
         opened = opens;
-        measured = subst (λ (h : Held). AreMeasured layouts (graph_at h.types h.graph).facts) is_begun measured;
+        remembered = subst (λ (h : Held). AreNoted noting (graph_at h.types h.graph).facts) is_begun remembered;
       })
 
   pub meaning_first : meaning (begun graph types nodes defined linked fallbacks offers calls pieces uses) ≡ first_state

@@ -4,6 +4,7 @@ pub mod Asked
 pub mod Defaults
 pub mod Held
 pub mod Later
+pub mod Noting
 pub mod Told
 pub mod Uses
 pub mod Whole

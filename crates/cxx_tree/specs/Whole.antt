@@ -1,5 +1,5 @@
 -- What is kept beside the state of a reading, and how it follows from that.
-use Rattle.std.specs.Prelude.{ℕ, ◌≡◌, ◌<◌, List, [], ◌∷◌, ◌++◌, Option, Some, None, IfSome, Result, Ok, Err}
+use Rattle.std.specs.Prelude.{ℕ, ◌≡◌, ◌<◌, List, [], ◌∷◌, ◌++◌, Option, Some, None, Result, Ok, Err}
 use Rattle.cxx_graph.specs.declared.graph.AddFault.{AddFault}
 use Rattle.cxx_graph.specs.declared.graph.AddFault.TheVariants as fault
 use Rattle.cxx_model.specs.declared.facts.Access.TheVariants.{Public}
@@ -8,6 +8,7 @@ use Rattle.cxx_model.specs.declared.facts.Entity.TheVariants as entity
 use Rattle.cxx_model.specs.declared.facts.Fact.{Fact}
 use Rattle.cxx_model.specs.declared.facts.Name.TheVariants.{Unnamed}
 use Rattle.cxx_model.specs.declared.facts.ScopeKind.{ScopeKind}
+use Rattle.cxx_model.specs.declared.facts.ScopeKind.TheVariants as kind
 use Rattle.cxx_model.specs.declared.facts.ScopeKind.TheVariants.{Space}
 use Rattle.cxx_model.specs.declared.place.Place.{Place}
 use Rattle.cxx_model.specs.declared.stop.LimitKind.TheVariants.{Facts}
@@ -32,9 +33,9 @@ use Rattle.cxx_reading.specs.Reads.{Asks}
 use Rattle.cxx_reading.specs.Seen.{parent_of}
 use Rattle.cxx_reading.specs.Spaces.{new_space}
 use Rattle.cxx_reading.specs.State.{CxxState}
-use Rattle.cxx_sizes.specs.declared.layouts.Layouts.{Layouts}
-use Rattle.cxx_sizes.specs.Noted.{Notes as Measures}
+use Rattle.cxx_tree.specs.declared.noting.Noting.{Noting}
 use Rattle.cxx_tree.specs.Held.{Held, IsSound, numbers_at}
+use Rattle.cxx_tree.specs.Noting.{AreNoted}
 
 abbrev pub place_by : Place → Entity → List Place
 place_by place (entity.Scope parent kind) = place ∷ []
@@ -82,6 +83,12 @@ added_space place state = do
   answer ← added (new_space state place) state
   Ok (scope_count state.graph, answer.1)
 
+-- 9.2: the scope of a class is added, and the reader stays where it is: the number of the scope
+abbrev pub added_class_scope : Place → ℕ → Asks CxxState ℕ
+added_class_scope place n state = do
+  answer ← added (scope_at (kind.Class (record { 0 = n })) place state) state
+  Ok (scope_count state.graph, answer.1)
+
 -- the scope where the reader stands ends
 abbrev pub left_scope : CxxState → CxxState
 left_scope state = at_scope (parent_of state.graph state.here.scope) state
@@ -91,16 +98,16 @@ abbrev pub IsFunctionBelow : ℕ → Option FactId → Type 0
 IsFunctionBelow count None = Unit {0}
 IsFunctionBelow count (Some function) = function.0 < count
 
--- The names, the definitions, what is linked, the places of scopes and what sizes need are kept of the state. Each
--- declaration stands outside classes.
-pub record IsWhole (names : Names) (definitions : Definitions) (linkages : Linkages) (openings : List Place) (layouts : Option Layouts) (held : Held) : Type 0 where
+-- The names, the definitions, what is linked, the places of scopes, what sizes need, and what the members need that classes
+-- declare by themselves are kept of the state. No declaration is a template, a base or a friend.
+pub record IsWhole (names : Names) (definitions : Definitions) (linkages : Linkages) (openings : List Place) (noting : Noting) (held : Held) : Type 0 where
   pub sound : IsSound held
   pub noted : Notes names held.graph.facts
   pub plain : ArePlain held.graph.facts
   pub defines : Defines definitions held.graph.facts (numbers_at held.defined)
   pub links : Links linkages held.graph.facts held.linked
   pub opened : openings ≡ scope_places held.graph.facts
-  pub measured : IfSome layouts (λ kept. Measures kept (graph_at held.types held.graph).facts)
+  pub remembered : AreNoted noting (graph_at held.types held.graph).facts
 
 abbrev pub stop_by : AddFault → Stop
 stop_by fault.Limit = stop.Limit Facts

@@ -6,10 +6,12 @@
 
 mod asked;
 mod bodies;
+mod class_scopes;
 mod given;
 mod kept;
 mod linked;
 mod maker;
+mod noting;
 mod paths;
 mod spaces;
 mod state;

@@ -1,16 +1,16 @@
-ghost use Rattle.std.specs.Prelude.{ℕ, List, ◌≡◌, ◌<◌, ◌+◌, ◌↔◌, take, ◌++◌, length, Ok, Err, Some, None, [], ◌∷◌, true, false, is_ok, is_some, IsTrue, IfOk, IfSome, OnOk, OnErr, option_map};
+ghost use Rattle.std.specs.Prelude.{ℕ, List, ◌≡◌, ◌<◌, ◌+◌, ◌↔◌, ◌++◌, length, Ok, Err, Some, None, [], ◌∷◌, true, false, is_ok, is_some, IsTrue, IfOk, IfSome, OnOk, OnErr, option_map};
 ghost use Rattle.std.specs.List.{slice_get};
-ghost use Rattle.std.specs.Option.{option_copied};
-ghost use Rattle.cxx_model.specs.Facts.Declarations.{fact_at, graph_at};
+ghost use Rattle.std.specs.Option.{option_copied, option_to_list};
+ghost use Rattle.cxx_model.specs.Facts.Declarations.{fact_at};
 ghost use Rattle.cxx_model.specs.Facts.Fitted.{Fitted, IsFactBelow};
 ghost use Rattle.cxx_model.specs.Facts.Graph.{IsKindInRange, IsUnitScope, MayFollow, appended, enumerations, scopes, with_class};
 ghost use Rattle.cxx_model.specs.Types.Numbers.{AreTypesBelow, IsBoundBelow, bound_at, type_at, types_at};
 ghost use Rattle.cxx_model.specs.Types.Trees as definition;
 ghost use Rattle.cxx_model.specs.Types.Trees.{CxxType, decayed, fundamental};
-ghost use Rattle.cxx_names.specs.Clashes.{IsPlain, NoTemplates};
+ghost use Rattle.cxx_names.specs.Clashes.{NoTemplates};
 ghost use Rattle.cxx_defined.specs.Defined.{Defines, IsOwn};
 ghost use Rattle.cxx_names.specs.Index.{Notes};
-ghost use Rattle.cxx_names.specs.Plain.{ArePlain, IsPlainKind};
+ghost use Rattle.cxx_names.specs.Plain.{ArePlain, IsPlainFact};
 ghost use Rattle.cxx_linked.specs.Links.{Links};
 ghost use Rattle.cxx_types.specs.Parameters.{adjusted_types};
 ghost use Rattle.cxx_reading.specs.Declarators.{no_cv};
@@ -31,7 +31,7 @@ ghost use Rattle.cxx_overload.specs.Choosers.{IsNew, told_by};
 ghost use Rattle.cxx_overload.specs.Told.{told_more};
 ghost use Rattle.cxx_tree.specs.Told.{told};
 ghost use Rattle.cxx_tree.specs.Uses.{with_use};
-ghost use Rattle.cxx_tree.specs.Whole.{entered_scope, left_scope, scope_at, scope_fact, stopped_as};
+ghost use Rattle.cxx_tree.specs.Whole.{entered_scope, left_scope, place_by, scope_at, scope_fact, stopped_as};
 
 use crate::asked::Calls;
 use crate::given::first_given;
@@ -39,6 +39,7 @@ use crate::kept::{
     Binding, BindingList, Decided, Fallback, FallbackList, Offer, OfferList, Piece, PieceList,
 };
 use crate::maker::MakesTypes;
+use crate::noting::Noting;
 use crate::trees::Trees;
 use cxx_defined::Definitions;
 use cxx_graph::{AddFault, Graph};
@@ -60,16 +61,16 @@ use std::mem;
 #[derive(Drop)]
 pub struct State {
     pub(crate) graph: Graph,
-    types: TypeTable,
+    pub(crate) types: TypeTable,
     pub(crate) names: Names,
     definitions: Definitions,
     pub(crate) linkages: Linkages,
     // Where the scopes stand, in order.
     openings: Vec<Place>,
-    // What sizes need, unless there was no memory for it.
-    layouts: Option<Layouts>,
+    // What is kept of each declaration beside its name.
+    pub(crate) noting: Noting,
     trees: Trees,
-    scope: ScopeId,
+    pub(crate) scope: ScopeId,
     enumeration: Option<EnumId>,
     defined: Vec<FactId>,
     pub(crate) linked: Vec<FactId>,
@@ -103,13 +104,23 @@ impl Model for State {
 
     ghost view = { λ state. record { graph = state.graph; types = state.types; nodes = state.trees; scope = state.scope; enumeration = state.enumeration; defined = state.defined.items; linked = state.linked.items; fallbacks = state.fallbacks; offers = state.offers; in_default = state.in_default; result = state.result; tested = state.tested; in_step = state.in_step; calls = state.calls.calls; pieces = state.pieces; uses = state.uses; tells = state.calls.tells; asks = state.calls.asks } };
 
-    ghost invariant = { λ state. IsWhole state.names state.definitions state.linkages state.openings.items state.layouts (record { graph = state.graph; types = state.types; nodes = state.trees; scope = state.scope; enumeration = state.enumeration; defined = state.defined.items; linked = state.linked.items; fallbacks = state.fallbacks; offers = state.offers; in_default = state.in_default; result = state.result; tested = state.tested; in_step = state.in_step; calls = state.calls.calls; pieces = state.pieces; uses = state.uses; tells = state.calls.tells; asks = state.calls.asks }) };
+    ghost invariant = { λ state. IsWhole state.names state.definitions state.linkages state.openings.items state.noting (record { graph = state.graph; types = state.types; nodes = state.trees; scope = state.scope; enumeration = state.enumeration; defined = state.defined.items; linked = state.linked.items; fallbacks = state.fallbacks; offers = state.offers; in_default = state.in_default; result = state.result; tested = state.tested; in_step = state.in_step; calls = state.calls.calls; pieces = state.pieces; uses = state.uses; tells = state.calls.tells; asks = state.calls.asks }) };
 }
 
 fn place_at(places: &[Place], scope: ScopeId) -> Option<&Place>
     ensures { option_copied result ≡ slice_get places.now scope.0 }
 {
     places.get(scope.0 as usize)
+}
+
+// Where the scope stands that a declaration begins, if it begins one.
+fn place_opened(fact: &Fact) -> Option<Place>
+    ensures { option_to_list result ≡ place_by fact.now.place fact.now.what }
+{
+    match fact.what {
+        Entity::Scope { .. } => Some(fact.place),
+        _ => None,
+    }
 }
 
 fn stopped(added: Result<FactId, AddFault>) -> Result<FactId, Stop>
@@ -158,27 +169,6 @@ fn begin(graph: &mut Graph, names: &mut Names, unit: Fact) -> Result<(), OutOfMe
     }
 }
 
-// Notes the last declaration for sizes.
-fn noted(
-    layouts: Option<Layouts>,
-    graph: &Graph,
-    types: &TypeTable,
-    number: FactId,
-) -> Option<Layouts>
-    requires last { number.0 + 1 ≡ length graph.now.facts }
-    requires fitted { Fitted graph.now types.now }
-    requires noted { IfSome layouts (λ kept. Measures kept (take number.0 (graph_at types.now graph.now).facts)) }
-    ensures { IfSome result (λ kept. Measures kept (graph_at types.now graph.now).facts) }
-{
-    let Some(mut layouts) = layouts else {
-        return None;
-    };
-    match layouts.note(graph, types, number) {
-        Ok(()) => Some(layouts),
-        Err(_) => None,
-    }
-}
-
 fn bound_with(bound: Option<u64>) -> Bound
     ensures at { (types : List CxxType) → bound_at types result ≡ bound_of bound }
     ensures below { (count : ℕ) → IsBoundBelow count result }
@@ -217,7 +207,8 @@ impl State {
         };
         begin(&mut graph, &mut names, unit)?;
         let types = TypeTable::new(alloc, key);
-        let layouts = noted(Some(Layouts::new(alloc)), &graph, &types, FactId(0));
+        let mut noting = Noting::new(alloc);
+        noting.note(&graph, &types, FactId(0));
         Ok(State {
             graph,
             types,
@@ -225,7 +216,7 @@ impl State {
             definitions: Definitions::new(alloc, key),
             linkages: Linkages::new(alloc, key),
             openings,
-            layouts,
+            noting,
             trees: Trees::new(alloc),
             scope: ScopeId(0),
             enumeration: None,
@@ -284,7 +275,7 @@ impl State {
     pub fn layouts(&self) -> Option<&Layouts>
         ensures { IfSome result (λ kept. Measures kept.now (meaning self.now).graph.facts) }
     {
-        self.layouts.as_ref()
+        self.noting.layouts.as_ref()
     }
 
     /// The types that were made so far.
@@ -413,15 +404,19 @@ impl State {
     pub fn add(&mut self, fact: Fact) -> Result<FactId, Stop>
         requires follows { MayFollow (self.old).graph fact }
         requires below { IsFactBelow (length (self.old).types) fact }
-        requires plain { IsPlain fact }
+        requires plain { IsPlainFact (fact).what }
         ensures answered { IsAnswered fact_number IsFactKnown self.old self.new result (added (fact_at (self.old).types fact) (meaning self.old)) }
         ensures held { OnOk result (self.new ≡ record self.old { graph = appended (self.old).graph fact }) }
         ensures unchanged { OnErr result (self.new ≡ self.old) }
     {
         self.graph.in_range();
+        self.openings.reserve(1)?;
+        let opened = place_opened(&fact);
         let number = stopped(self.names.add(&mut self.graph, fact))?;
-        let layouts = self.layouts.take();
-        self.layouts = noted(layouts, &self.graph, &self.types, number);
+        self.noting.note(&self.graph, &self.types, number);
+        if let Some(place) = opened {
+            self.openings.push(place)?;
+        }
         Ok(number)
     }
 
@@ -438,12 +433,11 @@ impl State {
     // Adds a scope of a kind, at a place, in the scope where the reader stands.
     pub(crate) fn add_scope(&mut self, kind: ScopeKind, place: Place) -> Result<FactId, Stop>
         requires kind { IsKindInRange (self.old).graph kind }
-        requires plain { IsPlainKind kind }
         ensures answered { IsAnswered fact_number IsFactKnown self.old self.new result (added (scope_at kind place (meaning self.old)) (meaning self.old)) }
         ensures held { OnOk result (self.new ≡ record self.old { graph = appended (self.old).graph (scope_fact kind place (self.old).scope) }) }
     {
         let scope = self.scope;
-        let fact = Fact {
+        self.add(Fact {
             place,
             scope,
             name: Name::Unnamed,
@@ -452,20 +446,12 @@ impl State {
                 parent: Some(scope),
                 kind,
             },
-        };
-        self.graph.in_range();
-        self.openings.reserve(1)?;
-        let number = stopped(self.names.add(&mut self.graph, fact))?;
-        let layouts = self.layouts.take();
-        self.layouts = noted(layouts, &self.graph, &self.types, number);
-        self.openings.push(place)?;
-        Ok(number)
+        })
     }
 
     // A scope of a kind begins, where there is room for it. The reader stands in it then.
     pub(crate) fn enter_scope(&mut self, kind: ScopeKind) -> Result<ScopeId, Stop>
         requires kind { IsKindInRange (self.old).graph kind }
-        requires plain { IsPlainKind kind }
         ensures { IsAnswered scope_number AnyKnown self.old self.new result (entered_scope kind (meaning self.old)) }
     {
         let number = self.names.scopes(&self.graph);

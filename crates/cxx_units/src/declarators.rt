@@ -16,8 +16,8 @@ use cxx_syntax::{is_declared_void, refused};
 use cxx_tree::State;
 use std::alloc::{AllocError, Global};
 
-// The place of the name of a declarator that has one.
-fn place_of_name(name: &Option<NameToken>) -> Place
+/// The place of the name of a declarator that has one.
+pub fn place_of_name(name: &Option<NameToken>) -> Place
     ensures { result ≡ (definition.token_or (name_of_option name.now)).place }
 {
     match name {

@@ -13,7 +13,7 @@ ghost use Rattle.cxx_tree.specs.Answered.{scope_of_option};
 ghost use Rattle.cxx_tree.specs.Held.{meaning, type_of};
 
 use crate::trees::faulty;
-use crate::types::{is_const_type, is_reference, is_unbounded};
+use crate::types::{is_const_type, is_made_of_class, is_reference, is_unbounded};
 use cxx_cursor::{Cursor, Layer, LayerList, NameToken, Specifiers, is_punct};
 use cxx_model::{
     Fault, FaultText, LeftOut, Listed, ScopeId, Stop, TokenKind, TreeIdList, TypeId, keyword, punct,
@@ -54,7 +54,7 @@ pub fn own_parameters(state: &State, layers: &LayerList) -> Option<ScopeId>
 }
 
 /// An object is of a complete type (3.9).
-#[tactic(auto, using(cxx_cursor::proofs::Kept::later_refl), unfolding(cxx_reading::specs::Units::complete_object))]
+#[tactic(auto, using(cxx_cursor::proofs::Kept::later_refl), unfolding(cxx_reading::specs::Units::complete_object, cxx_tree::specs::Held::meaning))]
 pub fn complete_object(
     state: &State,
     cursor: &Cursor<'_>,
@@ -64,7 +64,7 @@ pub fn complete_object(
     requires { of.0 < length (state.now).types }
     ensures { IsRead itself AnyKnown state.now state.now cursor.now result (definition.complete_object (name_at name.now) (type_of state.now of) (meaning state.now) cursor.now) }
 {
-    if is_incomplete(state.types(), of) {
+    if is_incomplete(state.graph(), state.types(), of) {
         let fault = faulty(cursor.alloc(), name.place, FaultText::IncompleteClass)?;
         return Err(Stop::Fault(fault));
     }
@@ -72,7 +72,7 @@ pub fn complete_object(
 }
 
 /// An object without an initializer that has to have one (8.5).
-#[tactic(auto, using(cxx_cursor::proofs::Kept::later_refl), unfolding(cxx_reading::specs::Units::uninitialized))]
+#[tactic(auto, using(cxx_cursor::proofs::Kept::later_refl), unfolding(cxx_reading::specs::Units::uninitialized, cxx_tree::specs::Held::meaning))]
 pub fn uninitialized(
     state: &State,
     cursor: &Cursor<'_>,
@@ -83,8 +83,12 @@ pub fn uninitialized(
     ensures { IsRead trees_held AreTreesHeld state.now state.now cursor.now result (definition.uninitialized (name_at name.now) (type_of state.now of) (meaning state.now) cursor.now) }
 {
     let types = state.types();
-    if is_unbounded(types, of) || is_incomplete(types, of) {
+    if is_unbounded(types, of) || is_incomplete(state.graph(), types, of) {
         let fault = faulty(cursor.alloc(), name.place, FaultText::IncompleteClass)?;
+        return Err(Stop::Fault(fault));
+    }
+    if is_made_of_class(types, of) {
+        let fault = faulty(cursor.alloc(), name.place, FaultText::NotBuilt)?;
         return Err(Stop::Fault(fault));
     }
     if is_reference(types, of) || is_const_type(types, of) {

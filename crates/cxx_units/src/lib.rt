@@ -10,6 +10,6 @@ pub mod trees;
 pub mod types;
 mod unit;
 
-pub use declarators::{declarator_ended, declared_fits, no_declarators};
+pub use declarators::{declarator_ended, declared_fits, no_declarators, place_of_name};
 pub use trees::declaration_tree;
 pub use unit::{begun, first_place, part_added, whole};

@@ -43,6 +43,19 @@ pub fn is_const_type(types: &TypeTable, number: TypeId) -> bool
     }
 }
 
+/// A class, or an array of such (8.5).
+pub fn is_made_of_class(types: &TypeTable, number: TypeId) -> bool
+    requires { number.0 < length types.now }
+    ensures { result ≡ definition.is_made_of_class (type_at types.now number.0) }
+{
+    match types.node(number) {
+        TypeNode::Class(_) => true,
+        TypeNode::Array(element, _) => is_made_of_class(types, *element),
+        TypeNode::Qualified(_, of) => is_made_of_class(types, *of),
+        _ => false,
+    }
+}
+
 fn is_unknown(types: &TypeTable, bound: &Bound) -> bool
     ensures { result ≡ is_unknown_bound (bound_at types.now bound.now) }
 {

@@ -11,4 +11,4 @@ pub loop-number-preserved : goal.loop-number-preserved
 loop-number-preserved c = grind (arith, common_steps, incomplete_first, incomplete_next, c.loop-number.invariant, c.in_default.ensures)
 
 pub loop-number-init : goal.loop-number-init
-loop-number-init c = ap (first_incomplete c.args.types.now c.args.graph.now.facts) c.facts_of-number-items.ensures ∙ incomplete_are c.args.types.now c.args.list.0 c.args.graph.now.facts
+loop-number-init c = ap (first_incomplete c.args.graph.now c.args.types.now c.args.graph.now.facts) c.facts_of-number-items.ensures ∙ incomplete_are c.args.graph.now c.args.types.now c.args.list.0 c.args.graph.now.facts

@@ -14,6 +14,6 @@ returns-clause-is c =
     let all = trees held in
     let pieces = map part_tree (pieces_at all held.pieces) in
     lines_are held c.add_definitions.new.lines.items
-    (all_lines all (facts_in held) (length held.graph.classes) c.as_slice.result.now c.as_slice-2.result.now (flat_map declarators_of pieces) (flat_map definitions_of pieces) c.new-found.result.items c.add_classes.new.lines.items c.add_enumerations.new.lines.items c.add_functions.new.lines.items c.add_objects.new.lines.items c.add_definitions.new.lines.items
+    (all_lines all (facts_in held) (length held.graph.classes) c.as_slice.result.now c.as_slice-2.result.now (flat_map declarators_of pieces) (flat_map definitions_of pieces) c.new-found.result.items c.add_classes.new.lines.items c.add_enumerations.new.lines.items c.add_class_definitions.new.lines.items c.add_functions.new.lines.items c.add_objects.new.lines.items c.add_definitions.new.lines.items
     c.new-found.ensures.items (ap (trees_in all) c.as_slice.ensures.value ∙ c.in_ok-declarators.ensures.is) (ap (trees_in all) c.as_slice-2.ensures.value ∙ c.in_ok-definitions.ensures.is)
-    c.in_ok-add_classes.ensures c.in_ok-add_enumerations.ensures c.in_ok-add_functions.ensures c.in_ok-add_objects.ensures c.in_ok-add_definitions.ensures).0
+    c.in_ok-add_classes.ensures c.in_ok-add_enumerations.ensures c.in_ok-add_class_definitions.ensures c.in_ok-add_functions.ensures c.in_ok-add_objects.ensures c.in_ok-add_definitions.ensures).0

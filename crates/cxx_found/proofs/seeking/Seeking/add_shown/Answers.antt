@@ -1,6 +1,6 @@
 use Rattle.std.proofs.Common.{◌∙◌, map, sym}
 use Rattle.cxx_found.specs.Views.{cut_of, facts_of, shown_of}
-use Rattle.cxx_found.proofs.Here.{none_left}
+use Rattle.cxx_found.proofs.Inside.{none_left}
 use Rattle.cxx_found.proofs.Shows.{shows_nothing}
 use Rattle.cxx_found.proofs.seeking.Seeking.add_shown.Goals as goal
 

@@ -6,4 +6,4 @@ use Rattle.cxx_found.proofs.seeking.Seeking.fact.Goals as goal
 pub returns-clause-below : goal.returns-clause-below
 returns-clause-below c =
     let self = c.args.self.now in
-    copied_below (length (types_of self)) self.looking.graph.now.facts c.args.number.0 c.fact_of.result c.requires.below.facts c.fact_of.ensures
+    copied_below (length (types_of self)) self.looking.graph.now.facts c.args.number.0 c.fact_of.result c.requires.fitted.numbers.facts c.fact_of.ensures

@@ -1,7 +1,7 @@
 use Rattle.std.proofs.Common.{◌∙◌, sym}
 use Rattle.cxx_found.specs.Rows.{sighted_in}
 use Rattle.cxx_found.specs.Views.{cut_of, found_near, graph_of, name_of, types_of, wanted_of}
-use Rattle.cxx_found.proofs.Here.{none_left}
+use Rattle.cxx_found.proofs.Inside.{none_left}
 use Rattle.cxx_found.proofs.Searching.{found_own_alone, found_own_first}
 use Rattle.cxx_found.proofs.seeking.Seeking.in_space.Goals as goal
 

@@ -7,5 +7,6 @@ returns c = λ before has. record {
   enumerations = c.pop_some-2.ensures before.enumerations.items has.enumerations;
   values = c.take_back-2.ensures before.values.rows.entries has.values;
   classes = c.take_back-3.ensures before.classes.rows.entries has.classes;
-  spaces = c.take_back-4.ensures before.spaces has.spaces;
+  holders = c.take_back-4.ensures before.holders.rows.entries has.holders;
+  spaces = c.take_back-5.ensures before.spaces has.spaces;
 }

@@ -2,8 +2,8 @@ use Rattle.std.proofs.lemmas.Result.{err_from_is_err_and}
 use Rattle.cxx_tree.proofs.Wholes.{block_entered, block_not_entered, kind_of_function}
 use Rattle.cxx_tree.proofs.state.State.enter_block.Goals as goal
 
-pub enter_scope-requires-clause-kind : goal.enter_scope-requires-clause-kind
-enter_scope-requires-clause-kind c = kind_of_function c.args.self.now.graph c.args.function c.requires.function
+pub enter_scope-requires : goal.enter_scope-requires
+enter_scope-requires c = record { kind = kind_of_function c.args.self.now.graph c.args.function c.requires.function }
 
 pub returns-in_err-enter_scope : goal.returns-in_err-enter_scope
 returns-in_err-enter_scope c =

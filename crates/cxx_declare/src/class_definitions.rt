@@ -1,0 +1,307 @@
+//! Classes that are defined (9): they begin, their members are declared one after another, and they end.
+
+ghost use Rattle.std.specs.Prelude.{◌≡◌, ◌<◌, length, IfOk, OnOk};
+ghost use Rattle.cxx_model.specs.declared.facts.Entity.TheVariants as entity;
+ghost use Rattle.cxx_model.specs.declared.facts.Name.TheVariants.{Spelled};
+ghost use Rattle.cxx_model.specs.declared.token.TokenKind.{TokenKind};
+ghost use Rattle.cxx_model.specs.Facts.Declarations.{fact_at, facts_at};
+ghost use Rattle.cxx_model.specs.Facts.Fitted.{AreFactsBelow};
+ghost use Rattle.cxx_model.specs.Facts.Graph.{EachMayFollow, scopes};
+ghost use Rattle.cxx_defined.specs.Defined.{IsOwnEntity};
+ghost use Rattle.cxx_names.specs.Plain.{ArePlain};
+ghost use Rattle.cxx_declare.specs.Begun.{IsAddable, class_added, class_completed, class_known, class_reserved, ended_with, named_within, next_class_defined};
+ghost use Rattle.cxx_declare.specs.ClassDefinitions as definition;
+ghost use Rattle.cxx_declare.specs.Classes.{IsNextClass};
+ghost use Rattle.cxx_declare.specs.Made.{IsReady, token, word_in};
+ghost use Rattle.cxx_tree.specs.Answered.{AnyKnown, IsAnswered, IsClassKnown, IsFactKnown, class_number, fact_number, itself};
+ghost use Rattle.cxx_tree.specs.Held.{meaning, type_of};
+
+use crate::classes::{class_in, next_class};
+use crate::conflict::{definable, free};
+use crate::facts::{declare, fact_in, word_fact};
+use crate::objects::add_defined;
+use crate::parts::spelled;
+use cxx_model::{
+    Access, ClassId, Entity, Fact, FactId, MemberKind, Name, Place, ScopeId, Stop, TypeId,
+};
+use cxx_tree::State;
+use std::alloc::AllocError;
+
+// ---- it begins
+
+// Adds its name in its own scope, and the reader stands there then (9).
+fn add_injected(
+    state: &mut State,
+    fact: Fact,
+    class: ClassId,
+    inner: ScopeId,
+) -> Result<ClassId, Stop>
+    requires ready { IsAddable state.old fact }
+    requires there { inner.0 < scopes (state.old).graph.facts }
+    requires class { class.0 < length (state.old).graph.classes }
+    ensures { IsAnswered class_number IsClassKnown state.old state.new result (named_within inner.0 class.0 (fact_at (state.old).types fact) (meaning state.old)) }
+{
+    match state.add(fact) {
+        Ok(_) => {
+            state.set_scope(inner);
+            Ok(class)
+        }
+        Err(stop) => Err(stop),
+    }
+}
+
+fn inject(
+    state: &mut State,
+    place: Place,
+    word: &[u8],
+    class: ClassId,
+    inner: ScopeId,
+) -> Result<ClassId, Stop>
+    requires there { inner.0 < scopes (state.old).graph.facts }
+    requires class { class.0 < length (state.old).graph.classes }
+    ensures { (kind : TokenKind) → IsAnswered class_number IsClassKnown state.old state.new result (named_within inner.0 class.0 (definition.injected_name inner.0 (token kind place word.now) class.0) (meaning state.old)) }
+{
+    match spelled(state.alloc(), word) {
+        Ok(name) => {
+            let fact = fact_in(inner, place, name, Entity::Injected { class });
+            add_injected(state, fact, class, inner)
+        }
+        Err(_) => Err(Stop::OutOfMemory),
+    }
+}
+
+// Its scope begins (9.2).
+fn enter_class(
+    state: &mut State,
+    place: Place,
+    word: &[u8],
+    class: ClassId,
+) -> Result<ClassId, Stop>
+    requires { class.0 < length (state.old).graph.classes }
+    ensures { (kind : TokenKind) → IsAnswered class_number IsClassKnown state.old state.new result (definition.enter_class (token kind place word.now) class.0 (meaning state.old)) }
+{
+    match state.add_class_scope(class, place) {
+        Ok(inner) => inject(state, place, word, class, inner),
+        Err(stop) => Err(stop),
+    }
+}
+
+// Adds its declaration, which is a definition (3.2).
+fn define_added(
+    state: &mut State,
+    fact: Fact,
+    place: Place,
+    word: &[u8],
+    class: ClassId,
+) -> Result<ClassId, Stop>
+    requires ready { IsReady state.old fact }
+    requires own { IsOwnEntity fact.what }
+    requires class { class.0 < length (state.old).graph.classes }
+    ensures { (kind : TokenKind) → IsAnswered class_number IsClassKnown state.old state.new result (class_added (token kind place word.now) class.0 (fact_at (state.old).types fact) (meaning state.old)) }
+{
+    match add_defined(state, fact) {
+        Ok(_) => enter_class(state, place, word, class),
+        Err(stop) => Err(stop),
+    }
+}
+
+fn define_known(
+    state: &mut State,
+    fact: Fact,
+    place: Place,
+    word: &[u8],
+    class: ClassId,
+) -> Result<ClassId, Stop>
+    requires ready { IsReady state.old fact }
+    requires own { IsOwnEntity fact.what }
+    requires class { class.0 < length (state.old).graph.classes }
+    ensures { (kind : TokenKind) → IsAnswered class_number IsClassKnown state.old state.new result (class_known (token kind place word.now) class.0 fact.place (word_in fact.name) (fact_at (state.old).types fact) (meaning state.old)) }
+{
+    match definable(state, &fact) {
+        Ok(()) => define_added(state, fact, place, word, class),
+        Err(stop) => Err(stop),
+    }
+}
+
+// A class that this scope declares already (9.1).
+fn define_again(
+    state: &mut State,
+    is_union: bool,
+    place: Place,
+    word: &[u8],
+    class: ClassId,
+) -> Result<ClassId, Stop>
+    requires { class.0 < length (state.old).graph.classes }
+    ensures { (kind : TokenKind) → IsAnswered class_number IsClassKnown state.old state.new result (definition.define_again (token kind place word.now) is_union class.0 (meaning state.old)) }
+{
+    match word_fact(state, place, word, Entity::Class { class, is_union }) {
+        Ok(fact) => define_known(state, fact, place, word, class),
+        Err(_) => Err(Stop::OutOfMemory),
+    }
+}
+
+fn define_reserved(
+    state: &mut State,
+    fact: Fact,
+    place: Place,
+    word: &[u8],
+    class: ClassId,
+) -> Result<ClassId, Stop>
+    requires { IsNextClass state.old class fact }
+    ensures { (kind : TokenKind) → IsAnswered class_number IsClassKnown state.old state.new result (class_reserved (token kind place word.now) class.0 (fact_at (state.old).types fact) (meaning state.old)) }
+{
+    match state.reserve_class() {
+        Ok(_) => define_added(state, fact, place, word, class),
+        Err(stop) => Err(stop),
+    }
+}
+
+fn define_next(
+    state: &mut State,
+    fact: Fact,
+    place: Place,
+    word: &[u8],
+    class: ClassId,
+) -> Result<ClassId, Stop>
+    requires { IsNextClass state.old class fact }
+    ensures { (kind : TokenKind) → IsAnswered class_number IsClassKnown state.old state.new result (next_class_defined (token kind place word.now) class.0 (word_in fact.name) (fact_at (state.old).types fact) (meaning state.old)) }
+{
+    match free(state, &fact) {
+        Ok(()) => define_reserved(state, fact, place, word, class),
+        Err(stop) => Err(stop),
+    }
+}
+
+fn define_new(state: &mut State, is_union: bool, place: Place, word: &[u8]) -> Result<ClassId, Stop>
+    ensures { (kind : TokenKind) → IsAnswered class_number IsClassKnown state.old state.new result (definition.define_new (token kind place word.now) is_union (meaning state.old)) }
+{
+    let class = next_class(state);
+    match word_fact(state, place, word, Entity::Class { class, is_union }) {
+        Ok(fact) => define_next(state, fact, place, word, class),
+        Err(_) => Err(Stop::OutOfMemory),
+    }
+}
+
+/// The definition of a class begins, at its name (9, 3.3.1): its number. The reader stands in its scope then.
+pub fn begin_class(
+    state: &mut State,
+    is_union: bool,
+    place: Place,
+    word: &[u8],
+) -> Result<ClassId, Stop>
+    ensures { (kind : TokenKind) → IsAnswered class_number IsClassKnown state.old state.new result (definition.begin_class is_union (token kind place word.now) (meaning state.old)) }
+{
+    match class_in(state, state.scope(), word) {
+        Some(one) => define_again(state, is_union, place, word, one.class),
+        None => define_new(state, is_union, place, word),
+    }
+}
+
+// ---- its members
+
+// The declaration of a nonstatic data member (9.2).
+fn member_fact(
+    state: &State,
+    access: Access,
+    place: Place,
+    word: &[u8],
+    of: TypeId,
+) -> Result<Fact, AllocError>
+    requires { of.0 < length (state.now).types }
+    ensures is { (kind : TokenKind) → IfOk result (λ fact. fact_at (state.now).types fact ≡ definition.member_here (meaning state.now) access (token kind place word.now) (type_of state.now of)) }
+    ensures ready { IfOk result (IsReady state.now) }
+    ensures named { IfOk result (λ fact. fact.name ≡ Spelled word.now) }
+{
+    let name = spelled(state.alloc(), word)?;
+    Ok(Fact {
+        place,
+        scope: state.scope(),
+        name,
+        access,
+        what: Entity::Object {
+            of,
+            member: MemberKind::Nonstatic,
+            is_mutable: false,
+            value: None,
+            first: None,
+        },
+    })
+}
+
+/// A nonstatic data member is declared, with the access of the label before it (9.2, 11.1).
+pub fn declare_member(
+    state: &mut State,
+    access: Access,
+    place: Place,
+    word: &[u8],
+    of: TypeId,
+) -> Result<FactId, Stop>
+    requires { of.0 < length (state.old).types }
+    ensures { (kind : TokenKind) → IsAnswered fact_number IsFactKnown state.old state.new result (definition.declare_member access (token kind place word.now) (type_of state.old of) (meaning state.old)) }
+{
+    match member_fact(state, access, place, word, of) {
+        Ok(fact) => declare(state, fact),
+        Err(_) => Err(Stop::OutOfMemory),
+    }
+}
+
+// ---- it ends
+
+// Adds facts one after another.
+fn add_each(state: &mut State, all: Vec<Fact>) -> Result<(), Stop>
+    requires follow { EachMayFollow (state.old).graph (state.old).graph.facts all.items }
+    requires below { AreFactsBelow (length (state.old).types) all.items }
+    requires plain { ArePlain all.items }
+    ensures answered { IsAnswered itself AnyKnown state.old state.new result (definition.added_each (facts_at (state.old).types all.items) (meaning state.old)) }
+    ensures held { OnOk result ((state.new).graph.classes ≡ (state.old).graph.classes) }
+{
+    for fact in all {
+        state.add(fact)?;
+    }
+    Ok(())
+}
+
+// It is complete (9.2), and the reader stands in the scope that holds it.
+fn complete_class(state: &mut State, class: ClassId, place: Place) -> Result<(), Stop>
+    requires { class.0 < length (state.old).graph.classes }
+    ensures { IsAnswered itself AnyKnown state.old state.new result (class_completed class.0 place (meaning state.old)) }
+{
+    let fact = fact_in(
+        state.scope(),
+        place,
+        Name::Unnamed,
+        Entity::Complete { class },
+    );
+    match state.add(fact) {
+        Ok(_) => {
+            state.leave_class();
+            Ok(())
+        }
+        Err(stop) => Err(stop),
+    }
+}
+
+fn end_with(state: &mut State, all: Vec<Fact>, class: ClassId, place: Place) -> Result<(), Stop>
+    requires class { class.0 < length (state.old).graph.classes }
+    requires follow { EachMayFollow (state.old).graph (state.old).graph.facts all.items }
+    requires below { AreFactsBelow (length (state.old).types) all.items }
+    requires plain { ArePlain all.items }
+    ensures { IsAnswered itself AnyKnown state.old state.new result (ended_with (facts_at (state.old).types all.items) class.0 place (meaning state.old)) }
+{
+    match add_each(state, all) {
+        Ok(()) => complete_class(state, class, place),
+        Err(stop) => Err(stop),
+    }
+}
+
+/// A class ends, at the place of its name (9.2): it declares by itself what it has not declared (12.1, 12.8), and the
+/// reader stands in the scope that holds it then.
+pub fn end_class(state: &mut State, class: ClassId, place: Place) -> Result<(), Stop>
+    requires { class.0 < length (state.old).graph.classes }
+    ensures { IsAnswered itself AnyKnown state.old state.new result (definition.end_class class.0 place (meaning state.old)) }
+{
+    match state.implicit_members(class, place) {
+        Ok(all) => end_with(state, all, class, place),
+        Err(_) => Err(Stop::OutOfMemory),
+    }
+}

@@ -1,0 +1,208 @@
+//! The lines of classes (clause 9).
+ghost use Rattle.std.specs.Prelude.{◌≡◌, [], ◌∷◌, ◌++◌, flat_map, length, List, Some, ℕ};
+ghost use Rattle.std.specs.List.{slice_get};
+ghost use Rattle.cxx_model.specs.declared.facts.Access.{Access};
+ghost use Rattle.cxx_model.specs.declared.place.Place.{Place};
+ghost use Rattle.cxx_model.specs.Facts.Declarations.{declares_at, type_of_option, CxxName};
+ghost use Rattle.cxx_model.specs.Facts.Fitted.{IsTypeNumberBelow};
+ghost use Rattle.cxx_model.specs.Types.Trees.{CxxType};
+ghost use Rattle.cxx_page.specs.Sheets.{Writes, put, put_line, put_lines};
+ghost use Rattle.cxx_reading.specs.Plain.{type_or_void};
+ghost use Rattle.cxx_reading.specs.Specifiers.{class_key};
+ghost use Rattle.cxx_reading.specs.Words.{name_word};
+ghost use Rattle.cxx_statement_text.specs.Statements.{indent, open_brace};
+ghost use Rattle.cxx_form.specs.Books.{facts_of, names_of, IsBook};
+ghost use Rattle.cxx_form.specs.Definitions.{object_type as object_type_of};
+ghost use Rattle.cxx_form.specs.Parts.{class_parts, member_at, member_if, members_at};
+ghost use Rattle.cxx_form.specs.Text.{class_definition_words, class_end, class_front, class_key_of, class_words, member_lines, member_words};
+ghost use Rattle.cxx_form.specs.Views.{facts_in};
+
+use crate::book::Book;
+use crate::facts::find;
+use crate::heads::object_type;
+use crate::members::is_first;
+use crate::words::{write_declared, write_name};
+use cxx_model::{Entity, FactId, ScopeId, TypeId};
+use cxx_page::{Page, PlainFault};
+use cxx_reading::Role;
+use cxx_tree::State;
+
+fn key_by(is_union: bool) -> &'static [u8]
+    ensures { result.now ≡ class_key is_union }
+{
+    if is_union { b"union" } else { b"struct" }
+}
+
+fn key_in(what: Entity) -> &'static [u8]
+    ensures { (types : List CxxType) (place : Place) (scope : ℕ) (name : CxxName) (rights : Access) → result.now ≡ class_key_of (Some (record { place = place; scope = scope; name = name; access = rights; what = declares_at types what })) }
+{
+    match what {
+        Entity::Class { is_union, .. } => key_by(is_union),
+        _ => key_by(false),
+    }
+}
+
+// The key of a class, by its declaration.
+fn key_at(state: &State, number: FactId) -> &'static [u8]
+    ensures { result.now ≡ class_key_of (slice_get (facts_in state.now) number.0) }
+{
+    match find(state, number) {
+        Some(fact) => key_in(fact.what),
+        None => key_by(false),
+    }
+}
+
+/// Writes the line of a class (9.1).
+#[tactic(auto, using(crate::proofs::Listing::one_line, cxx_page::proofs::Put::put_more), unfolding(cxx_page::specs::Sheets::put_line))]
+pub(crate) fn write_class_line(
+    book: &Book<'_>,
+    page: &mut Page,
+    number: FactId,
+) -> Result<(), PlainFault>
+    requires { IsBook book.now }
+    ensures { Writes result page.new (put_lines (class_words (names_of book.now) (facts_of book.now) number.0 ∷ []) page.old) }
+{
+    page.word(Role::Alone, key_at(book.state, number))?;
+    write_name(book, page, number)?;
+    page.word(Role::Follows, b";")?;
+    page.end_line()
+}
+
+// ---- definitions (9.2)
+
+// Writes the declaration of a member with a type.
+#[tactic(auto, using(cxx_page::proofs::Put::put_append))]
+fn write_typed(
+    book: &Book<'_>,
+    page: &mut Page,
+    of: Option<TypeId>,
+    number: FactId,
+) -> Result<(), PlainFault>
+    requires book { IsBook book.now }
+    requires below { IsTypeNumberBelow (length (book.now.state.now).types) of }
+    requires is { type_or_void (type_of_option (book.now.state.now).types of) ≡ object_type_of (slice_get (facts_of book.now) number.0) }
+    ensures { Writes result page.new (put (member_words (names_of book.now) (facts_of book.now) number.0) page.old) }
+{
+    write_declared(book, page, of, number)?;
+    page.word(Role::Follows, b";")
+}
+
+fn write_declaration(book: &Book<'_>, page: &mut Page, number: FactId) -> Result<(), PlainFault>
+    requires { IsBook book.now }
+    ensures { Writes result page.new (put (member_words (names_of book.now) (facts_of book.now) number.0) page.old) }
+{
+    write_typed(book, page, object_type(book.state, number), number)
+}
+
+// Writes it behind two spaces.
+#[tactic(auto, using(cxx_page::proofs::Put::put_more))]
+fn write_indented(book: &Book<'_>, page: &mut Page, number: FactId) -> Result<(), PlainFault>
+    requires { IsBook book.now }
+    ensures { Writes result page.new (put (indent 1 ++ member_words (names_of book.now) (facts_of book.now) number.0) page.old) }
+{
+    page.word(Role::Leads, b"  ")?;
+    write_declaration(book, page, number)
+}
+
+// Writes the line of a member.
+#[tactic(auto, using(crate::proofs::Listing::one_line), unfolding(cxx_page::specs::Sheets::put_line))]
+fn write_member(book: &Book<'_>, page: &mut Page, number: FactId) -> Result<(), PlainFault>
+    requires { IsBook book.now }
+    ensures { Writes result page.new (put_lines (member_lines (names_of book.now) (facts_of book.now) number.0) page.old) }
+{
+    write_indented(book, page, number)?;
+    page.end_line()
+}
+
+#[tactic(auto, using(crate::proofs::Listing::no_lines))]
+fn write_if(
+    book: &Book<'_>,
+    page: &mut Page,
+    number: FactId,
+    is_member: bool,
+) -> Result<(), PlainFault>
+    requires { IsBook book.now }
+    ensures { Writes result page.new (put_lines (member_if book.now number is_member) page.old) }
+{
+    if !is_member {
+        return Ok(());
+    }
+    write_member(book, page, number)
+}
+
+// Writes the line of a member where it is declared first.
+fn write_first(book: &Book<'_>, page: &mut Page, number: FactId) -> Result<(), PlainFault>
+    requires { IsBook book.now }
+    ensures { Writes result page.new (put_lines (member_at book.now number) page.old) }
+{
+    write_if(book, page, number, is_first(book.state, number))
+}
+
+// Writes the lines of members.
+fn write_members(book: &Book<'_>, page: &mut Page, numbers: &[FactId]) -> Result<(), PlainFault>
+    requires { IsBook book.now }
+    ensures { Writes result page.new (put_lines (flat_map (member_at book.now) numbers.now) page.old) }
+{
+    for number in numbers {
+        write_first(book, page, *number)?;
+    }
+    Ok(())
+}
+
+// Writes the last line.
+#[tactic(auto, using(crate::proofs::Listing::one_line, cxx_page::proofs::Put::put_more), unfolding(cxx_page::specs::Sheets::put_line))]
+fn write_end(page: &mut Page) -> Result<(), PlainFault>
+    ensures { Writes result page.new (put_lines (class_end ∷ []) page.old) }
+{
+    page.word(Role::Alone, b"}")?;
+    page.word(Role::Follows, b";")?;
+    page.end_line()
+}
+
+#[tactic(auto, using(cxx_statement_text::proofs::Lining::lines_append))]
+fn write_inner(book: &Book<'_>, page: &mut Page, numbers: &[FactId]) -> Result<(), PlainFault>
+    requires { IsBook book.now }
+    ensures { Writes result page.new (put_lines (members_at book.now numbers.now ++ class_end ∷ []) page.old) }
+{
+    write_members(book, page, numbers)?;
+    write_end(page)
+}
+
+// Writes the first line.
+#[tactic(auto, using(cxx_page::proofs::Put::put_more), unfolding(cxx_page::specs::Sheets::put_line))]
+fn write_front(book: &Book<'_>, page: &mut Page, number: FactId) -> Result<(), PlainFault>
+    requires { IsBook book.now }
+    ensures { Writes result page.new (put_line (class_front (names_of book.now) (facts_of book.now) number.0) page.old) }
+{
+    page.word(Role::Alone, key_at(book.state, number))?;
+    write_name(book, page, number)?;
+    page.word(Role::Alone, b"{")?;
+    page.end_line()
+}
+
+#[tactic(auto, using(crate::proofs::Listing::line_then), unfolding(crate::specs::Parts::class_parts))]
+fn write_parts(
+    book: &Book<'_>,
+    page: &mut Page,
+    numbers: &[FactId],
+    number: FactId,
+) -> Result<(), PlainFault>
+    requires { IsBook book.now }
+    ensures { Writes result page.new (put_lines (class_parts book.now numbers.now number.0) page.old) }
+{
+    write_front(book, page, number)?;
+    write_inner(book, page, numbers)
+}
+
+/// Writes the lines of the definition of a class, given its scope.
+pub(crate) fn write_class_definition(
+    book: &Book<'_>,
+    page: &mut Page,
+    number: FactId,
+    scope: ScopeId,
+) -> Result<(), PlainFault>
+    requires { IsBook book.now }
+    ensures { Writes result page.new (put_lines (class_definition_words (names_of book.now) (facts_of book.now) number.0 scope.0) page.old) }
+{
+    write_parts(book, page, book.objects.row(scope.0), number)
+}

@@ -1,0 +1,162 @@
+-- Where the reading of a class stops, and of the specifiers among which it is defined.
+use Rattle.std.proofs.Common.{◌≡◌, refl}
+use Rattle.std.specs.Prelude.{ℕ, zero, suc, Bool, false, not, ◌&&◌, ◌||◌, List, Ok, Err}
+use Rattle.cxx_model.specs.declared.facts.Access.{Access}
+use Rattle.cxx_model.specs.declared.keyword.TheConstants as keyword
+use Rattle.cxx_model.specs.declared.punct.TheConstants as punct
+use Rattle.cxx_model.specs.Stops.{Answer, Stopped}
+use Rattle.cxx_model.specs.Text.Lexemes.{Lexeme}
+use Rattle.cxx_model.specs.Types.Trees.{CxxType}
+use Rattle.cxx_reading.specs.declared.specifier.SpecifierPlace.TheVariants as where_
+use Rattle.cxx_reading.specs.Declarators.{Declarator, Specifiers, declared_type, has_type, is_function_type, is_void, refused_in, is_refused}
+use Rattle.cxx_reading.specs.Reads.{Ahead, Got, Reads, More, Done, ◌>>=◌, then_read, answered, ask, taken, looked, give, count_ahead, kind_ahead, behind}
+use Rattle.cxx_reading.specs.State.{CxxState}
+use Rattle.cxx_reading.specs.Tokens.{is_keyword, is_punct, token_in}
+use Rattle.cxx_reading.specs.Trees.{CxxTree}
+use Rattle.cxx_reading.specs.Units.{Listed, Said, declared_fits, declarator_tree, give_trees, is_incomplete, is_unbounded, name_in, no_declarators, said_by, simple_tree, specifiers_tree}
+use Rattle.cxx_declare.specs.ClassDefinitions.{begin_class, end_class}
+use Rattle.cxx_language.specs.Classes.{Head, Members, access_by, access_step, access_word, begins_function, class_at, class_or_not, class_tree, comes_later, data_member, declaration_specifiers, declared_step, give_members, head_at, key_access, list_at, list_step, member_at, member_declaration_at, member_step, members_by, named_member_at, no_bit_field, no_function, no_members, whole_member, with_class, with_member}
+use Rattle.cxx_language_laws.specs.Stopping.{BeginsClass, Gives, a_class, a_member_declaration, a_simple_declaration, begins_class, behind_class, further_specifiers_of, in_class, in_member, in_member_declarator, in_member_specifiers, in_specifiers, next_member, next_member_declarator, some_further_specifiers, some_member_declarators, some_members, to_class, to_member_declarators}
+use Rattle.cxx_language_laws.specs.Told.{EndsIn}
+use Rattle.cxx_language_laws.proofs.Asked.{kinds_tell}
+use Rattle.cxx_language_laws.proofs.Both.{both_tell}
+use Rattle.cxx_language_laws.proofs.ClassBegins.{begin_tells, end_tells, member_tells}
+use Rattle.cxx_language_laws.proofs.Declared.{declarator_ended_tells, give_trees_tells, nothing_tells}
+use Rattle.cxx_language_laws.proofs.DeclaratorsStop.{declarator_stops, specifiers_stop}
+use Rattle.cxx_language_laws.proofs.Later.{IsLater, later_is_quiet}
+use Rattle.cxx_language_laws.proofs.Opened.{InSpace}
+use Rattle.cxx_language_laws.proofs.Reached.{later_is_told}
+use Rattle.cxx_language_laws.proofs.Stopping.{ChainedOf, Inside, Stops, calm, calm_from, innermost_stops, leads_here, leads_in, quiet_told, repeat_stops, then_calm, told_within, which_in, whole_calm, whole_stops, within_part}
+use Rattle.cxx_language_laws.proofs.Tells.{Quietly, Tells, ToldBy, ask_from, ask_in, ends_later, give_in, if_in, looked_in, next_in, past_stands, punct_in, quiet_in, same_in, taken_in, tells_answer, tells_read, tells_refusal, tells_stop, then_from, then_in, tokens_in, twice_behind, unit_is_told}
+use Rattle.cxx_language_laws.proofs.TellsSpecifiers.{further_tell}
+
+-- ---- one member (9.2)
+
+no_bit_field_tells : (name : Lexeme) → Tells IsLater Quietly (no_bit_field name)
+unfolding no_bit_field
+no_bit_field_tells name state ahead = if_in (is_punct punct.COLON (kind_ahead ahead)) (quiet_in later_is_quiet refl) (same_in later_is_quiet tt state ahead)
+
+no_function_tells : (name : Lexeme) (of : CxxType) → Tells IsLater Quietly (no_function name of)
+unfolding no_function
+no_function_tells name of state ahead = if_in (is_function_type of) (quiet_in later_is_quiet refl) (same_in later_is_quiet tt state ahead)
+
+whole_member_tells : (name : Lexeme) (of : CxxType) → Tells IsLater Quietly (whole_member name of)
+unfolding whole_member
+whole_member_tells name of state ahead = if_in (is_unbounded of || is_incomplete state.graph of) (quiet_in later_is_quiet refl) (same_in later_is_quiet tt state ahead)
+
+fits_tells : (said : Said) (declarator : Declarator) → Tells IsLater Quietly (declared_fits said declarator)
+unfolding declared_fits
+fits_tells said declarator state ahead = if_in (is_refused (refused_in declarator.layers said.of) || (not said.is_typedef && is_void (declared_type declarator.layers said.of))) (quiet_in later_is_quiet refl) (same_in later_is_quiet tt state ahead)
+
+data_member_tells : (label : Access) (said : Said) (declarator : Declarator) (from : Ahead) → Tells IsLater Quietly (data_member label said declarator from)
+unfolding data_member
+data_member_tells label said declarator from state ahead =
+    let name = name_in declarator in
+    let of = declared_type declarator.layers said.of in
+    then_in later_is_quiet (no_bit_field_tells name state ahead) (λ narrow state ahead.
+    then_in later_is_quiet (fits_tells said declarator state ahead) (λ fits state ahead.
+    then_in later_is_quiet (no_function_tells name of state ahead) (λ object state ahead.
+    then_in later_is_quiet (ask_in ahead (member_tells label name of state ahead)) (λ number state ahead.
+    then_in later_is_quiet (whole_member_tells name of state ahead) (λ whole state ahead.
+    then_in later_is_quiet (looked_in later_is_quiet state ahead) (λ to. give_in later_is_quiet (declarator_tree false name of number declarator.parts from to)))))))
+
+named_member_stops : (room : ℕ) (label : Access) (said : Said) (so_far : Listed) (state : CxxState) (ahead : Ahead) → Inside (some_member_declarators room label said so_far) state ahead (named_member_at room label said state ahead)
+unfolding named_member_at
+named_member_stops room label said so_far state ahead = then_calm (leads_here in_member_declarator (declarator_stops room state ahead)) (λ declarator. data_member_tells label said declarator ahead)
+
+member_at_stops : (room : ℕ) (label : Access) (said : Said) (so_far : Listed) (state : CxxState) (ahead : Ahead) → Inside (some_member_declarators room label said so_far) state ahead (member_at room label said state ahead)
+unfolding member_at
+member_at_stops room label said so_far state ahead =
+    if_in (is_punct punct.COLON (kind_ahead ahead)) (calm (quiet_in later_is_quiet refl)) (
+    if_in (begins_function ahead) (calm (quiet_in later_is_quiet refl)) (
+    named_member_stops room label said so_far state ahead))
+
+member_step_stops : (room : ℕ) (label : Access) (said : Said) (so_far : Listed) (state : CxxState) (ahead : Ahead) → Inside (some_member_declarators room label said so_far) state ahead (member_step room label said so_far state ahead)
+unfolding member_step
+member_step_stops room label said so_far state ahead = then_calm (member_at_stops room label said so_far state ahead) (declarator_ended_tells so_far)
+
+members_by_stop : (room : ℕ) (label : Access) (specifiers : Specifiers) (state : CxxState) (ahead : Ahead) → Stops (some_member_declarators room label (said_by false specifiers) no_declarators) state ahead (members_by room label specifiers state ahead)
+unfolding members_by
+members_by_stop room label specifiers state ahead =
+    if_in (is_punct punct.SEMICOLON (kind_ahead ahead)) (whole_calm (nothing_tells specifiers state ahead))
+    (repeat_stops (some_member_declarators room label (said_by false specifiers)) (member_step room label (said_by false specifiers)) give_trees (λ so_far s ahead fault is. is) (λ so_far more s t ahead rest is. next_member_declarator is) (member_step_stops room label (said_by false specifiers)) give_trees_tells (count_ahead ahead) no_declarators state ahead)
+
+member_declaration_stops : (room : ℕ) (label : Access) (state : CxxState) (ahead : Ahead) → Stops (a_member_declaration room label) state ahead (member_declaration_at room label state ahead)
+unfolding member_declaration_at
+member_declaration_stops room label state ahead =
+    whole_stops (λ fault is. is) (then_from _ (leads_here in_member_specifiers (specifiers_stop room where_.Member state ahead)) (λ one is later stands.
+    then_calm (leads_in (to_member_declarators is) later stands (members_by_stop room label one.value one.state one.rest)) (λ declarators state rest.
+    then_in later_is_quiet (looked_in later_is_quiet state rest) (λ to. give_in later_is_quiet (simple_tree (specifiers_tree one.value ahead one.rest) declarators ahead to)))))
+
+-- ---- the list of members
+
+access_tells : (so_far : Members) → Tells IsLater Quietly (access_step so_far)
+unfolding access_step
+access_tells so_far state ahead =
+    then_in later_is_quiet (looked_in later_is_quiet state ahead) (λ from state ahead.
+    then_in later_is_quiet (taken_in later_is_quiet state ahead) (λ word state ahead.
+    then_in later_is_quiet (tokens_in later_is_quiet (punct_in unit_is_told punct.COLON) state ahead) (λ colon. give_in later_is_quiet (More (record so_far { access = access_by (kind_ahead from) })))))
+
+list_step_stops : (room : ℕ) (name : Lexeme) (so_far : Members) (state : CxxState) (ahead : Ahead) → Inside (some_members room name so_far) state ahead (list_step room name so_far state ahead)
+unfolding list_step declared_step
+list_step_stops room name so_far state ahead =
+    if_in (is_punct punct.RIGHT_BRACE (kind_ahead ahead)) (calm (next_in later_is_quiet (Done so_far.trees) state ahead)) (
+    if_in (is_punct punct.SEMICOLON (kind_ahead ahead)) (calm (next_in later_is_quiet (More so_far) state ahead)) (
+    if_in (access_word (kind_ahead ahead)) (calm (access_tells so_far state ahead)) (
+    if_in (comes_later name ahead) (calm (quiet_in later_is_quiet refl))
+    (then_calm (leads_here in_member (member_declaration_stops room so_far.access state ahead)) (λ tree. give_in later_is_quiet (More (with_member tree so_far)))))))
+
+members_stop : (room : ℕ) (head : Head) (state : CxxState) (ahead : Ahead) → Stops (some_members room head.name (no_members head.access)) state ahead (list_at (suc room) head state ahead)
+unfolding list_at
+members_stop room head state ahead = repeat_stops (some_members room head.name) (list_step room head.name) give_members (λ so_far s ahead fault is. is) (λ so_far more s t ahead rest is. next_member is) (list_step_stops room head.name) (λ so_far. give_in later_is_quiet so_far.trees) (count_ahead ahead) (no_members head.access) state ahead
+
+-- ---- the whole
+
+-- what stops those of a class, and what is read of them in its scope
+data InsideClass (room : ℕ) (so_far : Specifiers) (state : CxxState) (ahead : Ahead) (opened : CxxState) (rest : Ahead) : Answer (Got CxxState (List CxxTree)) → Type 0 where
+  read_inside : (one : Got CxxState (List CxxTree)) → IsLater opened one.state → EndsIn rest.tokens one.rest.tokens → InsideClass room so_far state ahead opened rest (Ok one)
+  stopped_inside : (why : Stopped) → ChainedOf within_part (a_class room so_far) state ahead why → InsideClass room so_far state ahead opened rest (Err why)
+
+inside_class : (room : ℕ) (so_far : Specifiers) (head : Head) (state opened : CxxState) (ahead rest : Ahead) → BeginsClass state ahead head opened rest → InSpace state opened → EndsIn ahead.tokens rest.tokens → InsideClass room so_far state ahead opened rest (list_at room head opened rest)
+unfolding list_at
+inside_class zero so_far head state opened ahead rest begins is stands = stopped_inside _ tt
+inside_class (suc room) so_far head state opened ahead rest begins is stands = by (members_stop room head opened rest)
+  where
+    by : {r : Answer (Got CxxState (List CxxTree))} → Stops (some_members room head.name (no_members head.access)) opened rest r → InsideClass (suc room) so_far state ahead opened rest r
+    by (tells_read one later ends) = read_inside one later ends
+    by (tells_stop why told) = stopped_inside why (told_within (a_class (suc room) so_far) (some_members room head.name (no_members head.access)) state opened ahead rest why (in_class begins) (record { grown = is.grown; scopes = is.scopes }) stands told)
+
+-- behind them the reader stands where it did
+abbrev behind_members : Specifiers → Head → ℕ → Ahead → List CxxTree → Reads CxxState Specifiers
+behind_members so_far head number from members = ask (end_class number head.name.place) >>= λ ended. looked >>= λ to. give (with_class so_far number (class_tree head number members from to))
+
+class_ends : (room : ℕ) (so_far : Specifiers) (head : Head) (number : ℕ) (state opened : CxxState) (ahead rest : Ahead) → InSpace state opened → EndsIn ahead.tokens rest.tokens → {r : Answer (Got CxxState (List CxxTree))} → InsideClass room so_far state ahead opened rest r → Inside (a_class room so_far) state ahead (then_read r (behind_members so_far head number ahead))
+class_ends room so_far head number state opened ahead rest is stands (read_inside one later ends) =
+    calm (then_in later_is_quiet (ask_from one.rest (ends_later ahead.tokens rest.tokens one.rest.tokens stands ends) (end_tells state opened one.state ahead number head.name.place is later)) (λ ended state after.
+    then_in later_is_quiet (looked_in later_is_quiet state after) (λ to. give_in later_is_quiet (with_class so_far number (class_tree head number one.value ahead to)))))
+class_ends room so_far head number state opened ahead rest is stands (stopped_inside why told) = tells_stop why told
+
+begun_stops : (room : ℕ) (so_far : Specifiers) (head : Head) (state : CxxState) (ahead brace : Ahead) → Gives head_at state ahead head state brace → EndsIn ahead.tokens brace.tokens → {r : Answer (ℕ × CxxState)} → ToldBy InSpace Quietly state brace r → ((begun : ℕ × CxxState) → r ≡ Ok begun → begin_class head.is_union head.name state ≡ Ok begun)
+    → Inside (a_class room so_far) state ahead (then_read (answered r brace) (λ number. taken >>= λ opened. list_at room head >>= behind_members so_far head number ahead))
+begun_stops room so_far head state ahead brace gives stands (tells_answer one is) begins = class_ends room so_far head one.0 state one.1 ahead (behind brace) is (past_stands ahead brace stands) (inside_class room so_far head state one.1 ahead (behind brace) (begins_class brace one gives (begins one refl)) is (past_stands ahead brace stands))
+begun_stops room so_far head state ahead brace gives stands (tells_refusal why quiet) begins = tells_stop why (quiet_told within_part (a_class room so_far) state ahead why quiet)
+
+class_stops : (room : ℕ) (so_far : Specifiers) (state : CxxState) (ahead : Ahead) → Stops (a_class room so_far) state ahead (class_at room so_far state ahead)
+unfolding class_at head_at
+class_stops room so_far state ahead = whole_stops (λ fault is. is) (begun_stops room so_far head state ahead (behind (behind ahead)) refl (twice_behind ahead) (begin_tells head.is_union head.name state (behind (behind ahead))) (λ begun is. is))
+  where
+    head : Head
+    head = record { is_union = is_keyword keyword.UNION (kind_ahead ahead); access = key_access (kind_ahead ahead); name = token_in (behind ahead).tokens }
+
+-- ---- the specifiers of a declaration of a namespace
+
+further_stop : (room : ℕ) (so_far : Specifiers) (state : CxxState) (ahead : Ahead) → Stops (some_further_specifiers room so_far) state ahead (further_specifiers_of room so_far state ahead)
+further_stop room so_far state ahead = innermost_stops tt (λ fault is. is) (further_tell later_is_told (kinds_tell room) (both_tell room).types where_.Declaration so_far state ahead)
+
+pub all_specifiers_stop : (room : ℕ) (as_extern : Bool) (state : CxxState) (ahead : Ahead) → Inside (a_simple_declaration room as_extern) state ahead (declaration_specifiers room state ahead)
+unfolding declaration_specifiers class_or_not
+all_specifiers_stop room as_extern state ahead =
+    then_from (class_or_not room) (leads_here in_specifiers (specifiers_stop room where_.Declaration state ahead)) (λ one is later stands.
+    which_in (has_type one.value) (λ typed. calm_from later stands (same_in later_is_quiet one.value one.state one.rest)) (λ untyped.
+    then_from (further_specifiers_of room) (leads_in (to_class is untyped) later stands (class_stops room one.value one.state one.rest)) (λ more is_class further ends.
+    leads_in (behind_class is untyped is_class) further ends (further_stop room more.value more.state more.rest))))

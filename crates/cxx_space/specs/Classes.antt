@@ -1,0 +1,83 @@
+-- The definitions of classes, in the code: what their values stand for, given the trees and types of a state, and what is left
+-- of a definition behind its beginning.
+use Rattle.std.specs.Prelude.{ℕ, ◌≡◌, ◌<◌, false, length, List}
+use Rattle.cxx_model.specs.declared.facts.Access.{Access}
+use Rattle.cxx_model.specs.declared.types.TreeId.{TreeId}
+use Rattle.cxx_model.specs.Text.Lexemes.{Lexeme}
+use Rattle.cxx_model.specs.Types.Numbers.{type_at}
+use Rattle.cxx_model.specs.Types.Trees.{CxxType, class_type}
+use Rattle.cxx_reading.specs.declared.specifier.SpecifierPlace.TheVariants as where_
+use Rattle.cxx_reading.specs.Declarators as declarators
+use Rattle.cxx_reading.specs.Declarators.{Declarator, declared_type}
+use Rattle.cxx_reading.specs.Reads as reads
+use Rattle.cxx_reading.specs.Reads.{Reads, Ahead, ◌>>=◌, give, ask, looked, taken, count_ahead, repeat}
+use Rattle.cxx_reading.specs.Specifiers.{specifiers_from}
+use Rattle.cxx_reading.specs.State.{CxxState}
+use Rattle.cxx_reading.specs.Trees.{CxxTree}
+use Rattle.cxx_reading.specs.Units.{Said, declarator_tree, give_trees, name_in, no_declarators}
+use Rattle.cxx_cursor.specs.declared.turn.Turn.{Turn}
+use Rattle.cxx_cursor.specs.Views.{AreTreesHeld, IsTurn, lexeme_at, trees_held, turn_at}
+use Rattle.cxx_declare.specs.ClassDefinitions.{declare_member, end_class}
+use Rattle.cxx_language.specs.Asked.{asked, inner_at}
+use Rattle.cxx_language.specs.Classes as definition
+use Rattle.cxx_language.specs.Classes.{class_at, class_tree, list_at, member_step, no_function, whole_member, with_class}
+use Rattle.cxx_space.specs.declared.classes.Begun.{Begun}
+use Rattle.cxx_space.specs.declared.classes.Head.{Head}
+use Rattle.cxx_space.specs.declared.classes.Members.{Members}
+use Rattle.cxx_tree.specs.Held.{Held}
+
+-- ---- values
+
+abbrev pub head_of : Head → definition.Head
+head_of head = record { is_union = head.is_union; access = head.access; name = lexeme_at head.name }
+
+abbrev pub begun_number : Held → Begun → ℕ
+begun_number held begun = begun.class.0
+
+-- a class, and the number of its type
+pub record IsBegun (held : Held) (begun : Begun) : Type 0 where
+  pub known : begun.of.0 < length held.types
+  pub is : type_at held.types begun.of.0 ≡ class_type begun.class.0
+
+abbrev pub members_of : Held → Members → definition.Members
+members_of held so_far = record { trees = trees_held held so_far.trees; access = so_far.access }
+
+abbrev pub AreMembers : Held → Members → Type 0
+AreMembers held so_far = AreTreesHeld held so_far.trees
+
+abbrev pub members_turn : Held → Turn Members (List TreeId) → reads.Turn definition.Members (List CxxTree)
+members_turn held = turn_at (members_of held) (trees_held held)
+
+abbrev pub IsMembersTurn : Held → Turn Members (List TreeId) → Type 0
+IsMembersTurn held = IsTurn (AreMembers held) (AreTreesHeld held)
+
+-- ---- a member
+
+-- once it is declared
+abbrev pub member_kept : Lexeme → CxxType → ℕ → List CxxTree → Ahead → Reads CxxState CxxTree
+member_kept name of number parts from = whole_member name of >>= λ whole. looked >>= λ to. give (declarator_tree false name of number parts from to)
+
+-- once it is no bit-field and its declarator fits
+abbrev pub member_of : Access → Lexeme → CxxType → List CxxTree → Ahead → Reads CxxState CxxTree
+member_of access name of parts from = no_function name of >>= λ object. ask (declare_member access name of) >>= λ number. member_kept name of number parts from
+
+abbrev pub fitting_member : Access → Said → Declarator → Ahead → Reads CxxState CxxTree
+fitting_member access said declarator from = member_of access (name_in declarator) (declared_type declarator.layers said.of) declarator.parts from
+
+-- behind specifiers
+abbrev pub members_at : ℕ → Access → Said → Reads CxxState (List CxxTree)
+members_at room access said state ahead = repeat (member_step room access said) give_trees (count_ahead ahead) no_declarators state ahead
+
+-- ---- the whole
+
+-- behind the list of its members
+abbrev pub class_ended : definition.Head → ℕ → List CxxTree → declarators.Specifiers → Ahead → Reads CxxState declarators.Specifiers
+class_ended head n members so_far from = ask (end_class n head.name.place) >>= λ ended. looked >>= λ to. give (with_class so_far n (class_tree head n members from to))
+
+-- from the `{` on, where it has begun
+abbrev pub class_opened : ℕ → definition.Head → ℕ → declarators.Specifiers → Ahead → Reads CxxState declarators.Specifiers
+class_opened room head n so_far from = taken >>= λ opened. list_at room head >>= λ members. class_ended head n members so_far from
+
+-- a class, and the specifiers behind it
+abbrev pub class_then : ℕ → declarators.Specifiers → Reads CxxState declarators.Specifiers
+class_then room so_far = class_at room so_far >>= specifiers_from (asked room).kinds (inner_at room).types where_.Declaration

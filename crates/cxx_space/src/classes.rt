@@ -1,0 +1,425 @@
+//! Definitions of classes (clause 9): their heads, and the lists of their members up to their ends.
+
+ghost use Rattle.std.specs.Prelude.{◌≡◌, ◌<◌, ◌++◌, ◌∷◌, [], Ok, Some, length, true, IfOk};
+ghost use Rattle.cxx_declare.specs.ClassDefinitions.{begin_class};
+ghost use Rattle.cxx_language.specs.Classes as definition;
+ghost use Rattle.cxx_model.specs.declared.keyword.TheConstants as key;
+ghost use Rattle.cxx_reading.specs.Reads.{behind, kind_ahead};
+ghost use Rattle.cxx_reading.specs.Specifiers.{path_of};
+ghost use Rattle.cxx_reading.specs.Tokens as token;
+ghost use Rattle.cxx_space.specs.Classes.{AreMembers, IsBegun, IsMembersTurn, begun_number, class_ended, class_opened, class_then, head_of, members_of, members_turn};
+ghost use Rattle.cxx_cursor.specs.Asking.{IsAsked};
+ghost use Rattle.cxx_cursor.specs.Making.{GrowsTree};
+ghost use Rattle.cxx_cursor.specs.Reading.{IsRead};
+ghost use Rattle.cxx_cursor.specs.Views.{AreSpecifiers, AreTreesHeld, lexeme_at, specifiers_of, trees_held};
+ghost use Rattle.cxx_tree.specs.Arena.{path_at};
+ghost use Rattle.cxx_tree.specs.Held.{meaning};
+
+use crate::space::{Defines, Space};
+use cxx_cursor::{
+    Cursor, Specifiers, Spelled, Turn, is_keyword, is_name, is_punct, no_specifiers_yet, node_from,
+    push,
+};
+use cxx_model::{
+    Access, ClassId, LimitKind, Listed, Path, PathPart, Stop, Text, TokenKind, TreeId, TreeIdList,
+    TypeId, Word, keyword, punct,
+};
+use cxx_reading::SpecifierPlace;
+use cxx_syntax::{class_key, has_type};
+use cxx_tree::State;
+use cxx_units::trees::with_tree;
+use std::alloc::{AllocError, Global};
+
+/// The number of the production.
+const CLASS_DEFINITION: u8 = 10;
+
+/// The head of a class.
+#[derive(Clone, Copy)]
+pub(crate) struct Head<'a> {
+    pub is_union: bool,
+    /// The access of members that no label stands before (11).
+    pub access: Access,
+    pub name: Spelled<'a>,
+}
+
+/// A class that has begun, with its type.
+#[derive(Clone, Copy)]
+pub(crate) struct Begun {
+    pub class: ClassId,
+    pub of: TypeId,
+}
+
+/// The members that were read of a list, and the access of what follows (11.1).
+#[derive(Drop)]
+pub(crate) struct Members {
+    pub trees: TreeIdList,
+    pub access: Access,
+}
+
+// ---- the head
+
+fn key_access(kind: TokenKind) -> Access
+    ensures { result ≡ definition.key_access kind }
+{
+    if is_keyword(keyword::CLASS, kind) {
+        Access::Private
+    } else {
+        Access::Public
+    }
+}
+
+// A key and a name, taken.
+fn head_at<'a>(cursor: &mut Cursor<'a>) -> Head<'a>
+    ensures is_union { result.is_union ≡ token.is_keyword key.UNION (kind_ahead cursor.old) }
+    ensures access { result.access ≡ definition.key_access (kind_ahead cursor.old) }
+    ensures name { lexeme_at result.name ≡ token.token_in (behind cursor.old).tokens }
+    ensures taken { cursor.new ≡ behind (behind cursor.old) }
+{
+    let is_union = is_keyword(keyword::UNION, cursor.kind());
+    let access = key_access(cursor.kind());
+    cursor.advance();
+    Head {
+        is_union,
+        access,
+        name: cursor.token(),
+    }
+}
+
+// The type of a class that begins.
+#[tactic(auto, using(cxx_cursor::proofs::Kept::later_trans))]
+fn begun_as(state: &mut State, class: ClassId) -> Result<Begun, Stop>
+    requires { class.0 < length (state.old).graph.classes }
+    ensures { IsAsked begun_number IsBegun state.old state.new result (Ok (class.0, meaning state.old)) }
+{
+    match state.class_type(class) {
+        Ok(of) => Ok(Begun { class, of }),
+        Err(_) => Err(Stop::OutOfMemory),
+    }
+}
+
+// ---- the list of members
+
+fn is_access_word(kind: TokenKind) -> bool
+    ensures { result ≡ definition.access_word kind }
+{
+    is_keyword(keyword::PUBLIC, kind)
+        || (is_keyword(keyword::PROTECTED, kind) || is_keyword(keyword::PRIVATE, kind))
+}
+
+fn access_by(kind: TokenKind) -> Access
+    ensures { result ≡ definition.access_by kind }
+{
+    if is_keyword(keyword::PUBLIC, kind) {
+        return Access::Public;
+    }
+    if is_keyword(keyword::PROTECTED, kind) {
+        return Access::Protected;
+    }
+    Access::Private
+}
+
+// A label (11.1).
+#[tactic(auto, using(cxx_cursor::proofs::Kept::later_refl), unfolding(cxx_language::specs::Classes::access_step))]
+fn access_step(
+    state: &State,
+    cursor: &mut Cursor<'_>,
+    so_far: Members,
+) -> Result<Turn<Members, TreeIdList>, Stop>
+    requires { AreMembers state.now so_far }
+    ensures { IsRead members_turn IsMembersTurn state.now state.now cursor.new result (definition.access_step (members_of state.now so_far) (meaning state.now) cursor.old) }
+{
+    let _ = state;
+    let access = access_by(cursor.kind());
+    cursor.advance();
+    cursor.punct(punct::COLON)?;
+    Ok(Turn::More(Members {
+        trees: so_far.trees,
+        access,
+    }))
+}
+
+// With which words other members begin (7.3.3, clause 14).
+fn begins_other(kind: TokenKind) -> bool
+    ensures { result ≡ definition.begins_other kind }
+{
+    is_keyword(keyword::USING, kind)
+        || (is_keyword(keyword::TEMPLATE, kind) || is_punct(punct::TILDE, kind))
+}
+
+// The name of the class and a bracket (12.1).
+fn begins_constructor(head: &Head<'_>, cursor: &Cursor<'_>) -> bool
+    ensures { result ≡ definition.begins_constructor (lexeme_at head.now.name) cursor.now }
+{
+    is_name(cursor.kind())
+        && (cursor.spelling() == head.name.spelling
+            && is_punct(punct::LEFT_PARENTHESIS, cursor.kind_behind()))
+}
+
+// Constructors, destructors, using-declarations and templates of a class are not read yet.
+fn comes_later(head: &Head<'_>, cursor: &Cursor<'_>) -> bool
+    ensures { result ≡ definition.comes_later (lexeme_at head.now.name) cursor.now }
+{
+    begins_other(cursor.kind()) || begins_constructor(head, cursor)
+}
+
+fn with_member(so_far: Members, number: TreeId) -> Result<Members, AllocError>
+    ensures { IfOk result (λ all. all ≡ record { trees = so_far.trees ++ number ∷ []; access = so_far.access }) }
+{
+    Ok(Members {
+        trees: with_tree(so_far.trees, number)?,
+        access: so_far.access,
+    })
+}
+
+fn no_members(alloc: Global, access: Access) -> Members
+    ensures { result ≡ record { trees = []; access = access } }
+{
+    Members {
+        trees: Listed::new(alloc),
+        access,
+    }
+}
+
+// ---- the tree
+
+// The path of a name without qualifiers.
+fn path_to(alloc: Global, name: Spelled<'_>) -> Result<Path, AllocError>
+    ensures { IfOk result (λ path. path_at path ≡ path_of (lexeme_at name.entry)) }
+{
+    let mut parts = Listed::new(alloc);
+    parts.push(PathPart {
+        word: Word::from_slice(alloc, name.spelling)?,
+        place: name.place,
+        arguments: None,
+    })?;
+    Ok(Path {
+        global: false,
+        parts,
+    })
+}
+
+fn class_tree(
+    state: &mut State,
+    head: &Head<'_>,
+    begun: Begun,
+    members: TreeIdList,
+    from: &Cursor<'_>,
+    to: &Cursor<'_>,
+) -> Result<TreeId, Stop>
+    requires begun { IsBegun state.old begun }
+    requires members { AreTreesHeld state.old members }
+    ensures { GrowsTree state.old state.new result (definition.class_tree (head_of head.now) begun.class.0 (trees_held state.old members) from.now to.now) }
+{
+    let path = path_to(from.alloc(), head.name)?;
+    let spelling = Text::from_slice(from.alloc(), class_key(head.is_union))?;
+    let mut node = node_from(CLASS_DEFINITION, spelling, from, to, members);
+    node.place = head.name.place;
+    node.path = Some(path);
+    node.of = Some(begun.of);
+    push(state, node)
+}
+
+fn with_class(so_far: Specifiers, of: TypeId, number: TreeId) -> Result<Specifiers, AllocError>
+    ensures { IfOk result (λ all. all ≡ record so_far { named = Some of; stands_alone = true; parts = so_far.parts ++ number ∷ [] }) }
+{
+    let mut so_far = so_far;
+    so_far.named = Some(of);
+    so_far.stands_alone = true;
+    so_far.parts.push(number)?;
+    Ok(so_far)
+}
+
+impl<D: Defines> Space<'_, D> {
+    // A declaration in the list of a class.
+    #[tactic(auto, using(cxx_cursor::proofs::Kept::trees_kept, cxx_cursor::proofs::Kept::trees_later, cxx_cursor::proofs::Kept::trees_append, cxx_cursor::proofs::Kept::trees_below_append, cxx_cursor::proofs::Kept::later_refl, cxx_cursor::proofs::Kept::later_trans), unfolding(cxx_language::specs::Classes::declared_step))]
+    fn declared_step(
+        &self,
+        state: &mut State,
+        cursor: &mut Cursor<'_>,
+        head: &Head<'_>,
+        so_far: Members,
+    ) -> Result<Turn<Members, TreeIdList>, Stop>
+        requires { AreMembers state.old so_far }
+        ensures { IsRead members_turn IsMembersTurn state.old state.new cursor.new result (definition.declared_step self.now.room (lexeme_at head.now.name) (members_of state.old so_far) (meaning state.old) cursor.old) }
+    {
+        if comes_later(head, cursor) {
+            return Err(Stop::Fault(cursor.not_built()?));
+        }
+        let number = self.member_declaration_at(state, cursor, so_far.access)?;
+        Ok(Turn::More(with_member(so_far, number)?))
+    }
+
+    // A member, a label, `;` alone, or the end of the list.
+    #[tactic(auto, using(cxx_cursor::proofs::Kept::later_refl), unfolding(cxx_language::specs::Classes::list_step))]
+    fn list_step(
+        &self,
+        state: &mut State,
+        cursor: &mut Cursor<'_>,
+        head: &Head<'_>,
+        so_far: Members,
+    ) -> Result<Turn<Members, TreeIdList>, Stop>
+        requires { AreMembers state.old so_far }
+        ensures { IsRead members_turn IsMembersTurn state.old state.new cursor.new result (definition.list_step self.now.room (lexeme_at head.now.name) (members_of state.old so_far) (meaning state.old) cursor.old) }
+    {
+        if is_punct(punct::RIGHT_BRACE, cursor.kind()) {
+            cursor.advance();
+            return Ok(Turn::Done(so_far.trees));
+        }
+        if is_punct(punct::SEMICOLON, cursor.kind()) {
+            cursor.advance();
+            return Ok(Turn::More(so_far));
+        }
+        if is_access_word(cursor.kind()) {
+            return access_step(state, cursor, so_far);
+        }
+        self.declared_step(state, cursor, head, so_far)
+    }
+
+    // Behind the `{` of a class, with its end.
+    #[tactic(auto, using(crate::proofs::Listing::list_zero, crate::proofs::Listing::list_more, cxx_cursor::proofs::Loops::turn, cxx_cursor::proofs::Loops::no_turn, cxx_cursor::proofs::Kept::later_refl, cxx_cursor::proofs::Kept::later_trans))]
+    fn list_at(
+        &self,
+        state: &mut State,
+        cursor: &mut Cursor<'_>,
+        head: &Head<'_>,
+    ) -> Result<TreeIdList, Stop>
+        ensures { IsRead trees_held AreTreesHeld state.old state.new cursor.new result (definition.list_at self.now.room (head_of head.now) (meaning state.old) cursor.old) }
+    {
+        if self.room == 0 {
+            return Err(Stop::Limit(LimitKind::Nesting));
+        }
+        let inside = Space {
+            declares: self.declares,
+            room: self.room - 1,
+        };
+        let mut so_far = no_members(cursor.alloc(), head.access);
+        for _turn in 0..cursor.count() {
+            match inside.list_step(state, cursor, head, so_far)? {
+                Turn::More(next) => so_far = next,
+                Turn::Done(all) => return Ok(all),
+            }
+        }
+        Ok(so_far.trees)
+    }
+
+    // A class begins.
+    #[tactic(auto, using(cxx_cursor::proofs::Kept::later_trans))]
+    fn class_begun(&self, state: &mut State, head: &Head<'_>) -> Result<Begun, Stop>
+        ensures { IsAsked begun_number IsBegun state.old state.new result (begin_class head.now.is_union (lexeme_at head.now.name) (meaning state.old)) }
+    {
+        let class = self.declares.begin_class(state, head.is_union, head.name)?;
+        begun_as(state, class)
+    }
+
+    // Behind the list of its members.
+    #[tactic(auto, using(crate::proofs::Kept::begun_later, cxx_cursor::proofs::Kept::named_kept, cxx_cursor::proofs::Kept::named_later, cxx_cursor::proofs::Kept::trees_kept, cxx_cursor::proofs::Kept::trees_later, cxx_cursor::proofs::Kept::trees_append, cxx_cursor::proofs::Kept::trees_below_append, cxx_cursor::proofs::Kept::later_refl, cxx_cursor::proofs::Kept::later_trans))]
+    fn class_ended(
+        &self,
+        state: &mut State,
+        cursor: &Cursor<'_>,
+        so_far: Specifiers,
+        head: &Head<'_>,
+        begun: Begun,
+        members: TreeIdList,
+        from: &Cursor<'_>,
+    ) -> Result<Specifiers, Stop>
+        requires known { AreSpecifiers state.old so_far }
+        requires begun { IsBegun state.old begun }
+        requires members { AreTreesHeld state.old members }
+        ensures { IsRead specifiers_of AreSpecifiers state.old state.new cursor.now result (class_ended (head_of head.now) begun.class.0 (trees_held state.old members) (specifiers_of state.old so_far) from.now (meaning state.old) cursor.now) }
+    {
+        self.declares
+            .end_class(state, begun.class, head.name.place)?;
+        let number = class_tree(state, head, begun, members, from, cursor)?;
+        Ok(with_class(so_far, begun.of, number)?)
+    }
+
+    // From the `{` on, where it has begun.
+    #[tactic(auto, using(crate::proofs::Kept::begun_later, cxx_cursor::proofs::Kept::named_kept, cxx_cursor::proofs::Kept::named_later, cxx_cursor::proofs::Kept::trees_kept, cxx_cursor::proofs::Kept::trees_later, cxx_cursor::proofs::Kept::later_refl, cxx_cursor::proofs::Kept::later_trans))]
+    fn class_opened(
+        &self,
+        state: &mut State,
+        cursor: &mut Cursor<'_>,
+        so_far: Specifiers,
+        head: &Head<'_>,
+        begun: Begun,
+        from: &Cursor<'_>,
+    ) -> Result<Specifiers, Stop>
+        requires known { AreSpecifiers state.old so_far }
+        requires begun { IsBegun state.old begun }
+        ensures { IsRead specifiers_of AreSpecifiers state.old state.new cursor.new result (class_opened self.now.room (head_of head.now) begun.class.0 (specifiers_of state.old so_far) from.now (meaning state.old) cursor.old) }
+    {
+        cursor.advance();
+        let members = self.list_at(state, cursor, head)?;
+        self.class_ended(state, cursor, so_far, head, begun, members, from)
+    }
+
+    // A definition of a class, from its key on.
+    #[tactic(auto, using(cxx_cursor::proofs::Kept::named_kept, cxx_cursor::proofs::Kept::named_later, cxx_cursor::proofs::Kept::trees_kept, cxx_cursor::proofs::Kept::trees_later, cxx_cursor::proofs::Kept::later_refl, cxx_cursor::proofs::Kept::later_trans), unfolding(cxx_language::specs::Classes::class_at, cxx_language::specs::Classes::head_at))]
+    fn class_at(
+        &self,
+        state: &mut State,
+        cursor: &mut Cursor<'_>,
+        so_far: Specifiers,
+    ) -> Result<Specifiers, Stop>
+        requires { AreSpecifiers state.old so_far }
+        ensures { IsRead specifiers_of AreSpecifiers state.old state.new cursor.new result (definition.class_at self.now.room (specifiers_of state.old so_far) (meaning state.old) cursor.old) }
+    {
+        let from = cursor.mark();
+        let head = head_at(cursor);
+        let begun = self.class_begun(state, &head)?;
+        self.class_opened(state, cursor, so_far, &head, begun, &from)
+    }
+
+    // A class, and the specifiers behind it.
+    #[tactic(auto, using(cxx_cursor::proofs::Kept::later_refl, cxx_cursor::proofs::Kept::later_trans))]
+    fn class_then(
+        &self,
+        state: &mut State,
+        cursor: &mut Cursor<'_>,
+        so_far: Specifiers,
+    ) -> Result<Specifiers, Stop>
+        requires { AreSpecifiers state.old so_far }
+        ensures { IsRead specifiers_of AreSpecifiers state.old state.new cursor.new result (class_then self.now.room (specifiers_of state.old so_far) (meaning state.old) cursor.old) }
+    {
+        let with = self.class_at(state, cursor, so_far)?;
+        self.declares.specifiers(state, cursor, SpecifierPlace::Declaration, with, self.room)
+    }
+
+    // Behind specifiers that were read: with a class, where one is defined there.
+    #[tactic(auto, using(cxx_cursor::proofs::Kept::later_refl), unfolding(cxx_language::specs::Classes::class_or_not))]
+    fn class_or_not(
+        &self,
+        state: &mut State,
+        cursor: &mut Cursor<'_>,
+        so_far: Specifiers,
+    ) -> Result<Specifiers, Stop>
+        requires { AreSpecifiers state.old so_far }
+        ensures { IsRead specifiers_of AreSpecifiers state.old state.new cursor.new result (definition.class_or_not self.now.room (specifiers_of state.old so_far) (meaning state.old) cursor.old) }
+    {
+        if has_type(state, &so_far) {
+            return Ok(so_far);
+        }
+        self.class_then(state, cursor, so_far)
+    }
+
+    /// The specifiers of a declaration of a namespace, with a class that is defined among them (7.1.5).
+    #[tactic(auto, using(cxx_cursor::proofs::Kept::later_refl, cxx_cursor::proofs::Kept::later_trans), unfolding(cxx_language::specs::Classes::declaration_specifiers))]
+    pub(crate) fn declaration_specifiers(
+        &self,
+        state: &mut State,
+        cursor: &mut Cursor<'_>,
+    ) -> Result<Specifiers, Stop>
+        ensures { IsRead specifiers_of AreSpecifiers state.old state.new cursor.new result (definition.declaration_specifiers self.now.room (meaning state.old) cursor.old) }
+    {
+        let none = no_specifiers_yet(cursor.alloc());
+        let first = self.declares.specifiers(
+            state,
+            cursor,
+            SpecifierPlace::Declaration,
+            none,
+            self.room,
+        )?;
+        self.class_or_not(state, cursor, first)
+    }
+}

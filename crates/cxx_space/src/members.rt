@@ -1,0 +1,281 @@
+//! The declarations of members in the list of a class (9.2).
+
+ghost use Rattle.std.specs.Prelude.{◌≡◌, ◌<◌, length};
+ghost use Rattle.cxx_language.specs.Classes as definition;
+ghost use Rattle.cxx_reading.specs.Units.{name_in};
+ghost use Rattle.cxx_space.specs.Classes.{fitting_member, member_kept, members_at};
+ghost use Rattle.cxx_cursor.specs.Asking.{AnyKnown, IsTreeKnown, itself};
+ghost use Rattle.cxx_cursor.specs.Reading.{IsRead};
+ghost use Rattle.cxx_cursor.specs.Views.{AreSpecifiers, AreTreesHeld, IsDeclarator, declarator_of, name_at, specifiers_of, trees_held};
+ghost use Rattle.cxx_tree.specs.Held.{meaning, tree, type_of};
+ghost use Rattle.cxx_units.specs.Said.{IsDeclared, IsListed, IsListedTurn, IsSaid, listed_of, listed_turn, said_of};
+
+use crate::space::{Defines, Space};
+use cxx_cursor::{
+    Cursor, Declarator, NameToken, Specifiers, Turn, is_name, is_punct, no_specifiers_yet,
+};
+use cxx_model::{Access, FactId, FaultText, LeftOut, Stop, TreeId, TreeIdList, TypeId, punct};
+use cxx_names::is_incomplete;
+use cxx_reading::{Naming, SpecifierPlace};
+use cxx_syntax::declared;
+use cxx_tree::State;
+use cxx_units::ends::nothing_declared;
+use cxx_units::said::{Listed as ListedTrees, Said, said_by};
+use cxx_units::trees::{declaration_tree, declarator_tree, faulty, token_or};
+use cxx_units::types::{is_function_type, is_unbounded};
+use cxx_units::{declarator_ended, declared_fits, no_declarators, place_of_name};
+
+// Bit-fields are left out (9.6).
+#[tactic(auto, using(cxx_cursor::proofs::Kept::later_refl), unfolding(cxx_language::specs::Classes::no_bit_field))]
+fn no_bit_field(state: &State, cursor: &Cursor<'_>, declarator: &Declarator) -> Result<(), Stop>
+    ensures { IsRead itself AnyKnown state.now state.now cursor.now result (definition.no_bit_field (name_in (declarator_of state.now declarator.now)) (meaning state.now) cursor.now) }
+{
+    let _ = state;
+    if is_punct(punct::COLON, cursor.kind()) {
+        let place = place_of_name(&declarator.name);
+        let text = FaultText::LeftOut(LeftOut::BitField);
+        return Err(Stop::Fault(faulty(cursor.alloc(), place, text)?));
+    }
+    Ok(())
+}
+
+// A name and a bracket, a function (9.3), whose default arguments are read behind the class (3.3.6).
+fn begins_function(cursor: &Cursor<'_>) -> bool
+    ensures { result ≡ definition.begins_function cursor.now }
+{
+    is_name(cursor.kind()) && is_punct(punct::LEFT_PARENTHESIS, cursor.kind_behind())
+}
+
+// Functions of a class are not read yet (9.3).
+#[tactic(auto, using(cxx_cursor::proofs::Kept::later_refl), unfolding(cxx_language::specs::Classes::no_function))]
+fn no_function(state: &State, cursor: &Cursor<'_>, name: &NameToken, of: TypeId) -> Result<(), Stop>
+    requires { of.0 < length (state.now).types }
+    ensures { IsRead itself AnyKnown state.now state.now cursor.now result (definition.no_function (name_at name.now) (type_of state.now of) (meaning state.now) cursor.now) }
+{
+    if is_function_type(state.types(), of) {
+        let fault = faulty(cursor.alloc(), name.place, FaultText::NotBuilt)?;
+        return Err(Stop::Fault(fault));
+    }
+    Ok(())
+}
+
+// A member is of a complete type; that of its own class is none yet (9.2).
+#[tactic(auto, using(cxx_cursor::proofs::Kept::later_refl), unfolding(cxx_language::specs::Classes::whole_member, cxx_tree::specs::Held::meaning))]
+fn whole_member(
+    state: &State,
+    cursor: &Cursor<'_>,
+    name: &NameToken,
+    of: TypeId,
+) -> Result<(), Stop>
+    requires { of.0 < length (state.now).types }
+    ensures { IsRead itself AnyKnown state.now state.now cursor.now result (definition.whole_member (name_at name.now) (type_of state.now of) (meaning state.now) cursor.now) }
+{
+    let types = state.types();
+    if is_unbounded(types, of) || is_incomplete(state.graph(), types, of) {
+        let fault = faulty(cursor.alloc(), name.place, FaultText::IncompleteClass)?;
+        return Err(Stop::Fault(fault));
+    }
+    Ok(())
+}
+
+// A member that is declared.
+#[tactic(auto, using(cxx_cursor::proofs::Kept::later_refl, cxx_cursor::proofs::Kept::later_trans))]
+fn member_kept(
+    state: &mut State,
+    cursor: &Cursor<'_>,
+    name: &NameToken,
+    of: TypeId,
+    number: FactId,
+    parts: TreeIdList,
+    from: &Cursor<'_>,
+) -> Result<TreeId, Stop>
+    requires of { of.0 < length (state.old).types }
+    requires parts { AreTreesHeld state.old parts }
+    ensures { IsRead tree IsTreeKnown state.old state.new cursor.now result (member_kept (name_at name.now) (type_of state.old of) number.0 (trees_held state.old parts) from.now (meaning state.old) cursor.now) }
+{
+    whole_member(state, cursor, name, of)?;
+    declarator_tree(state, false, name, of, number, parts, from, cursor)
+}
+
+impl<D: Defines> Space<'_, D> {
+    // A data member whose declarator fits, given its type.
+    #[tactic(auto, using(cxx_cursor::proofs::Kept::trees_kept, cxx_cursor::proofs::Kept::trees_later, cxx_cursor::proofs::Kept::type_kept, cxx_cursor::proofs::Kept::type_later, cxx_cursor::proofs::Kept::later_refl, cxx_cursor::proofs::Kept::later_trans))]
+    fn member_of(
+        &self,
+        state: &mut State,
+        cursor: &Cursor<'_>,
+        access: Access,
+        said: Said,
+        declarator: Declarator,
+        of: TypeId,
+        from: &Cursor<'_>,
+    ) -> Result<TreeId, Stop>
+        requires { IsDeclared state.old said declarator of }
+        ensures { IsRead tree IsTreeKnown state.old state.new cursor.now result (fitting_member access (said_of state.old said) (declarator_of state.old declarator) from.now (meaning state.old) cursor.now) }
+    {
+        let _ = said;
+        let name = token_or(cursor.alloc(), declarator.name);
+        no_function(state, cursor, &name, of)?;
+        let number = self.declares.declare_member(state, access, &name, of)?;
+        member_kept(state, cursor, &name, of, number, declarator.parts, from)
+    }
+
+    // The same with the type that the declarator declares.
+    #[tactic(auto, using(cxx_cursor::proofs::Kept::layers_kept, cxx_cursor::proofs::Kept::layers_later, cxx_cursor::proofs::Kept::trees_kept, cxx_cursor::proofs::Kept::trees_later, cxx_cursor::proofs::Kept::type_kept, cxx_cursor::proofs::Kept::type_later, cxx_cursor::proofs::Kept::later_refl, cxx_cursor::proofs::Kept::later_trans))]
+    fn member_as(
+        &self,
+        state: &mut State,
+        cursor: &Cursor<'_>,
+        access: Access,
+        said: Said,
+        declarator: Declarator,
+        from: &Cursor<'_>,
+    ) -> Result<TreeId, Stop>
+        requires said { IsSaid state.old said }
+        requires declarator { IsDeclarator state.old declarator }
+        ensures { IsRead tree IsTreeKnown state.old state.new cursor.now result (fitting_member access (said_of state.old said) (declarator_of state.old declarator) from.now (meaning state.old) cursor.now) }
+    {
+        match declared(state, declarator.layers.as_slice(), said.of) {
+            Ok(of) => self.member_of(state, cursor, access, said, declarator, of, from),
+            Err(_) => Err(Stop::OutOfMemory),
+        }
+    }
+
+    // A data member, given its declarator.
+    #[tactic(auto, using(cxx_cursor::proofs::Kept::later_refl, cxx_cursor::proofs::Kept::later_trans), unfolding(cxx_language::specs::Classes::data_member))]
+    fn data_member(
+        &self,
+        state: &mut State,
+        cursor: &Cursor<'_>,
+        access: Access,
+        said: Said,
+        declarator: Declarator,
+        from: &Cursor<'_>,
+    ) -> Result<TreeId, Stop>
+        requires said { IsSaid state.old said }
+        requires declarator { IsDeclarator state.old declarator }
+        ensures { IsRead tree IsTreeKnown state.old state.new cursor.now result (definition.data_member access (said_of state.old said) (declarator_of state.old declarator) from.now (meaning state.old) cursor.now) }
+    {
+        no_bit_field(state, cursor, &declarator)?;
+        declared_fits(state, cursor, said, &declarator)?;
+        self.member_as(state, cursor, access, said, declarator, from)
+    }
+
+    #[tactic(auto, using(cxx_cursor::proofs::Kept::type_kept, cxx_cursor::proofs::Kept::type_later, cxx_cursor::proofs::Kept::later_refl, cxx_cursor::proofs::Kept::later_trans), unfolding(cxx_language::specs::Classes::named_member_at))]
+    fn named_member_at(
+        &self,
+        state: &mut State,
+        cursor: &mut Cursor<'_>,
+        access: Access,
+        said: Said,
+    ) -> Result<TreeId, Stop>
+        requires { IsSaid state.old said }
+        ensures { IsRead tree IsTreeKnown state.old state.new cursor.new result (definition.named_member_at self.now.room access (said_of state.old said) (meaning state.old) cursor.old) }
+    {
+        let from = cursor.mark();
+        let declarator = self
+            .declares
+            .declarator(state, cursor, Naming::Required, self.room)?;
+        self.data_member(state, cursor, access, said, declarator, &from)
+    }
+
+    // A member; a bit-field may have no name (9.6), and functions are not read yet.
+    #[tactic(auto, using(cxx_cursor::proofs::Kept::later_refl), unfolding(cxx_language::specs::Classes::member_at))]
+    fn member_at(
+        &self,
+        state: &mut State,
+        cursor: &mut Cursor<'_>,
+        access: Access,
+        said: Said,
+    ) -> Result<TreeId, Stop>
+        requires { IsSaid state.old said }
+        ensures { IsRead tree IsTreeKnown state.old state.new cursor.new result (definition.member_at self.now.room access (said_of state.old said) (meaning state.old) cursor.old) }
+    {
+        if is_punct(punct::COLON, cursor.kind()) {
+            let form = FaultText::LeftOut(LeftOut::BitField);
+            return Err(Stop::Fault(cursor.faulty(form)?));
+        }
+        if begins_function(cursor) {
+            return Err(Stop::Fault(cursor.not_built()?));
+        }
+        self.named_member_at(state, cursor, access, said)
+    }
+
+    // A member, and what separates it from the next.
+    #[tactic(auto, using(cxx_cursor::proofs::Kept::trees_kept, cxx_cursor::proofs::Kept::trees_later, cxx_cursor::proofs::Kept::later_refl, cxx_cursor::proofs::Kept::later_trans), unfolding(cxx_language::specs::Classes::member_step))]
+    fn member_step(
+        &self,
+        state: &mut State,
+        cursor: &mut Cursor<'_>,
+        access: Access,
+        said: Said,
+        so_far: ListedTrees,
+    ) -> Result<Turn<ListedTrees, TreeIdList>, Stop>
+        requires said { IsSaid state.old said }
+        requires listed { IsListed state.old so_far }
+        ensures { IsRead listed_turn IsListedTurn state.old state.new cursor.new result (definition.member_step self.now.room access (said_of state.old said) (listed_of state.old so_far) (meaning state.old) cursor.old) }
+    {
+        let number = self.member_at(state, cursor, access, said)?;
+        declarator_ended(state, cursor, so_far, number)
+    }
+
+    // All members that one declaration declares, with its end.
+    #[tactic(auto, using(cxx_cursor::proofs::Loops::turn, cxx_cursor::proofs::Loops::no_turn, cxx_cursor::proofs::Kept::type_kept, cxx_cursor::proofs::Kept::type_later, cxx_cursor::proofs::Kept::later_refl, cxx_cursor::proofs::Kept::later_trans))]
+    fn members_at(
+        &self,
+        state: &mut State,
+        cursor: &mut Cursor<'_>,
+        access: Access,
+        said: Said,
+    ) -> Result<TreeIdList, Stop>
+        requires { IsSaid state.old said }
+        ensures { IsRead trees_held AreTreesHeld state.old state.new cursor.new result (members_at self.now.room access (said_of state.old said) (meaning state.old) cursor.old) }
+    {
+        let mut so_far = no_declarators(cursor.alloc());
+        for _turn in 0..cursor.count() {
+            match self.member_step(state, cursor, access, said, so_far)? {
+                Turn::More(next) => so_far = next,
+                Turn::Done(all) => return Ok(all),
+            }
+        }
+        Ok(so_far.trees)
+    }
+
+    #[tactic(auto, using(cxx_cursor::proofs::Kept::later_refl, cxx_cursor::proofs::Kept::later_trans), unfolding(cxx_language::specs::Classes::members_by))]
+    fn members_by(
+        &self,
+        state: &mut State,
+        cursor: &mut Cursor<'_>,
+        access: Access,
+        specifiers: &Specifiers,
+    ) -> Result<TreeIdList, Stop>
+        requires { AreSpecifiers state.old specifiers.now }
+        ensures { IsRead trees_held AreTreesHeld state.old state.new cursor.new result (definition.members_by self.now.room access (specifiers_of state.old specifiers.now) (meaning state.old) cursor.old) }
+    {
+        if is_punct(punct::SEMICOLON, cursor.kind()) {
+            return nothing_declared(state, cursor, specifiers);
+        }
+        let said = said_by(state, false, specifiers)?;
+        self.members_at(state, cursor, access, said)
+    }
+
+    /// A declaration of members, with the access of the label before it (9.2, 11.1).
+    #[tactic(auto, using(cxx_cursor::proofs::Kept::named_kept, cxx_cursor::proofs::Kept::named_later, cxx_cursor::proofs::Kept::trees_kept, cxx_cursor::proofs::Kept::trees_later, cxx_cursor::proofs::Kept::later_refl, cxx_cursor::proofs::Kept::later_trans), unfolding(cxx_language::specs::Classes::member_declaration_at))]
+    pub(crate) fn member_declaration_at(
+        &self,
+        state: &mut State,
+        cursor: &mut Cursor<'_>,
+        access: Access,
+    ) -> Result<TreeId, Stop>
+        ensures { IsRead tree IsTreeKnown state.old state.new cursor.new result (definition.member_declaration_at self.now.room access (meaning state.old) cursor.old) }
+    {
+        let from = cursor.mark();
+        let none = no_specifiers_yet(cursor.alloc());
+        let specifiers = self
+            .declares
+            .specifiers(state, cursor, SpecifierPlace::Member, none, self.room)?;
+        let between = cursor.mark();
+        let declarators = self.members_by(state, cursor, access, &specifiers)?;
+        declaration_tree(state, specifiers, declarators, &from, &between, cursor)
+    }
+}
