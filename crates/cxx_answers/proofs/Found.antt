@@ -37,6 +37,14 @@ looked_same types graph (n ∷ numbers) =
 
 -- ---- what a name means
 
+-- the declarations with some numbers
+pub known_in : (held : Held) (seen : Graph) (types : List CxxType) (numbers all : List FactId) → seen ≡ held.graph → types ≡ held.types → looked_up types seen.facts all ≡ looked_up types seen.facts numbers → numbered held all ≡ numbered_at (meaning held).graph (fact_numbers numbers)
+unfolding meaning
+known_in held seen types numbers all same named is =
+    let own : numbered_in (graph_at types seen) all ≡ numbered_at (graph_at types seen) (fact_numbers numbers) = looked_same types seen all ∙ is ∙ sym (numbered_is types seen numbers) in
+    subst (λ (ts : List CxxType). numbered_in (graph_at ts held.graph) all ≡ numbered_at (graph_at ts held.graph) (fact_numbers numbers)) named
+    (subst (λ (g : Graph). numbered_in (graph_at types g) all ≡ numbered_at (graph_at types g) (fact_numbers numbers)) same own)
+
 -- some functions, with those that tell their default arguments in a scope
 pub givers_in : (held : Held) (seen : Graph) (types : List CxxType) (scope : ℕ) (numbers all : List FactId) → seen ≡ held.graph → types ≡ held.types → looked_up types seen.facts all ≡ with_givers (graph_at types seen) scope (looked_up types seen.facts numbers) → numbered held all ≡ with_givers (meaning held).graph scope (numbered_at (meaning held).graph (fact_numbers numbers))
 unfolding meaning

@@ -1,4 +1,5 @@
 pub mod Asked
+pub mod Begun
 pub mod Built
 pub mod ByTypes
 pub mod Found

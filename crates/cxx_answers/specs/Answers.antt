@@ -36,6 +36,7 @@ use Rattle.cxx_overload.specs.Calls.{CxxDecision, decided}
 use Rattle.cxx_tree.specs.Defaults.{first_given}
 use Rattle.cxx_tree.specs.Uses.{with_use}
 use Rattle.cxx_expr.specs.Questions.{Questions, CxxQuestion, CxxChosen}
+use Rattle.cxx_answers.specs.Members.{member_here}
 
 -- ---- names (3.4.1)
 
@@ -192,6 +193,7 @@ fallback_here path function index state = region_of state.graph state.here.scope
 unfoldable pub questions : Questions
 questions = record {
   name = name_here;
+  member = member_here;
   bound = bound_here;
   call = call_here;
   fallback = fallback_here;

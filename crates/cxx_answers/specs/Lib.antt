@@ -3,6 +3,7 @@ pub mod Answers
 pub mod Bare
 pub mod Besides
 pub mod Defaults
+pub mod Members
 pub mod Named
 pub mod Ruled
 pub mod Told

@@ -5,6 +5,7 @@ use crate::constants::is_null_here;
 use crate::defaults::fallback_here;
 use crate::making::{built_in_here, cast_here, conditional_here};
 use crate::measured::type_of_operand;
+use crate::members::member_here;
 use crate::names::{bound_here, name_here};
 use crate::sizes::size_here;
 use cxx_builtin::{BuiltIn, ResultFault};
@@ -12,7 +13,8 @@ use cxx_casts::CastSteps;
 use cxx_expr::{Chosen, Questions};
 use cxx_meaning::SizeReason;
 use cxx_model::{
-    FactId, FactList, Operand, OperandList, OutOfMemory, Path, Place, Stop, TreeId, TypeId, Wait,
+    ClassId, FactId, FactList, Operand, OperandList, OutOfMemory, Path, Place, Stop, TreeId,
+    TypeId, Wait,
 };
 use cxx_tree::State;
 
@@ -29,6 +31,11 @@ impl Questions for Answering {
     #[tactic(auto, unfolding(crate::specs::Answers::questions))]
     fn name(&self, state: &mut State, path: &Path) -> Result<FactList, Stop> {
         name_here(state.alloc(), state, path)
+    }
+
+    #[tactic(auto, unfolding(crate::specs::Answers::questions))]
+    fn member(&self, state: &mut State, class: ClassId, path: &Path) -> Result<FactList, Stop> {
+        member_here(state.alloc(), state, class, path)
     }
 
     #[tactic(auto, unfolding(crate::specs::Answers::questions))]

@@ -326,9 +326,9 @@ impl Telling<'_> {
         Ok(())
     }
 
-    // Those of some declarations that are there.
+    /// Those of some declarations that are there.
     #[tactic(auto, using(crate::proofs::Told::known_end))]
-    fn known(&self, alloc: Global, numbers: &[FactId]) -> Result<FactList, AllocError>
+    pub(crate) fn known(&self, alloc: Global, numbers: &[FactId]) -> Result<FactList, AllocError>
         ensures is { IfOk result (λ found. those_in self.now found ≡ those_in self.now numbers.now) }
         ensures below { IfOk result (AreNumbersBelow (count_in self.now)) }
     {

@@ -30,6 +30,20 @@ pub(crate) fn telling_of<'s>(state: &'s State) -> Telling<'s>
     }
 }
 
+/// The declarations with some numbers.
+#[tactic(auto, using(crate::proofs::Found::known_in, crate::proofs::Found::all_known))]
+pub(crate) fn known_of(
+    alloc: Global,
+    state: &State,
+    numbers: &[FactId],
+) -> Result<FactList, AllocError>
+    ensures is { IfOk result (λ all. numbered state.now all ≡ numbered_at (meaning state.now).graph (fact_numbers numbers.now)) }
+    ensures known { IfOk result (AreFactsKnown state.now) }
+{
+    let telling = telling_of(state);
+    telling.known(alloc, numbers)
+}
+
 /// Some functions by their first declarations, and behind them the others that tell their default arguments in a scope.
 #[tactic(auto, using(crate::proofs::Found::givers_in, crate::proofs::Found::all_known))]
 pub(crate) fn with_givers(

@@ -1,5 +1,6 @@
 mod Chosen
 mod Declared
 mod Judged
+mod First
 mod Signed
 mod Words

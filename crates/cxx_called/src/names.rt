@@ -83,7 +83,8 @@ pub(crate) fn word_in(node: &Node) -> &[u8]
     }
 }
 
-fn place_in(node: &Node) -> Place
+/// Where the last word of the name of a node stands.
+pub(crate) fn place_in(node: &Node) -> Place
     ensures { result ≡ (definition.word_in (label_at [] node.now)).place }
 {
     match &node.path {
@@ -144,9 +145,9 @@ fn wrong_kind(alloc: Global, node: &Node, other: Place) -> Result<Box<Fault>, Al
     )?)
 }
 
-// Why a name means no value.
+/// Why a name means no value.
 #[tactic(auto, using(crate::proofs::Declared::no_value_first))]
-fn no_value(
+pub(crate) fn no_value(
     alloc: Global,
     state: &State,
     node: &Node,
@@ -228,7 +229,8 @@ fn enumerator_type(state: &mut State, number: EnumId, value: i128) -> Result<Typ
     }
 }
 
-fn means_enumerator(
+/// What the name of an enumerator means.
+pub(crate) fn means_enumerator(
     state: &mut State,
     target: FactId,
     number: EnumId,
@@ -250,7 +252,8 @@ fn means_enumerator(
 
 // ---- by the declarations
 
-fn means_object(state: &State, target: FactId, own: TypeId) -> Meant
+/// What the name of an object means.
+pub(crate) fn means_object(state: &State, target: FactId, own: TypeId) -> Meant
     requires { own.0 < length (state.now).types }
     ensures is { means_of state.now result ≡ definition.means_object (meaning state.now).graph target.0 (type_of state.now own) }
     ensures known { IsMeant state.now result }
@@ -284,7 +287,8 @@ fn means_function(
     Err(Stop::Fault(several_at(alloc, place)?))
 }
 
-fn is_nonstatic(member: MemberKind) -> bool
+/// Whether a member belongs to an object of its class (9.4).
+pub(crate) fn is_nonstatic(member: MemberKind) -> bool
     ensures { result ≡ definition.is_nonstatic member }
 {
     match member {

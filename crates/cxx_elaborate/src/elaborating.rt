@@ -8,12 +8,12 @@ ghost use Rattle.cxx_expr.specs.Nodes.{IsNodeHeld, node_tree};
 
 use crate::brackets::parenthesis;
 use crate::open::{is_any_open, without_operand};
-use cxx_called::{call, name};
+use cxx_called::{arrow, call, name, selected};
 use cxx_expr::conditional::conditional;
 use cxx_expr::operators::misshapen;
 use cxx_expr::production::{
-    ASSIGNMENT, BINARY, CALL, CAST, CONDITIONAL, FUNCTIONAL_CAST, LITERAL, NAME, PARENTHESIS,
-    PREFIX, SIZE, STEP, SUBSCRIPT,
+    ARROW, ASSIGNMENT, BINARY, CALL, CAST, CONDITIONAL, FUNCTIONAL_CAST, LITERAL, MEMBER, NAME,
+    PARENTHESIS, PREFIX, SIZE, STEP, SUBSCRIPT,
 };
 use cxx_expr::{Questions, binary, cast, functional, literal, prefix, size, step, subscript};
 use cxx_model::{Node, Stop, TreeId};
@@ -32,7 +32,11 @@ fn operated<Q: Questions>(
     requires node { IsNodeHeld state.old node }
     ensures { IsAnswered tree IsTreeKnown state.old state.new result (definition.operated (Q.asks questions.now) (node_tree state.old node) (meaning state.old)) }
 {
-    if node.production == SUBSCRIPT {
+    if node.production == MEMBER {
+        selected(alloc, questions, state, node)
+    } else if node.production == ARROW {
+        arrow(alloc, questions, state, node)
+    } else if node.production == SUBSCRIPT {
         subscript(alloc, questions, state, node)
     } else if node.production == STEP {
         step(alloc, questions, state, node)

@@ -147,10 +147,11 @@ abbrev pub is_unbroken : Asked (Result ℕ SizeReason) → CxxState → Answer (
 is_unbroken (Ok found) s = Ok (found, s)
 is_unbroken (Err class) s = Err (not_built_at nowhere)
 
--- the first function is the one that is meant
+-- the first function is the one that is meant; no class is declared
 abbrev pub asks : Questions
 asks = record {
   name = λ path s. Ok (declared_in s.graph s.here.scope (name_in path), s);
+  member = λ class path s. Ok ([], s);
   bound = λ place number s. Ok (tt, s);
   call = λ question s. chosen_by question question.functions s;
   fallback = λ path target index s. Ok (fallback_tree, s);

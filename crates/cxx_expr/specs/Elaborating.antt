@@ -9,6 +9,7 @@ use Rattle.cxx_expr.specs.Asking.{give}
 use Rattle.cxx_expr.specs.Calls.{call}
 use Rattle.cxx_expr.specs.Casts.{cast, functional, last_of}
 use Rattle.cxx_expr.specs.Literals.{literal}
+use Rattle.cxx_expr.specs.Members.{arrow, selected}
 use Rattle.cxx_expr.specs.Names.{name}
 use Rattle.cxx_expr.specs.Operands.{any_open, given_over, is_none, only}
 use Rattle.cxx_expr.specs.Operators.{binary, conditional, misshapen, prefix, step, subscript}
@@ -47,13 +48,15 @@ without_operand tree = record { label = record tree.label { operand = None }; ch
 
 abbrev pub operated : Questions → CxxTree → Asks CxxState CxxTree
 operated q tree state =
+    if nat_eq tree.label.production production.MEMBER then selected q tree state else (
+    if nat_eq tree.label.production production.ARROW then arrow q tree state else (
     if nat_eq tree.label.production production.SUBSCRIPT then subscript q tree state else (
     if nat_eq tree.label.production production.STEP then step q tree state else (
     if nat_eq tree.label.production production.PREFIX then prefix q tree state else (
     if nat_eq tree.label.production production.BINARY then binary q tree state else (
     if nat_eq tree.label.production production.CONDITIONAL then conditional q tree state else (
     if nat_eq tree.label.production production.ASSIGNMENT then binary q tree state else
-    misshapen tree state)))))
+    misshapen tree state)))))))
 
 unfoldable pub by_production : Questions → CxxTree → Asks CxxState CxxTree
 by_production q tree state =

@@ -8,6 +8,7 @@ pub mod Operators
 pub mod Casts
 pub mod SizesOf
 pub mod Calls
+pub mod Members
 pub mod Elaborating
 pub mod Initializing
 pub mod Views

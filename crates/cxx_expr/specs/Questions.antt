@@ -29,6 +29,8 @@ pub record CxxChosen : Type 0 where
 pub record Questions : Type 0 where
   -- 3.4: all declarations that a name means; none where it is not declared
   pub name : CxxPath → Asks CxxState (List Numbered)
+  -- 10.2: all declarations that a name means as a member of a class; none where the class has no such member
+  pub member : ℕ → CxxPath → Asks CxxState (List Numbered)
   -- 3.4: a name, by its place, means the entity with this first declaration
   pub bound : Place → ℕ → Asks CxxState (Unit {0})
   -- 13.3: which function a call means

@@ -85,7 +85,8 @@ fn operator_in(state: &State, node: &Node) -> u8
     number_or_none(node.spelling.as_slice())
 }
 
-fn meaning_of<Q: Questions>(
+/// What an operator does with its operands.
+pub fn meaning_of<Q: Questions>(
     alloc: Global,
     questions: &Q,
     state: &mut State,
@@ -200,7 +201,8 @@ pub fn listed_two(alloc: Global, one: TreeId, two: TreeId) -> Result<TreeIdList,
     Ok(all)
 }
 
-fn operands_one(alloc: Global, one: Operand) -> Result<OperandList, AllocError>
+/// A list of one operand.
+pub fn operands_one(alloc: Global, one: Operand) -> Result<OperandList, AllocError>
     ensures { IfOk result (λ all. all ≡ one ∷ []) }
 {
     let mut all = Listed::new(alloc);

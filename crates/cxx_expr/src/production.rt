@@ -18,6 +18,12 @@ pub const CALL: u8 = 40;
 /// 5.2.3
 pub const FUNCTIONAL_CAST: u8 = 41;
 
+/// 5.2.5: `.`
+pub const MEMBER: u8 = 42;
+
+/// 5.2.5: `->`
+pub const ARROW: u8 = 43;
+
 /// 5.2.1
 pub const SUBSCRIPT: u8 = 44;
 

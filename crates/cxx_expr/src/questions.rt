@@ -19,8 +19,8 @@ use cxx_builtin::{BuiltIn, ResultFault};
 use cxx_casts::CastSteps;
 use cxx_meaning::SizeReason;
 use cxx_model::{
-    FactId, FactList, Operand, OperandList, OutOfMemory, Path, Place, Stop, TreeId, TypeId,
-    TypeIdList, Wait,
+    ClassId, FactId, FactList, Operand, OperandList, OutOfMemory, Path, Place, Stop, TreeId,
+    TypeId, TypeIdList, Wait,
 };
 use cxx_tree::State;
 
@@ -46,6 +46,11 @@ pub trait Questions {
     fn name(&self, state: &mut State, path: &Path) -> Result<FactList, Stop>
         requires { is_ready self.now }
         ensures { IsAnswered numbered AreFactsKnown state.old state.new result ((asks self.now).name (path_at path.now) (meaning state.old)) };
+
+    /// All declarations that a name means as a member of a class (10.2).
+    fn member(&self, state: &mut State, class: ClassId, path: &Path) -> Result<FactList, Stop>
+        requires { is_ready self.now }
+        ensures { IsAnswered numbered AreFactsKnown state.old state.new result ((asks self.now).member class.0 (path_at path.now) (meaning state.old)) };
 
     /// A name means the entity with this first declaration (3.4).
     fn bound(&self, state: &mut State, place: Place, target: FactId) -> Result<(), Stop>

@@ -1,26 +1,33 @@
 -- What is asked while a unit is read keeps the declarations and the calls so far, and what stops it is true.
-use Rattle.std.proofs.Common.{arith, ◌≡◌, refl, sym, ap, subst, ◌∙◌}
+use Rattle.std.proofs.Common.{arith, ◌≡◌, inl, inr, refl, sym, ap, subst, ◌∙◌}
 use Rattle.std.specs.Prelude.{ℕ, Bool, true, false, ◌&&◌, if◌then◌else◌, List, [], ◌∷◌, Option, Some, None, ◌++◌, Ok, Err, suc, ◌-◌, length}
 use Rattle.std.specs.List.{slice_get}
 use Rattle.cxx_model.specs.declared.fault.FaultText.TheVariants as says
 use Rattle.cxx_model.specs.declared.fault.LeftOut.TheVariants as form
 use Rattle.cxx_model.specs.declared.lookup.Found.{Found}
 use Rattle.cxx_model.specs.declared.lookup.Found.TheVariants as sought
+use Rattle.cxx_model.specs.declared.lookup.Hit.{Hit}
+use Rattle.cxx_model.specs.declared.lookup.MemberFound.{MemberFound}
+use Rattle.cxx_model.specs.declared.lookup.MemberFound.TheVariants as member_found
 use Rattle.cxx_model.specs.declared.place.Place.{Place}
+use Rattle.cxx_model.specs.declared.stop.Fault.{Fault}
 use Rattle.cxx_model.specs.declared.types.FactId.{FactId}
 use Rattle.cxx_model.specs.Facts.Declarations.{CxxGraph}
 use Rattle.cxx_model.specs.Stops.{Answer, Stopped, ◌>>=◌, fault, undeclared_at}
 use Rattle.cxx_model.specs.Types.Trees.{CxxType}
 use Rattle.cxx_meaning.specs.Conversions.Standard.{CxxOperand}
+use Rattle.cxx_meaning.specs.Lookups.Member.{member}
+use Rattle.cxx_meaning.specs.Lookups.Pending.{Asked}
 use Rattle.cxx_meaning.specs.Lookups.Wanted.{any_name, types_only}
 use Rattle.cxx_constant.specs.Constants.{CxxValue, not_constant, overflow, divide_by_zero, constant}
-use Rattle.cxx_phrases.specs.Forms.{name_tree, call_tree}
+use Rattle.cxx_phrases.specs.Forms.{name_tree, call_tree, member_tree}
+use Rattle.cxx_phrases.specs.Productions as phrase
 use Rattle.cxx_reading.specs.declared.region.Region.{Region}
 use Rattle.cxx_reading.specs.Declaring.{elaborated_here, elaborated_by, elaborated_found, enumeration_in}
 use Rattle.cxx_reading.specs.Givers.{giver, givers, with_givers}
 use Rattle.cxx_reading.specs.Paths.{ambiguous_at, name_in, region_of, scope_of_region, sought_in}
-use Rattle.cxx_reading.specs.Reads.{Ahead}
-use Rattle.cxx_reading.specs.Seen.{Numbered, numbered_at, set_in}
+use Rattle.cxx_reading.specs.Reads.{Ahead, behind, place_ahead}
+use Rattle.cxx_reading.specs.Seen.{Numbered, fact_numbers, numbered_at, set_in}
 use Rattle.cxx_reading.specs.State.{CxxGiven, CxxState}
 use Rattle.cxx_reading.specs.Tokens.{begins_name, behind_name, is_whole_name, path_ahead}
 use Rattle.cxx_reading.specs.Trees.{CxxPath, CxxPathPart, CxxTree, children_of, each_tree, in_turn, is_plain_path, last_part, Label}
@@ -32,25 +39,27 @@ use Rattle.cxx_expr.specs.Elaborating.{elaborate}
 use Rattle.cxx_language.specs.Answers.{asking}
 use Rattle.cxx_answers.specs.Answers.{associated_functions, bound_here, call_here, constant_by, constant_here, fallback_by, fallback_here, fresh_among, is_held, meant_in, name_here, name_in_region, name_meant, names_local, names_tested, questions, scope_of_giver, size_here, unambiguous, word_or_none}
 use Rattle.cxx_answers.specs.Defaults.{begin_default, end_default, offered_as}
+use Rattle.cxx_answers.specs.Members.{ambiguous_member_at, by_bases, has_begun, in_state, member_found as member_answered, member_here}
 use Rattle.cxx_language.specs.Asked.{answers, asked, inner_at, phrases_at}
 use Rattle.cxx_language_laws.specs.Best.{IsClear, asked_word, functions_by_types, values_besides, values_of}
-use Rattle.cxx_language_laws.specs.Told.{IsFoundClear, IsUnitCall, called, called_by_types, operands, place_of_call, unknown_call}
+use Rattle.cxx_language_laws.specs.Told.{IsFoundClear, IsOfObject, of_object, of_pointed, IsSelector, IsSoughtMember, IsUnitCall, IsUnitSelected, called, called_by_types, operands, place_of_call, selected_part, twofold_member, unknown_call, unknown_member}
 use Rattle.cxx_language_laws.proofs.CallsTell.{NothingTold, asked_for, call_asked_tells}
 use Rattle.cxx_language_laws.proofs.Classed.{class_tells}
 use Rattle.cxx_language_laws.proofs.Later.{IsLater, by_answer, later_same, later_is_kept, later_is_quiet, calmly, turned, parameter_answer_tells, enumeration_answer_tells, enumerator_answer_tells, enumerated_tells, kind_tells, type_tells}
 use Rattle.cxx_language_laws.proofs.Lists.{listed_tells}
 use Rattle.cxx_language_laws.proofs.PhrasesTell.{PhrasesTell, brackets_of}
 use Rattle.cxx_language_laws.proofs.QuestionsTell.{DefaultsTell, QuestionsTell, if_by, quiet_by, same_by}
-use Rattle.cxx_language_laws.proofs.Reached.{Told, ToldSince, IsUndeclared, reached_by_later, reached_here, later_is_told, later_is_told_since, told_sooner}
+use Rattle.cxx_language_laws.proofs.Reached.{Told, ToldSince, IsManifold, IsUndeclared, reached_by_later, reached_here, later_is_told, later_is_told_since, told_sooner}
 use Rattle.cxx_language_laws.proofs.Regions.{last_ahead, last_sought, nothing_ahead, region_there, region_told, some_parts, twofold_ahead, undeclared_fault}
 use Rattle.cxx_language_laws.proofs.Scopes.{AreSound, InScopes}
 use Rattle.cxx_language_laws.proofs.Outward.{none_left}
-use Rattle.cxx_language_laws.proofs.Sought.{fitting, none_by_types, nothing_sought}
+use Rattle.cxx_language_laws.proofs.Sought.{fitting, none_by_types, nothing_sought, some_member}
 use Rattle.cxx_language_laws.proofs.Tells.{IsQuiet, IsTold, KindsTell, Quietly, ReadersTell, ToldBy, tells_answer, tells_refusal, Answers}
 use Rattle.cxx_language_laws.proofs.TellsConversions.{convert_tells}
 use Rattle.cxx_language_laws.proofs.TellsDefaults.{OffersTell}
-use Rattle.cxx_language_laws.proofs.TellsExpressions.{plain_tells, name_tells, call_tells}
+use Rattle.cxx_language_laws.proofs.TellsExpressions.{plain_tells, name_tells, call_tells, member_tells, arrow_tells}
 use Rattle.cxx_language_laws.proofs.TellsKnot.{type_id_tells}
+use Rattle.cxx_language_laws.proofs.TellsMembers.{MemberTells}
 use Rattle.cxx_language_laws.proofs.TellsNames.{AskedOf, CalledTells, IsAskedSo, NameTells, UnknownUnasked}
 
 -- ---- the types of names behind `enum`
@@ -385,6 +394,87 @@ call_ahead_tells room state ahead call later from =
     (called_answers is (tree_of_call call from).label call.at ahead (call_refused state ahead room call) (call_unasked state ahead room call from))
     (asked_of state ahead ahead room call later from))
 
+-- ---- a member of an object that was read (5.2.5)
+
+-- What a class has of a name: nothing, or declarations that are found. A refusal says that it is ambiguous, or nothing of
+-- declarations.
+data MemberSo (class : ℕ) (path : CxxPath) (state : CxxState) : NameAnswers → Type 0 where
+  no_member : member state.graph any_name (record { 0 = class }) (name_in path) ≡ Ok member_found.Empty → MemberSo class path state (Ok ([], state))
+  some_members : (all : List FactId) (bases : List ℕ) → member state.graph any_name (record { 0 = class }) (name_in path) ≡ Ok (member_found.Set all bases) → MemberSo class path state (Ok (numbered_at state.graph (fact_numbers all), state))
+  member_refused : (why : Stopped) → IsQuiet why → MemberSo class path state (Err why)
+  member_twice : (one two : Hit) → member state.graph any_name (record { 0 = class }) (name_in path) ≡ Ok (member_found.Ambiguous one two) → MemberSo class path state (Err (ambiguous_member_at state.graph (last_part path.parts) one two))
+
+member_so : (class : ℕ) (path : CxxPath) (state : CxxState) → MemberSo class path state (member_here class path state)
+unfolding member_here
+member_so class path state = by (has_begun class state.graph.facts)
+  where
+    of : (x : Asked MemberFound) → member state.graph any_name (record { 0 = class }) (name_in path) ≡ x → MemberSo class path state (in_state state (member_answered state.graph (last_part path.parts) x))
+    of (Ok member_found.Empty) e = no_member e
+    of (Ok (member_found.Set all bases)) e = some_members all bases e
+    of (Ok (member_found.Ambiguous one two)) e = member_twice one two e
+    of (Err pending) e = member_refused _ refl
+
+    by : (b : Bool) → MemberSo class path state (if b then in_state state (member_answered state.graph (last_part path.parts) (member state.graph any_name (record { 0 = class }) (name_in path))) else Err (fault (last_part path.parts).place says.IncompleteClass))
+    by true = of (member state.graph any_name (record { 0 = class }) (name_in path)) refl
+    by false = member_refused _ refl
+
+-- where nothing is answered there is no member of the name
+is_no_member : (class : ℕ) (path : CxxPath) (state : CxxState) (one : List Numbered × CxxState) {answer : NameAnswers} → AreSound state.graph.facts → MemberSo class path state answer → answer ≡ Ok one → one.0 ≡ [] → member state.graph any_name (record { 0 = class }) (name_in path) ≡ Ok member_found.Empty
+is_no_member class path state one sound (no_member is) e none = is
+is_no_member class path state one sound (some_members all bases is) e none = absurd (some_member state.graph (record { 0 = class }) (name_in path) sound all bases is (ap (λ (x : List Numbered × CxxState). x.0) (by e) ∙ none))
+  where
+    by : AreNames (Ok (numbered_at state.graph (fact_numbers all), state)) (Ok one) → (numbered_at state.graph (fact_numbers all), state) ≡ one
+    by e = cc
+is_no_member class path state one sound (member_refused why quiet) e none = absurd cc
+is_no_member class path state one sound (member_twice m n is) e none = absurd cc
+
+-- its tree, with the number of its operator's production
+abbrev tree_of_member : {room : ℕ} {state : CxxState} {ahead : Ahead} → IsUnitSelected room state ahead → ℕ → CxxTree
+tree_of_member {ahead = ahead} is number = member_tree number (place_ahead ahead) (path_ahead (behind ahead)) is.object is.from (behind_name (behind ahead))
+
+-- in the state in which it is looked up
+member_sought : (state : CxxState) (ahead : Ahead) (room : ℕ) (is : IsUnitSelected room state ahead) (class : ℕ) (at : CxxState) → IsOfObject state (place_ahead ahead) is.object is.number class at → (finds : MemberFound) → member at.graph any_name (record { 0 = class }) (name_in (path_ahead (behind ahead))) ≡ Ok finds → (fault : Fault) → (selected_part ahead).place ≡ fault.place → IsSoughtMember state ahead finds fault (selected_part ahead).word
+member_sought state ahead room is class at of finds e fault is_at = record { room = room; selected = is; class = class; at = at; of = of; spelled_so = refl; is_at = is_at; finds_so = e }
+
+member_unknown : (state : CxxState) (ahead : Ahead) (room : ℕ) (is : IsUnitSelected room state ahead) (class : ℕ) (at : CxxState) → IsLater state at → IsOfObject state (place_ahead ahead) is.object is.number class at → (one : List Numbered × CxxState) → member_here class (path_ahead (behind ahead)) at ≡ Ok one → one.0 ≡ [] → IsUntold state ahead (selected_part ahead)
+member_unknown state ahead room is class at later of one e none =
+    reached_here state ahead (IsUndeclared (undeclared_fault (selected_part ahead)) (selected_part ahead).word) (record {
+      is = λ scopes. (unknown_member (member_sought state ahead room is class at of member_found.Empty (is_no_member class (path_ahead (behind ahead)) at one (later.scopes scopes).sound (member_so class (path_ahead (behind ahead)) at) e none) (undeclared_fault (selected_part ahead)) refl), tt);
+      bare = refl;
+    })
+
+member_told : (state : CxxState) (ahead : Ahead) (room : ℕ) (is : IsUnitSelected room state ahead) (class : ℕ) (at : CxxState) → IsOfObject state (place_ahead ahead) is.object is.number class at → {answer : NameAnswers} → MemberSo class (path_ahead (behind ahead)) at answer → ToldBy IsLater (ToldSince state ahead) at ahead answer
+unfolding member_sought
+member_told state ahead room is class at of (no_member e) = same_by (later_is_told_since state ahead) [] at ahead
+member_told state ahead room is class at of (some_members all bases e) = same_by (later_is_told_since state ahead) (numbered_at at.graph (fact_numbers all)) at ahead
+member_told state ahead room is class at of (member_refused why quiet) = quiet_by (later_is_told_since state ahead) quiet
+member_told state ahead room is class at of (member_twice one two e) = tells_refusal _ (λ later. reached_here state ahead (IsManifold ambiguous (selected_part ahead).word) (λ scopes. twofold_member one two (member_sought state ahead room is class at of (member_found.Ambiguous one two) e ambiguous refl) refl))
+  where
+    ambiguous : Fault
+    ambiguous = record { place = (selected_part ahead).place; text = says.AmbiguousName (selected_part ahead).word; evidence = by_bases at.graph one ∷ by_bases at.graph two ∷ [] }
+
+member_answers : (state : CxxState) (ahead : Ahead) (room : ℕ) (is : IsUnitSelected room state ahead) (number class : ℕ) (at : CxxState) → IsLater state at → IsOfObject state (place_ahead ahead) is.object is.number class at → MemberTells IsLater (ToldSince state ahead) answers class (tree_of_member is number).label at ahead
+unfolding questions
+member_answers state ahead room is number class at later of = record {
+  answers = member_told state ahead room is class at of (member_so class (path_ahead (behind ahead)) at);
+  unknown = λ one e none again. subst (IsUntold state ahead) (sym (word_is (path_ahead (behind ahead)).parts)) (member_unknown state ahead room is class at later of one e none);
+}
+
+member_ahead_tells : (room : ℕ) (state : CxxState) (ahead : Ahead) (is : IsUnitSelected room state ahead) → ToldBy IsLater Told state ahead (elaborate answers (tree_of_member is is.number) state)
+member_ahead_tells room state ahead is = asked_later state ahead ahead state (later_is_kept.same state) (by is.selects)
+  where
+    elaborated : ℕ → Type 0
+    elaborated number = ToldBy IsLater (ToldSince state ahead) state ahead (elaborate answers (tree_of_member is number) state)
+
+    told : IsTold IsLater (ToldSince state ahead)
+    told = later_is_told_since state ahead
+
+    by : IsSelector is.number ahead → elaborated is.number
+    by (inl dot) = subst elaborated (sym dot.1) (member_tells told (questions_tell told) (place_ahead ahead) (path_ahead (behind ahead)) is.object is.from (behind_name (behind ahead)) state ahead
+        (λ class so. member_answers state ahead room is phrase.member class state (later_is_kept.same state) (subst (λ (number : ℕ). IsOfObject state (place_ahead ahead) is.object number class state) (sym dot.1) (of_object class so))))
+    by (inr arrow) = subst elaborated (sym arrow.1) (arrow_tells told (questions_tell told) (place_ahead ahead) (path_ahead (behind ahead)) is.object is.from (behind_name (behind ahead)) state ahead
+        (λ meaning built class parts at converts later so. member_answers state ahead room is phrase.arrow class at later (subst (λ (number : ℕ). IsOfObject state (place_ahead ahead) is.object number class at) (sym arrow.1) (of_pointed class meaning parts at built converts so))))
+
 -- ---- default arguments (8.3.6)
 
 begin_tells : Answers IsLater Told begin_default
@@ -412,5 +502,6 @@ phrases_tell room types = record {
   whole = λ tree plain. plain_tells later_is_told (questions_tell later_is_told) tree plain;
   name = name_ahead_tells;
   call = λ state ahead is keeps from. call_ahead_tells room state ahead is keeps from;
+  member = λ state ahead is. member_ahead_tells room state ahead is;
   type_id = type_id_tells later_is_told (kinds_tell room) types;
 }

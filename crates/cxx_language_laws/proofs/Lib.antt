@@ -13,6 +13,7 @@ pub mod QuestionsTell
 pub mod TellsConversions
 pub mod TellsOperators
 pub mod TellsNames
+pub mod TellsMembers
 pub mod TellsExpressions
 pub mod TellsHeads
 pub mod TellsStatements

@@ -439,13 +439,32 @@ abbrev members_found : CxxGraph → List Sighting → MemberFound
 members_found graph [] = member.Empty
 members_found graph (one ∷ others) = member.Set (entities (unhidden graph (not_redeclared (one ∷ others)))) []
 
-class_has : (graph : CxxGraph) (wanted : Wanted) (name : CxxName) (scope : ScopeId) (class : ClassId) → AreSound graph.facts → class_of_scope graph.facts scope ≡ Some class → member_named graph wanted class name ≡ Ok (members_found graph (members_in graph wanted name class))
-unfolding member_named own_ways declares_member member_of member_by declared_in
-class_has graph wanted name scope class sound is = ap (λ (b : Bool). cond b (Err class) (Ok (member_of graph wanted name (ways graph wanted name class)))) (never_pending graph scope class is) ∙ ap (λ (all : List Way). Ok (member_of graph wanted name all)) (own_way graph wanted name class sound) ∙ ap Ok (by (members_in graph wanted name class) refl)
+has_members : (graph : CxxGraph) (wanted : Wanted) (name : CxxName) (class : ClassId) → AreSound graph.facts → member_of graph wanted name (ways graph wanted name class) ≡ members_found graph (members_in graph wanted name class)
+unfolding own_ways declares_member member_of member_by declared_in
+has_members graph wanted name class sound = ap (λ (all : List Way). member_of graph wanted name all) (own_way graph wanted name class sound) ∙ by (members_in graph wanted name class) refl
   where
     by : (all : List Sighting) → members_in graph wanted name class ≡ all → member_of graph wanted name (own_ways graph wanted name class) ≡ members_found graph all
     by [] e = rw e refl
     by (one ∷ others) e = rw e (ap (λ (all : List Sighting). member.Set (entities (unhidden graph (not_redeclared all))) []) e)
+
+class_has : (graph : CxxGraph) (wanted : Wanted) (name : CxxName) (scope : ScopeId) (class : ClassId) → AreSound graph.facts → class_of_scope graph.facts scope ≡ Some class → member_named graph wanted class name ≡ Ok (members_found graph (members_in graph wanted name class))
+unfolding member_named
+class_has graph wanted name scope class sound is = ap (λ (b : Bool). cond b (Err class) (Ok (member_of graph wanted name (ways graph wanted name class)))) (never_pending graph scope class is) ∙ ap Ok (has_members graph wanted name class sound)
+
+abbrev MemberAnswers : Asked MemberFound → Asked MemberFound → Type 0
+MemberAnswers one two = one ≡ two
+
+-- a class that is not pending has what is found of a name
+class_found : (graph : CxxGraph) (wanted : Wanted) (name : CxxName) (class : ClassId) → AreSound graph.facts → (x : MemberFound) → member_named graph wanted class name ≡ Ok x → members_found graph (members_in graph wanted name class) ≡ x
+unfolding member_named
+class_found graph wanted name class sound x e = by (is_pending graph class.0) e
+  where
+    found : (one two : MemberFound) → MemberAnswers (Ok one) (Ok two) → one ≡ two
+    found one two e = cc
+
+    by : (pending : Bool) → MemberAnswers (cond pending (Err class) (Ok (member_of graph wanted name (ways graph wanted name class)))) (Ok x) → members_found graph (members_in graph wanted name class) ≡ x
+    by true e = absurd cc
+    by false e = sym (has_members graph wanted name class sound) ∙ found (member_of graph wanted name (ways graph wanted name class)) x e
 
 -- what is found in a class, as a lookup finds it
 abbrev found_as_member : CxxGraph → ClassId → List Sighting → Option Found
@@ -519,6 +538,20 @@ in_members P graph class (one ∷ others) x each e = subst (IsLooked P graph) (i
 pub each_so : (P : ℕ → Type 0) (graph : CxxGraph) (wanted : Wanted) → ((one : Sighting) → IsOne graph wanted one → IsSo P one) → (all : List Sighting) → AllByRecursion (IsOne graph wanted) all → AllByRecursion (IsSo P) all
 each_so P graph wanted each [] are = tt
 each_so P graph wanted each (one ∷ others) are = (each one are.0, each_so P graph wanted each others are.1)
+
+-- 10.2: what is found of a name as a member of a class
+pub in_class : (P : ℕ → Type 0) (graph : CxxGraph) (wanted : Wanted) (name : CxxName) (class : ClassId) → AreSound graph.facts → ((one : Sighting) → IsOne graph wanted one → IsSo P one) → (all : List FactId) (path : List ℕ) → member_named graph wanted class name ≡ Ok (member.Set all path) → IsLooked P graph (found.Member class (member.Set all path))
+in_class P graph wanted name class sound each all path e = by (members_in graph wanted name class) refl
+  where
+    finds : members_found graph (members_in graph wanted name class) ≡ member.Set all path
+    finds = class_found graph wanted name class sound (member.Set all path) e
+
+    apart : member.Empty ≡ member.Set all path → ⊥
+    apart e = cc
+
+    by : (some : List Sighting) → members_in graph wanted name class ≡ some → IsLooked P graph (found.Member class (member.Set all path))
+    by [] none = absurd (apart (sym (ap (members_found graph) none) ∙ finds))
+    by (one ∷ others) some = subst (λ (of : MemberFound). IsLooked P graph (found.Member class of)) (sym (ap (members_found graph) some) ∙ finds) (in_members P graph class (one ∷ others) (found.Member class (members_found graph (one ∷ others))) (subst (AllByRecursion (IsSo P)) some (each_so P graph wanted each (members_in graph wanted name class) (members_seen graph wanted name class sound))) refl)
 
 -- what a scope has, of a class or of none
 pub in_scope : (P : ℕ → Type 0) (graph : CxxGraph) (wanted : Wanted) (name : CxxName) (cut : ℕ) (shown : List Shown) (scope : ScopeId) (x : Found) → AreSound graph.facts → ((one : Sighting) → IsOne graph wanted one → IsSo P one) → found_in_scope graph wanted name cut shown scope ≡ Ok (Some x) → IsLooked P graph x

@@ -8,6 +8,7 @@ use Rattle.cxx_model.specs.declared.lookup.Associated.{Associated}
 use Rattle.cxx_model.specs.declared.lookup.Found.{Found}
 use Rattle.cxx_model.specs.declared.lookup.Found.TheVariants as found
 use Rattle.cxx_model.specs.declared.lookup.MemberFound.{MemberFound}
+use Rattle.cxx_model.specs.declared.lookup.MemberFound.TheVariants as member_found
 use Rattle.cxx_model.specs.declared.types.ClassId.{ClassId}
 use Rattle.cxx_model.specs.declared.types.FactId.{FactId}
 use Rattle.cxx_model.specs.declared.types.ScopeId.{ScopeId}
@@ -20,6 +21,7 @@ use Rattle.cxx_meaning.specs.Conversions.Standard.{CxxOperand}
 use Rattle.cxx_meaning.specs.Lookups.Associated.{adl, associated, befriended, functions_among, space_id, standing_in_each, target_by, target_of}
 use Rattle.cxx_meaning.specs.Lookups.Directives.{Shown, shows}
 use Rattle.cxx_meaning.specs.Lookups.Gathered.{gathered, holds_scope, spread, with_facts, with_scope, with_scopes}
+use Rattle.cxx_meaning.specs.Lookups.Member.{member}
 use Rattle.cxx_meaning.specs.Lookups.Ordinary.{IsFirst, found_in_scope, or_outside, ordinary, ordinary_in}
 use Rattle.cxx_meaning.specs.Lookups.Pending.{Asked}
 use Rattle.cxx_meaning.specs.Lookups.Qualified.{leads_to, searched, sightings_of, standing_in}
@@ -35,7 +37,7 @@ use Rattle.cxx_reading.specs.State.{CxxState}
 use Rattle.cxx_answers.specs.Answers.{associated_functions, found_in_sets, fresh_among, types_of_operands}
 use Rattle.cxx_language_laws.specs.Best.{IsClear}
 use Rattle.cxx_language_laws.specs.Told.{IsNotAround, IsNotInside, IsNotThere}
-use Rattle.cxx_language_laws.proofs.Outward.{HasNone, HasNothing, IsLooked, IsOne, IsSo, IsTwo, OfNumber, Outward, ScopeAnswers, all_of, beside_all, each_seen, entities_so, filtered_all, gathered_all, looked_so, member_looked, none_left, none_outward, outward, scope_answers, set_looked, some_outward, two_looked}
+use Rattle.cxx_language_laws.proofs.Outward.{HasNone, HasNothing, IsLooked, IsOne, IsSo, IsTwo, OfNumber, Outward, ScopeAnswers, all_of, beside_all, each_seen, entities_so, filtered_all, gathered_all, in_class, looked_so, member_looked, none_left, none_outward, outward, scope_answers, set_looked, some_outward, two_looked}
 use Rattle.cxx_language_laws.proofs.Shown.{reached_none, right_none, unit_in}
 use Rattle.cxx_language_laws.proofs.Scopes.{AreHeld, AreSound, InScopes, IsFirstThere, IsSound, UnitIsSpace, none_is_past}
 
@@ -266,6 +268,15 @@ nothing_sought graph wanted where_ name is there x e clear none = by x (subst (I
     by _ (some_there _ (set_looked one others there)) e clear none = absurd (some_numbered graph one.0 (fact_numbers others) there none)
     by _ (some_there _ (two_looked one two so)) e clear none = absurd clear
     by _ (some_there _ (member_looked class one others path there)) e clear none = absurd (some_numbered graph one.0 (fact_numbers others) there none)
+
+-- 5.2.5, 10.2: the same of a member of a class
+some_looked : (graph : CxxGraph) (x : Found) → IsLooked (IsThere graph) graph x → IsClear x → set_in graph x ≡ [] → ⊥
+some_looked graph _ (set_looked one others there) clear none = some_numbered graph one.0 (fact_numbers others) there none
+some_looked graph _ (two_looked one two so) clear none = absurd clear
+some_looked graph _ (member_looked class one others path there) clear none = some_numbered graph one.0 (fact_numbers others) there none
+
+pub some_member : (graph : CxxGraph) (class : ClassId) (name : CxxName) → AreSound graph.facts → (all : List FactId) (path : List ℕ) → member graph any_name class name ≡ Ok (member_found.Set all path) → numbered_at graph (fact_numbers all) ≡ [] → ⊥
+some_member graph class name sound all path e none = some_looked graph (found.Member class (member_found.Set all path)) (in_class (IsThere graph) graph any_name name class sound (one_there graph any_name sound) all path e) tt none
 
 -- 3.4: two that are found are declared
 pub two_looked_so : (P : ℕ → Type 0) (graph : CxxGraph) (x : Found) (one two : FactId) → x ≡ found.Ambiguous one two → IsLooked P graph x → IsTwo P graph one two

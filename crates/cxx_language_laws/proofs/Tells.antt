@@ -174,6 +174,21 @@ unfolding repeat
 repeat_tells is step over steps overs zero so_far state ahead = overs so_far state ahead
 repeat_tells is step over steps overs (suc n) so_far state ahead = then_in is (steps so_far state ahead) (go_on_tells is (repeat step over n) (repeat_tells is step over steps overs n))
 
+-- the same where something holds of what was read so far, in the state and with the tokens that are reached
+abbrev pub Steps : {S A B : Type 0} → (A → S → Ahead → Type 0) → (A → Reads S (Turn A B)) → Type 0
+Steps {S = S} {A = A} P step = (so_far next : A) (state at : S) (ahead rest : Ahead) → P so_far state ahead → step so_far state ahead ≡ got (More next) at rest → P next at rest
+
+pub repeat_holds : {S A B : Type 0} {kept : S → S → Type 0} {told : S → Ahead → Stopped → Type 0} → IsTold kept told → (P : A → S → Ahead → Type 0) (step : A → Reads S (Turn A B)) (over : A → Reads S B)
+    → ((so_far : A) (state : S) (ahead : Ahead) → P so_far state ahead → ToldIn kept told state ahead (step so_far state ahead)) → Steps P step → ((so_far : A) → Tells kept told (over so_far)) → (n : ℕ) (so_far : A) (state : S) (ahead : Ahead) → P so_far state ahead → ToldIn kept told state ahead (repeat step over n so_far state ahead)
+unfolding repeat
+repeat_holds is P step over steps goes overs zero so_far state ahead holds = overs so_far state ahead
+repeat_holds {S = S} {A = A} {B = B} {kept = kept} {told = told} is P step over steps goes overs (suc n) so_far state ahead holds =
+    then_from (go_on (repeat step over n)) (steps so_far state ahead holds) (λ one is_read keeps stands. from_in is state one.state ahead one.rest keeps stands (by one.value one.state one.rest (λ next t rest so. repeat_holds is P step over steps goes overs n next t rest so) is_read))
+  where
+    by : (turn : Turn A B) (t : S) (rest : Ahead) → ((next : A) (t : S) (rest : Ahead) → P next t rest → ToldIn kept told t rest (repeat step over n next t rest)) → step so_far state ahead ≡ got turn t rest → ToldIn kept told t rest (go_on (repeat step over n) turn t rest)
+    by (More next) t rest again is_read = again next t rest (goes so_far next state t ahead rest holds is_read)
+    by (Done result) t rest again is_read = same_in is result t rest
+
 -- ---- readers that say nothing of declarations
 
 abbrev pub Quietly : {S : Type 0} → S → Ahead → Stopped → Type 0

@@ -1,21 +1,25 @@
 -- What is kept of the state, and what stops the unit, where it is found what an expression or an initializer means.
 use Rattle.std.proofs.Common.{◌≡◌, refl, ap}
-use Rattle.std.specs.Prelude.{ℕ, zero, nat_eq, List, [], ◌∷◌, length, Option, Some, None, Ok}
+use Rattle.std.specs.Prelude.{ℕ, zero, Bool, true, false, ◌||◌, nat_eq, List, [], ◌∷◌, length, Option, Some, None, Ok}
 use Rattle.cxx_model.specs.declared.place.Place.{Place}
 use Rattle.cxx_model.specs.declared.punct.TheConstants as punct
 use Rattle.cxx_model.specs.Stops.{Stopped}
 use Rattle.cxx_model.specs.Types.Trees.{CxxType, CxxBound, array_of, number_bound}
+use Rattle.cxx_meaning.specs.Conversions.BuiltIn.{CxxBuiltIn, built_in_result}
 use Rattle.cxx_meaning.specs.Conversions.Kinds.{kind_of}
 use Rattle.cxx_meaning.specs.Conversions.Standard.{is_class}
+use Rattle.cxx_reading.specs.Initializers.{operand_of}
 use Rattle.cxx_reading.specs.Reads.{Ahead, Asks}
 use Rattle.cxx_reading.specs.Seen.{Numbered}
 use Rattle.cxx_reading.specs.State.{CxxState}
 use Rattle.cxx_reading.specs.Trees.{CxxPath, CxxTree, children_of}
-use Rattle.cxx_phrases.specs.Forms.{name_tree, call_tree}
+use Rattle.cxx_phrases.specs.Forms.{name_tree, call_tree, member_tree}
+use Rattle.cxx_phrases.specs.Productions as phrase
 use Rattle.cxx_expr.specs.declared.production.TheConstants as production
 use Rattle.cxx_expr.specs.Calls.{call, expression_call, split_first}
 use Rattle.cxx_expr.specs.Elaborating.{bracketed, over_one, parenthesis, expressions_in, without_operand, operated, by_production, elaborate}
 use Rattle.cxx_expr.specs.Initializing.{array_braces, array_from, array_part, array_whole, array_with, as_copy, bound_by, braces_part, element_in, elements, has_room, initialize, initialized, is_braces, is_made_of_class, is_nothing, is_text_for, list_part, nothing_by, one_less, one_of, part, text_count, text_in, text_part, text_whole, value_part, value_whole, wants_value, whole_by}
+use Rattle.cxx_expr.specs.Members.{arrow, class_of_object, selected}
 use Rattle.cxx_expr.specs.Names.{name, path_in}
 use Rattle.cxx_expr.specs.Operands.{any_open, is_none, only}
 use Rattle.cxx_expr.specs.Questions.{Questions}
@@ -23,6 +27,7 @@ use Rattle.cxx_language_laws.proofs.PhrasesTell.{IsPlain}
 use Rattle.cxx_language_laws.proofs.QuestionsTell.{DefaultsTell, QuestionsTell, quiet_by, same_by, if_by, yes_by, no_by, then_by, give_by}
 use Rattle.cxx_language_laws.proofs.Tells.{IsTold, ToldBy, Answers}
 use Rattle.cxx_language_laws.proofs.TellsConversions.{literal_tells, convert_tells, size_tells}
+use Rattle.cxx_language_laws.proofs.TellsMembers.{MemberTells, PointedTells, arrow_of_tells, selected_from_tells}
 use Rattle.cxx_language_laws.proofs.TellsNames.{AskedOf, CalledTells, NameTells, through_tells, name_call_tells, name_alone_tells}
 use Rattle.cxx_language_laws.proofs.TellsOperators.{misshapen_tells, prefix_tells, step_tells, binary_tells, conditional_tells, cast_tells, functional_tells}
 
@@ -44,27 +49,40 @@ plain_call_tells : {kept : CxxState → CxxState → Type 0} {told : CxxState �
 unfolding call
 plain_call_tells is q tree unnamed state ahead = yes_by (is_none tree.label.path) _ (ap is_none unnamed) (expression_call_tells is q tree (split_first (children_of tree)) state ahead)
 
-operated_tells : {kept : CxxState → CxxState → Type 0} {told : CxxState → Ahead → Stopped → Type 0} → IsTold kept told → (q : Questions) (tree : CxxTree) → Answers kept told (operated q tree)
-operated_tells is q tree state ahead =
+-- it is no name, and no member of an object
+neither : (one two : Bool) → (one || two) ≡ false → (one ≡ false) × (two ≡ false)
+neither true two e = absurd cc
+neither false two e = (refl, e)
+
+no_name : (tree : CxxTree) → IsPlain tree → nat_eq tree.label.production production.NAME ≡ false
+no_name tree plain = (neither (nat_eq tree.label.production phrase.name) (nat_eq tree.label.production phrase.member || nat_eq tree.label.production phrase.arrow) plain.0).0
+
+no_member : (tree : CxxTree) → IsPlain tree → (nat_eq tree.label.production production.MEMBER ≡ false) × (nat_eq tree.label.production production.ARROW ≡ false)
+no_member tree plain = neither (nat_eq tree.label.production phrase.member) (nat_eq tree.label.production phrase.arrow) (neither (nat_eq tree.label.production phrase.name) (nat_eq tree.label.production phrase.member || nat_eq tree.label.production phrase.arrow) plain.0).1
+
+operated_tells : {kept : CxxState → CxxState → Type 0} {told : CxxState → Ahead → Stopped → Type 0} → IsTold kept told → (q : Questions) (tree : CxxTree) → IsPlain tree → Answers kept told (operated q tree)
+operated_tells is q tree plain state ahead =
+    no_by (nat_eq tree.label.production production.MEMBER) _ (no_member tree plain).0 (
+    no_by (nat_eq tree.label.production production.ARROW) _ (no_member tree plain).1 (
     if_by (nat_eq tree.label.production production.SUBSCRIPT) (binary_tells is q tree punct.LEFT_BRACKET state ahead) (
     if_by (nat_eq tree.label.production production.STEP) (step_tells is q tree state ahead) (
     if_by (nat_eq tree.label.production production.PREFIX) (prefix_tells is q tree state ahead) (
     if_by (nat_eq tree.label.production production.BINARY) (binary_tells is q tree _ state ahead) (
     if_by (nat_eq tree.label.production production.CONDITIONAL) (conditional_tells is q tree state ahead) (
     if_by (nat_eq tree.label.production production.ASSIGNMENT) (binary_tells is q tree _ state ahead)
-    (misshapen_tells is tree state ahead))))))
+    (misshapen_tells is tree state ahead))))))))
 
 by_production_tells : {kept : CxxState → CxxState → Type 0} {told : CxxState → Ahead → Stopped → Type 0} → IsTold kept told → {q : Questions} → QuestionsTell kept told q → (tree : CxxTree) → IsPlain tree → Answers kept told (by_production q tree)
 unfolding by_production
 by_production_tells is {q = q} asks tree plain state ahead =
     if_by (nat_eq tree.label.production production.LITERAL) (literal_tells is tree state ahead) (
-    no_by (nat_eq tree.label.production production.NAME) _ plain.0 (
+    no_by (nat_eq tree.label.production production.NAME) _ (no_name tree plain) (
     if_by (nat_eq tree.label.production production.PARENTHESIS) (parenthesis_tells is tree state ahead) (
     if_by (nat_eq tree.label.production production.CALL) (plain_call_tells is q tree plain.1 state ahead) (
     if_by (nat_eq tree.label.production production.FUNCTIONAL_CAST) (functional_tells is q tree state ahead) (
     if_by (nat_eq tree.label.production production.SIZE) (size_tells is asks tree state ahead) (
     if_by (nat_eq tree.label.production production.CAST) (cast_tells is q tree state ahead)
-    (operated_tells is q tree state ahead)))))))
+    (operated_tells is q tree plain state ahead)))))))
 
 pub plain_tells : {kept : CxxState → CxxState → Type 0} {told : CxxState → Ahead → Stopped → Type 0} → IsTold kept told → {q : Questions} → QuestionsTell kept told q → (tree : CxxTree) → IsPlain tree → Answers kept told (elaborate q tree)
 unfolding elaborate
@@ -83,6 +101,22 @@ unfolding elaborate by_production call
 call_tells is asks spelling path defaults arguments from to state ahead tells calls =
     let tree = call_tree spelling path arguments from to in
     if_by (any_open (expressions_in tree)) (same_by is (without_operand tree) state ahead) (name_call_tells is asks tree defaults (children_of tree) state ahead tells calls)
+
+-- ---- members of objects
+
+pub member_tells : {kept : CxxState → CxxState → Type 0} {told : CxxState → Ahead → Stopped → Type 0} → IsTold kept told → {q : Questions} → QuestionsTell kept told q → (place : Place) (path : CxxPath) (object : CxxTree) (from to : Ahead) (state : CxxState) (ahead : Ahead) → ((class : ℕ) → class_of_object (operand_of object) ≡ Some class → MemberTells kept told q class (member_tree phrase.member place path object from to).label state ahead)
+    → ToldBy kept told state ahead (elaborate q (member_tree phrase.member place path object from to) state)
+unfolding elaborate by_production selected
+member_tells is asks place path object from to state ahead tells =
+    let tree = member_tree phrase.member place path object from to in
+    if_by (any_open (expressions_in tree)) (same_by is (without_operand tree) state ahead) (selected_from_tells is asks tree (operand_of object) (object ∷ []) state ahead tells)
+
+pub arrow_tells : {kept : CxxState → CxxState → Type 0} {told : CxxState → Ahead → Stopped → Type 0} → IsTold kept told → {q : Questions} → QuestionsTell kept told q → (place : Place) (path : CxxPath) (object : CxxTree) (from to : Ahead) (state : CxxState) (ahead : Ahead) → ((meaning : CxxBuiltIn) → built_in_result state.graph punct.STAR (operand_of object ∷ []) ≡ Ok (Some meaning) → PointedTells kept told q (member_tree phrase.arrow place path object from to) object state ahead meaning)
+    → ToldBy kept told state ahead (elaborate q (member_tree phrase.arrow place path object from to) state)
+unfolding elaborate by_production arrow
+arrow_tells is asks place path object from to state ahead tells =
+    let tree = member_tree phrase.arrow place path object from to in
+    if_by (any_open (expressions_in tree)) (same_by is (without_operand tree) state ahead) (arrow_of_tells is asks tree object state ahead tells)
 
 -- ---- initializers
 

@@ -1,5 +1,5 @@
 -- What is true of the fault with which the reading of a unit stops, where that is one of a call (13.3) or of a name (3.4).
-use Rattle.std.specs.Prelude.{ℕ, ◌≤◌, ◌<◌, ◌≡◌, ◌⊎◌, Bool, List, [], ◌∷◌, ◌++◌, length, Option, Some, Ok, Err, true, false}
+use Rattle.std.specs.Prelude.{ℕ, ◌≤◌, ◌<◌, ◌≡◌, ◌⊎◌, Bool, List, [], ◌∷◌, ◌++◌, length, Option, Some, Ok, Err, true, false, codes}
 use Rattle.std.specs.List.{Contains}
 use Rattle.cxx_model.specs.declared.evidence.Evidence.TheVariants as evidence
 use Rattle.cxx_model.specs.declared.fault.FaultText.{FaultText}
@@ -7,6 +7,8 @@ use Rattle.cxx_model.specs.declared.fault.FaultText.TheVariants as says
 use Rattle.cxx_model.specs.declared.limits.TheConstants as limits
 use Rattle.cxx_model.specs.declared.lookup.Found.{Found}
 use Rattle.cxx_model.specs.declared.lookup.Found.TheVariants as sought
+use Rattle.cxx_model.specs.declared.lookup.Hit.{Hit}
+use Rattle.cxx_model.specs.declared.lookup.MemberFound.{MemberFound}
 use Rattle.cxx_model.specs.declared.lookup.MemberFound.TheVariants as member_found
 use Rattle.cxx_model.specs.declared.place.Place.{Place}
 use Rattle.cxx_model.specs.declared.punct.TheConstants as punct
@@ -17,6 +19,7 @@ use Rattle.cxx_model.specs.declared.types.ScopeId.{ScopeId}
 use Rattle.cxx_model.specs.Facts.Declarations.{CxxFact, CxxGraph, CxxName, CxxSpecialisation, spelled}
 use Rattle.cxx_model.specs.Stops.{Faulty}
 use Rattle.cxx_model.specs.Text.Lexemes.{Lexeme, first_place}
+use Rattle.cxx_meaning.specs.Conversions.BuiltIn.{CxxBuiltIn, built_in_result}
 use Rattle.cxx_meaning.specs.Conversions.Standard.{CxxOperand}
 use Rattle.cxx_meaning.specs.Lookups.Directives.{reached}
 use Rattle.cxx_meaning.specs.Lookups.Member.{class_of_scope, member}
@@ -29,15 +32,22 @@ use Rattle.cxx_reading.specs.declared.region.Region.TheVariants as region
 use Rattle.cxx_reading.specs.Declaring.{scope_count}
 use Rattle.cxx_reading.specs.Linked.{scope_id}
 use Rattle.cxx_reading.specs.Paths.{first_region, name_in, place_of_fact, region_by, region_of, sought_in}
-use Rattle.cxx_reading.specs.Reads.{Ahead, Got, kind_ahead}
+use Rattle.cxx_reading.specs.Initializers.{operand_of}
+use Rattle.cxx_reading.specs.Reads.{Ahead, Got, More, kind_ahead, place_ahead, behind}
 use Rattle.cxx_reading.specs.Seen.{Numbered}
 use Rattle.cxx_reading.specs.State.{CxxState, first_state, unit_scope}
-use Rattle.cxx_reading.specs.Tokens.{begins_name, behind_name, is_end, is_punct, is_whole_name, path_ahead}
+use Rattle.cxx_reading.specs.Tokens.{begins_name, behind_name, is_end, is_plain_name, is_punct, is_whole_name, path_ahead}
 use Rattle.cxx_reading.specs.Trees.{CxxPath, CxxPathPart, CxxTree, last_part}
 use Rattle.cxx_reading.specs.Units.{with_part}
 use Rattle.cxx_phrases.specs.Arguments.{arguments_at}
+use Rattle.cxx_phrases.specs.Operands.{postfix_step}
 use Rattle.cxx_phrases.specs.Phrases.{Phrases, Inner}
-use Rattle.cxx_expr.specs.Operands.{judged_each}
+use Rattle.cxx_phrases.specs.Primary.{called_at, parenthesis_at, primary_at}
+use Rattle.cxx_phrases.specs.Productions as phrase
+use Rattle.cxx_answers.specs.Members.{by_bases}
+use Rattle.cxx_expr.specs.Converting.{convert_each}
+use Rattle.cxx_expr.specs.Members.{class_of_object}
+use Rattle.cxx_expr.specs.Operands.{built_operand, judged_each}
 use Rattle.cxx_overload.specs.Decided.{NoneViable, IsAmbiguous}
 use Rattle.cxx_language.specs.Asked.{answers, inner_at, phrases_at}
 use Rattle.cxx_language.specs.Units.{declaration_at}
@@ -114,6 +124,53 @@ pub data IsChoiceFault (before : CxxState) (ahead : Ahead) (fault : Fault) : Typ
   no_viable_function : (room : ℕ) (call : IsUnitCall room before ahead) (clear : IsFoundClear call) → NoneViable (place_of_call call) (operands call) call.at.graph (meant call clear) (Faulty fault) → IsChoiceFault before ahead fault
   ambiguous_call : (room : ℕ) (call : IsUnitCall room before ahead) (clear : IsFoundClear call) → IsAmbiguous (place_of_call call) (operands call) call.at.graph (meant call clear) (Faulty fault) → IsChoiceFault before ahead fault
 
+-- ---- members of objects (5.2.5)
+
+-- 5.2: what was read of a postfix expression that begins at a place, up to what is ahead: a primary expression, one in
+-- brackets, or a call of a name in brackets, and what goes on with it
+pub data IsPostfix {S : Type 0} (asks : Phrases S) (inner : Inner S) (from : Ahead) : CxxTree → S → Ahead → Type 0 where
+  is_primary : (before at : S) (first : CxxTree) (rest : Ahead) → Gives (primary_at asks inner) before from first at rest → IsPostfix asks inner from first at rest
+  is_bracketed : (before at : S) (first : CxxTree) (rest : Ahead) → Gives (parenthesis_at asks inner) before from first at rest → IsPostfix asks inner from first at rest
+  is_called : (before at : S) (path : CxxPath) (opened : Ahead) (first : CxxTree) (rest : Ahead) → Gives (called_at asks inner (codes "(") from path) before opened first at rest → IsPostfix asks inner from first at rest
+  goes_on : (before at : S) (so_far next : CxxTree) (ahead rest : Ahead) → IsPostfix asks inner from so_far before ahead → Gives (postfix_step asks inner from so_far) before ahead (More next) at rest → IsPostfix asks inner from next at rest
+
+-- which operator selects the member
+abbrev pub IsSelector : ℕ → Ahead → Type 0
+IsSelector number ahead = (is_punct punct.DOT (kind_ahead ahead) ≡ true × number ≡ phrase.member) ⊎ (is_punct punct.ARROW (kind_ahead ahead) ≡ true × number ≡ phrase.arrow)
+
+-- 5.2.5: An object was read, `.` or `->` is ahead, and behind that a name without qualifiers.
+pub record IsSelected {S : Type 0} (asks : Phrases S) (inner : Inner S) (before : S) (ahead : Ahead) : Type 0 where
+  pub from : Ahead
+  pub object : CxxTree
+  pub reads : IsPostfix asks inner from object before ahead
+  pub number : ℕ
+  pub selects : IsSelector number ahead
+  pub names : is_plain_name (behind ahead) ≡ true
+
+abbrev pub IsUnitSelected : ℕ → CxxState → Ahead → Type 0
+IsUnitSelected room before ahead = IsSelected (phrases_at room) (inner_at room).phrases before ahead
+
+-- the name of the member
+abbrev pub selected_part : Ahead → CxxPathPart
+selected_part ahead = last_part (path_ahead (behind ahead)).parts
+
+-- 5.2.5: The class of the object; or that of what the pointer points to, once it is converted to a value.
+pub data IsOfObject (before : CxxState) (place : Place) (object : CxxTree) : ℕ → ℕ → CxxState → Type 0 where
+  of_object : (class : ℕ) → class_of_object (operand_of object) ≡ Some class → IsOfObject before place object phrase.member class before
+  of_pointed : (class : ℕ) (meaning : CxxBuiltIn) (parts : List CxxTree) (at : CxxState) → built_in_result before.graph punct.STAR (operand_of object ∷ []) ≡ Ok (Some meaning) → convert_each answers place meaning.operands [] (object ∷ []) before ≡ Ok (parts, at) → class_of_object (built_operand meaning) ≡ Some class
+      → IsOfObject before place object phrase.arrow class at
+
+-- 10.2: A member of an object is looked up, in the class of the object, at the place of the fault.
+pub record IsSoughtMember (before : CxxState) (ahead : Ahead) (finds : MemberFound) (fault : Fault) (word : List ℕ) : Type 0 where
+  pub room : ℕ
+  pub selected : IsUnitSelected room before ahead
+  pub class : ℕ
+  pub at : CxxState
+  pub of : IsOfObject before (place_ahead ahead) selected.object selected.number class at
+  pub spelled_so : (selected_part ahead).word ≡ word
+  pub is_at : (selected_part ahead).place ≡ fault.place
+  pub finds_so : member at.graph any_name (record { 0 = class }) (spelled word) ≡ Ok finds
+
 -- ---- the fault of one name
 
 -- 3.4.3, 3.4.6: for what the parts of a name before `::` are looked up: for what may stand there, and in a using-directive or
@@ -164,10 +221,12 @@ pub record IsUnknownCall (before : CxxState) (ahead : Ahead) (wanted : Wanted) (
   pub by_types : called_by_types call ≡ []
 
 -- 3.4: a part of a name that is not declared: of a name in an expression or a using-declaration, of a type behind `enum`
--- (3.4.4), of a namespace in an alias or a directive (3.4.6), or of a called name; any of them may stand before `::` (3.4.3)
+-- (3.4.4), of a namespace in an alias or a directive (3.4.6), or of a called name; any of them may stand before `::` (3.4.3);
+-- or a name that is no member of an object's class (5.2.5)
 pub data IsUnknown (at : CxxState) (ahead : Ahead) (fault : Fault) (word : List ℕ) : Type 0 where
   unknown_name : (wanted : Wanted) → IsNamed wanted sought.Empty at ahead fault word → IsUnknown at ahead fault word
   unknown_call : (wanted : Wanted) → IsUnknownCall at ahead wanted fault word → IsUnknown at ahead fault word
+  unknown_member : IsSoughtMember at ahead member_found.Empty fault word → IsUnknown at ahead fault word
 
 -- 3.4.1: No scope from one outward declares a name as it is wanted, so the scope of the unit does not (3.3.5), nor does a
 -- namespace that directives of one of them reach (7.3.4). A using-declaration declares what it brings (7.3.3).
@@ -190,6 +249,7 @@ IsNotThere graph wanted (region.Inside space) name = IsNotInside graph wanted sp
 abbrev pub IsNowhere : {at : CxxState} {ahead : Ahead} {fault : Fault} {word : List ℕ} → IsUnknown at ahead fault word → Type 0
 IsNowhere {at = at} {word = word} (unknown_name wanted is) = IsNotThere at.graph wanted is.is_sought.where_ (spelled word)
 IsNowhere {word = word} (unknown_call wanted is) = IsNotThere is.call.at.graph wanted is.is_sought.where_ (spelled word)
+IsNowhere (unknown_member is) = Unit {0}
 
 -- 3.4: two different declarations, no overloads, that are found, and their places in the evidence
 pub record AreTwo (graph : CxxGraph) (one two : FactId) (fault : Fault) : Type 0 where
@@ -202,6 +262,8 @@ pub record AreTwo (graph : CxxGraph) (one two : FactId) (fault : Fault) : Type 0
 -- overloads
 pub data IsTwofold (at : CxxState) (ahead : Ahead) (fault : Fault) (word : List ℕ) : Type 0 where
   twofold_name : (wanted : Wanted) (one two : FactId) → IsNamed wanted (sought.Ambiguous one two) at ahead fault word → AreTwo at.graph one two fault → IsTwofold at ahead fault word
+  -- 10.2: two members of an object's class, by the bases that lead to each
+  twofold_member : (one two : Hit) (is : IsSoughtMember at ahead (member_found.Ambiguous one two) fault word) → fault.evidence ≡ by_bases is.at.graph one ∷ by_bases is.at.graph two ∷ [] → IsTwofold at ahead fault word
 
 -- ---- the fault of a unit
 

@@ -42,6 +42,8 @@ pub fn choice_faults_are_told()
 /// a directive, of namespaces (3.4.6). So no scope from there outward to that of the unit (3.3.5) declares the name, nor has
 /// a class whose scope is one of them a member with it (10.2), nor does a namespace that a directive of one of them reaches
 /// declare it (7.3.4); behind qualifiers, neither their namespace nor one that is searched by its directives (3.4.3.2).
+/// Or an object was read, `.` or `->` stands there, and behind it a name without qualifiers where the fault is: its lookup in
+/// the class of the object, or in that of what the pointer points to, finds nothing (5.2.5, 10.2).
 pub fn undeclared_names_are_told()
     ensures { (options : Options) (tokens : List Lexeme) (fault : Fault) (word : List ℕ) → unit_reading options tokens ≡ Err (Faulty fault) → fault.text ≡ says.UndeclaredName word → IsUndeclaredFault tokens fault word }
 {}
@@ -51,6 +53,8 @@ pub fn undeclared_names_are_told()
 /// its lookup finds two entities that are no overloads: in an expression, behind `enum`, in an alias, a using-declaration or
 /// a directive, before `::`, or of a called name once its arguments are read. The evidence has the places of the two, and
 /// nothing else.
+/// Or an object was read, and the name behind `.` or `->` is looked up in its class (5.2.5): two members are found that do not
+/// go together (10.2), and the evidence has the places of the two with the bases that lead to each.
 pub fn ambiguous_names_are_told()
     ensures { (options : Options) (tokens : List Lexeme) (fault : Fault) (word : List ℕ) → unit_reading options tokens ≡ Err (Faulty fault) → fault.text ≡ says.AmbiguousName word → IsAmbiguousFault tokens fault word }
 {}

@@ -3,14 +3,14 @@ use Rattle.std.proofs.Common.{◌≡◌, ℕ, zero, suc, Bool, true, false, not,
 use Rattle.std.specs.Prelude.{codes}
 use Rattle.cxx_model.specs.Types.Trees.{CxxType}
 use Rattle.cxx_reading.specs.Declarators.{no_cv}
-use Rattle.cxx_reading.specs.Plain.{type_or_void}
+use Rattle.cxx_reading.specs.Plain.{target_or, type_or_void}
 use Rattle.cxx_reading.specs.Trees.{no_trees, tree_then, CxxTree, CxxTrees, Label}
-use Rattle.cxx_reading.specs.Words.{close_bracket_word, close_word, declared, greater_word, keyword_word, less_word, open_bracket_word, open_word, within, Tags, Word}
+use Rattle.cxx_reading.specs.Words.{close_bracket_word, close_word, declared, greater_word, keyword_word, less_word, name_word, open_bracket_word, open_word, within, Tags, Word}
 use Rattle.cxx_phrase_text.specs.declared.form.Form.{Form}
 use Rattle.cxx_phrase_text.specs.declared.form.Form.TheVariants as form
 use Rattle.cxx_phrase_text.specs.Apart.{BeginsApart, EndsApart, StandsApart}
 use Rattle.cxx_phrase_text.specs.Forms.{form_of}
-use Rattle.cxx_phrase_text.specs.Phrases.{arguments, braced, call_words, callee_words, cast_keyword, cast_words, elements, infix_standing, infix_word, is_braced, is_one_string, is_primary, last_part, operand, part, phrase_as, phrase_of, phrases, Phrase, spells_comma, subscript_words}
+use Rattle.cxx_phrase_text.specs.Phrases.{arguments, braced, call_words, callee_words, cast_keyword, cast_words, dot_word, elements, infix_standing, infix_word, is_braced, is_one_string, is_primary, last_part, member_words, operand, part, phrase_as, phrase_of, phrases, Phrase, pointed_words, prefix_word, spells_comma, subscript_words}
 
 -- ---- runs of words
 
@@ -80,6 +80,16 @@ subscript_apart parts all =
       ends = ends_append array open_bracket_word (index ++ close_bracket_word ∷ []) (ends_append (open_bracket_word ∷ index) close_bracket_word [] refl);
     }
 
+member_apart : (name : ℕ → List ℕ) (target : Option ℕ) (object : List Word) → StandsApart object → StandsApart (member_words name target object)
+member_apart name target object apart = record {
+  begins = begins_append object (dot_word ∷ name_word (name (target_or target)) ∷ []) apart.begins refl;
+  ends = ends_append object dot_word (name_word (name (target_or target)) ∷ []) refl;
+}
+
+pointed_apart : (parts : List Phrase) → StandsApart (pointed_words parts)
+unfolding pointed_words
+pointed_apart parts = record { begins = refl; ends = ends_append (open_word ∷ prefix_word (codes "*") ∷ operand (part parts 0)) close_word [] refl }
+
 braced_apart : (b : Bool) (parts : List Phrase) → AreApart parts → IsApart (braced b parts)
 unfolding IsApart
 braced_apart true parts all = λ is. record { begins = refl; ends = ends_append (keyword_word (codes "{") ∷ elements parts) (keyword_word (codes "}")) [] refl }
@@ -100,6 +110,8 @@ form_apart form.Name tags name label is_text parts all = λ is. record { begins 
 form_apart form.Parenthesis tags name label is_text parts all = part_apart parts 0 all
 form_apart form.Call tags name label is_text parts all = λ is. call_apart name label.target parts all
 form_apart form.Zero tags name label is_text parts all = λ is. cast_apart tags (codes "static_cast") (type_or_void label.of) (keyword_word (codes "0") ∷ [])
+form_apart form.Member tags name label is_text parts all = λ is. member_apart name label.target (operand (part parts 0)) (operand_apart (part parts 0) (part_apart parts 0 all))
+form_apart form.Arrow tags name label is_text parts all = λ is. member_apart name label.target (pointed_words parts) (pointed_apart parts)
 form_apart form.Subscript tags name label is_text parts all = λ is. subscript_apart parts all
 form_apart form.Postfix tags name label is_text parts all = λ is. absurd (not_true is)
 form_apart form.Prefix tags name label is_text parts all = λ is. absurd (not_true is)

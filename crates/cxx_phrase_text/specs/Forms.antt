@@ -13,6 +13,8 @@ form_of n =
     if nat_eq n production.parenthesis then form.Parenthesis else (
     if nat_eq n read.call then form.Call else (
     if nat_eq n production.functional_cast then form.Zero else (
+    if nat_eq n production.member then form.Member else (
+    if nat_eq n production.arrow then form.Arrow else (
     if nat_eq n production.subscript then form.Subscript else (
     if nat_eq n production.postfix_step then form.Postfix else (
     if nat_eq n production.prefix then form.Prefix else (
@@ -20,4 +22,4 @@ form_of n =
     if nat_eq n production.binary then form.Infix else (
     if nat_eq n production.conditional then form.Conditional else (
     if nat_eq n production.assignment then form.Infix else
-    form.Spelled)))))))))))
+    form.Spelled)))))))))))))

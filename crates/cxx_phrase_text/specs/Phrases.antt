@@ -118,6 +118,17 @@ infix_standing spelling = if spells_comma spelling then standing.Comma else stan
 abbrev pub subscript_words : List Phrase → List Word
 subscript_words parts = operand (part parts 0) ++ (open_bracket_word ∷ ((part parts 1).words ++ close_bracket_word ∷ []))
 
+-- 5.2.5
+abbrev pub dot_word : Word
+dot_word = record { role = role.Joins; spelling = codes "." }
+
+abbrev pub member_words : (ℕ → List ℕ) → Option ℕ → List Word → List Word
+member_words name target object = object ++ (dot_word ∷ name_word (name (target_or target)) ∷ [])
+
+-- what a pointer points to, as an object
+unfoldable pub pointed_words : List Phrase → List Word
+pointed_words parts = within true (prefix_word (codes "*") ∷ operand (part parts 0))
+
 -- 5.16
 abbrev pub conditional_words : List Phrase → List Word
 conditional_words parts = operand (part parts 0) ++ (keyword_word (codes "?") ∷ (operand (part parts 1) ++ (keyword_word (codes ":") ∷ operand (part parts 2))))
@@ -184,6 +195,8 @@ phrase_as form.Name tags name label is_one_string parts = primary (name_word (na
 phrase_as form.Parenthesis tags name label is_one_string parts = part parts 0
 phrase_as form.Call tags name label is_one_string parts = primary (call_words name label.target parts)
 phrase_as form.Zero tags name label is_one_string parts = primary (zero_words tags (type_or_void label.of))
+phrase_as form.Member tags name label is_one_string parts = primary (member_words name label.target (operand (part parts 0)))
+phrase_as form.Arrow tags name label is_one_string parts = primary (member_words name label.target (pointed_words parts))
 phrase_as form.Subscript tags name label is_one_string parts = primary (subscript_words parts)
 phrase_as form.Postfix tags name label is_one_string parts = operation (operand (part parts 0) ++ postfix_word label.spelling ∷ [])
 phrase_as form.Prefix tags name label is_one_string parts = operation (prefix_word label.spelling ∷ operand (part parts 0))

@@ -8,6 +8,7 @@ ghost use Rattle.cxx_phrase_text.specs.Written.{phrase_at, phrase_in};
 
 use crate::form::{Form, form_of};
 use crate::lists::{write_braces, write_call};
+use crate::members::{write_arrow, write_member};
 use crate::names::Names;
 use crate::operands::write_part;
 use crate::operators::{
@@ -63,6 +64,8 @@ fn write_form<N: Names>(
         Form::Parenthesis => write_part(names, page, parts, 0, number),
         Form::Call => write_call(names, page, node.target, parts, number),
         Form::Zero => write_zero(names, page, node.of),
+        Form::Member => write_member(names, page, node.target, parts, number),
+        Form::Arrow => write_arrow(names, page, node.target, parts, number),
         Form::Subscript => write_subscript(names, page, parts, number),
         Form::Postfix => write_postfix(names, page, spelling, parts, number),
         Form::Prefix => write_prefix(names, page, spelling, parts, number),

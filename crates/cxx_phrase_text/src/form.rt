@@ -4,8 +4,8 @@ ghost use Rattle.cxx_phrase_text.specs.Forms as forms;
 ghost use Rattle.cxx_phrase_text.specs.Phrases as phrases;
 
 use crate::production::{
-    ASSIGNMENT, BINARY, CALL, CAST, CONDITIONAL, FUNCTIONAL_CAST, INITIALIZER, NAME, PARENTHESIS,
-    POSTFIX_STEP, PREFIX, SUBSCRIPT,
+    ARROW, ASSIGNMENT, BINARY, CALL, CAST, CONDITIONAL, FUNCTIONAL_CAST, INITIALIZER, MEMBER, NAME,
+    PARENTHESIS, POSTFIX_STEP, PREFIX, SUBSCRIPT,
 };
 
 /// A form in which expressions are written (clause 5, 8.5).
@@ -18,6 +18,10 @@ pub(crate) enum Form {
     Call,
     /// `T()`, of a type that is no class.
     Zero,
+    /// A member of an object.
+    Member,
+    /// A member of what is pointed to, which is written as one of an object.
+    Arrow,
     Subscript,
     Postfix,
     Prefix,
@@ -51,6 +55,8 @@ pub(crate) fn form_of(production: u8) -> Form
         PARENTHESIS => Form::Parenthesis,
         CALL => Form::Call,
         FUNCTIONAL_CAST => Form::Zero,
+        MEMBER => Form::Member,
+        ARROW => Form::Arrow,
         SUBSCRIPT => Form::Subscript,
         POSTFIX_STEP => Form::Postfix,
         PREFIX => Form::Prefix,

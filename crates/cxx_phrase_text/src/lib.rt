@@ -10,6 +10,7 @@ mod form;
 mod initializers;
 mod laws;
 mod lists;
+mod members;
 mod names;
 mod operands;
 mod operators;

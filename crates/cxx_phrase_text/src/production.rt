@@ -15,6 +15,12 @@ pub(crate) const CALL: u8 = 40;
 /// 5.2.3
 pub(crate) const FUNCTIONAL_CAST: u8 = 41;
 
+/// 5.2.5: `.`
+pub(crate) const MEMBER: u8 = 42;
+
+/// 5.2.5: `->`
+pub(crate) const ARROW: u8 = 43;
+
 /// 5.2.1
 pub(crate) const SUBSCRIPT: u8 = 44;
 

@@ -44,6 +44,10 @@ functional_tree of arguments from to = tree_of (record (label_from phrase.functi
 abbrev pub subscript_tree : Place → CxxTree → CxxTree → Ahead → Ahead → CxxTree
 subscript_tree place object index from to = tree_of (record (label_from phrase.subscript [] from to) { place = place }) (object ∷ index ∷ [])
 
+-- 5.2.5: a member of an object, or of what is pointed to; its place is that of the operator
+abbrev pub member_tree : ℕ → Place → CxxPath → CxxTree → Ahead → Ahead → CxxTree
+member_tree number place path object from to = tree_of (record (label_from number [] from to) { place = place; path = Some path }) (object ∷ [])
+
 -- 5.2.6
 abbrev pub step_tree : List ℕ → Place → CxxTree → Ahead → Ahead → CxxTree
 step_tree spelling place operand from to = tree_of (record (label_from phrase.postfix_step spelling from to) { place = place }) (operand ∷ [])

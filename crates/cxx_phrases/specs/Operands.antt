@@ -1,5 +1,7 @@
 -- Postfix and unary expressions and casts (5.2 to 5.4): the operands of binary operators.
-use Rattle.std.specs.Prelude.{Bool, true, false, if◌then◌else◌, List, [], ◌∷◌, Option, Some, None, codes}
+use Rattle.std.specs.Prelude.{ℕ, Bool, true, false, not, ◌&&◌, if◌then◌else◌, List, [], ◌∷◌, Option, Some, None, codes}
+use Rattle.cxx_model.specs.declared.fault.FaultText.TheVariants as says
+use Rattle.cxx_model.specs.declared.fault.LeftOut.TheVariants as form
 use Rattle.cxx_model.specs.declared.keyword.TheConstants as keyword
 use Rattle.cxx_model.specs.declared.punct.TheConstants as punct
 use Rattle.cxx_model.specs.declared.tree.Kind.{Kind}
@@ -10,13 +12,14 @@ use Rattle.cxx_phrases.specs.declared.shape.TypeShape.{TypeShape}
 use Rattle.cxx_phrases.specs.declared.shape.TypeShape.TheVariants as shape
 use Rattle.cxx_phrases.specs.Arguments.{arguments_at}
 use Rattle.cxx_phrases.specs.Brackets.{called_name, begins_cast}
-use Rattle.cxx_phrases.specs.Forms.{called_tree, subscript_tree, step_tree, prefix_tree, size_tree, cast_tree}
-use Rattle.cxx_phrases.specs.Operators.{is_prefix, is_step, is_member_access, operator_ahead}
+use Rattle.cxx_phrases.specs.Forms.{called_tree, member_tree, subscript_tree, step_tree, prefix_tree, size_tree, cast_tree}
+use Rattle.cxx_phrases.specs.Operators.{is_prefix, is_step, operator_ahead}
 use Rattle.cxx_phrases.specs.Phrases.{Phrases, Inner}
 use Rattle.cxx_phrases.specs.Primary.{called_at, parenthesis_at, primary_at}
-use Rattle.cxx_reading.specs.Reads.{Reads, Ahead, Turn, More, Done, ◌>>=◌, got, give, ask, looked, taken, tokens, kind_ahead, count_ahead, repeat}
+use Rattle.cxx_phrases.specs.Productions as phrase
+use Rattle.cxx_reading.specs.Reads.{Reads, Ahead, Turn, More, Done, ◌>>=◌, got, give, ask, fault_at, looked, taken, tokens, kind_ahead, place_ahead, count_ahead, repeat}
 use Rattle.cxx_reading.specs.Shapes.{look, past}
-use Rattle.cxx_reading.specs.Tokens.{is_punct, is_keyword, punct_taken, not_built}
+use Rattle.cxx_reading.specs.Tokens.{is_punct, is_keyword, is_plain_name, begins_name, path_taken, punct_taken, not_built}
 use Rattle.cxx_reading.specs.Trees.{CxxPath, CxxTree}
 
 -- ---- postfix expressions (5.2)
@@ -48,14 +51,30 @@ step_step asks from operand = do
   tree ← ask (asks.whole (step_tree (operator_ahead at) place operand from to))
   give (More tree)
 
--- 5.2.5: members are not read yet
+-- 3.4.3, 12.4: what names the member: a name with qualifiers is not read yet, and the call of a destructor is left out
+unfoldable pub selected_name : {S : Type 0} → Reads S CxxPath
+selected_name state ahead =
+    if is_punct punct.TILDE (kind_ahead ahead) then fault_at (place_ahead ahead) (says.LeftOut form.DestructorCall) state ahead else (
+    if begins_name ahead && not (is_plain_name ahead) then not_built state ahead else
+    path_taken state ahead)
+
+-- 5.2.5: from `.` or `->` on
+unfoldable pub selected_step : {S : Type 0} → Phrases S → ℕ → Ahead → CxxTree → Reads S (Turn CxxTree CxxTree)
+selected_step asks number from object = do
+  place ← taken
+  path ← selected_name
+  to ← looked
+  tree ← ask (asks.whole (member_tree number place path object from to))
+  give (More tree)
+
 unfoldable pub postfix_step : {S : Type 0} → Phrases S → Inner S → Ahead → CxxTree → Reads S (Turn CxxTree CxxTree)
 postfix_step asks inner from so_far state ahead =
     if is_punct punct.LEFT_PARENTHESIS (kind_ahead ahead) then call_step asks inner from so_far state ahead else (
     if is_punct punct.LEFT_BRACKET (kind_ahead ahead) then subscript_step asks inner from so_far state ahead else (
     if is_step (kind_ahead ahead) then step_step asks from so_far state ahead else (
-    if is_member_access (kind_ahead ahead) then not_built state ahead else
-    got (Done so_far) state ahead)))
+    if is_punct punct.DOT (kind_ahead ahead) then selected_step asks phrase.member from so_far state ahead else (
+    if is_punct punct.ARROW (kind_ahead ahead) then selected_step asks phrase.arrow from so_far state ahead else
+    got (Done so_far) state ahead))))
 
 -- what goes on with a primary expression, which began at `from`
 unfoldable pub postfixes_at : {S : Type 0} → Phrases S → Inner S → Ahead → CxxTree → Reads S CxxTree

@@ -66,11 +66,6 @@ unfoldable pub is_step : TokenKind → Bool
 is_step (Punct n) = n == punct.INCREMENT || n == punct.DECREMENT
 is_step _ = false
 
--- 5.2.5
-unfoldable pub is_member_access : TokenKind → Bool
-is_member_access (Punct n) = n == punct.DOT || n == punct.ARROW
-is_member_access _ = false
-
 -- 2.5: an operator is spelled in its primary form, whatever was written
 abbrev pub spelling_of : ℕ → List ℕ
 spelling_of n =

@@ -13,6 +13,14 @@ parenthesis = 39
 abbrev pub functional_cast : ℕ
 functional_cast = 41
 
+-- 5.2.5: `.`
+abbrev pub member : ℕ
+member = 42
+
+-- 5.2.5: `->`
+abbrev pub arrow : ℕ
+arrow = 43
+
 -- 5.2.1
 abbrev pub subscript : ℕ
 subscript = 44

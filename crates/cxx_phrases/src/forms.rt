@@ -171,6 +171,30 @@ pub(crate) fn subscript_asked<P: Phrases>(
     phrases.whole(state, node)
 }
 
+/// A member of an object, or of what is pointed to, by its name and the place of the operator (5.2.5).
+#[tactic(auto, using(cxx_cursor::proofs::Kept::later_trans, cxx_cursor::proofs::Kept::later_refl, crate::proofs::Kept::tree_kept, crate::proofs::Kept::tree_later))]
+pub(crate) fn selected_asked<P: Phrases>(
+    phrases: &P,
+    state: &mut State,
+    number: u8,
+    place: Place,
+    path: Path,
+    object: TreeId,
+    from: &Cursor<'_>,
+    to: &Cursor<'_>,
+) -> Result<TreeId, Stop>
+    requires ready { P.is_ready phrases.now }
+    requires object { IsTreeKnown state.old object }
+    ensures { IsAsked tree IsTreeKnown state.old state.new result ((P.asks phrases.now).whole (form.member_tree number place (path_at path) (tree state.old object) from.now to.now) (meaning state.old)) }
+{
+    let spelling = Listed::new(from.alloc());
+    let children = one_tree(from.alloc(), object)?;
+    let mut node = node_from(number, spelling, from, to, children);
+    node.place = place;
+    node.path = Some(path);
+    phrases.whole(state, node)
+}
+
 /// A postfix operator (5.2.6).
 #[tactic(auto, using(cxx_cursor::proofs::Kept::later_trans, cxx_cursor::proofs::Kept::later_refl, crate::proofs::Kept::tree_kept, crate::proofs::Kept::tree_later))]
 pub(crate) fn step_asked<P: Phrases>(

@@ -7,21 +7,23 @@ ghost use Rattle.cxx_reading.specs.Shapes.{look, past};
 ghost use Rattle.cxx_reading.specs.Tokens.{path_ahead};
 ghost use Rattle.cxx_cursor.specs.Asking.{AnyKnown, IsTreeKnown, itself};
 ghost use Rattle.cxx_cursor.specs.Reading.{IsRead};
+ghost use Rattle.cxx_tree.specs.Arena.{path_at};
 ghost use Rattle.cxx_tree.specs.Held.{meaning, tree};
 
 use crate::arguments::arguments_at;
 use crate::brackets::{begins_cast, called_name};
 use crate::forms::{
-    called_asked, cast_asked, prefix_asked, size_asked, step_asked, subscript_asked,
+    called_asked, cast_asked, prefix_asked, selected_asked, size_asked, step_asked, subscript_asked,
 };
 use crate::level::Level;
 use crate::lists::one_tree;
-use crate::operators::{is_member_access, is_prefix, is_step, operator_ahead};
+use crate::operators::{is_prefix, is_step, operator_ahead};
 use crate::phrases::Phrases;
 use crate::primary::{called_at, parenthesis_at, primary_at};
+use crate::production;
 use crate::shape::TypeShape;
 use cxx_cursor::{Cursor, Turn, is_keyword, is_punct};
-use cxx_model::{Kind, Stop, TreeId, TreeIdList, TypeId, keyword, punct};
+use cxx_model::{FaultText, Kind, LeftOut, Path, Stop, TreeId, TreeIdList, TypeId, keyword, punct};
 use cxx_tree::State;
 
 // A call of what was read (5.2.2).
@@ -83,7 +85,43 @@ fn step_step<P: Phrases>(
     Ok(Turn::More(number))
 }
 
-// What goes on with an operand; members are not read yet (5.2.5).
+// What names a member: a name with qualifiers is not read yet, and the call of a destructor is left out (3.4.3, 12.4).
+#[tactic(auto, using(cxx_cursor::proofs::Kept::later_refl), unfolding(crate::specs::Operands::selected_name))]
+fn selected_name(state: &State, cursor: &mut Cursor<'_>) -> Result<Path, Stop>
+    ensures { IsRead (λ held. path_at) AnyKnown state.now state.now cursor.new result (definition.selected_name (meaning state.now) cursor.old) }
+{
+    if is_punct(punct::TILDE, cursor.kind()) {
+        let text = FaultText::LeftOut(LeftOut::DestructorCall);
+        return Err(Stop::Fault(cursor.faulty(text)?));
+    }
+    if cursor.begins_name() && !cursor.is_plain_name() {
+        return Err(Stop::Fault(cursor.not_built()?));
+    }
+    cursor.path_taken(state)
+}
+
+// A member of what was read, by the number of its operator's production (5.2.5).
+#[tactic(auto, using(cxx_cursor::proofs::Kept::later_trans, cxx_cursor::proofs::Kept::later_refl, crate::proofs::Kept::tree_kept, crate::proofs::Kept::tree_later), unfolding(crate::specs::Operands::selected_step))]
+fn selected_step<P: Phrases>(
+    phrases: &P,
+    state: &mut State,
+    cursor: &mut Cursor<'_>,
+    number: u8,
+    from: &Cursor<'_>,
+    object: TreeId,
+) -> Result<Turn<TreeId, TreeId>, Stop>
+    requires ready { P.is_ready phrases.now }
+    requires object { IsTreeKnown state.old object }
+    ensures { IsRead tree_turn IsTreeTurn state.old state.new cursor.new result (definition.selected_step (P.asks phrases.now) number from.now (tree state.old object) (meaning state.old) cursor.old) }
+{
+    let place = cursor.place();
+    cursor.advance();
+    let path = selected_name(state, cursor)?;
+    let number = selected_asked(phrases, state, number, place, path, object, from, cursor)?;
+    Ok(Turn::More(number))
+}
+
+// What goes on with an operand.
 #[tactic(auto, using(cxx_cursor::proofs::Kept::later_trans, cxx_cursor::proofs::Kept::later_refl), unfolding(crate::specs::Operands::postfix_step))]
 fn postfix_step<P: Phrases>(
     phrases: &P,
@@ -105,8 +143,11 @@ fn postfix_step<P: Phrases>(
     if is_step(cursor.kind()) {
         return step_step(phrases, state, cursor, from, so_far);
     }
-    if is_member_access(cursor.kind()) {
-        return Err(Stop::Fault(cursor.not_built()?));
+    if is_punct(punct::DOT, cursor.kind()) {
+        return selected_step(phrases, state, cursor, production::MEMBER, from, so_far);
+    }
+    if is_punct(punct::ARROW, cursor.kind()) {
+        return selected_step(phrases, state, cursor, production::ARROW, from, so_far);
     }
     Ok(Turn::Done(so_far))
 }

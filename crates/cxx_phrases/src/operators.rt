@@ -120,17 +120,6 @@ pub(crate) fn is_step(kind: TokenKind) -> bool
     }
 }
 
-/// Whether a token selects a member (5.2.5).
-#[tactic(auto, unfolding(crate::specs::Operators::is_member_access))]
-pub(crate) fn is_member_access(kind: TokenKind) -> bool
-    ensures { result ≡ definition.is_member_access kind }
-{
-    match kind {
-        TokenKind::Punct(number) => number == punct::DOT || number == punct::ARROW,
-        _ => false,
-    }
-}
-
 /// Whether a token is a literal (2.13).
 #[tactic(auto, unfolding(crate::specs::Operators::is_literal))]
 pub(crate) fn is_literal(kind: TokenKind) -> bool

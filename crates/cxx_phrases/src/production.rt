@@ -12,6 +12,10 @@ pub const CALL: u8 = 40;
 
 pub const FUNCTIONAL_CAST: u8 = 41;
 
+pub const MEMBER: u8 = 42;
+
+pub const ARROW: u8 = 43;
+
 pub const SUBSCRIPT: u8 = 44;
 
 pub const POSTFIX_STEP: u8 = 45;

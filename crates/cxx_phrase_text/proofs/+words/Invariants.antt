@@ -88,3 +88,12 @@ decreases-operands::write_element g l = 16 * l.number.0 + 8
 
 abbrev pub invariant-lists::write_elements-loop-part : goal.invariant-lists::write_elements-loop-part
 invariant-lists::write_elements-loop-part g l = put (listed_words l.is_first (map (element_at (g.N.Names.named l.names)) (drop l.part-index l.parts))) l.page ≡ put (listed_words true (map (element_at (g.N.Names.named l.names)) l.parts)) l.initial.page
+
+abbrev pub decreases-members::write_member : goal.decreases-members::write_member
+decreases-members::write_member g l = 16 * l.end.0 + 3
+
+abbrev pub decreases-members::write_pointed : goal.decreases-members::write_pointed
+decreases-members::write_pointed g l = 16 * l.end.0 + 3
+
+abbrev pub decreases-members::write_arrow : goal.decreases-members::write_arrow
+decreases-members::write_arrow g l = 16 * l.end.0 + 4

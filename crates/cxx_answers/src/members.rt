@@ -1,0 +1,156 @@
+//! What a name means as a member of a class (3.4.5, 10.2).
+
+ghost use Rattle.std.specs.Prelude.{◌≡◌, ◌∷◌, [], List, IfOk};
+ghost use Rattle.cxx_answers.specs.Members as definition;
+ghost use Rattle.cxx_expr.specs.Views.{AreFactsKnown, numbered};
+ghost use Rattle.cxx_meaning.specs.Lookups.Member.{member as member_of};
+ghost use Rattle.cxx_meaning.specs.Lookups.Wanted.{any_name};
+ghost use Rattle.cxx_model.specs.Facts.Declarations.{facts_at, graph_at, spelled};
+ghost use Rattle.cxx_model.specs.Stops.{Faulty};
+ghost use Rattle.cxx_model.specs.Types.Trees.{CxxType};
+ghost use Rattle.cxx_names.specs.Index.{Notes};
+ghost use Rattle.cxx_reading.specs.Trees.{last_part};
+ghost use Rattle.cxx_tree.specs.Answered.{IsAnswered};
+ghost use Rattle.cxx_tree.specs.Arena.{path_at, path_parts_at};
+ghost use Rattle.cxx_tree.specs.Held.{meaning};
+
+use crate::seen::known_of;
+use cxx_expr::faults::{fault, not_built_at};
+use cxx_graph::Graph;
+use cxx_inherited::{Wanted, member};
+use cxx_model::{
+    ClassId, Evidence, EvidenceList, FactList, Fault, FaultText, Hit, Listed, MemberFound, Path,
+    PathPart, Stop, Wait, Word,
+};
+use cxx_names::Names;
+use cxx_paths::{last_place, last_word, place_of};
+use cxx_tree::State;
+use std::alloc::{AllocError, Global};
+
+// Whether the definition of a class has begun (9.2).
+fn has_begun(graph: &Graph, names: &Names, class: ClassId) -> bool
+    requires { Notes names.now graph.now.facts }
+    ensures { (types : List CxxType) → result ≡ definition.has_begun class.0 (facts_at types graph.now.facts) }
+{
+    match names.scopes_of_class(graph, class) {
+        [] => false,
+        _ => true,
+    }
+}
+
+// The same of the state.
+#[tactic(auto, unfolding(cxx_tree::specs::Held::meaning))]
+fn has_members(state: &State, class: ClassId) -> bool
+    ensures { result ≡ definition.has_begun class.0 (meaning state.now).graph.facts }
+{
+    has_begun(state.graph(), state.names(), class)
+}
+
+// ---- two members
+
+fn by_bases(graph: &Graph, hit: Hit) -> Evidence
+    ensures { (types : List CxxType) → result ≡ definition.by_bases (graph_at types graph.now) hit }
+{
+    Evidence::ByBases(Some(place_of(graph, hit.fact)), hit.path)
+}
+
+fn both_by_bases(
+    alloc: Global,
+    graph: &Graph,
+    one: Hit,
+    two: Hit,
+) -> Result<EvidenceList, AllocError>
+    ensures { IfOk result (λ all. (types : List CxxType) → all ≡ definition.by_bases (graph_at types graph.now) one ∷ definition.by_bases (graph_at types graph.now) two ∷ []) }
+{
+    let mut all = Listed::new(alloc);
+    all.push(by_bases(graph, one))?;
+    all.push(by_bases(graph, two))?;
+    Ok(all)
+}
+
+#[tactic(auto, unfolding(cxx_tree::specs::Held::meaning))]
+fn ambiguous_member(
+    alloc: Global,
+    state: &State,
+    parts: &[PathPart],
+    one: Hit,
+    two: Hit,
+) -> Result<Box<Fault>, AllocError>
+    ensures { IfOk result (λ at. Faulty at.value ≡ definition.ambiguous_member_at (meaning state.now).graph (last_part (path_parts_at parts.now)) one two) }
+{
+    let word = Word::from_slice(alloc, last_word(parts))?;
+    let evidence = both_by_bases(alloc, state.graph(), one, two)?;
+    Ok(Box::new(
+        alloc,
+        Fault {
+            place: last_place(parts),
+            text: FaultText::AmbiguousName(word),
+            evidence,
+        },
+    )?)
+}
+
+// ---- what is found
+
+#[tactic(auto, using(cxx_expr::proofs::Kept::later_refl))]
+fn member_meant(
+    alloc: Global,
+    state: &mut State,
+    parts: &[PathPart],
+    found: MemberFound,
+) -> Result<FactList, Stop>
+    ensures { IsAnswered numbered AreFactsKnown state.old state.new result (definition.in_state (meaning state.old) (definition.member_meant (meaning state.old).graph (last_part (path_parts_at parts.now)) found)) }
+{
+    match found {
+        MemberFound::Empty => Ok(Listed::new(alloc)),
+        MemberFound::Set(facts, _) => Ok(known_of(alloc, state, facts.as_slice())?),
+        MemberFound::Ambiguous(one, two) => {
+            Err(Stop::Fault(ambiguous_member(alloc, state, parts, one, two)?))
+        }
+    }
+}
+
+// What the name means in a class whose definition has begun.
+#[tactic(auto, using(cxx_expr::proofs::Kept::later_refl), unfolding(cxx_tree::specs::Held::meaning))]
+fn member_in(
+    alloc: Global,
+    state: &mut State,
+    class: ClassId,
+    parts: &[PathPart],
+) -> Result<FactList, Stop>
+    ensures { IsAnswered numbered AreFactsKnown state.old state.new result (definition.in_state (meaning state.old) (definition.member_found (meaning state.old).graph (last_part (path_parts_at parts.now)) (member_of (meaning state.old).graph any_name class (spelled (last_part (path_parts_at parts.now)).word)))) }
+{
+    let found = member(
+        alloc,
+        state.names(),
+        state.graph(),
+        state.types(),
+        Wanted::Any,
+        class,
+        last_word(parts),
+    );
+    match found {
+        Ok(found) => member_meant(alloc, state, parts, found),
+        Err(Wait::Needs(_)) => Err(Stop::Fault(not_built_at(alloc, last_place(parts))?)),
+        Err(Wait::OutOfMemory) => Err(Stop::OutOfMemory),
+    }
+}
+
+/// All declarations that a name means as a member of a class, its entities by their first declarations (10.2). It stops at a
+/// class whose definition has not begun, and where two members do not go together.
+#[tactic(auto, using(cxx_expr::proofs::Kept::later_refl), unfolding(crate::specs::Members::member_here))]
+pub fn member_here(
+    alloc: Global,
+    state: &mut State,
+    class: ClassId,
+    path: &Path,
+) -> Result<FactList, Stop>
+    ensures { IsAnswered numbered AreFactsKnown state.old state.new result (definition.member_here class.0 (path_at path.now) (meaning state.old)) }
+{
+    let parts = path.parts.as_slice();
+    if !has_members(state, class) {
+        let place = last_place(parts);
+        return Err(Stop::Fault(fault(alloc, place, FaultText::IncompleteClass)?));
+    }
+    member_in(alloc, state, class, parts)
+}

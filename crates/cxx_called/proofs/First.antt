@@ -1,0 +1,15 @@
+-- The first of the declarations of a member.
+use Rattle.std.specs.Prelude.{◌≡◌, List, [], ◌∷◌, Some}
+use Rattle.std.proofs.Common.{ap}
+use Rattle.std.specs.List.{slice_get}
+use Rattle.cxx_model.specs.declared.types.FactId.{FactId}
+use Rattle.cxx_model.specs.Facts.Declarations.{CxxFact}
+use Rattle.cxx_meaning.specs.Conversions.Standard.{CxxOperand}
+use Rattle.cxx_reading.specs.Seen.{Numbered}
+use Rattle.cxx_reading.specs.Trees.{CxxPathPart}
+use Rattle.cxx_tree.specs.Held.{Held, meaning}
+use Rattle.cxx_expr.specs.Members.{selected_first, selected_value}
+use Rattle.cxx_expr.specs.Views.{numbered, with_fact}
+
+pub value_first : (held : Held) (part : CxxPathPart) (object : CxxOperand) (all : List Numbered) (number : FactId) (numbers : List FactId) (fact : CxxFact) → slice_get (meaning held).graph.facts number.0 ≡ Some fact → selected_value part object all (numbered held (number ∷ numbers)) (meaning held) ≡ selected_first part object (meaning held).graph (meaning held).here.enumeration number.0 fact.what (meaning held)
+value_first held part object all number numbers fact at = ap (λ o. selected_value part object all (with_fact number.0 o (numbered held numbers)) (meaning held)) at
