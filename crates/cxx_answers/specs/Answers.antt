@@ -4,8 +4,6 @@ use Rattle.cxx_model.specs.declared.fault.FaultText.TheVariants as says
 use Rattle.cxx_model.specs.declared.fault.LeftOut.TheVariants as form
 use Rattle.cxx_model.specs.declared.limits.TheConstants as limits
 use Rattle.cxx_model.specs.declared.lookup.Associated.{Associated}
-use Rattle.cxx_model.specs.declared.lookup.Found.{Found as Sought}
-use Rattle.cxx_model.specs.declared.lookup.Found.TheVariants as sought
 use Rattle.cxx_model.specs.declared.place.Place.{Place}
 use Rattle.cxx_model.specs.declared.stop.LimitKind.TheVariants.{Arguments}
 use Rattle.cxx_model.specs.declared.types.ClassId.{ClassId}
@@ -27,7 +25,7 @@ use Rattle.cxx_reading.specs.Declaring.{is_object}
 use Rattle.cxx_reading.specs.Givers.{giver, with_givers}
 use Rattle.cxx_reading.specs.Initializers.{with_call}
 use Rattle.cxx_reading.specs.Linked.{is_space_at}
-use Rattle.cxx_reading.specs.Paths.{ambiguous_at, found_in, name_in, region_of, scope_of_region, sought_in}
+use Rattle.cxx_reading.specs.Paths.{found_in, name_in, region_of, scope_of_region, sought_in, unambiguous}
 use Rattle.cxx_reading.specs.Reads.{Asks}
 use Rattle.cxx_reading.specs.Seen.{Numbered, numbered_at}
 use Rattle.cxx_reading.specs.State.{CxxGiven, CxxState}
@@ -52,10 +50,6 @@ names_local graph (one ∷ others) = is_local graph one || names_local graph oth
 -- behind them the declarations of functions that tell their default arguments there (8.3.6)
 abbrev pub meant_in : CxxGraph → Region → CxxName → List Numbered
 meant_in graph where_ name = with_givers graph (scope_of_region where_) (found_in graph where_ name)
-
-abbrev pub unambiguous : CxxGraph → CxxPathPart → Sought → Answer (Unit {0})
-unambiguous graph part (sought.Ambiguous one two) = Err (ambiguous_at graph part one two)
-unambiguous graph part other = Ok tt
 
 -- whether a declaration is that of the object which the last condition declares, in a scope
 abbrev pub is_tested : Option ℕ → ℕ → Numbered → Bool

@@ -1,19 +1,16 @@
 -- What a name means as a member of a class (3.4.5, 10.2).
 use Rattle.std.specs.Prelude.{ℕ, Bool, false, ◌||◌, nat_eq, if◌then◌else◌, List, [], ◌∷◌, Some, Ok, Err}
-use Rattle.cxx_model.specs.declared.evidence.Evidence.{Evidence}
-use Rattle.cxx_model.specs.declared.evidence.Evidence.TheVariants.{ByBases}
 use Rattle.cxx_model.specs.declared.facts.ScopeKind.TheVariants as kind
 use Rattle.cxx_model.specs.declared.fault.FaultText.TheVariants as says
-use Rattle.cxx_model.specs.declared.lookup.Hit.{Hit}
 use Rattle.cxx_model.specs.declared.lookup.MemberFound.{MemberFound}
 use Rattle.cxx_model.specs.declared.lookup.MemberFound.TheVariants as found
 use Rattle.cxx_model.specs.Facts.Declarations as facts
 use Rattle.cxx_model.specs.Facts.Declarations.{CxxFact, CxxGraph, Declares}
-use Rattle.cxx_model.specs.Stops.{Answer, Stopped, Faulty, fault, not_built_at}
+use Rattle.cxx_model.specs.Stops.{Answer, fault, not_built_at}
 use Rattle.cxx_meaning.specs.Lookups.Member.{member}
 use Rattle.cxx_meaning.specs.Lookups.Pending.{Asked}
 use Rattle.cxx_meaning.specs.Lookups.Wanted.{any_name}
-use Rattle.cxx_reading.specs.Paths.{name_in, place_of_fact}
+use Rattle.cxx_reading.specs.Paths.{ambiguous_member_at, name_in}
 use Rattle.cxx_reading.specs.Reads.{Asks}
 use Rattle.cxx_reading.specs.Seen.{Numbered, fact_numbers, numbered_at}
 use Rattle.cxx_reading.specs.State.{CxxState}
@@ -28,13 +25,6 @@ begins_class class _ = false
 abbrev pub has_begun : ℕ → List CxxFact → Bool
 has_begun class [] = false
 has_begun class (fact ∷ others) = begins_class class fact.what || has_begun class others
-
--- 10.2: a declaration with the positions of the bases that lead to it
-abbrev pub by_bases : CxxGraph → Hit → Evidence
-by_bases graph one = ByBases (Some (place_of_fact graph one.fact.0)) one.path
-
-abbrev pub ambiguous_member_at : CxxGraph → CxxPathPart → Hit → Hit → Stopped
-ambiguous_member_at graph part one two = Faulty (record { place = part.place; text = says.AmbiguousName part.word; evidence = by_bases graph one ∷ by_bases graph two ∷ [] })
 
 -- what is found of it, by the first declarations
 abbrev pub member_meant : CxxGraph → CxxPathPart → MemberFound → Answer (List Numbered)

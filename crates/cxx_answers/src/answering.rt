@@ -106,10 +106,11 @@ impl Questions for Answering {
     fn cast(
         &self,
         state: &mut State,
+        is_single: bool,
         from: Operand,
         to: TypeId,
     ) -> Result<Option<CastSteps>, Wait> {
-        cast_here(state.alloc(), state, from, to)
+        cast_here(state.alloc(), state, is_single, from, to)
     }
 
     fn type_of_operand(&self, state: &mut State, operands: &[TreeId]) -> Result<TypeId, Stop> {

@@ -1,6 +1,6 @@
 //! What operators and casts do with operands, whose types are made in the table of the state (clause 5).
 
-ghost use Rattle.std.specs.Prelude.{false, ◌<◌, length};
+ghost use Rattle.std.specs.Prelude.{◌<◌, length};
 ghost use Rattle.cxx_expr.specs.Built.{MakesBuilt};
 ghost use Rattle.cxx_expr.specs.Casting.{MakesCast};
 ghost use Rattle.cxx_expr.specs.Views.{AreOperandsBelow, operands_in};
@@ -70,12 +70,14 @@ impl MakesTypes<Result<BuiltIn, ResultFault>> for Arms {
 #[derive(Drop)]
 struct Converted {
     alloc: Global,
+    // Whether a class has one base alone of the class from which it is cast (5.2.9).
+    is_single: bool,
     from: Operand,
     to: TypeId,
 }
 
 impl MakesTypes<Result<Option<CastSteps>, Wait>> for Converted {
-    ghost use Rattle.std.specs.Prelude.{length, ◌<◌, false};
+    ghost use Rattle.std.specs.Prelude.{length, ◌<◌};
     ghost use Rattle.cxx_casts.specs.Made.{IsCast};
     ghost use Rattle.cxx_meaning.specs.Conversions.Casts.{cast};
     ghost use Rattle.cxx_model.specs.Facts.Declarations.{graph_at};
@@ -84,10 +86,10 @@ impl MakesTypes<Result<Option<CastSteps>, Wait>> for Converted {
 
     ghost wants = { λ self graph types. (self.from.of.0 < length types) × (self.to.0 < length types) };
 
-    ghost makes = { λ self graph old new result. IsCast new result (cast (graph_at old graph) false (operand_at old self.from) (type_at old self.to.0)) };
+    ghost makes = { λ self graph old new result. IsCast new result (cast (graph_at old graph) self.is_single (operand_at old self.from) (type_at old self.to.0)) };
 
     fn make(&self, graph: &Graph, types: &mut TypeTable) -> Result<Option<CastSteps>, Wait> {
-        cast(self.alloc, graph, types, false, self.from, self.to)
+        cast(self.alloc, graph, types, self.is_single, self.from, self.to)
     }
 }
 
@@ -129,12 +131,18 @@ pub fn conditional_here(
 pub fn cast_here(
     alloc: Global,
     state: &mut State,
+    is_single: bool,
     from: Operand,
     to: TypeId,
 ) -> Result<Option<CastSteps>, Wait>
     requires from_known { from.of.0 < length (state.old).types }
     requires to_known { to.0 < length (state.old).types }
-    ensures { MakesCast state.old state.new result (cast_of (meaning state.old).graph false (operand_at (state.old).types from) (type_of state.old to)) }
+    ensures { MakesCast state.old state.new result (cast_of (meaning state.old).graph is_single (operand_at (state.old).types from) (type_of state.old to)) }
 {
-    state.make(&Converted { alloc, from, to })
+    state.make(&Converted {
+        alloc,
+        is_single,
+        from,
+        to,
+    })
 }

@@ -1,12 +1,11 @@
 //! What a name means as a member of a class (3.4.5, 10.2).
 
-ghost use Rattle.std.specs.Prelude.{◌≡◌, ◌∷◌, [], List, IfOk};
+ghost use Rattle.std.specs.Prelude.{◌≡◌, List};
 ghost use Rattle.cxx_answers.specs.Members as definition;
 ghost use Rattle.cxx_expr.specs.Views.{AreFactsKnown, numbered};
 ghost use Rattle.cxx_meaning.specs.Lookups.Member.{member as member_of};
 ghost use Rattle.cxx_meaning.specs.Lookups.Wanted.{any_name};
-ghost use Rattle.cxx_model.specs.Facts.Declarations.{facts_at, graph_at, spelled};
-ghost use Rattle.cxx_model.specs.Stops.{Faulty};
+ghost use Rattle.cxx_model.specs.Facts.Declarations.{facts_at, spelled};
 ghost use Rattle.cxx_model.specs.Types.Trees.{CxxType};
 ghost use Rattle.cxx_names.specs.Index.{Notes};
 ghost use Rattle.cxx_reading.specs.Trees.{last_part};
@@ -18,14 +17,11 @@ use crate::seen::known_of;
 use cxx_expr::faults::{fault, not_built_at};
 use cxx_graph::Graph;
 use cxx_inherited::{Wanted, member};
-use cxx_model::{
-    ClassId, Evidence, EvidenceList, FactList, Fault, FaultText, Hit, Listed, MemberFound, Path,
-    PathPart, Stop, Wait, Word,
-};
+use cxx_model::{ClassId, FactList, FaultText, Listed, MemberFound, Path, PathPart, Stop, Wait};
 use cxx_names::Names;
-use cxx_paths::{last_place, last_word, place_of};
+use cxx_paths::{ambiguous_member, last_place, last_word};
 use cxx_tree::State;
-use std::alloc::{AllocError, Global};
+use std::alloc::Global;
 
 // Whether the definition of a class has begun (9.2).
 fn has_begun(graph: &Graph, names: &Names, class: ClassId) -> bool
@@ -46,53 +42,9 @@ fn has_members(state: &State, class: ClassId) -> bool
     has_begun(state.graph(), state.names(), class)
 }
 
-// ---- two members
-
-fn by_bases(graph: &Graph, hit: Hit) -> Evidence
-    ensures { (types : List CxxType) → result ≡ definition.by_bases (graph_at types graph.now) hit }
-{
-    Evidence::ByBases(Some(place_of(graph, hit.fact)), hit.path)
-}
-
-fn both_by_bases(
-    alloc: Global,
-    graph: &Graph,
-    one: Hit,
-    two: Hit,
-) -> Result<EvidenceList, AllocError>
-    ensures { IfOk result (λ all. (types : List CxxType) → all ≡ definition.by_bases (graph_at types graph.now) one ∷ definition.by_bases (graph_at types graph.now) two ∷ []) }
-{
-    let mut all = Listed::new(alloc);
-    all.push(by_bases(graph, one))?;
-    all.push(by_bases(graph, two))?;
-    Ok(all)
-}
-
-#[tactic(auto, unfolding(cxx_tree::specs::Held::meaning))]
-fn ambiguous_member(
-    alloc: Global,
-    state: &State,
-    parts: &[PathPart],
-    one: Hit,
-    two: Hit,
-) -> Result<Box<Fault>, AllocError>
-    ensures { IfOk result (λ at. Faulty at.value ≡ definition.ambiguous_member_at (meaning state.now).graph (last_part (path_parts_at parts.now)) one two) }
-{
-    let word = Word::from_slice(alloc, last_word(parts))?;
-    let evidence = both_by_bases(alloc, state.graph(), one, two)?;
-    Ok(Box::new(
-        alloc,
-        Fault {
-            place: last_place(parts),
-            text: FaultText::AmbiguousName(word),
-            evidence,
-        },
-    )?)
-}
-
 // ---- what is found
 
-#[tactic(auto, using(cxx_expr::proofs::Kept::later_refl))]
+#[tactic(auto, using(cxx_expr::proofs::Kept::later_refl, cxx_paths::proofs::Stopping::stops_at))]
 fn member_meant(
     alloc: Global,
     state: &mut State,
@@ -105,7 +57,8 @@ fn member_meant(
         MemberFound::Empty => Ok(Listed::new(alloc)),
         MemberFound::Set(facts, _) => Ok(known_of(alloc, state, facts.as_slice())?),
         MemberFound::Ambiguous(one, two) => {
-            Err(Stop::Fault(ambiguous_member(alloc, state, parts, one, two)?))
+            let word = last_word(parts);
+            Err(ambiguous_member(state, last_place(parts), word, &one, &two))
         }
     }
 }

@@ -26,7 +26,7 @@ use cxx_model::{
     Entity, FactId, FactList, FaultText, LeftOut, Path, PathPart, Place, ScopeId, Stop,
 };
 use cxx_names::Names;
-use cxx_paths::{ambiguous_name, last_place, name_sought, region_here, scope_of, set_in};
+use cxx_paths::{last_place, name_sought, region_here, scope_of, set_in, unambiguous_name};
 use cxx_reading::Region;
 use cxx_tree::State;
 use std::alloc::Global;
@@ -159,7 +159,7 @@ fn name_among(
 }
 
 // The same of what was found, where that is not ambiguous.
-#[tactic(auto, using(cxx_paths::proofs::Stopping::stopped_at))]
+#[tactic(auto, using(cxx_paths::proofs::Stopping::clear_then, cxx_paths::proofs::Stopping::clear_stopped))]
 fn name_found(
     alloc: Global,
     state: &mut State,
@@ -170,10 +170,10 @@ fn name_found(
     requires { found.now ≡ sought_in (meaning state.old).graph any_name region (name_in (path_at path.now)) }
     ensures { IsAnswered numbered AreFactsKnown state.old state.new result (name_found (path_at path.now) region found.now (meaning state.old)) }
 {
-    if let Found::Ambiguous(one, two) = found {
-        return Err(ambiguous_name(state, path, *one, *two));
+    match unambiguous_name(state, path, found) {
+        Ok(()) => name_among(alloc, state, path, region, set_in(found)),
+        Err(stop) => Err(stop),
     }
-    name_among(alloc, state, path, region, set_in(found))
 }
 
 // What a name means that is looked up in a region.

@@ -43,6 +43,7 @@ pub fn storage_word(number: u8) -> Option<StorageWord>
     match number {
         keyword::AUTO => Some(StorageWord::Auto),
         keyword::EXTERN => Some(StorageWord::Extern),
+        keyword::MUTABLE => Some(StorageWord::Mutable),
         keyword::REGISTER => Some(StorageWord::Register),
         keyword::STATIC => Some(StorageWord::Static),
         keyword::TYPEDEF => Some(StorageWord::Typedef),

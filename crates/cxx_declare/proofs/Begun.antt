@@ -221,22 +221,22 @@ class_begun old new kind place word is_union scope found r here is answered =
 
 -- ---- its members
 
-abbrev member_fact : Access → TypeId → ScopeId → Place → Name → Fact
-member_fact access of scope place n = record { place = place; scope = scope; name = n; access = access; what = entity.Object of Nonstatic false None None }
+abbrev member_fact : Access → Bool → TypeId → ScopeId → Place → Name → Fact
+member_fact access is_mutable of scope place n = record { place = place; scope = scope; name = n; access = access; what = entity.Object of Nonstatic is_mutable None None }
 
-pub member_ready : (held : Held) (access : Access) (place : Place) (word : List ℕ) (of : TypeId) (scope : ScopeId) (n : Name) → scope.0 < scopes held.graph.facts → of.0 < length held.types → n ≡ name.Spelled word → IsReady held (member_fact access of scope place n)
-member_ready held access place word of scope n there below named =
-    subst (λ (m : Name). IsReady held (member_fact access of scope place m)) (sym named) (record { follows = may_follow held.graph (member_fact access of scope place (name.Spelled word)) there tt; below = record { name = tt; what = below }; plain = record { name = tt; what = tt } })
+pub member_ready : (held : Held) (access : Access) (is_mutable : Bool) (place : Place) (word : List ℕ) (of : TypeId) (scope : ScopeId) (n : Name) → scope.0 < scopes held.graph.facts → of.0 < length held.types → n ≡ name.Spelled word → IsReady held (member_fact access is_mutable of scope place n)
+member_ready held access is_mutable place word of scope n there below named =
+    subst (λ (m : Name). IsReady held (member_fact access is_mutable of scope place m)) (sym named) (record { follows = may_follow held.graph (member_fact access is_mutable of scope place (name.Spelled word)) there tt; below = record { name = tt; what = below }; plain = record { name = tt; what = tt } })
 
-pub member_is : (held : Held) (kind : TokenKind) (access : Access) (place : Place) (word : List ℕ) (of : TypeId) (scope : ScopeId) (n : Name) → scope ≡ held.scope → n ≡ name.Spelled word → fact_at held.types (member_fact access of scope place n) ≡ member_here (meaning held) access (token kind place word) (type_at held.types of.0)
+pub member_is : (held : Held) (kind : TokenKind) (access : Access) (is_mutable : Bool) (place : Place) (word : List ℕ) (of : TypeId) (scope : ScopeId) (n : Name) → scope ≡ held.scope → n ≡ name.Spelled word → fact_at held.types (member_fact access is_mutable of scope place n) ≡ member_here (meaning held) access is_mutable (token kind place word) (type_at held.types of.0)
 unfolding meaning
-member_is held kind access place word of scope n here named =
-    ap (λ (m : Name). fact_at held.types (member_fact access of scope place m)) named ∙ ap (λ (s : ScopeId). fact_at held.types (member_fact access of s place (name.Spelled word))) here
+member_is held kind access is_mutable place word of scope n here named =
+    ap (λ (m : Name). fact_at held.types (member_fact access is_mutable of scope place m)) named ∙ ap (λ (s : ScopeId). fact_at held.types (member_fact access is_mutable of s place (name.Spelled word))) here
 
-pub member_declared : (old new : Held) (kind : TokenKind) (access : Access) (place : Place) (word : List ℕ) (of : CxxType) (fact : Fact) (r : Result FactId Stop) → fact_at old.types fact ≡ member_here (meaning old) access (token kind place word) of → fact.name ≡ name.Spelled word
-    → IsAnswered fact_number IsFactKnown old new r (declare (fact_at old.types fact) (word_in fact.name) (meaning old)) → IsAnswered fact_number IsFactKnown old new r (declare_member access (token kind place word) of (meaning old))
+pub member_declared : (old new : Held) (kind : TokenKind) (access : Access) (is_mutable : Bool) (place : Place) (word : List ℕ) (of : CxxType) (fact : Fact) (r : Result FactId Stop) → fact_at old.types fact ≡ member_here (meaning old) access is_mutable (token kind place word) of → fact.name ≡ name.Spelled word
+    → IsAnswered fact_number IsFactKnown old new r (declare (fact_at old.types fact) (word_in fact.name) (meaning old)) → IsAnswered fact_number IsFactKnown old new r (declare_member access is_mutable (token kind place word) of (meaning old))
 unfolding declare_member
-member_declared old new kind access place word of fact r is named answered = declared_as old new fact (member_here (meaning old) access (token kind place word) of) word r is named answered
+member_declared old new kind access is_mutable place word of fact r is named answered = declared_as old new fact (member_here (meaning old) access is_mutable (token kind place word) of) word r is named answered
 
 -- ---- it ends
 

@@ -1,5 +1,6 @@
 pub mod Agreeing
 pub mod Asking
+pub mod Based
 pub mod Begun
 pub mod Bringing
 pub mod Brought

@@ -76,12 +76,12 @@ begin_class is_union name state = define_by name is_union (first_class (declared
 
 -- ---- its members
 
--- 9.2: a nonstatic data member, with the access of the label before it (11.1)
-abbrev pub member_here : CxxState → Access → Lexeme → CxxType → CxxFact
-member_here state access name of = record { place = name.place; scope = state.here.scope; name = spelled name.spelling; access = access; what = facts.object of member.Nonstatic false None None }
+-- 9.2: a nonstatic data member, with the access of the label before it (11.1), and whether it is mutable (7.1.1)
+abbrev pub member_here : CxxState → Access → Bool → Lexeme → CxxType → CxxFact
+member_here state access is_mutable name of = record { place = name.place; scope = state.here.scope; name = spelled name.spelling; access = access; what = facts.object of member.Nonstatic is_mutable None None }
 
-unfoldable pub declare_member : Access → Lexeme → CxxType → Asks CxxState ℕ
-declare_member access name of state = declare (member_here state access name of) name.spelling state
+unfoldable pub declare_member : Access → Bool → Lexeme → CxxType → Asks CxxState ℕ
+declare_member access is_mutable name of state = declare (member_here state access is_mutable name of) name.spelling state
 
 -- ---- it ends
 

@@ -1,4 +1,6 @@
 pub mod Agreed
+pub mod Based
+pub mod Bases
 pub mod Begun
 pub mod Brought
 pub mod ClassDefinitions

@@ -23,7 +23,7 @@ use cxx_found::{Found, Wanted, found};
 use cxx_model::{EnumId, FactId, FactList, Kind, OutOfMemory, Path, Stop, TypeId};
 use cxx_names::{first_enumeration, kind_of_found as kind_of};
 use cxx_paths::{
-    ambiguous_name, found_of, name_sought, not_wanted_name, place_among, region_here, set_in,
+    found_of, name_sought, not_wanted_name, place_among, region_here, set_in, unambiguous_name,
 };
 use cxx_reading::Region;
 use cxx_tree::State;
@@ -151,14 +151,14 @@ fn elaborated_among(state: &mut State, path: &Path, numbers: &[FactId]) -> Resul
     }
 }
 
-#[tactic(auto, using(cxx_paths::proofs::Stopping::stopped_at))]
+#[tactic(auto, using(cxx_paths::proofs::Stopping::clear_then, cxx_paths::proofs::Stopping::clear_stopped))]
 fn elaborated_found(state: &mut State, path: &Path, found: &Found) -> Result<TypeId, Stop>
     ensures { IsAnswered type_of IsTypeThere state.old state.new result (declaring.elaborated_found (last_part (path_at path.now).parts) found.now (meaning state.old)) }
 {
-    if let Found::Ambiguous(one, two) = found {
-        return Err(ambiguous_name(state, path, *one, *two));
+    match unambiguous_name(state, path, found) {
+        Ok(()) => elaborated_among(state, path, set_in(found)),
+        Err(stop) => Err(stop),
     }
-    elaborated_among(state, path, set_in(found))
 }
 
 fn elaborated_in(state: &mut State, path: &Path, region: Region) -> Result<TypeId, Stop>

@@ -203,12 +203,13 @@ pub fn begin_class(
 fn member_fact(
     state: &State,
     access: Access,
+    is_mutable: bool,
     place: Place,
     word: &[u8],
     of: TypeId,
 ) -> Result<Fact, AllocError>
     requires { of.0 < length (state.now).types }
-    ensures is { (kind : TokenKind) → IfOk result (λ fact. fact_at (state.now).types fact ≡ definition.member_here (meaning state.now) access (token kind place word.now) (type_of state.now of)) }
+    ensures is { (kind : TokenKind) → IfOk result (λ fact. fact_at (state.now).types fact ≡ definition.member_here (meaning state.now) access is_mutable (token kind place word.now) (type_of state.now of)) }
     ensures ready { IfOk result (IsReady state.now) }
     ensures named { IfOk result (λ fact. fact.name ≡ Spelled word.now) }
 {
@@ -221,25 +222,27 @@ fn member_fact(
         what: Entity::Object {
             of,
             member: MemberKind::Nonstatic,
-            is_mutable: false,
+            is_mutable,
             value: None,
             first: None,
         },
     })
 }
 
-/// A nonstatic data member is declared, with the access of the label before it (9.2, 11.1).
+/// A nonstatic data member is declared, with the access of the label before it (9.2, 11.1), and whether it is mutable
+/// (7.1.1).
 pub fn declare_member(
     state: &mut State,
     access: Access,
+    is_mutable: bool,
     place: Place,
     word: &[u8],
     of: TypeId,
 ) -> Result<FactId, Stop>
     requires { of.0 < length (state.old).types }
-    ensures { (kind : TokenKind) → IsAnswered fact_number IsFactKnown state.old state.new result (definition.declare_member access (token kind place word.now) (type_of state.old of) (meaning state.old)) }
+    ensures { (kind : TokenKind) → IsAnswered fact_number IsFactKnown state.old state.new result (definition.declare_member access is_mutable (token kind place word.now) (type_of state.old of) (meaning state.old)) }
 {
-    match member_fact(state, access, place, word, of) {
+    match member_fact(state, access, is_mutable, place, word, of) {
         Ok(fact) => declare(state, fact),
         Err(_) => Err(Stop::OutOfMemory),
     }

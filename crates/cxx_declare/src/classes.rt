@@ -23,7 +23,7 @@ use cxx_found::{Found, Wanted};
 use cxx_model::{ClassId, Entity, Fact, FactId, Path, Place, ScopeId, Stop, TypeId};
 use cxx_names::{NamedClass, first_class};
 use cxx_paths::{
-    ambiguous_name, last_place, last_word, name_sought, place_among, region_here, set_in,
+    last_place, last_word, name_sought, place_among, region_here, set_in, unambiguous_name,
     undeclared_name, wrong_name,
 };
 use cxx_reading::Region;
@@ -244,7 +244,7 @@ fn class_among(
     }
 }
 
-#[tactic(auto, using(cxx_paths::proofs::Stopping::stopped_at))]
+#[tactic(auto, using(cxx_paths::proofs::Stopping::clear_then, cxx_paths::proofs::Stopping::clear_stopped))]
 fn class_found(
     state: &mut State,
     path: &Path,
@@ -253,10 +253,10 @@ fn class_found(
 ) -> Result<TypeId, Stop>
     ensures { IsAnswered type_of IsTypeThere state.old state.new result (definition.class_found (path_at path.now) is_union found.now (meaning state.old)) }
 {
-    if let Found::Ambiguous(one, two) = found {
-        return Err(ambiguous_name(state, path, *one, *two));
+    match unambiguous_name(state, path, found) {
+        Ok(()) => class_among(state, path, is_union, set_in(found)),
+        Err(stop) => Err(stop),
     }
-    class_among(state, path, is_union, set_in(found))
 }
 
 fn class_named_in(

@@ -2,6 +2,7 @@
 #![tactic(auto)]
 
 mod asks;
+mod bases;
 mod bodies;
 mod class_definitions;
 mod classes;
@@ -19,6 +20,7 @@ mod usings;
 mod values;
 
 pub use asks::{elaborated, kind, kind_of_name, type_named, type_of_name};
+pub use bases::{BaseOf, declare_base};
 pub use bodies::{begin_body, end_body};
 pub use class_definitions::{begin_class, declare_member, end_class};
 pub use classes::class_here;

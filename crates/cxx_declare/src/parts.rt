@@ -12,12 +12,13 @@ ghost use Rattle.cxx_model.specs.Facts.Declarations.{declares_at};
 ghost use Rattle.cxx_model.specs.Stops.{Faulty, fault as fault_of};
 ghost use Rattle.cxx_model.specs.Types.Trees.{CxxType};
 ghost use Rattle.cxx_defined.specs.Defined.{IsOwn, IsOwnEntity};
+ghost use Rattle.cxx_paths.specs.Asked.{IsStop};
 ghost use Rattle.cxx_reading.specs.Declaring.{conflicting_at, declares_by};
 ghost use Rattle.cxx_declare.specs.Made.{IsNoClass, word_in};
 
 use cxx_graph::Graph;
 use cxx_model::{
-    Entity, Evidence, EvidenceList, Fact, FactId, Fault, FaultText, Name, Place, TypeId, Word,
+    Entity, Evidence, EvidenceList, Fact, FactId, Fault, FaultText, Name, Place, Stop, TypeId, Word,
 };
 use std::alloc::{AllocError, Global};
 
@@ -133,4 +134,25 @@ pub(crate) fn overflow(alloc: Global, place: Place) -> Result<Box<Fault>, AllocE
         FaultText::ConstantOverflow,
         EvidenceList::new(alloc),
     )
+}
+
+fn incomplete_fault(alloc: Global, place: Place) -> Result<Box<Fault>, AllocError>
+    ensures { IfOk result (λ fault. Faulty fault.value ≡ fault_of place says.IncompleteClass) }
+{
+    fault_with(
+        alloc,
+        place,
+        FaultText::IncompleteClass,
+        EvidenceList::new(alloc),
+    )
+}
+
+/// A class has to be complete (9.2).
+pub(crate) fn incomplete(alloc: Global, place: Place) -> Stop
+    ensures { IsStop (fault_of place says.IncompleteClass) result }
+{
+    match incomplete_fault(alloc, place) {
+        Ok(fault) => Stop::Fault(fault),
+        Err(_) => Stop::OutOfMemory,
+    }
 }

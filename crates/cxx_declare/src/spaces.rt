@@ -20,7 +20,7 @@ use crate::facts::{fact_in, tell, word_fact};
 use cxx_found::{Found, Wanted};
 use cxx_model::{Entity, Fact, Name, Path, Place, ScopeId, Stop};
 use cxx_paths::{
-    ambiguous_name, name_sought, set_in, space_among, space_region_here, undeclared_name,
+    name_sought, set_in, space_among, space_region_here, unambiguous_name, undeclared_name,
 };
 use cxx_reading::Region;
 use cxx_tree::State;
@@ -224,15 +224,14 @@ fn space_by(state: &State, path: &Path, space: Option<ScopeId>) -> Result<ScopeI
     }
 }
 
-#[tactic(auto, using(cxx_paths::proofs::Stopping::stopped_at))]
+#[tactic(auto, using(cxx_paths::proofs::Stopping::clear_then, cxx_paths::proofs::Stopping::clear_stopped))]
 fn space_found(state: &State, path: &Path, found: &Found) -> Result<ScopeId, Stop>
     ensures { IsAnswered scope_number IsScopeKnown state.now state.now result (spaces.space_found (last_part (path_at path.now).parts) found.now (meaning state.now)) }
 {
-    if let Found::Ambiguous(one, two) = found {
-        return Err(ambiguous_name(state, path, *one, *two));
+    match unambiguous_name(state, path, found) {
+        Ok(()) => space_by(state, path, space_among(state, set_in(found))),
+        Err(stop) => Err(stop),
     }
-    let space = space_among(state, set_in(found));
-    space_by(state, path, space)
 }
 
 fn space_in(state: &State, path: &Path, region: Region) -> Result<ScopeId, Stop>

@@ -12,10 +12,11 @@ use crate::declaring::Declaring;
 use cxx_body::{Phrasing, read_function_body};
 use cxx_cursor::{Cursor, NameToken, Spelled, is_punct};
 use cxx_declare as declare;
+use cxx_declare::BaseOf;
 use cxx_heads::Head;
 use cxx_knot::{condition_ahead, head_ahead, read_phrase};
 use cxx_model::{
-    Access, ClassId, FactId, Form, Listed, Place, ScopeId, Stop, TreeId, TypeId, punct,
+    Access, ClassId, FactId, Form, Listed, Path, Place, ScopeId, Stop, TreeId, TypeId, punct,
 };
 use cxx_phrases::{Initializer, Level};
 use cxx_space::Defines;
@@ -134,14 +135,21 @@ impl Defines for Declaring {
         declare::begin_class(state, is_union, name.place, name.spelling)
     }
 
+    #[tactic(auto, using(crate::proofs::Answering::asked))]
+    fn declare_base(&self, state: &mut State, of: BaseOf, path: &Path) -> Result<(), Stop> {
+        declare::declare_base(state, of, path)
+    }
+
     fn declare_member(
         &self,
         state: &mut State,
         access: Access,
+        is_mutable: bool,
         name: &NameToken,
         of: TypeId,
     ) -> Result<FactId, Stop> {
-        declare::declare_member(state, access, name.place, name.spelling.as_slice(), of)
+        let word = name.spelling.as_slice();
+        declare::declare_member(state, access, is_mutable, name.place, word, of)
     }
 
     #[tactic(auto, using(crate::proofs::Answering::asked, cxx_cursor::proofs::Kept::later_refl))]

@@ -1,3 +1,4 @@
+mod BaseRows
 pub mod Chained
 pub mod Each
 mod InitialRows

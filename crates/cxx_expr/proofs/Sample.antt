@@ -13,31 +13,35 @@ use Rattle.cxx_model.specs.declared.sequence.ConstantKind.TheVariants as constan
 use Rattle.cxx_model.specs.declared.types.Cv.{Cv}
 use Rattle.cxx_model.specs.Facts.Declarations as facts
 use Rattle.cxx_model.specs.Facts.Declarations.{CxxFact, CxxGraph, Declares, spelled}
+use Rattle.cxx_model.specs.Facts.Pending.{is_pending}
 use Rattle.cxx_model.specs.Stops.{Answer, not_built_at, undeclared_at}
 use Rattle.cxx_model.specs.Text.Lexemes.{nowhere}
 use Rattle.cxx_model.specs.Text.Spelling.{keywords, alternatives, operators, digraphs, word_kind, number_kind, operator, literal, hash, slash, percent, spelling_of, literal_type, literal_value}
-use Rattle.cxx_model.specs.Types.Trees.{CxxType, CxxTypes, CxxBound, array_of, enumeration, function_of, fundamental, no_types, number_bound, pointer_to, qualified, reference_to, type_then}
+use Rattle.cxx_model.specs.Types.Trees.{CxxType, CxxTypes, CxxBound, array_of, class_type, enumeration, function_of, fundamental, no_types, number_bound, pointer_to, qualified, reference_to, type_then}
 use Rattle.cxx_meaning.specs.Conversions.Arithmetic.{usual}
 use Rattle.cxx_meaning.specs.Conversions.BuiltIn as built
 use Rattle.cxx_meaning.specs.Conversions.BuiltIn.{follow, is_stepped, steps_to, before, after, unary_by, unary_family_result, unary_result, beside_integer, subscripted, added_to, distance, subtracted, compared_pointers, compared_by, assigned, binary_by, compound_on, compound, compound_result, family_result, binary_result}
 use Rattle.cxx_meaning.specs.Conversions.Casts as casts
 use Rattle.cxx_meaning.specs.Conversions.Conditional as conditional
 use Rattle.cxx_meaning.specs.Conversions.Conditional.{shared_pointers, arms_of_arithmetic, arms_of_enumeration, arms_of_pointer, arms_of_void, arms_of}
+use Rattle.cxx_meaning.specs.Conversions.Derived.{is_derived}
 use Rattle.cxx_meaning.specs.Conversions.Enumerations.{promoted}
 use Rattle.cxx_meaning.specs.Conversions.Pointers.{is_complete_object, common_other, common_pointer}
 use Rattle.cxx_meaning.specs.Conversions.Sizes.{class_in, extent_of, object_extent, size_of}
 use Rattle.cxx_meaning.specs.Conversions.Asking.{Asked}
 use Rattle.cxx_meaning.specs.declared.size.SizeReason.{SizeReason}
-use Rattle.cxx_meaning.specs.Conversions.Standard.{CxxOperand, is_text, pointer_to_other, steps_of_pointers, step_of_enumeration, steps_of_arithmetic, steps_of_enumeration, steps_of_pointer, steps_of_kinds, value_step, steps_to_scalar, steps_by_kinds, steps_of_value, related_kinds, related, steps_of_related, steps_of_unrelated, steps_by_relation, steps_of_reference, steps_between, standard_sequence}
+use Rattle.cxx_meaning.specs.Conversions.Standard.{CxxOperand, is_text, class_step, pointer_to_class, steps_to_class, pointer_to_other, steps_of_pointers, step_of_enumeration, steps_of_arithmetic, steps_of_enumeration, steps_of_pointer, steps_of_kinds, value_step, steps_to_scalar, steps_by_kinds, steps_of_value, related_kinds, related, steps_of_related, steps_of_unrelated, steps_by_relation, steps_of_reference, steps_between, standard_sequence}
 use Rattle.cxx_reading.specs.Paths.{name_in}
 use Rattle.cxx_reading.specs.Reads.{Asks}
 use Rattle.cxx_reading.specs.Seen.{Numbered, declared_in}
 use Rattle.cxx_reading.specs.State.{CxxState, first_state}
 use Rattle.cxx_reading.specs.Trees.{CxxPath, CxxTree, CxxTrees, Label, in_turn, no_trees, tree_of, tree_then}
+use Rattle.cxx_subobjects.specs.Paths.{base_paths, subobjects}
 use Rattle.cxx_expr.specs.Asking.{then_asked}
+use Rattle.cxx_expr.specs.Bases.{is_only_base, one_base}
 use Rattle.cxx_expr.specs.Calls as calls
 use Rattle.cxx_expr.specs.Casts as cast
-use Rattle.cxx_expr.specs.Converting.{convert, convert_each, convert_known, convert_more}
+use Rattle.cxx_expr.specs.Converting.{convert, convert_at, convert_each, convert_known, convert_more}
 use Rattle.cxx_expr.specs.Elaborating.{by_production, elaborate, parenthesis}
 use Rattle.cxx_expr.specs.Initializing as initial
 use Rattle.cxx_expr.specs.Literals as literals
@@ -77,8 +81,22 @@ char = fundamental base.Char
 abbrev pub f_type : CxxType
 f_type = function_of int (type_then int (type_then long no_types)) false none
 
+-- the base of a class at a position
+abbrev pub base_at : ℕ → ℕ → ℕ → CxxFact
+base_at class parent index = put (codes "") (facts.ancestor (record { 0 = class }) (record { 0 = parent }) index Public)
+
+abbrev pub class_v : CxxType
+class_v = class_type 0
+
+abbrev pub class_l : CxxType
+class_l = class_type 1
+
+abbrev pub class_d : CxxType
+class_d = class_type 3
+
 -- int *p; const int *pc; bool b; int x; int f(int, long = 2); enum E { e = 3 }; void g(int); void g(char); int (*q)(int);
--- long &r; enum h { }; int h(int); int a[3]; char s[4]; const int z;
+-- long &r; enum h { }; int h(int); int a[3]; void *pv; struct V { }; struct L : V { }; struct R : V { }; struct D : L, R { };
+-- V *v; L *l; D *d; L o; const D w; void k(V &);
 abbrev pub graph : CxxGraph
 graph = record {
   facts = put (codes "") (facts.scope None kind.Space) ∷ object (codes "p") (pointer_to int) ∷ object (codes "pc") (pointer_to (constant int)) ∷ object (codes "b") (fundamental base.Bool)
@@ -86,8 +104,11 @@ graph = record {
       ∷ function (codes "g") (function_of (fundamental base.Void) (type_then int no_types) false none) ∷ function (codes "g") (function_of (fundamental base.Void) (type_then char no_types) false none)
       ∷ object (codes "q") (pointer_to (function_of int (type_then int no_types) false none)) ∷ object (codes "r") (reference_to long)
       ∷ put (codes "h") (facts.enumeration 1) ∷ function (codes "h") (function_of int (type_then int no_types) false none)
-      ∷ object (codes "a") (array_of int (number_bound 3)) ∷ object (codes "pv") (pointer_to (fundamental base.Void)) ∷ [];
-  classes = [];
+      ∷ object (codes "a") (array_of int (number_bound 3)) ∷ object (codes "pv") (pointer_to (fundamental base.Void))
+      ∷ base_at 1 0 1 ∷ base_at 2 0 1 ∷ base_at 3 1 1 ∷ base_at 3 2 2
+      ∷ object (codes "v") (pointer_to class_v) ∷ object (codes "l") (pointer_to class_l) ∷ object (codes "d") (pointer_to class_d) ∷ object (codes "o") class_l ∷ object (codes "w") (constant class_d)
+      ∷ function (codes "k") (function_of (fundamental base.Void) (type_then (reference_to class_v) no_types) false none) ∷ [];
+  classes = None ∷ None ∷ None ∷ None ∷ [];
   patterns = [];
 }
 
@@ -221,6 +242,7 @@ cv_text cv = if cv.is_const then codes "const " else codes ""
 abbrev pub type_text : CxxType → List ℕ
 type_text (fundamental of) = base_text of
 type_text (enumeration n) = codes "E" ++ decimal n
+type_text (class_type n) = codes "C" ++ decimal n
 type_text (pointer_to of) = type_text of ++ codes "*"
 type_text (reference_to of) = type_text of ++ codes "&"
 type_text (array_of of bound) = type_text of ++ codes "[" ++ bound_text bound ++ codes "]"
@@ -274,7 +296,7 @@ shown_of (Ok one) = Ok (by one.0)
 shown_of (Err why) = Err why
 
 unfoldable pub gives : CxxTree → Answer (List ℕ)
-unfolding elaborate by_production parenthesis judged judged_beside judged_to convert convert_known convert_more convert_each literals.literal literals.operand_of_literal literals.is_text literals.text_operand literals.text_length literal_type literal_value spelling_of word_kind number_kind operator literal hash slash percent keywords alternatives operators digraphs names.name names.named names.meant_by declared_in operators_of.operator_in operators_of.built operators_of.prefix operators_of.prefix_built operators_of.step operators_of.step_built operators_of.operand_beside operators_of.binary_by operators_of.binary_built operators_of.conditional operators_of.conditional_built operators_of.arms_built operators_of.arms cast.explicit cast.explicit_built cast.static_cast_of cast.static_built cast.constant cast.reinterpreted cast.cast_as cast.cast cast.zero cast.functional sizes.type_of_operand sizes.measured sizes.size size_of object_extent class_in extent_of calls.fallbacks calls.chosen_call calls.function_call calls.through_signature calls.through calls.value_call calls.called calls.name_call calls.call usual promoted follow is_stepped steps_to before after unary_by unary_family_result unary_result beside_integer subscripted added_to built.added distance subtracted compared_pointers compared_by assigned binary_by compound_on compound compound_result family_result binary_result built.built_in_result shared_pointers arms_of_arithmetic arms_of_enumeration arms_of_pointer arms_of_void arms_of conditional.conditional casts.const_cast casts.static_pointers casts.static_kinds casts.static_objects casts.static_only casts.static_unless casts.static_cast casts.reinterpret_cast casts.cast_operand casts.added casts.between casts.cast_between casts.cast_by_two casts.cast_else casts.cast_unless casts.cast is_complete_object common_other common_pointer is_text pointer_to_other steps_of_pointers step_of_enumeration steps_of_arithmetic steps_of_enumeration steps_of_pointer steps_of_kinds value_step steps_to_scalar steps_by_kinds steps_of_value related_kinds related steps_of_related steps_of_unrelated steps_by_relation steps_of_reference steps_between standard_sequence digits calls.fallback_more cast.several
+unfolding elaborate by_production parenthesis judged judged_beside judged_to convert convert_at convert_known convert_more convert_each one_base is_only_base literals.literal literals.operand_of_literal literals.is_text literals.text_operand literals.text_length literal_type literal_value spelling_of word_kind number_kind operator literal hash slash percent keywords alternatives operators digraphs names.name names.named names.meant_by declared_in operators_of.operator_in operators_of.built operators_of.unconverted operators_of.own_meaning operators_of.prefix operators_of.prefix_asked operators_of.prefix_built operators_of.step operators_of.step_built operators_of.operand_beside operators_of.binary_by operators_of.binary_asked operators_of.binary_built operators_of.conditional operators_of.conditional_built operators_of.arms_built operators_of.arms cast.explicit cast.explicit_found cast.explicit_built cast.static_cast_of cast.static_found cast.static_built cast.constant cast.reinterpreted cast.cast_as cast.cast cast.zero cast.functional sizes.type_of_operand sizes.measured sizes.size size_of object_extent class_in extent_of calls.fallbacks calls.chosen_call calls.function_call calls.through_signature calls.through calls.value_call calls.called calls.name_call calls.call usual promoted follow is_stepped steps_to before after unary_by unary_family_result unary_result beside_integer subscripted added_to built.added distance subtracted compared_pointers compared_by assigned binary_by compound_on compound compound_result family_result binary_result built.built_in_result shared_pointers arms_of_arithmetic arms_of_enumeration arms_of_pointer arms_of_void arms_of conditional.conditional casts.const_cast casts.goes_down casts.static_pointers casts.static_kinds casts.static_objects casts.static_only casts.static_unless casts.static_cast casts.reinterpret_cast casts.cast_operand casts.added casts.between casts.cast_between casts.cast_by_two casts.cast_else casts.cast_unless casts.cast is_complete_object common_other common_pointer is_text is_pending is_derived subobjects base_paths pointer_to_class class_step steps_to_class pointer_to_other steps_of_pointers step_of_enumeration steps_of_arithmetic steps_of_enumeration steps_of_pointer steps_of_kinds value_step steps_to_scalar steps_by_kinds steps_of_value related_kinds related steps_of_related steps_of_unrelated steps_by_relation steps_of_reference steps_between standard_sequence digits calls.fallback_more cast.several
 gives tree = shown_of (elaborated (in_turn (tree ∷ [])) state)
 
 -- ---- initializers
@@ -297,5 +319,5 @@ text_of (Ok one) = Ok one.0
 text_of (Err why) = Err why
 
 unfoldable pub begins : CxxType → CxxTree → Answer (List ℕ)
-unfolding initial.initialize initial.array_whole initial.value_whole initial.part elaborate by_production parenthesis judged judged_beside judged_to convert convert_known convert_more convert_each literals.literal literals.operand_of_literal literals.is_text literals.text_operand literals.text_length literal_type literal_value spelling_of word_kind number_kind operator literal hash slash percent keywords alternatives operators digraphs names.name names.named names.meant_by declared_in operators_of.operator_in operators_of.built operators_of.prefix operators_of.prefix_built operators_of.step operators_of.step_built operators_of.operand_beside operators_of.binary_by operators_of.binary_built operators_of.conditional operators_of.conditional_built operators_of.arms_built operators_of.arms cast.explicit cast.explicit_built cast.static_cast_of cast.static_built cast.constant cast.reinterpreted cast.cast_as cast.cast cast.zero cast.functional sizes.type_of_operand sizes.measured sizes.size size_of object_extent class_in extent_of calls.fallbacks calls.chosen_call calls.function_call calls.through_signature calls.through calls.value_call calls.called calls.name_call calls.call usual promoted follow is_stepped steps_to before after unary_by unary_family_result unary_result beside_integer subscripted added_to built.added distance subtracted compared_pointers compared_by assigned binary_by compound_on compound compound_result family_result binary_result built.built_in_result shared_pointers arms_of_arithmetic arms_of_enumeration arms_of_pointer arms_of_void arms_of conditional.conditional casts.const_cast casts.static_pointers casts.static_kinds casts.static_objects casts.static_only casts.static_unless casts.static_cast casts.reinterpret_cast casts.cast_operand casts.added casts.between casts.cast_between casts.cast_by_two casts.cast_else casts.cast_unless casts.cast is_complete_object common_other common_pointer is_text pointer_to_other steps_of_pointers step_of_enumeration steps_of_arithmetic steps_of_enumeration steps_of_pointer steps_of_kinds value_step steps_to_scalar steps_by_kinds steps_of_value related_kinds related steps_of_related steps_of_unrelated steps_by_relation steps_of_reference steps_between standard_sequence digits calls.fallback_more cast.several
+unfolding initial.initialize initial.array_whole initial.value_whole initial.part elaborate by_production parenthesis judged judged_beside judged_to convert convert_at convert_known convert_more convert_each one_base is_only_base literals.literal literals.operand_of_literal literals.is_text literals.text_operand literals.text_length literal_type literal_value spelling_of word_kind number_kind operator literal hash slash percent keywords alternatives operators digraphs names.name names.named names.meant_by declared_in operators_of.operator_in operators_of.built operators_of.unconverted operators_of.own_meaning operators_of.prefix operators_of.prefix_asked operators_of.prefix_built operators_of.step operators_of.step_built operators_of.operand_beside operators_of.binary_by operators_of.binary_asked operators_of.binary_built operators_of.conditional operators_of.conditional_built operators_of.arms_built operators_of.arms cast.explicit cast.explicit_found cast.explicit_built cast.static_cast_of cast.static_found cast.static_built cast.constant cast.reinterpreted cast.cast_as cast.cast cast.zero cast.functional sizes.type_of_operand sizes.measured sizes.size size_of object_extent class_in extent_of calls.fallbacks calls.chosen_call calls.function_call calls.through_signature calls.through calls.value_call calls.called calls.name_call calls.call usual promoted follow is_stepped steps_to before after unary_by unary_family_result unary_result beside_integer subscripted added_to built.added distance subtracted compared_pointers compared_by assigned binary_by compound_on compound compound_result family_result binary_result built.built_in_result shared_pointers arms_of_arithmetic arms_of_enumeration arms_of_pointer arms_of_void arms_of conditional.conditional casts.const_cast casts.goes_down casts.static_pointers casts.static_kinds casts.static_objects casts.static_only casts.static_unless casts.static_cast casts.reinterpret_cast casts.cast_operand casts.added casts.between casts.cast_between casts.cast_by_two casts.cast_else casts.cast_unless casts.cast is_complete_object common_other common_pointer is_text is_pending is_derived subobjects base_paths pointer_to_class class_step steps_to_class pointer_to_other steps_of_pointers step_of_enumeration steps_of_arithmetic steps_of_enumeration steps_of_pointer steps_of_kinds value_step steps_to_scalar steps_by_kinds steps_of_value related_kinds related steps_of_related steps_of_unrelated steps_by_relation steps_of_reference steps_between standard_sequence digits calls.fallback_more cast.several
 begins of tree = text_of (then_asked (parts_read (in_turn (tree ∷ [])) state) (first_text of))

@@ -1,23 +1,24 @@
--- Casts of what is of no class (5.2.3, 5.2.9 to 5.2.11, 5.4).
-use Rattle.std.specs.Prelude.{ℕ, Bool, true, false, ◌||◌, if◌then◌else◌, bytes_eq, codes, List, [], ◌∷◌, ◌++◌, Option, Some, None, Ok, Err}
+-- Casts of what is of no class, and to references (5.2.3, 5.2.9 to 5.2.11, 5.4).
+use Rattle.std.specs.Prelude.{ℕ, Bool, true, false, not, ◌&&◌, ◌||◌, if◌then◌else◌, bytes_eq, codes, List, [], ◌∷◌, ◌++◌, Option, Some, None, Ok, Err}
 use Rattle.cxx_model.specs.declared.base.Base.TheVariants as base
 use Rattle.cxx_model.specs.declared.fault.FaultText.TheVariants as says
 use Rattle.cxx_model.specs.declared.place.Place.{Place}
 use Rattle.cxx_model.specs.Facts.Declarations.{CxxGraph}
-use Rattle.cxx_model.specs.Stops.{Answer, Stopped, fault, not_built_at}
+use Rattle.cxx_model.specs.Stops.{Answer, Stopped, ◌>>=◌, fault, not_built_at}
 use Rattle.cxx_model.specs.Types.Trees.{CxxType, fundamental}
 use Rattle.cxx_meaning.specs.Conversions.Asking.{Asked}
 use Rattle.cxx_meaning.specs.Conversions.Casts as casts
 use Rattle.cxx_meaning.specs.Conversions.Casts.{CxxCast, by_const, by_static, by_static_and_const, by_reinterpret, by_reinterpret_and_const}
 use Rattle.cxx_meaning.specs.Conversions.Kinds.{CxxKind, arithmetic, enumerated, pointing, no_value, kind_of}
-use Rattle.cxx_meaning.specs.Conversions.Sizes.{referred}
-use Rattle.cxx_meaning.specs.Conversions.Standard.{is_class}
+use Rattle.cxx_meaning.specs.Conversions.Standard.{CxxOperand, is_class}
+use Rattle.cxx_reading.specs.Declarators.{is_reference}
 use Rattle.cxx_reading.specs.Initializers.{operand_of, value_operand}
 use Rattle.cxx_reading.specs.Reads.{Asks}
 use Rattle.cxx_reading.specs.State.{CxxState}
 use Rattle.cxx_reading.specs.Trees.{CxxTree, Label, children_of, tree_of}
 use Rattle.cxx_reading.specs.Units.{is_incomplete}
 use Rattle.cxx_expr.specs.declared.production.TheConstants as production
+use Rattle.cxx_expr.specs.Bases.{is_only_base, one_base}
 use Rattle.cxx_expr.specs.Operands.{is_of_class, judged_to, result_operand}
 use Rattle.cxx_expr.specs.Operators.{misshapen}
 use Rattle.cxx_expr.specs.Questions.{Questions}
@@ -68,18 +69,29 @@ found_at place (Ok (Some found)) = Ok found
 found_at place (Ok None) = Err (fault place says.OperandsDoNotFit)
 found_at place (Err class) = Err (not_built_at place)
 
+-- 4.10, 10.2: a static cast for which it stands leads to no base that is ambiguous
+abbrev pub steps_to_one : CxxGraph → Place → CxxOperand → CxxType → CxxCast → Answer (Unit {0})
+steps_to_one graph place from to by_static = one_base graph place from to
+steps_to_one graph place from to (by_static_and_const middle) = one_base graph place from middle
+steps_to_one graph place from to _ = Ok tt
+
+unfoldable pub explicit_found : CxxGraph → Place → CxxOperand → CxxType → Answer CxxCast
+explicit_found graph place from to = do
+  found ← found_at place (casts.cast graph (is_only_base graph from to) from to)
+  one ← steps_to_one graph place from to found
+  Ok found
+
 abbrev pub explicit_by : CxxTree → List CxxTree → CxxTree → Answer CxxCast → Asks CxxState CxxTree
 explicit_by tree front one (Ok found) state = Ok (explicit_tree tree front one found, state)
 explicit_by tree front one (Err why) state = Err why
 
--- No class is cast to one that is derived from it as long as there are none, so it does not matter whether it has one such
--- base alone.
 unfoldable pub explicit_built : Questions → CxxTree → List CxxTree → CxxTree → Asks CxxState CxxTree
-explicit_built q tree front one state = explicit_by tree front one (found_at tree.label.place (casts.cast state.graph false (judged_to q (target_of tree) one state) (target_of tree))) state
+explicit_built q tree front one state = explicit_by tree front one (explicit_found state.graph tree.label.place (judged_to q (target_of tree) one state) (target_of tree)) state
 
--- what constructors and conversion functions do is not read yet
+-- What constructors and conversion functions do is not read yet. A cast to a reference makes no object: no class has a
+-- conversion function to one.
 abbrev pub needs_class : CxxTree → CxxTree → Bool
-needs_class tree one = is_of_class one || is_class (kind_of (referred (target_of tree)))
+needs_class tree one = not (is_reference (target_of tree)) && (is_of_class one || is_class (kind_of (target_of tree)))
 
 -- 9.2: no object is made of an incomplete class
 abbrev pub class_needed_at : CxxGraph → CxxType → Place → Stopped
@@ -97,13 +109,28 @@ abbrev pub named_by : List ℕ → CxxTree → List CxxTree → CxxTree → Bool
 named_by word tree front one true state = Ok (cast_over word (target_of tree) tree front one, state)
 named_by word tree front one false state = Err (fault tree.label.place says.OperandsDoNotFit)
 
-abbrev pub static_by : CxxTree → List CxxTree → CxxTree → Asked Bool → Asks CxxState CxxTree
+abbrev pub allowed_at : Place → Asked Bool → Answer Bool
+allowed_at place (Ok allowed) = Ok allowed
+allowed_at place (Err class) = Err (not_built_at place)
+
+-- 4.10, 10.2: where it is allowed it leads to no base that is ambiguous
+abbrev pub leads_to_one : CxxGraph → Place → CxxOperand → CxxType → Bool → Answer (Unit {0})
+leads_to_one graph place from to true = one_base graph place from to
+leads_to_one graph place from to false = Ok tt
+
+unfoldable pub static_found : CxxGraph → Place → CxxOperand → CxxType → Answer Bool
+static_found graph place from to = do
+  allowed ← allowed_at place (casts.static_cast graph (is_only_base graph from to) from to)
+  one ← leads_to_one graph place from to allowed
+  Ok allowed
+
+abbrev pub static_by : CxxTree → List CxxTree → CxxTree → Answer Bool → Asks CxxState CxxTree
 static_by tree front one (Ok allowed) state = named_by (codes "static_cast") tree front one allowed state
-static_by tree front one (Err class) state = Err (not_built_at tree.label.place)
+static_by tree front one (Err why) state = Err why
 
 -- 5.2.9
 unfoldable pub static_built : Questions → CxxTree → List CxxTree → CxxTree → Asks CxxState CxxTree
-static_built q tree front one state = static_by tree front one (casts.static_cast state.graph false (judged_to q (target_of tree) one state) (target_of tree)) state
+static_built q tree front one state = static_by tree front one (static_found state.graph tree.label.place (judged_to q (target_of tree) one state) (target_of tree)) state
 
 unfoldable pub static_cast_of : Questions → CxxTree → List CxxTree → CxxTree → Asks CxxState CxxTree
 static_cast_of q tree front one state = if needs_class tree one then Err (class_needed state tree) else static_built q tree front one state

@@ -1,6 +1,7 @@
 pub mod Asking
 pub mod Questions
 pub mod Operands
+pub mod Bases
 pub mod Converting
 pub mod Literals
 pub mod Names

@@ -1,4 +1,5 @@
--- The operators of operands that are of no class and no enumeration (5.2.1, 5.2.6, 5.3.1, 5.3.2, 5.6 to 5.18).
+-- The operators of operands that are of no class and no enumeration (5.2.1, 5.2.6, 5.3.1, 5.3.2, 5.6 to 5.18), and `&` and
+-- `,` of those that are.
 use Rattle.std.specs.Prelude.{ℕ, zero, Bool, ◌||◌, nat_eq, if◌then◌else◌, List, [], ◌∷◌, Option, Some, None, Ok, Err}
 use Rattle.cxx_model.specs.declared.fault.FaultText.TheVariants as says
 use Rattle.cxx_model.specs.declared.punct.TheConstants as punct
@@ -52,15 +53,30 @@ built q tree parts meaning = do
 abbrev pub built_by : Questions → CxxTree → ℕ → List CxxTree → List CxxOperand → Asks CxxState CxxTree
 built_by q tree operator parts operands state = with_meaning (meaning_at tree.label.place (built_in_result state.graph operator operands)) (built q tree parts) state
 
+-- ---- operands of classes and enumerations (13.3.1.2)
+
+-- the operands stay what they are
+unfoldable pub unconverted : CxxTree → List CxxTree → CxxBuiltIn → Asks CxxState CxxTree
+unconverted tree parts meaning = give (given_over tree (built_operand meaning) parts)
+
+-- 13.3.1.2 p9: `&` and `,` mean what clause 5 says where no function is viable, and no operator function is read yet
+unfoldable pub own_meaning : CxxTree → ℕ → List CxxTree → List CxxOperand → Asks CxxState CxxTree
+own_meaning tree operator parts operands state = with_meaning (meaning_at tree.label.place (built_in_result state.graph operator operands)) (unconverted tree parts) state
+
 -- ---- one operand
 
 unfoldable pub prefix_built : Questions → CxxTree → CxxTree → Asks CxxState CxxTree
 prefix_built q tree one = built_by q tree (operator_in tree) (one ∷ []) (operand_of one ∷ [])
 
--- an operator of a class or an enumeration is not read yet
+-- `&` of a class or an enumeration; its other operators are not read yet
+unfoldable pub prefix_asked : CxxTree → CxxTree → Asks CxxState CxxTree
+prefix_asked tree one state =
+    if nat_eq (operator_in tree) punct.AMPERSAND then own_meaning tree punct.AMPERSAND (one ∷ []) (operand_of one ∷ []) state else
+    Err (not_built_at tree.label.place)
+
 abbrev pub prefix_of : Questions → CxxTree → Option CxxTree → Asks CxxState CxxTree
 prefix_of q tree None state = misshapen tree state
-prefix_of q tree (Some one) state = if asks_operator one then Err (not_built_at tree.label.place) else prefix_built q tree one state
+prefix_of q tree (Some one) state = if asks_operator one then prefix_asked tree one state else prefix_built q tree one state
 
 -- 5.3.1, 5.3.2
 unfoldable pub prefix : Questions → CxxTree → Asks CxxState CxxTree
@@ -90,9 +106,15 @@ operand_beside q operator other tree state = if takes_null operator then judged_
 unfoldable pub binary_built : Questions → CxxTree → ℕ → CxxTree → CxxTree → Asks CxxState CxxTree
 binary_built q tree operator one two state = built_by q tree operator (one ∷ two ∷ []) (operand_beside q operator two one state ∷ operand_beside q operator one two state ∷ []) state
 
+-- `,` beside a class or an enumeration; their other operators are not read yet
+unfoldable pub binary_asked : CxxTree → ℕ → CxxTree → CxxTree → Asks CxxState CxxTree
+binary_asked tree operator one two state =
+    if nat_eq operator punct.COMMA then own_meaning tree punct.COMMA (one ∷ two ∷ []) (operand_of one ∷ operand_of two ∷ []) state else
+    Err (not_built_at tree.label.place)
+
 abbrev pub binary_of : Questions → CxxTree → ℕ → Option (CxxTree × CxxTree) → Asks CxxState CxxTree
 binary_of q tree operator None state = misshapen tree state
-binary_of q tree operator (Some parts) state = if asks_operator parts.0 || asks_operator parts.1 then Err (not_built_at tree.label.place) else binary_built q tree operator parts.0 parts.1 state
+binary_of q tree operator (Some parts) state = if asks_operator parts.0 || asks_operator parts.1 then binary_asked tree operator parts.0 parts.1 state else binary_built q tree operator parts.0 parts.1 state
 
 unfoldable pub binary_by : Questions → CxxTree → ℕ → Asks CxxState CxxTree
 binary_by q tree operator = binary_of q tree operator (both (children_of tree))

@@ -1,30 +1,34 @@
-//! Casts of what is of no class (5.2.3, 5.2.9 to 5.2.11, 5.4).
+//! Casts of what is of no class, and to references (5.2.3, 5.2.9 to 5.2.11, 5.4).
 
-ghost use Rattle.std.specs.Prelude.{List, ◌≡◌, ◌<◌, length, codes, false, ◌||◌, IfOk};
+ghost use Rattle.std.specs.Prelude.{List, ◌≡◌, ◌<◌, length, codes, not, ◌&&◌, ◌||◌, Ok, IfOk};
 ghost use Rattle.cxx_casts.specs.Made.{cast_at};
-ghost use Rattle.cxx_meaning.specs.Conversions.Asking.{Gives};
+ghost use Rattle.cxx_meaning.specs.Conversions.Asking.{Gives as WaitGives};
 ghost use Rattle.cxx_meaning.specs.Conversions.Casts as meaning_casts;
-ghost use Rattle.cxx_meaning.specs.Conversions.Sizes as sizes;
 ghost use Rattle.cxx_meaning.specs.Conversions.Standard.{is_class as is_class_kind};
 ghost use Rattle.cxx_meaning.specs.Conversions.Kinds.{kind_of as kind_of_type};
 ghost use Rattle.cxx_model.specs.declared.fault.FaultText.TheVariants as says;
-ghost use Rattle.cxx_model.specs.Stops.{Faulty, fault as fault_of};
+ghost use Rattle.cxx_model.specs.Stops.{Faulty, Gives, fault as fault_of};
 ghost use Rattle.cxx_model.specs.Types.Trees.{CxxType};
+ghost use Rattle.cxx_reading.specs.Declarators.{is_reference as is_reference_type};
 ghost use Rattle.cxx_reading.specs.Trees.{children_of};
 ghost use Rattle.cxx_standard.specs.Views.{kind_at, operand_at};
 ghost use Rattle.cxx_tree.specs.Answered.{IsAnswered};
 ghost use Rattle.cxx_tree.specs.Held.{meaning, tree, trees, type_of};
+ghost use Rattle.cxx_expr.specs.Bases as bases;
 ghost use Rattle.cxx_expr.specs.Casts as definition;
 ghost use Rattle.cxx_expr.specs.Casting.{GrowsCast, IsSplit, IsStepsBelow, split_of};
 ghost use Rattle.cxx_expr.specs.Making.{AreTreesHeld, GrowsTree, GrowsType, IsTreeKnown, trees_held};
 ghost use Rattle.cxx_expr.specs.Nodes.{IsNodeHeld, node_tree};
 ghost use Rattle.cxx_expr.specs.Operands as operands;
 
+use crate::bases::{is_only_base, one_base};
 use crate::conditional::{is_class, is_of_class};
 use crate::converting::push;
 use crate::faults::{fault, not_built_at};
 use crate::nodes::given_over;
-use crate::operands::{judged_to, operand_of, plain_type, referred, result_operand, value_operand};
+use crate::operands::{
+    is_reference, judged_to, operand_of, plain_type, result_operand, value_operand,
+};
 use crate::operators::{misshapen, no_fit};
 use crate::production::CAST;
 use crate::questions::Questions;
@@ -202,6 +206,80 @@ fn explicit_tree(
 
 // ---- `(T)e` (5.4)
 
+fn only_base(alloc: Global, state: &State, from: Operand, of: TypeId) -> Result<bool, Stop>
+    requires from { from.of.0 < length (state.now).types }
+    requires of { of.0 < length (state.now).types }
+    ensures { Gives (λ only. only) result (Ok (bases.is_only_base (meaning state.now).graph (operand_at (state.now).types from) (type_of state.now of))) }
+{
+    match is_only_base(alloc, state, from, of) {
+        Ok(only) => Ok(only),
+        Err(_) => Err(Stop::OutOfMemory),
+    }
+}
+
+// A static cast for which `(T)e` stands leads to no base that is ambiguous (4.10, 10.2).
+fn steps_to_one(
+    alloc: Global,
+    state: &State,
+    place: Place,
+    from: Operand,
+    of: TypeId,
+    found: CastSteps,
+) -> Result<(), Stop>
+    requires from { from.of.0 < length (state.now).types }
+    requires of { of.0 < length (state.now).types }
+    requires found { IsStepsBelow (length (state.now).types) found }
+    ensures { Gives (λ done. done) result (definition.steps_to_one (meaning state.now).graph place (operand_at (state.now).types from) (type_of state.now of) (cast_at (state.now).types found)) }
+{
+    match found {
+        CastSteps::Static => one_base(alloc, state, place, from, of),
+        CastSteps::StaticThenConst(middle) => one_base(alloc, state, place, from, middle),
+        _ => Ok(()),
+    }
+}
+
+// For which named casts it stands.
+fn steps_found<Q: Questions>(
+    alloc: Global,
+    questions: &Q,
+    state: &mut State,
+    place: Place,
+    from: Operand,
+    of: TypeId,
+) -> Result<CastSteps, Stop>
+    requires ready { Q.is_ready questions.now }
+    requires from { from.of.0 < length (state.old).types }
+    requires of { of.0 < length (state.old).types }
+    ensures { GrowsCast state.old state.new result (definition.found_at place (meaning_casts.cast (meaning state.old).graph (bases.is_only_base (meaning state.old).graph (operand_at (state.old).types from) (type_of state.old of)) (operand_at (state.old).types from) (type_of state.old of))) }
+{
+    let is_single = only_base(alloc, state, from, of)?;
+    match questions.cast(state, is_single, from, of) {
+        Ok(Some(found)) => Ok(found),
+        Ok(None) => Err(Stop::Fault(no_fit(alloc, place)?)),
+        Err(Wait::Needs(_)) => Err(Stop::Fault(not_built_at(alloc, place)?)),
+        Err(Wait::OutOfMemory) => Err(Stop::OutOfMemory),
+    }
+}
+
+#[tactic(auto, using(crate::proofs::Kept::later_trans, crate::proofs::Kept::operand_later, crate::proofs::Kept::operand_kept, crate::proofs::Kept::type_later, crate::proofs::Kept::type_kept), unfolding(crate::specs::Casts::explicit_found))]
+fn explicit_found<Q: Questions>(
+    alloc: Global,
+    questions: &Q,
+    state: &mut State,
+    place: Place,
+    from: Operand,
+    of: TypeId,
+) -> Result<CastSteps, Stop>
+    requires ready { Q.is_ready questions.now }
+    requires from { from.of.0 < length (state.old).types }
+    requires of { of.0 < length (state.old).types }
+    ensures { GrowsCast state.old state.new result (definition.explicit_found (meaning state.old).graph place (operand_at (state.old).types from) (type_of state.old of)) }
+{
+    let found = steps_found(alloc, questions, state, place, from, of)?;
+    steps_to_one(alloc, state, place, from, of, found)?;
+    Ok(found)
+}
+
 #[tactic(auto, using(crate::proofs::Kept::later_trans, crate::proofs::Kept::type_later, crate::proofs::Kept::type_kept))]
 fn explicit_cast<Q: Questions>(
     alloc: Global,
@@ -214,15 +292,10 @@ fn explicit_cast<Q: Questions>(
     requires ready { Q.is_ready questions.now }
     requires of { of.0 < length (state.old).types }
     requires number { number.0 < length (trees state.old) }
-    ensures { GrowsCast state.old state.new result (definition.found_at place (meaning_casts.cast (meaning state.old).graph false (operands.judged_to (Q.asks questions.now) (type_of state.old of) (tree state.old number) (meaning state.old)) (type_of state.old of))) }
+    ensures { GrowsCast state.old state.new result (definition.explicit_found (meaning state.old).graph place (operands.judged_to (Q.asks questions.now) (type_of state.old of) (tree state.old number) (meaning state.old)) (type_of state.old of)) }
 {
     let from = judged_to(questions, state, of, number)?;
-    match questions.cast(state, from, of) {
-        Ok(Some(found)) => Ok(found),
-        Ok(None) => Err(Stop::Fault(no_fit(alloc, place)?)),
-        Err(Wait::Needs(_)) => Err(Stop::Fault(not_built_at(alloc, place)?)),
-        Err(Wait::OutOfMemory) => Err(Stop::OutOfMemory),
-    }
+    explicit_found(alloc, questions, state, place, from, of)
 }
 
 #[tactic(auto, using(crate::proofs::Kept::later_trans, crate::proofs::Kept::trees_later, crate::proofs::Kept::trees_kept, crate::proofs::Kept::tree_later, crate::proofs::Kept::tree_kept, crate::proofs::Kept::type_later, crate::proofs::Kept::type_kept, crate::proofs::NodeKept::node_later, crate::proofs::NodeKept::node_kept), unfolding(crate::specs::Casts::explicit_built))]
@@ -249,18 +322,18 @@ fn explicit_built<Q: Questions>(
 
 fn is_to_class(state: &State, of: TypeId) -> bool
     requires { of.0 < length (state.now).types }
-    ensures { result ≡ is_class_kind (kind_of_type (sizes.referred (type_of state.now of))) }
+    ensures { result ≡ is_class_kind (kind_of_type (type_of state.now of)) }
 {
-    let to = referred(state.types(), of);
-    is_class(kind_of(state.graph(), state.types(), to))
+    is_class(kind_of(state.graph(), state.types(), of))
 }
 
+// A cast to a reference makes no object of a class.
 fn needs_class(state: &State, of: TypeId, one: TreeId) -> bool
     requires of { of.0 < length (state.now).types }
     requires one { one.0 < length (trees state.now) }
-    ensures { result ≡ (operands.is_of_class (tree state.now one) || is_class_kind (kind_of_type (sizes.referred (type_of state.now of)))) }
+    ensures { result ≡ (not (is_reference_type (type_of state.now of)) && (operands.is_of_class (tree state.now one) || is_class_kind (kind_of_type (type_of state.now of)))) }
 {
-    is_of_class(state, one) || is_to_class(state, of)
+    !is_reference(state.types(), of) && (is_of_class(state, one) || is_to_class(state, of))
 }
 
 // No object is made of an incomplete class (9.2).
@@ -338,12 +411,74 @@ fn named_by(
 }
 
 #[tactic(auto, unfolding(cxx_tree::specs::Held::meaning))]
-fn static_allowed(alloc: Global, state: &State, from: Operand, of: TypeId) -> Result<bool, Wait>
+fn static_allowed(
+    alloc: Global,
+    state: &State,
+    is_single: bool,
+    from: Operand,
+    of: TypeId,
+) -> Result<bool, Wait>
     requires from { from.of.0 < length (state.now).types }
     requires of { of.0 < length (state.now).types }
-    ensures { Gives (λ x. x) result (meaning_casts.static_cast (meaning state.now).graph false (operand_at (state.now).types from) (type_of state.now of)) }
+    ensures { WaitGives (λ x. x) result (meaning_casts.static_cast (meaning state.now).graph is_single (operand_at (state.now).types from) (type_of state.now of)) }
 {
-    static_cast(alloc, state.graph(), state.types(), false, from, of)
+    static_cast(alloc, state.graph(), state.types(), is_single, from, of)
+}
+
+fn allowed_at(
+    alloc: Global,
+    state: &State,
+    place: Place,
+    from: Operand,
+    of: TypeId,
+) -> Result<bool, Stop>
+    requires from { from.of.0 < length (state.now).types }
+    requires of { of.0 < length (state.now).types }
+    ensures { Gives (λ allowed. allowed) result (definition.allowed_at place (meaning_casts.static_cast (meaning state.now).graph (bases.is_only_base (meaning state.now).graph (operand_at (state.now).types from) (type_of state.now of)) (operand_at (state.now).types from) (type_of state.now of))) }
+{
+    let is_single = only_base(alloc, state, from, of)?;
+    match static_allowed(alloc, state, is_single, from, of) {
+        Ok(allowed) => Ok(allowed),
+        Err(Wait::Needs(_)) => Err(Stop::Fault(not_built_at(alloc, place)?)),
+        Err(Wait::OutOfMemory) => Err(Stop::OutOfMemory),
+    }
+}
+
+// Where it is allowed it leads to no base that is ambiguous (4.10, 10.2).
+fn leads_to_one(
+    alloc: Global,
+    state: &State,
+    place: Place,
+    from: Operand,
+    of: TypeId,
+    allowed: bool,
+) -> Result<(), Stop>
+    requires from { from.of.0 < length (state.now).types }
+    requires of { of.0 < length (state.now).types }
+    ensures { Gives (λ done. done) result (definition.leads_to_one (meaning state.now).graph place (operand_at (state.now).types from) (type_of state.now of) allowed) }
+{
+    if allowed {
+        one_base(alloc, state, place, from, of)
+    } else {
+        Ok(())
+    }
+}
+
+#[tactic(auto, unfolding(crate::specs::Casts::static_found))]
+fn static_found(
+    alloc: Global,
+    state: &State,
+    place: Place,
+    from: Operand,
+    of: TypeId,
+) -> Result<bool, Stop>
+    requires from { from.of.0 < length (state.now).types }
+    requires of { of.0 < length (state.now).types }
+    ensures { Gives (λ allowed. allowed) result (definition.static_found (meaning state.now).graph place (operand_at (state.now).types from) (type_of state.now of)) }
+{
+    let allowed = allowed_at(alloc, state, place, from, of)?;
+    leads_to_one(alloc, state, place, from, of, allowed)?;
+    Ok(allowed)
 }
 
 #[tactic(auto, using(crate::proofs::Kept::later_trans, crate::proofs::Kept::trees_later, crate::proofs::Kept::trees_kept, crate::proofs::Kept::tree_later, crate::proofs::Kept::tree_kept, crate::proofs::Kept::type_later, crate::proofs::Kept::type_kept, crate::proofs::NodeKept::node_kept), unfolding(crate::specs::Casts::static_built))]
@@ -365,14 +500,9 @@ fn static_built<Q: Questions>(
     ensures { IsAnswered tree IsTreeKnown state.old state.new result (definition.static_built (Q.asks questions.now) (node_tree state.old node.now) (trees_held state.old front) (tree state.old one) (meaning state.old)) }
 {
     let from = judged_to(questions, state, of, one)?;
-    match static_allowed(alloc, state, from, of) {
-        Ok(allowed) => {
-            let word = static_word(alloc)?;
-            named_by(alloc, state, word, of, node, front, one, allowed)
-        }
-        Err(Wait::Needs(_)) => Err(Stop::Fault(not_built_at(alloc, node.place)?)),
-        Err(Wait::OutOfMemory) => Err(Stop::OutOfMemory),
-    }
+    let allowed = static_found(alloc, state, node.place, from, of)?;
+    let word = static_word(alloc)?;
+    named_by(alloc, state, word, of, node, front, one, allowed)
 }
 
 #[tactic(auto, using(crate::proofs::Kept::later_refl), unfolding(crate::specs::Casts::static_cast_of))]

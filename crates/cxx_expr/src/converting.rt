@@ -4,26 +4,29 @@ ghost use Rattle.std.specs.Prelude.{ℕ, List, ◌≡◌, ◌<◌, ◌||◌, not
 ghost use Rattle.cxx_meaning.specs.Conversions.Asking.{Gives};
 ghost use Rattle.cxx_meaning.specs.Conversions.Standard as standard;
 ghost use Rattle.cxx_model.specs.Types.Numbers.{AreTypesBelow};
-ghost use Rattle.cxx_model.specs.Types.Trees.{CxxType};
+ghost use Rattle.cxx_meaning.specs.Conversions.Sizes.{referred as referred_type};
+ghost use Rattle.cxx_model.specs.Types.Trees.{CxxType, unqualified};
 ghost use Rattle.cxx_reading.specs.Initializers as reading;
 ghost use Rattle.cxx_reading.specs.Initializers.{operand_of as operand_of_tree};
 ghost use Rattle.cxx_standard.specs.Views.{found_at, kind_at, operand_at};
 ghost use Rattle.cxx_tree.specs.Answered.{IsAnswered};
 ghost use Rattle.cxx_tree.specs.Arena.{IsNodeBelow, tree_over};
 ghost use Rattle.cxx_tree.specs.Held.{meaning, tree, trees, type_of};
+ghost use Rattle.cxx_expr.specs.Bases as bases;
 ghost use Rattle.cxx_expr.specs.Converting as definition;
 ghost use Rattle.cxx_expr.specs.Making.{AreTreesHeld, Gathers, GrowsTree, IsTreeKnown, trees_held};
 ghost use Rattle.cxx_expr.specs.Operands.{is_none};
 ghost use Rattle.cxx_expr.specs.Views.{types_in};
 
+use crate::bases::one_base;
 use crate::conditional::is_class;
 use crate::faults::{fault, not_built_at};
-use crate::operands::{bare_type, judged_to, operand_of, referred, value_operand};
+use crate::operands::{bare_type, judged_to, referred, result_operand, value_operand};
 use crate::production::CAST;
 use crate::questions::Questions;
 use cxx_model::{
     FaultText, Listed, Node, Operand, Place, Second, StandardSequence, Stop, TreeId, TreeIdList,
-    TypeId, Wait,
+    TypeId, TypeNode, Wait,
 };
 use cxx_names::is_incomplete;
 use cxx_standard::{TypeKind, kind_of, standard_sequence};
@@ -42,14 +45,20 @@ pub fn push(state: &mut State, node: Node) -> Result<TreeId, Stop>
     }
 }
 
-// A conversion covers the tokens of what it converts.
-#[tactic(auto, using(crate::proofs::Kept::later_trans, crate::proofs::Kept::tree_later, crate::proofs::Kept::tree_kept))]
-fn conversion(alloc: Global, state: &mut State, of: TypeId, number: TreeId) -> Result<TreeId, Stop>
+// A conversion, with what it gives, covers the tokens of what it converts.
+#[tactic(auto, using(crate::proofs::Kept::tree_kept))]
+fn covering(
+    alloc: Global,
+    state: &mut State,
+    of: TypeId,
+    operand: Operand,
+    number: TreeId,
+) -> Result<TreeId, Stop>
     requires of { of.0 < length (state.old).types }
+    requires operand { operand.of.0 < length (state.old).types }
     requires known { number.0 < length (trees state.old) }
-    ensures { GrowsTree state.old state.new result (reading.conversion_tree (type_of state.old of) (tree state.old number)) }
+    ensures { GrowsTree state.old state.new result (bases.covering_tree (type_of state.old of) (operand_at (state.old).types operand) (tree state.old number)) }
 {
-    let operand = value_operand(state, of)?;
     let mut children = Listed::new(alloc);
     children.push(number)?;
     let from = state.node(number);
@@ -70,8 +79,70 @@ fn conversion(alloc: Global, state: &mut State, of: TypeId, number: TreeId) -> R
     push(state, node)
 }
 
+// To a value of a type.
+#[tactic(auto, using(crate::proofs::Kept::later_trans, crate::proofs::Kept::tree_later, crate::proofs::Kept::tree_kept, crate::proofs::Kept::type_later, crate::proofs::Kept::type_kept))]
+fn conversion(alloc: Global, state: &mut State, of: TypeId, number: TreeId) -> Result<TreeId, Stop>
+    requires of { of.0 < length (state.old).types }
+    requires known { number.0 < length (trees state.old) }
+    ensures { GrowsTree state.old state.new result (reading.conversion_tree (type_of state.old of) (tree state.old number)) }
+{
+    let operand = value_operand(state, of)?;
+    covering(alloc, state, of, operand, number)
+}
+
+// To the type, or what it refers to, cv words aside.
+#[tactic(auto, using(crate::proofs::Kept::later_trans, crate::proofs::Kept::tree_later, crate::proofs::Kept::tree_kept))]
+fn to_value(alloc: Global, state: &mut State, of: TypeId, number: TreeId) -> Result<TreeId, Stop>
+    requires of { of.0 < length (state.old).types }
+    requires known { number.0 < length (trees state.old) }
+    ensures { GrowsTree state.old state.new result (reading.conversion_tree (unqualified (referred_type (type_of state.old of))) (tree state.old number)) }
+{
+    let to = referred(state.types(), of);
+    let bare = bare_type(state, to)?;
+    conversion(alloc, state, bare, number)
+}
+
+// To a reference that is bound to a base (8.5.3).
+#[tactic(auto, using(crate::proofs::Kept::later_trans, crate::proofs::Kept::tree_later, crate::proofs::Kept::tree_kept, crate::proofs::Kept::type_later, crate::proofs::Kept::type_kept))]
+fn bound(alloc: Global, state: &mut State, of: TypeId, number: TreeId) -> Result<TreeId, Stop>
+    requires of { of.0 < length (state.old).types }
+    requires known { number.0 < length (trees state.old) }
+    ensures { GrowsTree state.old state.new result (bases.base_tree (type_of state.old of) (tree state.old number)) }
+{
+    let operand = result_operand(state, of)?;
+    covering(alloc, state, of, operand, number)
+}
+
+fn to_base(alloc: Global, state: &mut State, of: TypeId, number: TreeId) -> Result<TreeId, Stop>
+    requires of { of.0 < length (state.old).types }
+    requires known { number.0 < length (trees state.old) }
+    ensures { GrowsTree state.old state.new result (definition.to_base (type_of state.old of) (tree state.old number)) }
+{
+    match state.types().node(of) {
+        TypeNode::Reference(_) => bound(alloc, state, of, number),
+        _ => to_value(alloc, state, of, number),
+    }
+}
+
+fn converted_by(
+    alloc: Global,
+    state: &mut State,
+    of: TypeId,
+    number: TreeId,
+    step: Second,
+) -> Result<TreeId, Stop>
+    requires of { of.0 < length (state.old).types }
+    requires known { number.0 < length (trees state.old) }
+    ensures { GrowsTree state.old state.new result (definition.converted_by (type_of state.old of) (tree state.old number) step) }
+{
+    match step {
+        Second::DerivedToBase => to_base(alloc, state, of, number),
+        _ => to_value(alloc, state, of, number),
+    }
+}
+
 // A conversion stands where there is a promotion or conversion.
-#[tactic(auto, using(crate::proofs::Kept::later_refl, crate::proofs::Kept::later_trans, crate::proofs::Kept::tree_later, crate::proofs::Kept::tree_kept))]
+#[tactic(auto, using(crate::proofs::Kept::later_refl))]
 fn by_step(
     alloc: Global,
     state: &mut State,
@@ -85,11 +156,7 @@ fn by_step(
 {
     match step {
         None => Ok(number),
-        Some(_) => {
-            let to = referred(state.types(), of);
-            let bare = bare_type(state, to)?;
-            conversion(alloc, state, bare, number)
-        }
+        Some(step) => converted_by(alloc, state, of, number, step),
     }
 }
 
@@ -114,17 +181,21 @@ fn convert_known<Q: Questions>(
     questions: &Q,
     state: &mut State,
     place: Place,
+    base_place: Place,
     of: TypeId,
     number: TreeId,
 ) -> Result<TreeId, Stop>
     requires ready { Q.is_ready questions.now }
     requires of { of.0 < length (state.old).types }
     requires number { number.0 < length (trees state.old) }
-    ensures { IsAnswered tree IsTreeKnown state.old state.new result (definition.convert_known (Q.asks questions.now) place (type_of state.old of) (tree state.old number) (meaning state.old)) }
+    ensures { IsAnswered tree IsTreeKnown state.old state.new result (definition.convert_known (Q.asks questions.now) place base_place (type_of state.old of) (tree state.old number) (meaning state.old)) }
 {
     let operand = judged_to(questions, state, of, number)?;
     match sequence_to(alloc, state, operand, of) {
-        Ok(Some(sequence)) => by_step(alloc, state, of, number, sequence.second),
+        Ok(Some(sequence)) => {
+            one_base(alloc, state, base_place, operand, of)?;
+            by_step(alloc, state, of, number, sequence.second)
+        }
         Ok(None) => Err(Stop::Fault(fault(alloc, place, FaultText::NoConversion)?)),
         Err(Wait::Needs(_)) => Err(Stop::Fault(not_built_at(alloc, place)?)),
         Err(Wait::OutOfMemory) => Err(Stop::OutOfMemory),
@@ -205,8 +276,37 @@ fn is_constructed(state: &State, of: TypeId, number: TreeId) -> bool
     is_class(kind) && is_no_own_value(state, of, number)
 }
 
+// An expression as it is converted to a type, asked at a place, and the place where an ambiguous base is a fault (13.3.3.1).
+#[tactic(auto, using(crate::proofs::Kept::later_refl), unfolding(crate::specs::Converting::convert_at, cxx_tree::specs::Held::meaning))]
+fn convert_at<Q: Questions>(
+    alloc: Global,
+    questions: &Q,
+    state: &mut State,
+    place: Place,
+    base_place: Place,
+    of: TypeId,
+    number: TreeId,
+) -> Result<TreeId, Stop>
+    requires ready { Q.is_ready questions.now }
+    requires of { of.0 < length (state.old).types }
+    requires number { number.0 < length (trees state.old) }
+    ensures { IsAnswered tree IsTreeKnown state.old state.new result (definition.convert_at (Q.asks questions.now) place base_place (type_of state.old of) (tree state.old number) (meaning state.old)) }
+{
+    if is_incomplete(state.graph(), state.types(), of) {
+        return class_value(alloc, state, number);
+    }
+    if is_constructed(state, of, number) {
+        let start = state.node(number).start;
+        return Err(Stop::Fault(not_built_at(alloc, start)?));
+    }
+    if stays(state, of, number) {
+        return Ok(number);
+    }
+    convert_known(alloc, questions, state, place, base_place, of, number)
+}
+
 /// An expression as it is converted to a type, asked at a place (13.3.3.1).
-#[tactic(auto, using(crate::proofs::Kept::later_refl), unfolding(crate::specs::Converting::convert, cxx_tree::specs::Held::meaning))]
+#[tactic(auto, unfolding(crate::specs::Converting::convert))]
 pub fn convert<Q: Questions>(
     alloc: Global,
     questions: &Q,
@@ -220,17 +320,7 @@ pub fn convert<Q: Questions>(
     requires number { number.0 < length (trees state.old) }
     ensures { IsAnswered tree IsTreeKnown state.old state.new result (definition.convert (Q.asks questions.now) place (type_of state.old of) (tree state.old number) (meaning state.old)) }
 {
-    if is_incomplete(state.graph(), state.types(), of) {
-        return class_value(alloc, state, number);
-    }
-    if is_constructed(state, of, number) {
-        let start = state.node(number).start;
-        return Err(Stop::Fault(not_built_at(alloc, start)?));
-    }
-    if stays(state, of, number) {
-        return Ok(number);
-    }
-    convert_known(alloc, questions, state, place, of, number)
+    convert_at(alloc, questions, state, place, place, of, number)
 }
 
 /// The types behind the first one.
@@ -261,7 +351,10 @@ fn convert_next<Q: Questions>(
 {
     match types {
         [] => Ok(number),
-        [of, ..] => convert(alloc, questions, state, place, *of, number),
+        [of, ..] => {
+            let start = state.node(number).start;
+            convert_at(alloc, questions, state, place, start, *of, number)
+        }
     }
 }
 

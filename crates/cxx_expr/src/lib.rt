@@ -2,6 +2,7 @@
 //! the code for literals, operators, casts, sizes and conversions.
 #![tactic(auto)]
 
+mod bases;
 mod casts;
 pub mod conditional;
 pub mod converting;

@@ -8,12 +8,14 @@ ghost use Rattle.cxx_meaning.specs.Conversions.Sizes as sizes;
 ghost use Rattle.cxx_model.specs.Types.Numbers.{type_at};
 ghost use Rattle.cxx_model.specs.Types.Trees.{CxxType, fundamental, unqualified};
 ghost use Rattle.cxx_model.specs.declared.base.Base.TheVariants as base;
+ghost use Rattle.cxx_reading.specs.Declarators.{is_reference as is_reference_type};
 ghost use Rattle.cxx_reading.specs.Initializers as reading;
 ghost use Rattle.cxx_standard.specs.Views.{kind_at, operand_at};
 ghost use Rattle.cxx_tree.specs.Held.{meaning, tree, trees, type_of};
 ghost use Rattle.cxx_expr.specs.Making.{GrowsOperand, GrowsType};
 ghost use Rattle.cxx_expr.specs.Operands as definition;
 
+use crate::conditional::is_class;
 use crate::questions::Questions;
 use cxx_builtin::operand_kind;
 use cxx_model::{Base, ConstantKind, Operand, OutOfMemory, Stop, TreeId, TypeId, TypeNode};
@@ -56,14 +58,38 @@ pub fn referred(types: &TypeTable, of: TypeId) -> TypeId
     }
 }
 
+/// Whether a type is a reference (8.3.2).
+pub fn is_reference(types: &TypeTable, of: TypeId) -> bool
+    requires { of.0 < length types.now }
+    ensures { result ≡ is_reference_type (type_at types.now of.0) }
+{
+    match types.node(of) {
+        TypeNode::Reference(_) => true,
+        _ => false,
+    }
+}
+
 // ---- operands
+
+// The type of a value: a class keeps its cv words (3.10 p9).
+#[tactic(auto, using(crate::proofs::Kept::later_refl))]
+fn value_type(state: &mut State, of: TypeId) -> Result<TypeId, Stop>
+    requires { of.0 < length (state.old).types }
+    ensures { GrowsType state.old state.new result (reading.value_type (type_of state.old of)) }
+{
+    if is_class(kind_of(state.graph(), state.types(), of)) {
+        Ok(of)
+    } else {
+        bare_type(state, of)
+    }
+}
 
 /// A value of a type (3.10).
 pub fn value_operand(state: &mut State, of: TypeId) -> Result<Operand, Stop>
     requires { of.0 < length (state.old).types }
     ensures { GrowsOperand state.old state.new result (reading.value_operand (type_of state.old of)) }
 {
-    let of = bare_type(state, of)?;
+    let of = value_type(state, of)?;
     Ok(Operand {
         of,
         lvalue: false,

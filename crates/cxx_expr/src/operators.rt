@@ -1,4 +1,5 @@
-//! The operators of operands that are of no class and no enumeration (5.2.1, 5.2.6, 5.3.1, 5.3.2, 5.6 to 5.18).
+//! The operators of operands that are of no class and no enumeration (5.2.1, 5.2.6, 5.3.1, 5.3.2, 5.6 to 5.18), and `&` and
+//! `,` of those that are.
 
 ghost use Rattle.std.specs.Prelude.{List, ◌≡◌, ◌<◌, ◌∷◌, [], length, position, bytes_eq, IfOk, IfSome};
 ghost use Rattle.cxx_builtin.specs.Built.{IsBuiltBelow, built_at};
@@ -8,8 +9,9 @@ ghost use Rattle.cxx_model.specs.Stops.{Faulty, fault as fault_of};
 ghost use Rattle.cxx_model.specs.Text.Spelling.{number_in as number_in_of, operators};
 ghost use Rattle.cxx_model.specs.Types.Trees.{CxxType, fundamental};
 ghost use Rattle.cxx_model.specs.declared.base.Base.TheVariants as base;
-ghost use Rattle.cxx_reading.specs.Initializers.{value_operand};
+ghost use Rattle.cxx_reading.specs.Initializers.{operand_of as operand_of_tree, value_operand};
 ghost use Rattle.cxx_model.specs.declared.fault.FaultText.TheVariants as says;
+ghost use Rattle.cxx_model.specs.declared.punct.TheConstants as punctuation;
 ghost use Rattle.cxx_standard.specs.Views.{kind_at};
 ghost use Rattle.cxx_tree.specs.Answered.{IsAnswered};
 ghost use Rattle.cxx_tree.specs.Held.{meaning, tree, trees};
@@ -246,6 +248,79 @@ fn prefix_built<Q: Questions>(
     )
 }
 
+// The operands stay what they are: `&` and `,` have their own meaning where no function is viable (13.3.1.2 p9).
+#[tactic(auto, using(crate::proofs::Kept::later_trans, crate::proofs::NodeKept::node_later, crate::proofs::NodeKept::node_kept, crate::proofs::Kept::trees_later, crate::proofs::Kept::trees_kept), unfolding(crate::specs::Operators::own_meaning, crate::specs::Operators::unconverted))]
+fn own_meaning<Q: Questions>(
+    alloc: Global,
+    questions: &Q,
+    state: &mut State,
+    node: Node,
+    operator: u8,
+    parts: TreeIdList,
+    operands: OperandList,
+) -> Result<TreeId, Stop>
+    requires ready { Q.is_ready questions.now }
+    requires node { IsNodeHeld state.old node }
+    requires parts { AreTreesHeld state.old parts }
+    requires operands { AreOperandsBelow (length (state.old).types) operands }
+    ensures { IsAnswered tree IsTreeKnown state.old state.new result (definition.own_meaning (node_tree state.old node) operator (trees_held state.old parts) (operands_in (state.old).types operands) (meaning state.old)) }
+{
+    let found = meaning_of(alloc, questions, state, node.place, operator, operands)?;
+    let operand = Operand {
+        of: found.result,
+        lvalue: found.lvalue,
+        constant: ConstantKind::No,
+    };
+    given_over(state, node, operand, parts)
+}
+
+// The address of an operand.
+#[tactic(auto, using(crate::proofs::Kept::later_trans, crate::proofs::NodeKept::node_later, crate::proofs::NodeKept::node_kept, crate::proofs::Kept::tree_later, crate::proofs::Kept::tree_kept))]
+fn address<Q: Questions>(
+    alloc: Global,
+    questions: &Q,
+    state: &mut State,
+    node: Node,
+    one: TreeId,
+) -> Result<TreeId, Stop>
+    requires ready { Q.is_ready questions.now }
+    requires node { IsNodeHeld state.old node }
+    requires one { one.0 < length (trees state.old) }
+    ensures { IsAnswered tree IsTreeKnown state.old state.new result (definition.own_meaning (node_tree state.old node) punctuation.AMPERSAND (tree state.old one ∷ []) (operand_of_tree (tree state.old one) ∷ []) (meaning state.old)) }
+{
+    let parts = listed_one(alloc, one)?;
+    let operand = operand_of(state, one)?;
+    let operands = operands_one(alloc, operand)?;
+    own_meaning(
+        alloc,
+        questions,
+        state,
+        node,
+        punct::AMPERSAND,
+        parts,
+        operands,
+    )
+}
+
+#[tactic(auto, using(crate::proofs::Kept::later_refl), unfolding(crate::specs::Operators::prefix_asked))]
+fn prefix_asked<Q: Questions>(
+    alloc: Global,
+    questions: &Q,
+    state: &mut State,
+    node: Node,
+    one: TreeId,
+) -> Result<TreeId, Stop>
+    requires ready { Q.is_ready questions.now }
+    requires node { IsNodeHeld state.old node }
+    requires one { one.0 < length (trees state.old) }
+    ensures { IsAnswered tree IsTreeKnown state.old state.new result (definition.prefix_asked (node_tree state.old node) (tree state.old one) (meaning state.old)) }
+{
+    if operator_in(state, &node) == punct::AMPERSAND {
+        return address(alloc, questions, state, node, one);
+    }
+    Err(Stop::Fault(not_built_at(alloc, node.place)?))
+}
+
 /// An operator in front of its operand (5.3.1, 5.3.2).
 #[tactic(auto, using(crate::proofs::Kept::later_refl), unfolding(crate::specs::Operators::prefix))]
 pub fn prefix<Q: Questions>(
@@ -262,7 +337,7 @@ pub fn prefix<Q: Questions>(
         None => Err(Stop::Fault(misshapen(alloc, node.start)?)),
         Some(one) => {
             if asks_operator(state, one) {
-                return Err(Stop::Fault(not_built_at(alloc, node.place)?));
+                return prefix_asked(alloc, questions, state, node, one);
             }
             prefix_built(alloc, questions, state, node, one)
         }
@@ -419,6 +494,65 @@ fn binary_built<Q: Questions>(
     )
 }
 
+#[tactic(auto, using(crate::proofs::Kept::later_trans, crate::proofs::Kept::tree_later, crate::proofs::Kept::tree_kept, crate::proofs::Kept::operand_later, crate::proofs::Kept::operand_kept))]
+fn operands_both(
+    alloc: Global,
+    state: &mut State,
+    one: TreeId,
+    two: TreeId,
+) -> Result<OperandList, Stop>
+    requires one { one.0 < length (trees state.old) }
+    requires two { two.0 < length (trees state.old) }
+    ensures { GrowsOperands state.old state.new result (operand_of_tree (tree state.old one) ∷ operand_of_tree (tree state.old two) ∷ []) }
+{
+    let first = operand_of(state, one)?;
+    let second = operand_of(state, two)?;
+    Ok(operands_two(alloc, first, second)?)
+}
+
+// Two operands of which the second is what is given.
+#[tactic(auto, using(crate::proofs::Kept::later_trans, crate::proofs::NodeKept::node_later, crate::proofs::NodeKept::node_kept, crate::proofs::Kept::tree_later, crate::proofs::Kept::tree_kept))]
+fn comma<Q: Questions>(
+    alloc: Global,
+    questions: &Q,
+    state: &mut State,
+    node: Node,
+    one: TreeId,
+    two: TreeId,
+) -> Result<TreeId, Stop>
+    requires ready { Q.is_ready questions.now }
+    requires node { IsNodeHeld state.old node }
+    requires one { one.0 < length (trees state.old) }
+    requires two { two.0 < length (trees state.old) }
+    ensures { IsAnswered tree IsTreeKnown state.old state.new result (definition.own_meaning (node_tree state.old node) punctuation.COMMA (tree state.old one ∷ tree state.old two ∷ []) (operand_of_tree (tree state.old one) ∷ operand_of_tree (tree state.old two) ∷ []) (meaning state.old)) }
+{
+    let parts = listed_two(alloc, one, two)?;
+    let operands = operands_both(alloc, state, one, two)?;
+    own_meaning(alloc, questions, state, node, punct::COMMA, parts, operands)
+}
+
+#[tactic(auto, using(crate::proofs::Kept::later_refl), unfolding(crate::specs::Operators::binary_asked))]
+fn binary_asked<Q: Questions>(
+    alloc: Global,
+    questions: &Q,
+    state: &mut State,
+    node: Node,
+    operator: u8,
+    one: TreeId,
+    two: TreeId,
+) -> Result<TreeId, Stop>
+    requires ready { Q.is_ready questions.now }
+    requires node { IsNodeHeld state.old node }
+    requires one { one.0 < length (trees state.old) }
+    requires two { two.0 < length (trees state.old) }
+    ensures { IsAnswered tree IsTreeKnown state.old state.new result (definition.binary_asked (node_tree state.old node) operator (tree state.old one) (tree state.old two) (meaning state.old)) }
+{
+    if operator == punct::COMMA {
+        return comma(alloc, questions, state, node, one, two);
+    }
+    Err(Stop::Fault(not_built_at(alloc, node.place)?))
+}
+
 // An operator between its operands, by its number.
 #[tactic(auto, using(crate::proofs::Kept::later_refl), unfolding(crate::specs::Operators::binary_by))]
 fn binary_by<Q: Questions>(
@@ -436,7 +570,7 @@ fn binary_by<Q: Questions>(
         None => Err(Stop::Fault(misshapen(alloc, node.start)?)),
         Some((one, two)) => {
             if asks_operator(state, one) || asks_operator(state, two) {
-                return Err(Stop::Fault(not_built_at(alloc, node.place)?));
+                return binary_asked(alloc, questions, state, node, operator, one, two);
             }
             binary_built(alloc, questions, state, node, operator, one, two)
         }

@@ -1,4 +1,4 @@
-ghost use Rattle.std.specs.Prelude.{ℕ, ◌≡◌, ◌<◌, length, false, IfOk};
+ghost use Rattle.std.specs.Prelude.{ℕ, ◌≡◌, ◌<◌, length, IfOk};
 ghost use Rattle.cxx_meaning.specs.Conversions.BuiltIn.{built_in_result};
 ghost use Rattle.cxx_meaning.specs.Conversions.Conditional.{conditional as conditional_of};
 ghost use Rattle.cxx_standard.specs.Views.{operand_at};
@@ -118,11 +118,17 @@ pub trait Questions {
         requires two_known { two.of.0 < length (state.old).types }
         ensures { MakesBuilt state.old state.new result (conditional_of (meaning state.old).graph (operand_at (state.old).types one) (operand_at (state.old).types two)) };
 
-    /// For which named casts `(T)e` stands (5.4).
-    fn cast(&self, state: &mut State, from: Operand, to: TypeId) -> Result<Option<CastSteps>, Wait>
+    /// For which named casts `(T)e` stands, given whether a cast from a base leads to a class that has it once (5.4).
+    fn cast(
+        &self,
+        state: &mut State,
+        is_single: bool,
+        from: Operand,
+        to: TypeId,
+    ) -> Result<Option<CastSteps>, Wait>
         requires from_known { from.of.0 < length (state.old).types }
         requires to_known { to.0 < length (state.old).types }
-        ensures { MakesCast state.old state.new result (cast_of (meaning state.old).graph false (operand_at (state.old).types from) (type_of state.old to)) };
+        ensures { MakesCast state.old state.new result (cast_of (meaning state.old).graph is_single (operand_at (state.old).types from) (type_of state.old to)) };
 
     /// The type of the first of some operands, with a bound that a later declaration of it gives (5.3.3, 8.3.4).
     fn type_of_operand(&self, state: &mut State, operands: &[TreeId]) -> Result<TypeId, Stop>

@@ -1,6 +1,7 @@
 pub mod Calling
 pub mod CallLines
 pub mod Defining
+pub mod Derived
 pub mod InTrees
 pub mod Enumerated
 pub mod Gathering

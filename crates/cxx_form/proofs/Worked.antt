@@ -1,5 +1,5 @@
 -- Worked readings with definitions of functions: their texts.
-use Rattle.std.specs.Prelude.{ℕ, ◌≡◌, refl, true, false, List, [], ◌∷◌, Some, None, codes}
+use Rattle.std.specs.Prelude.{ℕ, ◌≡◌, refl, true, false, List, [], ◌∷◌, ◌++◌, Some, None, codes}
 use Rattle.std.specs.Fmt.{digits}
 use Rattle.cxx_model.specs.declared.base.Base.TheVariants as base
 use Rattle.cxx_model.specs.declared.facts.Access.TheVariants as access
@@ -190,3 +190,27 @@ with_class =
 definition_of_a_class : text with_class ≡ codes "struct S__1;\nstruct S__1 {\n  int a__2;\n  char *b__3;\n};\nvoid g__4();\nS__1 *p__5;\n"
 unfolding names_of_text text_order lines text_name printed_name stem definition_words body_lines digits
 definition_of_a_class = refl
+
+-- struct A { }; struct B { }; struct D : A, B { int a; mutable int m; };
+abbrev class_begun : ClassId → List ℕ → ℕ → List CxxFact
+class_begun class name scope = fact 0 (spelled name) (facts.class class false) ∷ fact 0 unnamed (facts.scope (Some (record { 0 = 0 })) (kind.Class class)) ∷ fact scope (spelled name) (facts.injected class) ∷ []
+
+abbrev class_ended : ClassId → ℕ → CxxFact
+class_ended class scope = fact scope unnamed (facts.complete class)
+
+abbrev with_bases : CxxState
+with_bases =
+    let one : ClassId = record { 0 = 0 } in
+    let two : ClassId = record { 0 = 1 } in
+    let derived : ClassId = record { 0 = 2 } in
+    let all : List CxxFact =
+    (class_begun one (codes "A") 1 ++ class_ended one 1 ∷ class_begun two (codes "B") 2) ++ class_ended two 2 ∷ class_begun derived (codes "D") 3
+    ++ fact 3 unnamed (facts.ancestor derived one 0 access.Public) ∷ fact 3 unnamed (facts.ancestor derived two 1 access.Private)
+    ∷ fact 3 (spelled (codes "a")) (facts.object int member.Nonstatic false None None) ∷ fact 3 (spelled (codes "m")) (facts.object int member.Nonstatic true None None) ∷ class_ended derived 3 ∷ [] in
+    let members : List CxxTree = simple (declarator 14 int [] ∷ []) ∷ simple (declarator 15 int [] ∷ []) ∷ [] in
+    let read : CxxState = reading all (tree_of (label 8 []) (class_tree [] ∷ []) ∷ tree_of (label 8 []) (class_tree [] ∷ []) ∷ tree_of (label 8 []) (class_tree members ∷ []) ∷ []) in
+    record read { graph = record { facts = read.graph.facts; classes = None ∷ None ∷ None ∷ []; patterns = [] } }
+
+definition_with_bases : text with_bases ≡ codes "struct A__1;\nstruct B__2;\nstruct D__3;\nstruct A__1 {\n};\nstruct B__2 {\n};\nstruct D__3 : A__1, B__2 {\n  int a__4;\n  mutable int m__5;\n};\n"
+unfolding names_of_text text_order lines text_name printed_name stem definition_words body_lines digits
+definition_with_bases = refl

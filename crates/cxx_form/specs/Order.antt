@@ -203,6 +203,30 @@ firsts_among all numbers = flat_map (if_first all) numbers
 abbrev pub members_of : List CxxFact → ℕ → List ℕ
 members_of all scope = firsts_among all (objects_in scope zero all)
 
+-- ---- bases of a class (10)
+
+-- the class that a declaration names as a direct base of another one
+abbrev pub base_by : ℕ → Declares → List ℕ
+base_by n (facts.ancestor class parent index access) = if nat_eq class.0 n then parent.0 ∷ [] else []
+base_by n _ = []
+
+-- the direct bases of a class, in order
+abbrev pub bases_of : List CxxFact → ℕ → List ℕ
+bases_of [] n = []
+bases_of (fact ∷ others) n = base_by n fact.what ++ bases_of others n
+
+abbrev pub bases_by : List CxxFact → Option ℕ → List ℕ
+bases_by all None = []
+bases_by all (Some n) = bases_of all n
+
+abbrev pub class_of_fact : Option CxxFact → Option ℕ
+class_of_fact None = None
+class_of_fact (Some fact) = class_in fact.what
+
+-- those of the class that a declaration declares
+abbrev pub bases_at : List CxxFact → ℕ → List ℕ
+bases_at all number = bases_by all (class_of_fact (slice_get all number))
+
 -- ---- numbers
 
 abbrev pub is_named : Option CxxFact → Bool

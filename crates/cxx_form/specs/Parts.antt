@@ -1,11 +1,16 @@
 -- The lines of a plain form, part by part, as they are written.
-use Rattle.std.specs.Prelude.{ℕ, zero, ℤ, pos, Bool, true, false, if◌then◌else◌, List, [], ◌∷◌, ◌++◌, flat_map, map, codes, Option, Some, None}
+use Rattle.std.specs.Prelude.{ℕ, zero, ℤ, pos, Bool, true, false, if◌then◌else◌, ◌<◌, List, [], ◌∷◌, ◌++◌, length, flat_map, map, codes, Option, Some, None}
 use Rattle.std.specs.List.{slice_get}
+use Rattle.cxx_model.specs.declared.facts.Entity.{Entity}
+use Rattle.cxx_model.specs.declared.facts.Entity.TheVariants as entity
+use Rattle.cxx_model.specs.declared.facts.Fact.{Fact}
 use Rattle.cxx_model.specs.declared.tree.Node.{Node}
 use Rattle.cxx_model.specs.declared.types.FactId.{FactId}
 use Rattle.cxx_model.specs.declared.types.TreeId.{TreeId}
 use Rattle.cxx_model.specs.Facts.Declarations as facts
 use Rattle.cxx_model.specs.Facts.Declarations.{CxxFact, Declares}
+use Rattle.cxx_model.specs.Facts.Graph.{Graph}
+use Rattle.cxx_graph.specs.Numbered.{is_ancestor_of, numbers_of}
 use Rattle.cxx_reading.specs.Declarators.{no_cv}
 use Rattle.cxx_reading.specs.Plain.{enumerator_words, is_empty, NamesOfText}
 use Rattle.cxx_reading.specs.Trees.{in_turn, CxxTree}
@@ -20,7 +25,11 @@ use Rattle.cxx_form.specs.declared.lines.Line.{Line}
 use Rattle.cxx_form.specs.Lines.{line_at}
 use Rattle.cxx_form.specs.Definitions.{ellipsis_words, first_of_declarator, has_ellipsis, inner_lines, parameter_words, result_of, type_of_declarator}
 use Rattle.cxx_form.specs.Order.{if_first}
-use Rattle.cxx_form.specs.Text.{class_end, class_front, initializer_words, initializers_in, member_lines, words_on}
+use Rattle.cxx_form.specs.Text.{base_words, class_end, class_front, class_key_of, initializer_words, initializers_in, member_lines, words_on}
+
+abbrev pub is_none : {A : Type 0} → List A → Bool
+is_none [] = true
+is_none (x ∷ xs) = false
 
 -- ---- enumerations (7.2)
 
@@ -61,6 +70,42 @@ object_parts book node number =
 
 -- ---- definitions of classes (9.2)
 
+-- 10: the class that a declaration names as a base
+abbrev pub parent_by : Declares → Option ℕ
+parent_by (facts.ancestor class parent index access) = Some parent.0
+parent_by _ = None
+
+abbrev pub parent_found : Option CxxFact → Option ℕ
+parent_found None = None
+parent_found (Some fact) = parent_by fact.what
+
+-- such a class is there
+abbrev pub IsParentThere : Graph → Entity → Type 0
+IsParentThere graph (entity.Ancestor class parent index access) = parent.0 < length graph.classes
+IsParentThere graph _ = Unit {0}
+
+abbrev pub parent_words : NamesOfText → Option ℕ → List Word
+parent_words names None = []
+parent_words names (Some n) = base_words names n
+
+-- a base by its declaration
+unfoldable pub base_at : Book → FactId → List Word
+base_at book number = parent_words (names_of book) (parent_found (slice_get (facts_of book) number.0))
+
+-- bases with the colon before them, unless there are none
+abbrev pub bases_unless : Book → List FactId → Bool → List Word
+bases_unless book row true = []
+bases_unless book row false = keyword_word (codes ":") ∷ listed_words true (map (base_at book) row)
+
+-- the numbers of the declarations of bases of a class
+abbrev pub base_row : List Fact → Option ℕ → List FactId
+base_row all None = []
+base_row all (Some n) = numbers_of (is_ancestor_of n) all
+
+-- the first line, given the declarations of the bases
+unfoldable pub front_parts : Book → List FactId → ℕ → List Word
+front_parts book row number = keyword_word (class_key_of (slice_get (facts_of book) number)) ∷ name_word ((names_of book).name_of number) ∷ (bases_unless book row (is_none row) ++ open_brace ∷ [])
+
 -- a declaration in the scope of a class, where it is the first one of a data member
 unfoldable pub member_at : Book → FactId → Lines
 member_at book number = flat_map (member_lines (names_of book) (facts_of book)) (if_first (facts_of book) number.0)
@@ -84,10 +129,6 @@ parameter_at book number = parameter_words (names_of book) (facts_of book) numbe
 abbrev pub name_if : Book → FactId → Bool → List Word
 name_if book number true = name_word ((names_of book).name_of number.0) ∷ []
 name_if book number false = []
-
-abbrev pub is_none : {A : Type 0} → List A → Bool
-is_none [] = true
-is_none (x ∷ xs) = false
 
 -- an ellipsis behind parameters
 unfoldable pub dots_behind : Bool → Bool → List Word

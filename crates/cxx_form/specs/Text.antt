@@ -1,5 +1,5 @@
 -- The plain form of a reading with expressions.
-use Rattle.std.specs.Prelude.{ℕ, false, if◌then◌else◌, List, [], ◌∷◌, ◌++◌, flat_map, map, codes, Option, Some, None}
+use Rattle.std.specs.Prelude.{ℕ, Bool, true, false, if◌then◌else◌, List, [], ◌∷◌, ◌++◌, flat_map, map, codes, Option, Some, None}
 use Rattle.std.specs.List.{slice_get}
 use Rattle.cxx_model.specs.Facts.Declarations as facts
 use Rattle.cxx_model.specs.Facts.Declarations.{CxxFact, CxxGraph, Declares}
@@ -10,12 +10,12 @@ use Rattle.cxx_reading.specs.Specifiers.{class_key}
 use Rattle.cxx_reading.specs.State.{CxxState}
 use Rattle.cxx_reading.specs.Trees.{CxxTree, CxxTrees}
 use Rattle.cxx_reading.specs.Units.{CxxReading}
-use Rattle.cxx_reading.specs.Words.{Word, keyword_word, name_word, semicolon_word, declared, line_text}
+use Rattle.cxx_reading.specs.Words.{Word, keyword_word, name_word, type_name_word, semicolon_word, separated, declared, line_text}
 use Rattle.cxx_phrase_text.specs.Calls.{CallOfText, calls_of}
 use Rattle.cxx_phrase_text.specs.Phrases as phrases
 use Rattle.cxx_statement_text.specs.Statements.{Lines, close_brace, line, open_brace}
 use Rattle.cxx_form.specs.Definitions.{definition_calls, definition_words, object_type}
-use Rattle.cxx_form.specs.Order.{Line, class_line, enumeration_line, class_definition, function_line, object_line, definition_lines, lines, members_of, names_of_text, parts_of_production}
+use Rattle.cxx_form.specs.Order.{Line, class_line, enumeration_line, class_definition, function_line, object_line, definition_lines, bases_at, lines, members_of, names_of_text, parts_of_production}
 
 -- the initializers among the parts of a declarator
 abbrev pub initializers_in : CxxTrees → List CxxTree
@@ -45,14 +45,40 @@ class_words names all number = keyword_word (class_key_of (slice_get all number)
 
 -- ---- definitions of classes (9.2)
 
+-- a base, by the number of its class
+abbrev pub base_words : NamesOfText → ℕ → List Word
+base_words names n = type_name_word (names.tags.class_name n) ∷ []
+
+-- 10: the bases behind the name of a class, where it has any; neither their access nor `virtual` is written
+abbrev pub bases_words : List (List Word) → List Word
+bases_words [] = []
+bases_words (one ∷ others) = keyword_word (codes ":") ∷ separated (one ∷ others)
+
 abbrev pub class_front : NamesOfText → List CxxFact → ℕ → List Word
-class_front names all number = keyword_word (class_key_of (slice_get all number)) ∷ name_word (names.name_of number) ∷ open_brace ∷ []
+class_front names all number = keyword_word (class_key_of (slice_get all number)) ∷ name_word (names.name_of number) ∷ (bases_words (map (base_words names) (bases_at all number)) ++ open_brace ∷ [])
 
 abbrev pub class_end : List Word
 class_end = close_brace ∷ semicolon_word ∷ []
 
+abbrev pub is_mutable_by : Declares → Bool
+is_mutable_by (facts.object of member is_mutable value first) = is_mutable
+is_mutable_by _ = false
+
+abbrev pub is_mutable_of : Option CxxFact → Bool
+is_mutable_of None = false
+is_mutable_of (Some fact) = is_mutable_by fact.what
+
+-- 7.1.1
+abbrev pub mutable_words : Bool → List Word
+mutable_words true = keyword_word (codes "mutable") ∷ []
+mutable_words false = []
+
+-- a declaration of a name with a type
+abbrev pub typed_words : NamesOfText → List CxxFact → ℕ → List Word
+typed_words names all number = declared names.tags no_cv (object_type (slice_get all number)) (name_word (names.name_of number) ∷ []) ++ semicolon_word ∷ []
+
 abbrev pub member_words : NamesOfText → List CxxFact → ℕ → List Word
-member_words names all number = declared names.tags no_cv (object_type (slice_get all number)) (name_word (names.name_of number) ∷ []) ++ semicolon_word ∷ []
+member_words names all number = mutable_words (is_mutable_of (slice_get all number)) ++ typed_words names all number
 
 -- a data member, on a line
 abbrev pub member_lines : NamesOfText → List CxxFact → ℕ → Lines

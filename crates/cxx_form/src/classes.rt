@@ -13,10 +13,11 @@ ghost use Rattle.cxx_reading.specs.Words.{name_word};
 ghost use Rattle.cxx_statement_text.specs.Statements.{indent, open_brace};
 ghost use Rattle.cxx_form.specs.Books.{facts_of, names_of, IsBook};
 ghost use Rattle.cxx_form.specs.Definitions.{object_type as object_type_of};
-ghost use Rattle.cxx_form.specs.Parts.{class_parts, member_at, member_if, members_at};
-ghost use Rattle.cxx_form.specs.Text.{class_definition_words, class_end, class_front, class_key_of, class_words, member_lines, member_words};
+ghost use Rattle.cxx_form.specs.Parts.{bases_unless, class_parts, front_parts, is_none, member_at, member_if, members_at};
+ghost use Rattle.cxx_form.specs.Text.{class_definition_words, class_end, class_front, class_key_of, class_words, is_mutable_by, is_mutable_of, member_lines, member_words, mutable_words, typed_words};
 ghost use Rattle.cxx_form.specs.Views.{facts_in};
 
+use crate::bases::{bases, write_bases};
 use crate::book::Book;
 use crate::facts::find;
 use crate::heads::object_type;
@@ -81,17 +82,57 @@ fn write_typed(
     requires book { IsBook book.now }
     requires below { IsTypeNumberBelow (length (book.now.state.now).types) of }
     requires is { type_or_void (type_of_option (book.now.state.now).types of) ≡ object_type_of (slice_get (facts_of book.now) number.0) }
-    ensures { Writes result page.new (put (member_words (names_of book.now) (facts_of book.now) number.0) page.old) }
+    ensures { Writes result page.new (put (typed_words (names_of book.now) (facts_of book.now) number.0) page.old) }
 {
     write_declared(book, page, of, number)?;
     page.word(Role::Follows, b";")
 }
 
+fn is_mutable_in(what: Entity) -> bool
+    ensures { (types : List CxxType) → result ≡ is_mutable_by (declares_at types what) }
+{
+    match what {
+        Entity::Object { is_mutable, .. } => is_mutable,
+        _ => false,
+    }
+}
+
+// Whether an object is mutable (7.1.1).
+fn is_mutable(state: &State, number: FactId) -> bool
+    ensures { result ≡ is_mutable_of (slice_get (facts_in state.now) number.0) }
+{
+    match find(state, number) {
+        Some(fact) => is_mutable_in(fact.what),
+        None => false,
+    }
+}
+
+// Writes `mutable` where a member is.
+#[tactic(auto, using(cxx_page::proofs::Put::put_none))]
+fn write_mutable(page: &mut Page, is_mutable: bool) -> Result<(), PlainFault>
+    ensures { Writes result page.new (put (mutable_words is_mutable) page.old) }
+{
+    if !is_mutable {
+        return Ok(());
+    }
+    page.word(Role::Alone, b"mutable")
+}
+
+// Writes what stands behind that word.
+fn write_type_and_name(book: &Book<'_>, page: &mut Page, number: FactId) -> Result<(), PlainFault>
+    requires { IsBook book.now }
+    ensures { Writes result page.new (put (typed_words (names_of book.now) (facts_of book.now) number.0) page.old) }
+{
+    write_typed(book, page, object_type(book.state, number), number)
+}
+
+#[tactic(auto, using(cxx_page::proofs::Put::put_append))]
 fn write_declaration(book: &Book<'_>, page: &mut Page, number: FactId) -> Result<(), PlainFault>
     requires { IsBook book.now }
     ensures { Writes result page.new (put (member_words (names_of book.now) (facts_of book.now) number.0) page.old) }
 {
-    write_typed(book, page, object_type(book.state, number), number)
+    write_mutable(page, is_mutable(book.state, number))?;
+    write_type_and_name(book, page, number)
 }
 
 // Writes it behind two spaces.
@@ -168,16 +209,38 @@ fn write_inner(book: &Book<'_>, page: &mut Page, numbers: &[FactId]) -> Result<(
     write_end(page)
 }
 
+// Writes bases, and the brace behind them.
+#[tactic(auto, using(cxx_page::proofs::Put::put_append))]
+fn write_opened(book: &Book<'_>, page: &mut Page, bases: &[FactId]) -> Result<(), PlainFault>
+    requires { IsBook book.now }
+    ensures { Writes result page.new (put (bases_unless book.now bases.now (is_none bases.now) ++ open_brace ∷ []) page.old) }
+{
+    write_bases(book, page, bases)?;
+    page.word(Role::Alone, b"{")
+}
+
+#[tactic(auto, using(cxx_page::proofs::Put::put_more), unfolding(cxx_page::specs::Sheets::put_line, crate::specs::Parts::front_parts))]
+fn write_front_with(
+    book: &Book<'_>,
+    page: &mut Page,
+    bases: &[FactId],
+    number: FactId,
+) -> Result<(), PlainFault>
+    requires { IsBook book.now }
+    ensures { Writes result page.new (put_line (front_parts book.now bases.now number.0) page.old) }
+{
+    page.word(Role::Alone, key_at(book.state, number))?;
+    write_name(book, page, number)?;
+    write_opened(book, page, bases)?;
+    page.end_line()
+}
+
 // Writes the first line.
-#[tactic(auto, using(cxx_page::proofs::Put::put_more), unfolding(cxx_page::specs::Sheets::put_line))]
 fn write_front(book: &Book<'_>, page: &mut Page, number: FactId) -> Result<(), PlainFault>
     requires { IsBook book.now }
     ensures { Writes result page.new (put_line (class_front (names_of book.now) (facts_of book.now) number.0) page.old) }
 {
-    page.word(Role::Alone, key_at(book.state, number))?;
-    write_name(book, page, number)?;
-    page.word(Role::Alone, b"{")?;
-    page.end_line()
+    write_front_with(book, page, bases(book.state, number), number)
 }
 
 #[tactic(auto, using(crate::proofs::Listing::line_then), unfolding(crate::specs::Parts::class_parts))]

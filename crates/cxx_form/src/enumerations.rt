@@ -70,8 +70,8 @@ fn hold_at(state: &State, rows: &mut Rows, number: u32) -> Result<(), AllocError
     Ok(())
 }
 
-// The class that is declared.
-fn class_of(what: Entity) -> Option<u32>
+/// The class that is declared.
+pub(crate) fn class_of(what: Entity) -> Option<u32>
     ensures { (types : List CxxType) → result ≡ class_in (declares_at types what) }
 {
     match what {

@@ -109,7 +109,8 @@ fn write_parameters(book: &Book<'_>, page: &mut Page, numbers: &[FactId]) -> Res
     Ok(())
 }
 
-fn is_none(numbers: &[FactId]) -> bool
+/// Whether there are none.
+pub(crate) fn is_none(numbers: &[FactId]) -> bool
     ensures { result ≡ parts.is_none numbers.now }
 {
     match numbers {

@@ -2,10 +2,11 @@
 //!
 //! Its lines are listed once: classes, enumerations, then definitions of classes, then functions, then objects, then
 //! definitions of functions. What they declare, in their order, gives each name its number. Tables hold the number of each declaration, where each enumeration
-//! is declared, its enumerators and its printed name, and the objects of each scope; each is made in one pass, so the time
-//! is that of the declarations, the trees and the text.
+//! is declared, its enumerators and its printed name, and the objects of each scope; each is made in one pass, and the graph
+//! keeps the bases of each class, so the time is that of the declarations, the trees and the text.
 #![tactic(auto)]
 
+mod bases;
 mod book;
 mod called;
 mod calls;

@@ -83,6 +83,7 @@ fn declares(number: u8) -> bool
     match number {
         keyword::AUTO => true,
         keyword::EXTERN => true,
+        keyword::MUTABLE => true,
         keyword::REGISTER => true,
         keyword::STATIC => true,
         keyword::TYPEDEF => true,

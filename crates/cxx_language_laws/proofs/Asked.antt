@@ -25,7 +25,7 @@ use Rattle.cxx_phrases.specs.Productions as phrase
 use Rattle.cxx_reading.specs.declared.region.Region.{Region}
 use Rattle.cxx_reading.specs.Declaring.{elaborated_here, elaborated_by, elaborated_found, enumeration_in}
 use Rattle.cxx_reading.specs.Givers.{giver, givers, with_givers}
-use Rattle.cxx_reading.specs.Paths.{ambiguous_at, name_in, region_of, scope_of_region, sought_in}
+use Rattle.cxx_reading.specs.Paths.{ambiguous_member_at, by_bases, name_in, region_of, scope_of_region, sought_in}
 use Rattle.cxx_reading.specs.Reads.{Ahead, behind, place_ahead}
 use Rattle.cxx_reading.specs.Seen.{Numbered, fact_numbers, numbered_at, set_in}
 use Rattle.cxx_reading.specs.State.{CxxGiven, CxxState}
@@ -37,9 +37,9 @@ use Rattle.cxx_expr.specs.Calls.{bare_word, is_bare, is_none_left}
 use Rattle.cxx_expr.specs.Names.{part_or, path_in, word_in}
 use Rattle.cxx_expr.specs.Elaborating.{elaborate}
 use Rattle.cxx_language.specs.Answers.{asking}
-use Rattle.cxx_answers.specs.Answers.{associated_functions, bound_here, call_here, constant_by, constant_here, fallback_by, fallback_here, fresh_among, is_held, meant_in, name_here, name_in_region, name_meant, names_local, names_tested, questions, scope_of_giver, size_here, unambiguous, word_or_none}
+use Rattle.cxx_answers.specs.Answers.{associated_functions, bound_here, call_here, constant_by, constant_here, fallback_by, fallback_here, fresh_among, is_held, meant_in, name_here, name_in_region, name_meant, names_local, names_tested, questions, scope_of_giver, size_here, word_or_none}
 use Rattle.cxx_answers.specs.Defaults.{begin_default, end_default, offered_as}
-use Rattle.cxx_answers.specs.Members.{ambiguous_member_at, by_bases, has_begun, in_state, member_found as member_answered, member_here}
+use Rattle.cxx_answers.specs.Members.{has_begun, in_state, member_found as member_answered, member_here}
 use Rattle.cxx_language.specs.Asked.{answers, asked, inner_at, phrases_at}
 use Rattle.cxx_language_laws.specs.Best.{IsClear, asked_word, functions_by_types, values_besides, values_of}
 use Rattle.cxx_language_laws.specs.Told.{IsFoundClear, IsOfObject, of_object, of_pointed, IsSelector, IsSoughtMember, IsUnitCall, IsUnitSelected, called, called_by_types, operands, place_of_call, selected_part, twofold_member, unknown_call, unknown_member}
@@ -50,9 +50,9 @@ use Rattle.cxx_language_laws.proofs.Lists.{listed_tells}
 use Rattle.cxx_language_laws.proofs.PhrasesTell.{PhrasesTell, brackets_of}
 use Rattle.cxx_language_laws.proofs.QuestionsTell.{DefaultsTell, QuestionsTell, if_by, quiet_by, same_by}
 use Rattle.cxx_language_laws.proofs.Reached.{Told, ToldSince, IsManifold, IsUndeclared, reached_by_later, reached_here, later_is_told, later_is_told_since, told_sooner}
-use Rattle.cxx_language_laws.proofs.Regions.{last_ahead, last_sought, nothing_ahead, region_there, region_told, some_parts, twofold_ahead, undeclared_fault}
+use Rattle.cxx_language_laws.proofs.Regions.{ClearOr, IsTwain, clear_or, is_clear, is_twain, last_ahead, last_sought, nothing_ahead, region_there, region_told, some_parts, twofold_ahead, unambiguous_tells, undeclared_fault}
 use Rattle.cxx_language_laws.proofs.Scopes.{AreSound, InScopes}
-use Rattle.cxx_language_laws.proofs.Outward.{none_left}
+use Rattle.cxx_language_laws.proofs.Outward.{class_apart, none_left}
 use Rattle.cxx_language_laws.proofs.Sought.{fitting, none_by_types, nothing_sought, some_member}
 use Rattle.cxx_language_laws.proofs.Tells.{IsQuiet, IsTold, KindsTell, Quietly, ReadersTell, ToldBy, tells_answer, tells_refusal, Answers}
 use Rattle.cxx_language_laws.proofs.TellsConversions.{convert_tells}
@@ -71,10 +71,9 @@ elaborated_by_tells state ahead part (one ∷ more) unknown None = quiet_by late
 
 elaborated_found_tells : (state : CxxState) (ahead : Ahead) → begins_name ahead ≡ true → is_whole_name ahead ≡ true → (where_ : Region) → region_of state.graph state.here.scope (path_ahead ahead) ≡ Ok where_ → (x : Found) → sought_in state.graph types_only where_ (name_in (path_ahead ahead)) ≡ x
     → ToldBy IsLater Told state ahead (elaborated_found (last_ahead ahead) x state)
-elaborated_found_tells state ahead begins whole where_ means (sought.Ambiguous one two) is = tells_refusal _ (twofold_ahead types_only tt state ahead begins whole where_ means one two is)
-elaborated_found_tells state ahead begins whole where_ means sought.Empty is = elaborated_by_tells state ahead (last_ahead ahead) [] (nothing_ahead types_only tt state ahead begins whole where_ means sought.Empty is tt) (enumeration_in [])
-elaborated_found_tells state ahead begins whole where_ means (sought.Member class found) is = elaborated_by_tells state ahead (last_ahead ahead) (set_in state.graph (sought.Member class found)) (nothing_ahead types_only tt state ahead begins whole where_ means (sought.Member class found) is tt) (enumeration_in (set_in state.graph (sought.Member class found)))
-elaborated_found_tells state ahead begins whole where_ means (sought.Set all) is = elaborated_by_tells state ahead (last_ahead ahead) (set_in state.graph (sought.Set all)) (nothing_ahead types_only tt state ahead begins whole where_ means (sought.Set all) is tt) (enumeration_in (set_in state.graph (sought.Set all)))
+elaborated_found_tells state ahead begins whole where_ means x is =
+    unambiguous_tells types_only tt state ahead begins whole where_ means x is (elaborated_by (last_ahead ahead) (set_in state.graph x) (enumeration_in (set_in state.graph x)) state) (λ clear.
+    elaborated_by_tells state ahead (last_ahead ahead) (set_in state.graph x) (nothing_ahead types_only tt state ahead begins whole where_ means x is clear) (enumeration_in (set_in state.graph x)))
 
 elaborated_tells : (state : CxxState) (ahead : Ahead) → begins_name ahead ≡ true → is_whole_name ahead ≡ true → ToldBy IsLater Told state ahead (elaborated_here (path_ahead ahead) state)
 unfolding elaborated_here
@@ -148,7 +147,7 @@ meant_there path state where_ = meant_in state.graph where_ (name_in path)
 data NamedSo (path : CxxPath) (state : CxxState) : NameAnswers → Type 0 where
   named_so : (where_ : Region) → MeansRegion path state where_ → IsClear (sought_there path state where_) → NamedSo path state (Ok (meant_there path state where_, state))
   not_named : (why : Stopped) → IsQuiet why → NamedSo path state (Err why)
-  named_twice : (where_ : Region) (one two : FactId) → MeansRegion path state where_ → sought_there path state where_ ≡ sought.Ambiguous one two → NamedSo path state (Err (ambiguous_at state.graph (last_part path.parts) one two))
+  named_twice : (where_ : Region) (x : Found) (why : Stopped) → MeansRegion path state where_ → sought_there path state where_ ≡ x → IsTwain state.graph (last_part path.parts) x why → NamedSo path state (Err why)
   named_nowhere : (why : Stopped) → region_of state.graph state.here.scope path ≡ Err why → NamedSo path state (Err why)
 
 if_named : {path : CxxPath} {state : CxxState} (refused : Bool) {one two : NameAnswers} → NamedSo path state one → NamedSo path state two → NamedSo path state (if refused then one else two)
@@ -162,13 +161,11 @@ meant_so path state where_ means clear =
     if_named (state.in_step && names_tested state.tested state.here.scope (meant_there path state where_)) (not_named (fault (last_part path.parts).place (says.LeftOut form.ConditionNameInStep)) refl) (named_so where_ means clear))
 
 region_so : (path : CxxPath) (state : CxxState) (where_ : Region) → MeansRegion path state where_ → NamedSo path state (name_in_region path where_ state)
-region_so path state where_ means = by (sought_there path state where_) refl
+region_so path state where_ means = by (sought_there path state where_) refl (clear_or state.graph (last_part path.parts) (sought_there path state where_))
   where
-    by : (x : Found) → sought_there path state where_ ≡ x → NamedSo path state (unambiguous state.graph (last_part path.parts) x >>= λ is_one. name_meant (last_part path.parts) (meant_there path state where_) state)
-    by (sought.Ambiguous one two) is = named_twice where_ one two means is
-    by sought.Empty is = meant_so path state where_ means (subst IsClear (sym is) tt)
-    by (sought.Set facts) is = meant_so path state where_ means (subst IsClear (sym is) tt)
-    by (sought.Member class found) is = meant_so path state where_ means (subst IsClear (sym is) tt)
+    by : (x : Found) → sought_there path state where_ ≡ x → {r : Answer (Unit {0})} → ClearOr state.graph (last_part path.parts) x r → NamedSo path state (r >>= λ is_one. name_meant (last_part path.parts) (meant_there path state where_) state)
+    by x is (is_clear clear) = meant_so path state where_ means (subst IsClear (sym is) clear)
+    by x is (is_twain why two) = named_twice where_ x why means is two
 
 names_so : (path : CxxPath) (state : CxxState) → NamedSo path state (name_here path state)
 unfolding name_here
@@ -191,18 +188,18 @@ one_is path state one (named_so where_ means clear) e = record { where_ = where_
     by : AreNames (Ok (meant_there path state where_, state)) (Ok one) → (meant_there path state where_, state) ≡ one
     by e = cc
 one_is path state one (not_named why quiet) e = absurd cc
-one_is path state one (named_twice where_ m n means is) e = absurd cc
+one_is path state one (named_twice where_ x why means is two) e = absurd cc
 one_is path state one (named_nowhere why is) e = absurd cc
 
 -- what is told where a name is refused
 record RefusedTold (told : CxxState → Ahead → Stopped → Type 0) (path : CxxPath) (state : CxxState) (ahead : Ahead) : Type 0 where
   nowhere : (why : Stopped) → region_of state.graph state.here.scope path ≡ Err why → told state ahead why
-  twofold : (where_ : Region) → MeansRegion path state where_ → (one two : FactId) → sought_there path state where_ ≡ sought.Ambiguous one two → told state ahead (ambiguous_at state.graph (last_part path.parts) one two)
+  twofold : (where_ : Region) → MeansRegion path state where_ → (x : Found) (why : Stopped) → IsTwain state.graph (last_part path.parts) x why → sought_there path state where_ ≡ x → told state ahead why
 
 named_tells : {told : CxxState → Ahead → Stopped → Type 0} → IsTold IsLater told → (path : CxxPath) (state : CxxState) (ahead : Ahead) → RefusedTold told path state ahead → {answer : NameAnswers} → NamedSo path state answer → ToldBy IsLater told state ahead answer
 named_tells is path state ahead refused (named_so where_ means clear) = same_by is (meant_there path state where_) state ahead
 named_tells is path state ahead refused (not_named why quiet) = quiet_by is quiet
-named_tells is path state ahead refused (named_twice where_ one two means e) = tells_refusal _ (refused.twofold where_ means one two e)
+named_tells is path state ahead refused (named_twice where_ x why means e two) = tells_refusal why (refused.twofold where_ means x why two e)
 named_tells is path state ahead refused (named_nowhere why e) = tells_refusal why (refused.nowhere why e)
 
 -- what is found, without what tells default arguments
@@ -273,7 +270,7 @@ name_of_call state ahead room call t later why told = told_sooner state t ahead 
 call_refused : (state : CxxState) (ahead : Ahead) (room : ℕ) (call : IsUnitCall room state ahead) → RefusedTold (ToldSince state ahead) (called call) call.at ahead
 call_refused state ahead room call = record {
   nowhere = λ why e later. name_of_call state ahead room call call.at later why (region_told call.at call.named call.begins call.whole why e);
-  twofold = λ where_ means one two is later. name_of_call state ahead room call call.at later (ambiguous_at call.at.graph (last_ahead call.named) one two) (twofold_ahead any_name tt call.at call.named call.begins call.whole where_ means one two is);
+  twofold = λ where_ means x why two is later. name_of_call state ahead room call call.at later why (twofold_ahead any_name tt call.at call.named call.begins call.whole where_ means x why two is);
 }
 
 -- where nothing is found of its name, nor by the types of its arguments
@@ -448,7 +445,9 @@ unfolding member_sought
 member_told state ahead room is class at of (no_member e) = same_by (later_is_told_since state ahead) [] at ahead
 member_told state ahead room is class at of (some_members all bases e) = same_by (later_is_told_since state ahead) (numbered_at at.graph (fact_numbers all)) at ahead
 member_told state ahead room is class at of (member_refused why quiet) = quiet_by (later_is_told_since state ahead) quiet
-member_told state ahead room is class at of (member_twice one two e) = tells_refusal _ (λ later. reached_here state ahead (IsManifold ambiguous (selected_part ahead).word) (λ scopes. twofold_member one two (member_sought state ahead room is class at of (member_found.Ambiguous one two) e ambiguous refl) refl))
+member_told state ahead room is class at of (member_twice one two e) =
+    tells_refusal _ (λ later. reached_here state ahead (IsManifold ambiguous (selected_part ahead).word)
+    (λ scopes. twofold_member one two (member_sought state ahead room is class at of (member_found.Ambiguous one two) e ambiguous refl) (class_apart at.graph any_name (name_in (path_ahead (behind ahead))) (record { 0 = class }) one two (later.scopes scopes).sound e) refl))
   where
     ambiguous : Fault
     ambiguous = record { place = (selected_part ahead).place; text = says.AmbiguousName (selected_part ahead).word; evidence = by_bases at.graph one ∷ by_bases at.graph two ∷ [] }

@@ -69,9 +69,9 @@ begin_tells is_union name state ahead = by (first_class (declared_in state.graph
 
 -- ---- its members
 
-pub member_tells : (access : Access) (name : Lexeme) (of : CxxType) (state : CxxState) (ahead : Ahead) → ToldBy IsLater Quietly state ahead (declare_member access name of state)
+pub member_tells : (access : Access) (is_mutable : Bool) (name : Lexeme) (of : CxxType) (state : CxxState) (ahead : Ahead) → ToldBy IsLater Quietly state ahead (declare_member access is_mutable name of state)
 unfolding declare_member
-member_tells access name of state ahead = declare_tells (member_here state access name of) name.spelling state ahead refl (may_be_added state (member_here state access name of) refl tt)
+member_tells access is_mutable name of state ahead = declare_tells (member_here state access is_mutable name of) name.spelling state ahead refl (may_be_added state (member_here state access is_mutable name of) refl tt)
 
 -- ---- it ends
 

@@ -1,6 +1,6 @@
 -- Where the reading of a class stops, and of the specifiers among which it is defined.
-use Rattle.std.proofs.Common.{◌≡◌, refl}
-use Rattle.std.specs.Prelude.{ℕ, zero, suc, Bool, false, not, ◌&&◌, ◌||◌, List, Ok, Err}
+use Rattle.std.proofs.Common.{arith, ◌≡◌, refl}
+use Rattle.std.specs.Prelude.{ℕ, zero, suc, Bool, false, not, ◌&&◌, ◌||◌, List, [], Ok, Err}
 use Rattle.cxx_model.specs.declared.facts.Access.{Access}
 use Rattle.cxx_model.specs.declared.keyword.TheConstants as keyword
 use Rattle.cxx_model.specs.declared.punct.TheConstants as punct
@@ -9,24 +9,28 @@ use Rattle.cxx_model.specs.Text.Lexemes.{Lexeme}
 use Rattle.cxx_model.specs.Types.Trees.{CxxType}
 use Rattle.cxx_reading.specs.declared.specifier.SpecifierPlace.TheVariants as where_
 use Rattle.cxx_reading.specs.Declarators.{Declarator, Specifiers, declared_type, has_type, is_function_type, is_void, refused_in, is_refused}
+use Rattle.cxx_reading.specs.Declaring.{at_scope}
+use Rattle.cxx_reading.specs.Members.{stand_in}
 use Rattle.cxx_reading.specs.Reads.{Ahead, Got, Reads, More, Done, ◌>>=◌, then_read, answered, ask, taken, looked, give, count_ahead, kind_ahead, behind}
 use Rattle.cxx_reading.specs.State.{CxxState}
 use Rattle.cxx_reading.specs.Tokens.{is_keyword, is_punct, token_in}
 use Rattle.cxx_reading.specs.Trees.{CxxTree}
 use Rattle.cxx_reading.specs.Units.{Listed, Said, declared_fits, declarator_tree, give_trees, is_incomplete, is_unbounded, name_in, no_declarators, said_by, simple_tree, specifiers_tree}
 use Rattle.cxx_declare.specs.ClassDefinitions.{begin_class, end_class}
-use Rattle.cxx_language.specs.Classes.{Head, Members, access_by, access_step, access_word, begins_function, class_at, class_or_not, class_tree, comes_later, data_member, declaration_specifiers, declared_step, give_members, head_at, key_access, list_at, list_step, member_at, member_declaration_at, member_step, members_by, named_member_at, no_bit_field, no_function, no_members, whole_member, with_class, with_member}
-use Rattle.cxx_language_laws.specs.Stopping.{BeginsClass, Gives, a_class, a_member_declaration, a_simple_declaration, begins_class, behind_class, further_specifiers_of, in_class, in_member, in_member_declarator, in_member_specifiers, in_specifiers, next_member, next_member_declarator, some_further_specifiers, some_member_declarators, some_members, to_class, to_member_declarators}
+use Rattle.cxx_language.specs.Classes.{BaseList, Head, Members, access_by, access_step, access_word, bases_at, bases_in, bases_or_none, begins_function, behind_bases, class_at, class_or_not, class_tree, comes_later, data_member, declaration_specifiers, declared_step, give_members, head_at, is_mutable_member, key_access, list_at, list_step, member_at, member_declaration_at, member_step, members_by, named_member_at, no_bit_field, no_function, whole_member, with_class, with_member}
+use Rattle.cxx_language_laws.specs.Stopping.{BeginsClass, Gives, NamesBases, a_class, a_member_declaration, a_simple_declaration, begins_class, behind_class, further_specifiers_of, in_bases, in_class, in_member, in_member_declarator, in_member_specifiers, in_specifiers, names_bases, next_member, next_member_declarator, some_bases, some_further_specifiers, some_member_declarators, some_members, to_class, to_member_declarators}
 use Rattle.cxx_language_laws.specs.Told.{EndsIn}
 use Rattle.cxx_language_laws.proofs.Asked.{kinds_tell}
+use Rattle.cxx_language_laws.proofs.Bases.{bases_stop}
 use Rattle.cxx_language_laws.proofs.Both.{both_tell}
 use Rattle.cxx_language_laws.proofs.ClassBegins.{begin_tells, end_tells, member_tells}
 use Rattle.cxx_language_laws.proofs.Declared.{declarator_ended_tells, give_trees_tells, nothing_tells}
 use Rattle.cxx_language_laws.proofs.DeclaratorsStop.{declarator_stops, specifiers_stop}
-use Rattle.cxx_language_laws.proofs.Later.{IsLater, later_is_quiet}
-use Rattle.cxx_language_laws.proofs.Opened.{InSpace}
-use Rattle.cxx_language_laws.proofs.Reached.{later_is_told}
-use Rattle.cxx_language_laws.proofs.Stopping.{ChainedOf, Inside, Stops, calm, calm_from, innermost_stops, leads_here, leads_in, quiet_told, repeat_stops, then_calm, told_within, which_in, whole_calm, whole_stops, within_part}
+use Rattle.cxx_language_laws.proofs.Later.{IsLater, grown_later, grown_same, later_is_kept, later_is_quiet, same_calls}
+use Rattle.cxx_language_laws.proofs.Opened.{InSpace, round_grown, stands_in}
+use Rattle.cxx_language_laws.proofs.Reached.{behind_by_later, count_more, later_is_told}
+use Rattle.cxx_language_laws.proofs.Scopes.{scope_is_there, scopes_at}
+use Rattle.cxx_language_laws.proofs.Stopping.{ChainedOf, Inside, InsideBy, Stops, calm, calm_from, innermost_stops, leads_here, leads_in, quiet_told, repeat_stops, then_calm, told_within, which_in, whole_calm, whole_stops, within_part}
 use Rattle.cxx_language_laws.proofs.Tells.{Quietly, Tells, ToldBy, ask_from, ask_in, ends_later, give_in, if_in, looked_in, next_in, past_stands, punct_in, quiet_in, same_in, taken_in, tells_answer, tells_read, tells_refusal, tells_stop, then_from, then_in, tokens_in, twice_behind, unit_is_told}
 use Rattle.cxx_language_laws.proofs.TellsSpecifiers.{further_tell}
 
@@ -56,7 +60,7 @@ data_member_tells label said declarator from state ahead =
     then_in later_is_quiet (no_bit_field_tells name state ahead) (λ narrow state ahead.
     then_in later_is_quiet (fits_tells said declarator state ahead) (λ fits state ahead.
     then_in later_is_quiet (no_function_tells name of state ahead) (λ object state ahead.
-    then_in later_is_quiet (ask_in ahead (member_tells label name of state ahead)) (λ number state ahead.
+    then_in later_is_quiet (ask_in ahead (member_tells label (is_mutable_member said of) name of state ahead)) (λ number state ahead.
     then_in later_is_quiet (whole_member_tells name of state ahead) (λ whole state ahead.
     then_in later_is_quiet (looked_in later_is_quiet state ahead) (λ to. give_in later_is_quiet (declarator_tree false name of number declarator.parts from to)))))))
 
@@ -106,9 +110,44 @@ list_step_stops room name so_far state ahead =
     if_in (comes_later name ahead) (calm (quiet_in later_is_quiet refl))
     (then_calm (leads_here in_member (member_declaration_stops room so_far.access state ahead)) (λ tree. give_in later_is_quiet (More (with_member tree so_far)))))))
 
-members_stop : (room : ℕ) (head : Head) (state : CxxState) (ahead : Ahead) → Stops (some_members room head.name (no_members head.access)) state ahead (list_at (suc room) head state ahead)
+members_stop : (room : ℕ) (head : Head) (bases : List CxxTree) (state : CxxState) (ahead : Ahead) → Stops (some_members room head.name (behind_bases bases head.access)) state ahead (list_at (suc room) head bases state ahead)
 unfolding list_at
-members_stop room head state ahead = repeat_stops (some_members room head.name) (list_step room head.name) give_members (λ so_far s ahead fault is. is) (λ so_far more s t ahead rest is. next_member is) (list_step_stops room head.name) (λ so_far. give_in later_is_quiet so_far.trees) (count_ahead ahead) (no_members head.access) state ahead
+members_stop room head bases state ahead = repeat_stops (some_members room head.name) (list_step room head.name) give_members (λ so_far s ahead fault is. is) (λ so_far more s t ahead rest is. next_member is) (list_step_stops room head.name) (λ so_far. give_in later_is_quiet so_far.trees) (count_ahead ahead) (behind_bases bases head.access) state ahead
+
+-- ---- its bases
+
+-- the reader stands where it did before the class began, and what is declared since is kept
+outside_later : (state begun : CxxState) → InSpace state begun → IsLater state (at_scope state.here.scope begun)
+outside_later state begun is =
+    let outside = at_scope state.here.scope begun in
+    record {
+      grown = grown_later state begun outside is.grown (grown_same begun outside refl);
+      scopes = λ scopes. let there = scope_is_there state scopes in let more = count_more state begun is.grown in scopes_at state.here.scope begun (omega (arith, there, more)) (is.scopes scopes);
+      best = λ all. same_calls begun outside (grown_same begun outside refl) refl (is.best all);
+      here = λ scopes. refl;
+    }
+
+-- behind them it stands in the scope of the class again
+entered_again : (room : ℕ) (so_far : Specifiers) (of : BaseList) (state begun : CxxState) (ahead colon : Ahead) → NamesBases state ahead of (at_scope state.here.scope begun) (behind colon) → InSpace state begun → EndsIn ahead.tokens colon.tokens → {r : Answer (Got CxxState (List CxxTree))} → Stops (some_bases of) (at_scope state.here.scope begun) (behind colon) r
+    → InsideBy InSpace (a_class room so_far) state ahead (then_read r (λ bases. ask (stand_in begun.here.scope) >>= λ entered. give bases))
+entered_again room so_far of state begun ahead colon names is stands (tells_read one later ends) =
+    let outside = at_scope state.here.scope begun in
+    let inside = begun.here.scope in
+    tells_read (record { value = one.value; state = at_scope inside one.state; rest = one.rest })
+    (stands_in state one.state inside (later_is_kept.later state outside one.state (outside_later state begun is) later) (λ scopes. round_grown state.here.scope outside one.state inside later.grown (is.round scopes)))
+    (ends_later ahead.tokens (behind colon).tokens one.rest.tokens (past_stands ahead colon stands) ends)
+entered_again room so_far of state begun ahead colon names is stands (tells_stop why told) =
+    let outside = at_scope state.here.scope begun in
+    tells_stop why (told_within (a_class room so_far) (some_bases of) state outside ahead (behind colon) why (in_bases names) (behind_by_later state outside (outside_later state begun is)) (past_stands ahead colon stands) told)
+
+-- where the class has some
+bases_or_none_stop : (room : ℕ) (so_far : Specifiers) (head : Head) (state : CxxState) (begun : ℕ × CxxState) (ahead colon : Ahead) → Gives head_at state ahead head state colon → begin_class head.is_union head.name state ≡ Ok begun → InSpace state begun.1 → EndsIn ahead.tokens colon.tokens
+    → InsideBy InSpace (a_class room so_far) state ahead (bases_or_none state.here.scope begun.0 head.access begun.1 colon)
+unfolding bases_at
+bases_or_none_stop room so_far head state begun ahead colon gives begins is stands =
+    which_in (is_punct punct.COLON (kind_ahead colon)) (λ has.
+    entered_again room so_far (bases_in begun.0 head.access begun.1.here.scope) state begun.1 ahead colon (names_bases head colon begun gives begins has) is stands (bases_stop (bases_in begun.0 head.access begun.1.here.scope) (at_scope state.here.scope begun.1) (behind colon)))
+    (λ none. tells_read (record { value = []; state = begun.1; rest = colon }) is stands)
 
 -- ---- the whole
 
@@ -117,14 +156,14 @@ data InsideClass (room : ℕ) (so_far : Specifiers) (state : CxxState) (ahead : 
   read_inside : (one : Got CxxState (List CxxTree)) → IsLater opened one.state → EndsIn rest.tokens one.rest.tokens → InsideClass room so_far state ahead opened rest (Ok one)
   stopped_inside : (why : Stopped) → ChainedOf within_part (a_class room so_far) state ahead why → InsideClass room so_far state ahead opened rest (Err why)
 
-inside_class : (room : ℕ) (so_far : Specifiers) (head : Head) (state opened : CxxState) (ahead rest : Ahead) → BeginsClass state ahead head opened rest → InSpace state opened → EndsIn ahead.tokens rest.tokens → InsideClass room so_far state ahead opened rest (list_at room head opened rest)
+inside_class : (room : ℕ) (so_far : Specifiers) (head : Head) (bases : List CxxTree) (state opened : CxxState) (ahead rest : Ahead) → BeginsClass state ahead head bases opened rest → InSpace state opened → EndsIn ahead.tokens rest.tokens → InsideClass room so_far state ahead opened rest (list_at room head bases opened rest)
 unfolding list_at
-inside_class zero so_far head state opened ahead rest begins is stands = stopped_inside _ tt
-inside_class (suc room) so_far head state opened ahead rest begins is stands = by (members_stop room head opened rest)
+inside_class zero so_far head bases state opened ahead rest begins is stands = stopped_inside _ tt
+inside_class (suc room) so_far head bases state opened ahead rest begins is stands = by (members_stop room head bases opened rest)
   where
-    by : {r : Answer (Got CxxState (List CxxTree))} → Stops (some_members room head.name (no_members head.access)) opened rest r → InsideClass (suc room) so_far state ahead opened rest r
+    by : {r : Answer (Got CxxState (List CxxTree))} → Stops (some_members room head.name (behind_bases bases head.access)) opened rest r → InsideClass (suc room) so_far state ahead opened rest r
     by (tells_read one later ends) = read_inside one later ends
-    by (tells_stop why told) = stopped_inside why (told_within (a_class (suc room) so_far) (some_members room head.name (no_members head.access)) state opened ahead rest why (in_class begins) (record { grown = is.grown; scopes = is.scopes }) stands told)
+    by (tells_stop why told) = stopped_inside why (told_within (a_class (suc room) so_far) (some_members room head.name (behind_bases bases head.access)) state opened ahead rest why (in_class begins) (record { grown = is.grown; scopes = is.scopes }) stands told)
 
 -- behind them the reader stands where it did
 abbrev behind_members : Specifiers → Head → ℕ → Ahead → List CxxTree → Reads CxxState Specifiers
@@ -136,10 +175,22 @@ class_ends room so_far head number state opened ahead rest is stands (read_insid
     then_in later_is_quiet (looked_in later_is_quiet state after) (λ to. give_in later_is_quiet (with_class so_far number (class_tree head number one.value ahead to)))))
 class_ends room so_far head number state opened ahead rest is stands (stopped_inside why told) = tells_stop why told
 
-begun_stops : (room : ℕ) (so_far : Specifiers) (head : Head) (state : CxxState) (ahead brace : Ahead) → Gives head_at state ahead head state brace → EndsIn ahead.tokens brace.tokens → {r : Answer (ℕ × CxxState)} → ToldBy InSpace Quietly state brace r → ((begun : ℕ × CxxState) → r ≡ Ok begun → begin_class head.is_union head.name state ≡ Ok begun)
-    → Inside (a_class room so_far) state ahead (then_read (answered r brace) (λ number. taken >>= λ opened. list_at room head >>= behind_members so_far head number ahead))
-begun_stops room so_far head state ahead brace gives stands (tells_answer one is) begins = class_ends room so_far head one.0 state one.1 ahead (behind brace) is (past_stands ahead brace stands) (inside_class room so_far head state one.1 ahead (behind brace) (begins_class brace one gives (begins one refl)) is (past_stands ahead brace stands))
-begun_stops room so_far head state ahead brace gives stands (tells_refusal why quiet) begins = tells_stop why (quiet_told within_part (a_class room so_far) state ahead why quiet)
+-- behind the bases
+abbrev behind_bases_of : ℕ → Specifiers → Head → ℕ → Ahead → List CxxTree → Reads CxxState Specifiers
+behind_bases_of room so_far head number from bases = taken >>= λ opened. list_at room head bases >>= behind_members so_far head number from
+
+based_stops : (room : ℕ) (so_far : Specifiers) (head : Head) (state : CxxState) (ahead colon : Ahead) (begun : ℕ × CxxState) → Gives head_at state ahead head state colon → begin_class head.is_union head.name state ≡ Ok begun → {r : Answer (Got CxxState (List CxxTree))} → InsideBy InSpace (a_class room so_far) state ahead r
+    → ((one : Got CxxState (List CxxTree)) → r ≡ Ok one → bases_or_none state.here.scope begun.0 head.access begun.1 colon ≡ Ok one) → Inside (a_class room so_far) state ahead (then_read r (behind_bases_of room so_far head begun.0 ahead))
+based_stops room so_far head state ahead colon begun gives begins (tells_read one is stands) reads =
+    class_ends room so_far head begun.0 state one.state ahead (behind one.rest) is (past_stands ahead one.rest stands)
+    (inside_class room so_far head one.value state one.state ahead (behind one.rest) (begins_class colon one.rest begun one.state gives begins (reads one refl)) is (past_stands ahead one.rest stands))
+based_stops room so_far head state ahead colon begun gives begins (tells_stop why told) reads = tells_stop why told
+
+begun_stops : (room : ℕ) (so_far : Specifiers) (head : Head) (state : CxxState) (ahead colon : Ahead) → Gives head_at state ahead head state colon → EndsIn ahead.tokens colon.tokens → {r : Answer (ℕ × CxxState)} → ToldBy InSpace Quietly state colon r → ((begun : ℕ × CxxState) → r ≡ Ok begun → begin_class head.is_union head.name state ≡ Ok begun)
+    → Inside (a_class room so_far) state ahead (then_read (answered r colon) (λ number. bases_or_none state.here.scope number head.access >>= behind_bases_of room so_far head number ahead))
+begun_stops room so_far head state ahead colon gives stands (tells_answer one is) begins =
+    based_stops room so_far head state ahead colon one gives (begins one refl) (bases_or_none_stop room so_far head state one ahead colon gives (begins one refl) is stands) (λ bases reads. reads)
+begun_stops room so_far head state ahead colon gives stands (tells_refusal why quiet) begins = tells_stop why (quiet_told within_part (a_class room so_far) state ahead why quiet)
 
 class_stops : (room : ℕ) (so_far : Specifiers) (state : CxxState) (ahead : Ahead) → Stops (a_class room so_far) state ahead (class_at room so_far state ahead)
 unfolding class_at head_at

@@ -3,7 +3,6 @@ use Rattle.std.proofs.Common.{arith, ◌≡◌, ℕ, zero, suc, ◌+◌, ◌<◌
 use Rattle.std.proofs.lemmas.List.{append-nil, length-append}
 use Rattle.std.specs.List.{Contains, find}
 use Rattle.cxx_model.specs.declared.lookup.Found.{Found}
-use Rattle.cxx_model.specs.declared.lookup.Found.TheVariants as sought
 use Rattle.cxx_model.specs.declared.stop.LimitKind.TheVariants.{Facts}
 use Rattle.cxx_model.specs.declared.types.ScopeId.{ScopeId}
 use Rattle.cxx_model.specs.Facts.Conflicts.{scope_facts}
@@ -13,7 +12,7 @@ use Rattle.cxx_model.proofs.Champion.{first_or_later}
 use Rattle.cxx_meaning.specs.Lookups.Scopes.{chain, kind_of, parent_of as parent_in, up}
 use Rattle.cxx_meaning.specs.Lookups.Wanted.{types_only}
 use Rattle.cxx_reading.specs.declared.region.Region.{Region}
-use Rattle.cxx_reading.specs.Classes.{ClassNamed, class_as, class_count, class_fact, class_found, class_here, class_missing, class_named, class_seen, declare_again, declare_by, declare_class, declare_new, first_class, first_open, is_of_key, is_open, open_of, reserved, scope_or_unit, with_class}
+use Rattle.cxx_reading.specs.Classes.{ClassNamed, class_among, class_as, class_count, class_fact, class_found, class_here, class_missing, class_named, class_seen, declare_again, declare_by, declare_class, declare_new, first_class, first_open, is_of_key, is_open, open_of, reserved, scope_or_unit, with_class}
 use Rattle.cxx_reading.specs.Declaring.{declare, most_facts}
 use Rattle.cxx_reading.specs.Linked.{scope_id}
 use Rattle.cxx_reading.specs.Paths.{name_in, region_of, sought_in}
@@ -26,7 +25,7 @@ use Rattle.cxx_language_laws.specs.Told.{IsGrown}
 use Rattle.cxx_language_laws.proofs.Later.{IsLater, added_behind, by_answer, by_then, calm_by, free_quiet, later_by, later_same}
 use Rattle.cxx_language_laws.proofs.QuestionsTell.{if_by, quiet_by, same_by}
 use Rattle.cxx_language_laws.proofs.Reached.{Told, later_is_told}
-use Rattle.cxx_language_laws.proofs.Regions.{last_ahead, nothing_ahead, region_told, twofold_ahead}
+use Rattle.cxx_language_laws.proofs.Regions.{last_ahead, nothing_ahead, region_told, unambiguous_tells}
 use Rattle.cxx_language_laws.proofs.Scopes.{AreHeld, InScopes, may_stand, scopes_beside}
 use Rattle.cxx_language_laws.proofs.Shown.{find_in, parent_in_below}
 use Rattle.cxx_language_laws.proofs.Tells.{Quietly, ToldBy, tells_answer, tells_refusal}
@@ -117,10 +116,9 @@ seen_tells path is_union state ahead (one ∷ others) unknown (Some class) = if_
 
 found_tells : (is_union : Bool) (state : CxxState) (ahead : Ahead) → begins_name ahead ≡ true → is_whole_name ahead ≡ true → (where_ : Region) → region_of state.graph state.here.scope (path_ahead ahead) ≡ Ok where_ → (x : Found) → sought_in state.graph types_only where_ (name_in (path_ahead ahead)) ≡ x
     → ToldBy IsLater Told state ahead (class_found (path_ahead ahead) is_union x state)
-found_tells is_union state ahead begins whole where_ means (sought.Ambiguous one two) is = tells_refusal _ (twofold_ahead types_only tt state ahead begins whole where_ means one two is)
-found_tells is_union state ahead begins whole where_ means sought.Empty is = seen_tells (path_ahead ahead) is_union state ahead [] (nothing_ahead types_only tt state ahead begins whole where_ means sought.Empty is tt) (first_class [])
-found_tells is_union state ahead begins whole where_ means (sought.Member class found) is = seen_tells (path_ahead ahead) is_union state ahead (set_in state.graph (sought.Member class found)) (nothing_ahead types_only tt state ahead begins whole where_ means (sought.Member class found) is tt) (first_class (set_in state.graph (sought.Member class found)))
-found_tells is_union state ahead begins whole where_ means (sought.Set all) is = seen_tells (path_ahead ahead) is_union state ahead (set_in state.graph (sought.Set all)) (nothing_ahead types_only tt state ahead begins whole where_ means (sought.Set all) is tt) (first_class (set_in state.graph (sought.Set all)))
+found_tells is_union state ahead begins whole where_ means x is =
+    unambiguous_tells types_only tt state ahead begins whole where_ means x is (class_among (path_ahead ahead) is_union (set_in state.graph x) state) (λ clear.
+    seen_tells (path_ahead ahead) is_union state ahead (set_in state.graph x) (nothing_ahead types_only tt state ahead begins whole where_ means x is clear) (first_class (set_in state.graph x)))
 
 named_tells : (is_union : Bool) (state : CxxState) (ahead : Ahead) → begins_name ahead ≡ true → is_whole_name ahead ≡ true → ToldBy IsLater Told state ahead (class_named (path_ahead ahead) is_union state)
 unfolding class_named

@@ -27,7 +27,7 @@ use Rattle.cxx_tree.specs.Defaults.{with_given, without_offers}
 use Rattle.cxx_declare.specs.Functions.{declare_function, declare_with, free_if, function_by, given_as, is_linked_here, linked_if, given_before, not_given, not_given_by, offered_by, with_all_given}
 use Rattle.cxx_language_laws.specs.Best.{IsBestCall, AreBestCalls}
 use Rattle.cxx_language_laws.specs.Told.{IsGrown}
-use Rattle.cxx_language_laws.proofs.Scopes.{InScopes, IsFirstThere, IsSound, MayStand, may_stand, scopes_put, scopes_same}
+use Rattle.cxx_language_laws.proofs.Scopes.{InScopes, IsFirstThere, IsSound, MayStand, may_stand, scopes_beside_it, scopes_put, scopes_same}
 use Rattle.cxx_language_laws.proofs.Tells.{IsQuiet, Quietly, quiet_is_told, IsTold, ToldBy, tells_answer, tells_refusal, Answers}
 
 -- ---- what a state keeps
@@ -161,15 +161,15 @@ MayBeAdded state fact = InScopes state → MayStand state.graph.facts fact
 pub may_be_added : (state : CxxState) (fact : CxxFact) → space_in fact.what ≡ None → IsSound state.graph.facts fact.what → MayBeAdded state fact
 may_be_added state fact none is scopes = may_stand state.graph.facts fact none is
 
--- a fact behind a state, in a scope that there is
-pub added_behind : (s t : CxxState) (ahead : Ahead) (fact : CxxFact) → IsLater s t → (InScopes s → fact.scope < length (scope_facts t.graph.facts)) → (InScopes s → MayStand t.graph.facts fact) → ToldBy IsLater Quietly s ahead (added fact t)
+-- a fact behind a state, with which its scopes are as they should be
+added_so : (s t : CxxState) (ahead : Ahead) (fact : CxxFact) → IsLater s t → (InScopes s → InScopes (with_fact fact t)) → ToldBy IsLater Quietly s ahead (added fact t)
 unfolding added
-added_behind s t ahead fact later there may = by (nat_eq (length t.graph.facts + length t.graph.classes) most_facts)
+added_so s t ahead fact later so = by (nat_eq (length t.graph.facts + length t.graph.classes) most_facts)
   where
     behind_it : IsLater s (with_fact fact t)
     behind_it = record {
       grown = grown_later s t (with_fact fact t) later.grown (grown_by t (with_fact fact t) (fact ∷ []) refl);
-      scopes = λ is. scopes_put t fact (there is) (may is) (later.scopes is);
+      scopes = so;
       best = λ all. same_calls t (with_fact fact t) (grown_by t (with_fact fact t) (fact ∷ []) refl) refl (later.best all);
       here = λ is. later.here is;
     }
@@ -177,6 +177,14 @@ added_behind s t ahead fact later there may = by (nat_eq (length t.graph.facts +
     by : (b : Bool) → ToldBy IsLater Quietly s ahead (if b then Err (Limited Facts) else Ok (length t.graph.facts, with_fact fact t))
     by true = quietly s ahead (Limited Facts) refl
     by false = tells_answer (length t.graph.facts, with_fact fact t) behind_it
+
+-- one in a scope that there is
+pub added_behind : (s t : CxxState) (ahead : Ahead) (fact : CxxFact) → IsLater s t → (InScopes s → fact.scope < length (scope_facts t.graph.facts)) → (InScopes s → MayStand t.graph.facts fact) → ToldBy IsLater Quietly s ahead (added fact t)
+added_behind s t ahead fact later there may = added_so s t ahead fact later (λ is. scopes_put t fact (there is) (may is) (later.scopes is))
+
+-- one with which no scope begins
+pub added_beside : (s t : CxxState) (ahead : Ahead) (fact : CxxFact) → IsLater s t → scope_facts (fact ∷ []) ≡ [] → (InScopes s → MayStand t.graph.facts fact) → ToldBy IsLater Quietly s ahead (added fact t)
+added_beside s t ahead fact later none may = added_so s t ahead fact later (λ is. scopes_beside_it t fact none (may is) (later.scopes is))
 
 -- a fact in the scope where the reader stands
 pub added_tells : (fact : CxxFact) (state : CxxState) (ahead : Ahead) → fact.scope ≡ state.here.scope → MayBeAdded state fact → ToldBy IsLater Quietly state ahead (added fact state)

@@ -42,6 +42,7 @@ pub mod TellsBodies
 pub mod Stopping
 pub mod DeclaratorsStop
 pub mod StatementsStop
+pub mod Bases
 pub mod ClassBegins
 pub mod ClassStops
 pub mod Declarations

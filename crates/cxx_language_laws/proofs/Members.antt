@@ -28,7 +28,7 @@ use Rattle.cxx_language_laws.specs.Told.{EndsIn}
 use Rattle.cxx_language_laws.proofs.Both.{both_tell}
 use Rattle.cxx_language_laws.proofs.Later.{IsLater, grown_same, same_calls}
 use Rattle.cxx_language_laws.proofs.Reached.{ArrivedAt, IsPlaced, Told, arrived, arrived_here, arrived_sooner, later_is_told, placed_here, placed_later, placed_sooner}
-use Rattle.cxx_language_laws.proofs.Regions.{IsOfSpace, last_ahead, nothing_ahead, region_inside, region_told, region_within, twofold_ahead}
+use Rattle.cxx_language_laws.proofs.Regions.{IsOfSpace, last_ahead, nothing_ahead, region_inside, region_told, region_within, two_found, twofold_ahead}
 use Rattle.cxx_language_laws.proofs.Scopes.{scopes_at, scopes_counted}
 use Rattle.cxx_language_laws.proofs.Sought.{no_member_inside}
 use Rattle.cxx_language_laws.proofs.Tells.{Always, Quietly, ReadersTell, Tells, ToldIn, behind_stands, ends_later, give_in, name_stands, punct_in, tells_read, tells_stop, then_in, token_told, tokens_in, unit_is_told, whole_stands}
@@ -53,7 +53,7 @@ member_placed state ahead space begins means = record {
 
 member_found : (state : CxxState) (ahead : Ahead) (space : ScopeId) → begins_name ahead ≡ true → is_whole_name ahead ≡ true → region_of state.graph state.here.scope (path_ahead ahead) ≡ Ok (region.Inside space) → (x : Found) → sought_in state.graph any_name (region.Inside space) (name_in (path_ahead ahead)) ≡ x
     → EntersBy state ahead (entered_found (last_ahead ahead) (region.Inside space) x state)
-member_found state ahead space begins whole means (sought.Ambiguous one two) is = enters_refusal _ (twofold_ahead any_name tt state ahead begins whole (region.Inside space) means one two is)
+member_found state ahead space begins whole means (sought.Ambiguous one two) is = enters_refusal _ (twofold_ahead any_name tt state ahead begins whole (region.Inside space) means (sought.Ambiguous one two) _ (two_found one two) is)
 member_found state ahead space begins whole means (sought.Set targets) is = enters_answer (tt, at_scope space.0 state) (member_placed state ahead space begins means)
 member_found state ahead space begins whole means (sought.Member class of) is = enters_refusal _ (absurd (no_member_inside state.graph any_name space (name_in (path_ahead ahead)) class of is))
 member_found state ahead space begins whole means sought.Empty is = enters_refusal _ (nothing_ahead any_name tt state ahead begins whole (region.Inside space) means sought.Empty is tt refl)

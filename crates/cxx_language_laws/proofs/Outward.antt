@@ -1,12 +1,13 @@
 -- The declarations that a lookup sees, scope by scope outward, and what it finds in them (3.3.7, 3.4.1).
-use Rattle.std.proofs.Common.{arith, ◌≡◌, ◌⊎◌, inl, inr, ℕ, zero, suc, ◌+◌, Bool, true, false, not, cond, ◌&&◌, ◌||◌, nat_lt, List, [], ◌∷◌, ◌++◌, map, Option, Some, None, Ok, Err, refl, sym, ap, subst, ◌∙◌, ◌<◌, nat_eq}
+use Rattle.std.proofs.Common.{arith, ◌≡◌, ◌⊎◌, inl, inr, ℕ, zero, suc, ◌+◌, Bool, true, false, not, cond, ◌&&◌, ◌||◌, nat_lt, List, [], ◌∷◌, ◌++◌, length, map, Option, Some, None, Ok, Err, refl, sym, ap, subst, ◌∙◌, ◌<◌, nat_eq}
 use Rattle.std.proofs.lemmas.Bool.{cases_order, eq-eqb, eqb-false, eqb-true, ltb-false, ltb-true}
-use Rattle.std.proofs.lemmas.Option.{same_Some}
+use Rattle.std.proofs.lemmas.Option.{same_Some, slice_get_within}
 use Rattle.std.specs.List.{find, AllByRecursion, Contains, filter, list_any, slice_get}
 use Rattle.cxx_model.specs.declared.facts.ScopeKind.{ScopeKind}
 use Rattle.cxx_model.specs.declared.facts.ScopeKind.TheVariants as scope_kind
 use Rattle.cxx_model.specs.declared.lookup.Found.{Found}
 use Rattle.cxx_model.specs.declared.lookup.Found.TheVariants as found
+use Rattle.cxx_model.specs.declared.lookup.Hit.{Hit}
 use Rattle.cxx_model.specs.declared.lookup.MemberFound.{MemberFound}
 use Rattle.cxx_model.specs.declared.lookup.MemberFound.TheVariants as member
 use Rattle.cxx_model.specs.declared.types.ClassId.{ClassId}
@@ -16,16 +17,19 @@ use Rattle.cxx_model.specs.Facts.Declarations as facts
 use Rattle.cxx_model.specs.Facts.Declarations.{CxxFact, CxxGraph, CxxName, CxxSpecialisation, Declares}
 use Rattle.cxx_model.specs.Facts.Entities.{CxxEntity, Meant, is_seen, meant_by, of_fact, of_space, of_type, same_entity, scope_kinds}
 use Rattle.cxx_model.specs.Facts.Pending.{begins_or_ends, is_pending}
-use Rattle.cxx_model.proofs.Champion.{first_of, first_or_later, later_of}
+use Rattle.cxx_model.proofs.Champion.{find_some, first_of, first_or_later, later_of}
 use Rattle.cxx_meaning.specs.Lookups.Directives.{Shown, shows}
 use Rattle.cxx_meaning.specs.Lookups.Gathered.{before, gathered, same_scope, with_fact, with_facts}
-use Rattle.cxx_meaning.specs.Lookups.Member.{Way, class_of_scope, declared_in, declares_member, is_brought, is_of_class, is_redeclared, is_redeclared_by, member as member_named, member_by, member_in, member_of, members_in, not_redeclared, own_ways, same_lists, ways, ways_after, with_base}
-use Rattle.cxx_meaning.specs.Lookups.Ordinary.{Here, IsFirst, Nowhere, Outside, found_in_member, found_in_scope, found_in_sightings, sightings_at, standing_if, standing_shown}
+use Rattle.cxx_meaning.specs.Lookups.Member.{Way, breaks, clash, class_of_scope, declared_in, declares_member, first_nonstatic, has_nonstatic, hit, is_brought, is_nothing, is_of_class, is_one_nonstatic, is_redeclared, is_redeclared_by, member as member_named, member_by, member_in, member_of, members_in, not_redeclared, own_ways, same_class, same_lists, second_shown, through, ways, ways_after, with_base}
+use Rattle.cxx_meaning.specs.Lookups.Ordinary.{Here, IsFirst, Nowhere, Outside, found_in_member, found_in_scope, found_in_sightings, member_found, sightings_at, standing_if, standing_shown}
 use Rattle.cxx_meaning.specs.Lookups.Pending.{Asked}
 use Rattle.cxx_meaning.specs.Lookups.Scopes.{kind_of}
 use Rattle.cxx_meaning.specs.Lookups.Sightings.{Sighting, both_functions, entities, entity_meant, found_of, is_by_friend, is_hidden_among, is_hidden_by, is_named, least_of, looked_up, named_by, odd_pair, sighting_in, sighting_of, standing, unhidden, wanted_one, when}
 use Rattle.cxx_meaning.specs.Lookups.Wanted.{Wanted, hides_types, is_hideable, is_wanted}
 use Rattle.cxx_meaning.proofs.Nearest.{nothing_is_none}
+use Rattle.cxx_meaning.proofs.Subobjects.{ways_are_paths}
+use Rattle.cxx_meaning.proofs.Ways.{each_is_way}
+use Rattle.cxx_language_laws.specs.Told.{AreApart, IsMemberBy}
 use Rattle.cxx_language_laws.proofs.Scopes.{AreSound, IsSound, none_is_past}
 
 -- ---- lists
@@ -81,6 +85,7 @@ pub record IsOne (graph : CxxGraph) (wanted : Wanted) (one : Sighting) : Type 0 
   pub meant : one.meant.0 ≡ number
   pub what : one.what ≡ fact.what
   pub is_wanted_so : is_wanted graph wanted one.what ≡ true
+  pub itself : one.itself.0 < length graph.facts
 
 -- what a declaration stands for, which there is (7.3.3)
 record MeantThere (all : List CxxFact) (meant : Meant) : Type 0 where
@@ -116,6 +121,7 @@ one_wanted graph wanted number fact one sound at e =
       meant = sym (ap (λ (s : Sighting). s.meant.0) kept.1);
       what = sym (ap (λ (s : Sighting). s.what) kept.1) ∙ there.what;
       is_wanted_so = subst (λ (s : Sighting). is_wanted graph wanted s.what ≡ true) kept.1 kept.0;
+      itself = subst (λ (s : Sighting). s.itself.0 < length graph.facts) kept.1 (slice_get_within graph.facts number fact at);
     }
 
 one_seen : (graph : CxxGraph) (cut : ℕ) (wanted : Wanted) (name : CxxName) (scope : ScopeId) (number : ℕ) (fact : CxxFact) (one : Sighting) → AreSound graph.facts → slice_get graph.facts number ≡ Some fact → sighting_in graph cut wanted name scope number fact ≡ Some one → IsOne graph wanted one
@@ -310,6 +316,7 @@ pub data IsLooked (P : ℕ → Type 0) (graph : CxxGraph) : Found → Type 0 whe
   set_looked : (one : FactId) (others : List FactId) → P one.0 → IsLooked P graph (found.Set (one ∷ others))
   two_looked : (one two : FactId) → IsTwo P graph one two → IsLooked P graph (found.Ambiguous one two)
   member_looked : (class : ClassId) (one : FactId) (others : List FactId) (path : List ℕ) → P one.0 → IsLooked P graph (found.Member class (member.Set (one ∷ others) path))
+  clash_looked : (class : ClassId) (one two : Hit) → IsLooked P graph (found.Member class (member.Ambiguous one two))
 
 found_two : (P : ℕ → Type 0) (graph : CxxGraph) (one two : FactId) (others : List FactId) → Above one.0 others → AllByRecursion (OfNumber P) others → find (λ two. not (both_functions graph one two)) others ≡ Some two → IsTwo P graph one two
 found_two P graph one two [] above each e = absurd cc
@@ -420,64 +427,32 @@ never_pending graph scope class is = by (slice_get graph.classes class.0) refl
     by (Some None) e = rw e refl
     by (Some (Some of)) e = rw e (rw begun refl)
 
--- no class has bases
-no_bases : (all : List CxxFact) (declares : ClassId → Bool) (facts : List CxxFact) (now : ClassId → List Way) (class : ClassId) → ((n : ℕ) (fact : CxxFact) → slice_get facts n ≡ Some fact → IsSound all fact.what) → ways_after declares now facts class ≡ now class
-unfolding ways_after with_base
-no_bases all declares [] now class each = refl
-no_bases all declares (fact ∷ others) now class each = no_bases all declares others (with_base declares fact now) class (λ n one is. each (suc n) one is) ∙ by fact.what (each 0 fact refl)
-  where
-    by : (what : Declares) → IsSound all what → with_base declares (record fact { what = what }) now class ≡ now class
-    by (facts.ancestor _ _ _ _) is = absurd is
-    by _ is = refl
+-- what a class has of a name, by the subobjects that declare it
+abbrev members_found : CxxGraph → Wanted → CxxName → ClassId → MemberFound
+members_found graph wanted name class = member_of graph wanted name (ways graph wanted name class)
 
-own_way : (graph : CxxGraph) (wanted : Wanted) (name : CxxName) (class : ClassId) → AreSound graph.facts → ways graph wanted name class ≡ own_ways graph wanted name class
-unfolding ways
-own_way graph wanted name class sound = no_bases graph.facts (declares_member graph wanted name) graph.facts (own_ways graph wanted name) class sound
-
--- what a class has of a name, by the declarations of it there
-abbrev members_found : CxxGraph → List Sighting → MemberFound
-members_found graph [] = member.Empty
-members_found graph (one ∷ others) = member.Set (entities (unhidden graph (not_redeclared (one ∷ others)))) []
-
-has_members : (graph : CxxGraph) (wanted : Wanted) (name : CxxName) (class : ClassId) → AreSound graph.facts → member_of graph wanted name (ways graph wanted name class) ≡ members_found graph (members_in graph wanted name class)
-unfolding own_ways declares_member member_of member_by declared_in
-has_members graph wanted name class sound = ap (λ (all : List Way). member_of graph wanted name all) (own_way graph wanted name class sound) ∙ by (members_in graph wanted name class) refl
-  where
-    by : (all : List Sighting) → members_in graph wanted name class ≡ all → member_of graph wanted name (own_ways graph wanted name class) ≡ members_found graph all
-    by [] e = rw e refl
-    by (one ∷ others) e = rw e (ap (λ (all : List Sighting). member.Set (entities (unhidden graph (not_redeclared all))) []) e)
-
-class_has : (graph : CxxGraph) (wanted : Wanted) (name : CxxName) (scope : ScopeId) (class : ClassId) → AreSound graph.facts → class_of_scope graph.facts scope ≡ Some class → member_named graph wanted class name ≡ Ok (members_found graph (members_in graph wanted name class))
+class_has : (graph : CxxGraph) (wanted : Wanted) (name : CxxName) (scope : ScopeId) (class : ClassId) → class_of_scope graph.facts scope ≡ Some class → member_named graph wanted class name ≡ Ok (members_found graph wanted name class)
 unfolding member_named
-class_has graph wanted name scope class sound is = ap (λ (b : Bool). cond b (Err class) (Ok (member_of graph wanted name (ways graph wanted name class)))) (never_pending graph scope class is) ∙ ap Ok (has_members graph wanted name class sound)
+class_has graph wanted name scope class is = ap (λ (b : Bool). cond b (Err class) (Ok (members_found graph wanted name class))) (never_pending graph scope class is)
 
 abbrev MemberAnswers : Asked MemberFound → Asked MemberFound → Type 0
 MemberAnswers one two = one ≡ two
 
 -- a class that is not pending has what is found of a name
-class_found : (graph : CxxGraph) (wanted : Wanted) (name : CxxName) (class : ClassId) → AreSound graph.facts → (x : MemberFound) → member_named graph wanted class name ≡ Ok x → members_found graph (members_in graph wanted name class) ≡ x
+class_found : (graph : CxxGraph) (wanted : Wanted) (name : CxxName) (class : ClassId) (x : MemberFound) → member_named graph wanted class name ≡ Ok x → members_found graph wanted name class ≡ x
 unfolding member_named
-class_found graph wanted name class sound x e = by (is_pending graph class.0) e
+class_found graph wanted name class x e = by (is_pending graph class.0) e
   where
     found : (one two : MemberFound) → MemberAnswers (Ok one) (Ok two) → one ≡ two
     found one two e = cc
 
-    by : (pending : Bool) → MemberAnswers (cond pending (Err class) (Ok (member_of graph wanted name (ways graph wanted name class)))) (Ok x) → members_found graph (members_in graph wanted name class) ≡ x
+    by : (pending : Bool) → MemberAnswers (cond pending (Err class) (Ok (members_found graph wanted name class))) (Ok x) → members_found graph wanted name class ≡ x
     by true e = absurd cc
-    by false e = sym (has_members graph wanted name class sound) ∙ found (member_of graph wanted name (ways graph wanted name class)) x e
+    by false e = found (members_found graph wanted name class) x e
 
--- what is found in a class, as a lookup finds it
-abbrev found_as_member : CxxGraph → ClassId → List Sighting → Option Found
-found_as_member graph class [] = None
-found_as_member graph class (one ∷ others) = Some (found.Member class (members_found graph (one ∷ others)))
-
-class_finds : (graph : CxxGraph) (wanted : Wanted) (name : CxxName) (cut : ℕ) (shown : List Shown) (scope : ScopeId) (class : ClassId) → AreSound graph.facts → class_of_scope graph.facts scope ≡ Some class → found_in_scope graph wanted name cut shown scope ≡ Ok (found_as_member graph class (members_in graph wanted name class))
+class_finds : (graph : CxxGraph) (wanted : Wanted) (name : CxxName) (cut : ℕ) (shown : List Shown) (scope : ScopeId) (class : ClassId) → class_of_scope graph.facts scope ≡ Some class → found_in_scope graph wanted name cut shown scope ≡ Ok (member_found class (members_found graph wanted name class))
 unfolding found_in_scope
-class_finds graph wanted name cut shown scope class sound is = rw is (ap (found_in_member class) (class_has graph wanted name scope class sound is) ∙ by (members_in graph wanted name class))
-  where
-    by : (all : List Sighting) → found_in_member class (Ok (members_found graph all)) ≡ Ok (found_as_member graph class all)
-    by [] = refl
-    by (one ∷ others) = refl
+class_finds graph wanted name cut shown scope class is = rw is (ap (found_in_member class) (class_has graph wanted name scope class is))
 
 -- one that is not brought, and hides what is (7.3.3)
 own_in : (one : Sighting) (all : List Sighting) → list_any (is_redeclared_by one) all ≡ true → (two : Sighting) × Contains all two × (is_brought two ≡ false)
@@ -517,41 +492,212 @@ in_sightings P graph (one ∷ others) x each e = subst (IsLooked P graph) (by e)
     by : ScopeAnswers (Ok (Some (looked_up graph (one ∷ others)))) (Ok (Some x)) → looked_up graph (one ∷ others) ≡ x
     by e = cc
 
-in_members : (P : ℕ → Type 0) (graph : CxxGraph) (class : ClassId) (all : List Sighting) (x : Found) → AllByRecursion (IsSo P) all → ScopeAnswers (Ok (found_as_member graph class all)) (Ok (Some x)) → IsLooked P graph x
-unfolding unhidden not_redeclared
-in_members P graph class [] x each e = absurd cc
-in_members P graph class (one ∷ others) x each e = subst (IsLooked P graph) (is_it e) (by (entities chosen) (entities_some chosen (unhidden_some graph own (not_redeclared_some (one ∷ others) tt))) (entities_so P chosen (filtered_all (IsSo P) (λ two. not (is_hidden_among graph own two)) own (filtered_all (IsSo P) (λ two. not (is_redeclared (one ∷ others) two)) (one ∷ others) each))))
-  where
-    own : List Sighting
-    own = not_redeclared (one ∷ others)
-
-    chosen : List Sighting
-    chosen = unhidden graph own
-
-    is_it : ScopeAnswers (Ok (Some (found.Member class (member.Set (entities chosen) [])))) (Ok (Some x)) → found.Member class (member.Set (entities chosen) []) ≡ x
-    is_it e = cc
-
-    by : (all : List FactId) → IsSome all → AllByRecursion (OfNumber P) all → IsLooked P graph (found.Member class (member.Set all []))
-    by [] is each = absurd is
-    by (first ∷ more) is each = member_looked class first more [] each.0
-
 pub each_so : (P : ℕ → Type 0) (graph : CxxGraph) (wanted : Wanted) → ((one : Sighting) → IsOne graph wanted one → IsSo P one) → (all : List Sighting) → AllByRecursion (IsOne graph wanted) all → AllByRecursion (IsSo P) all
 each_so P graph wanted each [] are = tt
 each_so P graph wanted each (one ∷ others) are = (each one are.0, each_so P graph wanted each others are.1)
 
--- 10.2: what is found of a name as a member of a class
-pub in_class : (P : ℕ → Type 0) (graph : CxxGraph) (wanted : Wanted) (name : CxxName) (class : ClassId) → AreSound graph.facts → ((one : Sighting) → IsOne graph wanted one → IsSo P one) → (all : List FactId) (path : List ℕ) → member_named graph wanted class name ≡ Ok (member.Set all path) → IsLooked P graph (found.Member class (member.Set all path))
-in_class P graph wanted name class sound each all path e = by (members_in graph wanted name class) refl
+-- ---- members (10.2)
+
+-- a class that declares the name has a declaration that is not hidden
+declared_some : (graph : CxxGraph) (wanted : Wanted) (name : CxxName) (class : ClassId) → declares_member graph wanted name class ≡ true → IsSome (declared_in graph wanted name class)
+unfolding declares_member declared_in
+declared_some graph wanted name class e = by (members_in graph wanted name class) e
   where
-    finds : members_found graph (members_in graph wanted name class) ≡ member.Set all path
-    finds = class_found graph wanted name class sound (member.Set all path) e
+    by : (all : List Sighting) → not (is_nothing all) ≡ true → IsSome (unhidden graph (not_redeclared all))
+    by [] e = absurd cc
+    by (one ∷ others) e = unhidden_some graph (not_redeclared (one ∷ others)) (not_redeclared_some (one ∷ others) tt)
 
-    apart : member.Empty ≡ member.Set all path → ⊥
-    apart e = cc
+declared_all : (Q : Sighting → Type 0) (graph : CxxGraph) (wanted : Wanted) (name : CxxName) (class : ClassId) → AllByRecursion Q (members_in graph wanted name class) → AllByRecursion Q (declared_in graph wanted name class)
+unfolding declared_in unhidden not_redeclared
+declared_all Q graph wanted name class each =
+    let all = members_in graph wanted name class in
+    let own = not_redeclared all in
+    filtered_all Q (λ one. not (is_hidden_among graph own one)) own (filtered_all Q (λ one. not (is_redeclared all one)) all each)
 
-    by : (some : List Sighting) → members_in graph wanted name class ≡ some → IsLooked P graph (found.Member class (member.Set all path))
-    by [] none = absurd (apart (sym (ap (members_found graph) none) ∙ finds))
-    by (one ∷ others) some = subst (λ (of : MemberFound). IsLooked P graph (found.Member class of)) (sym (ap (members_found graph) some) ∙ finds) (in_members P graph class (one ∷ others) (found.Member class (members_found graph (one ∷ others))) (subst (AllByRecursion (IsSo P)) some (each_so P graph wanted each (members_in graph wanted name class) (members_seen graph wanted name class sound))) refl)
+-- the last class of a way declares the name
+holder_declares : (graph : CxxGraph) (wanted : Wanted) (name : CxxName) (class : ClassId) (way : Way) → Contains (ways graph wanted name class) way → declares_member graph wanted name way.holder ≡ true
+holder_declares graph wanted name class way m = (ways_are_paths graph wanted name class way (each_is_way graph wanted name class way m)).1
+
+-- what is found of a name as a member of a class: nothing, a declaration that there is, or two that do not go together
+data IsMember (P : ℕ → Type 0) (graph : CxxGraph) (wanted : Wanted) (name : CxxName) (class : ClassId) : MemberFound → Type 0 where
+  member_none : IsMember P graph wanted name class member.Empty
+  member_some : (one : FactId) (others : List FactId) (path : List ℕ) → P one.0 → IsMember P graph wanted name class (member.Set (one ∷ others) path)
+  member_two : (one two : Hit) → AreApart graph wanted name class one two → IsMember P graph wanted name class (member.Ambiguous one two)
+
+set_of_members : (P : ℕ → Type 0) (graph : CxxGraph) (wanted : Wanted) (name : CxxName) (class : ClassId) (all : List FactId) (path : List ℕ) → IsSome all → AllByRecursion (OfNumber P) all → IsMember P graph wanted name class (member.Set all path)
+set_of_members P graph wanted name class [] path is each = absurd is
+set_of_members P graph wanted name class (one ∷ others) path is each = member_some one others path each.0
+
+-- a member that one of the ways leads to
+by_way : (graph : CxxGraph) (wanted : Wanted) (name : CxxName) (class : ClassId) (way : Way) (one : Sighting) → AreSound graph.facts → Contains (ways graph wanted name class) way → Contains (declared_in graph wanted name way.holder) one → IsMemberBy graph wanted name class (hit way one)
+by_way graph wanted name class way one sound leads m = record {
+  way = way;
+  leads = each_is_way graph wanted name class way leads;
+  sighting = one;
+  stands = m;
+  is = refl;
+  declared = (all_of (IsOne graph wanted) (declared_in graph wanted name way.holder) (declared_all (IsOne graph wanted) graph wanted name way.holder (members_seen graph wanted name way.holder sound)) one m).itself;
+}
+
+nonstatic_in : (one : Sighting) (others : List Sighting) → Contains (one ∷ others) (first_nonstatic one others)
+nonstatic_in one others = by (find is_one_nonstatic (one ∷ others)) refl
+  where
+    by : (o : Option Sighting) → find is_one_nonstatic (one ∷ others) ≡ o → Contains (one ∷ others) (first_nonstatic one others)
+    by None e = rw e (first_of one others)
+    by (Some two) e = rw e ((find_some is_one_nonstatic (one ∷ others) two e).0)
+
+shown_in : (same : Bool) (first second : Sighting) (seconds : List Sighting) → Contains (second ∷ seconds) (second_shown same first second seconds)
+shown_in same first second seconds = by (same && not (is_one_nonstatic first))
+  where
+    by : (b : Bool) → Contains (second ∷ seconds) (cond b (first_nonstatic second seconds) second)
+    by true = nonstatic_in second seconds
+    by false = first_of second seconds
+
+clashing : (P : ℕ → Type 0) (graph : CxxGraph) (wanted : Wanted) (name : CxxName) (class : ClassId) (one two : Way) (firsts seconds : List Sighting) → AreSound graph.facts → Contains (ways graph wanted name class) one → Contains (ways graph wanted name class) two → breaks (has_nonstatic (declared_in graph wanted name one.holder)) one two ≡ true
+    → declared_in graph wanted name one.holder ≡ firsts → declared_in graph wanted name two.holder ≡ seconds → IsSome firsts → IsSome seconds → IsMember P graph wanted name class (clash one firsts two seconds)
+unfolding clash by_way
+clashing P graph wanted name class one two [] seconds sound m n e f g is so = absurd is
+clashing P graph wanted name class one two (first ∷ firsts) [] sound m n e f g is so = absurd so
+clashing P graph wanted name class one two (first ∷ firsts) (second ∷ seconds) sound m n e f g is so =
+    let other = second_shown (same_class one.holder two.holder) first second seconds in
+    member_two (hit one first) (hit two other) (record {
+      first = by_way graph wanted name class one first sound m (subst (λ (all : List Sighting). Contains all first) (sym f) (first_of first firsts));
+      second = by_way graph wanted name class two other sound n (subst (λ (all : List Sighting). Contains all other) (sym g) (shown_in (same_class one.holder two.holder) first second seconds));
+      apart = e;
+    })
+
+member_by_ways : (P : ℕ → Type 0) (graph : CxxGraph) (wanted : Wanted) (name : CxxName) (class : ClassId) → AreSound graph.facts → ((one : Sighting) → IsOne graph wanted one → IsSo P one) → (all : List Way) → ((way : Way) → Contains all way → Contains (ways graph wanted name class) way) → IsMember P graph wanted name class (member_of graph wanted name all)
+unfolding member_of member_by
+member_by_ways P graph wanted name class sound each [] among = member_none
+member_by_ways P graph wanted name class sound each (one ∷ others) among = by (find (breaks (has_nonstatic (declared_in graph wanted name one.holder)) one) others) refl
+  where
+    test : Way → Bool
+    test two = breaks (has_nonstatic (declared_in graph wanted name one.holder)) one two
+
+    some_of : (way : Way) → Contains (ways graph wanted name class) way → IsSome (declared_in graph wanted name way.holder)
+    some_of way m = declared_some graph wanted name way.holder (holder_declares graph wanted name class way m)
+
+    here : Contains (ways graph wanted name class) one
+    here = among one (first_of one others)
+
+    by : (o : Option Way) → find test others ≡ o → IsMember P graph wanted name class (member_by graph wanted name one o)
+    by None e =
+        let own = declared_in graph wanted name one.holder in
+        set_of_members P graph wanted name class (entities own) one.path (entities_some own (some_of one here)) (entities_so P own (declared_all (IsSo P) graph wanted name one.holder (each_so P graph wanted each (members_in graph wanted name one.holder) (members_seen graph wanted name one.holder sound))))
+    by (Some two) e =
+        let found = find_some test others two e in
+        let there = among two (later_of one others two found.0) in
+        clashing P graph wanted name class one two (declared_in graph wanted name one.holder) (declared_in graph wanted name two.holder) sound here there found.1 refl refl (some_of one here) (some_of two there)
+
+member_is : (P : ℕ → Type 0) (graph : CxxGraph) (wanted : Wanted) (name : CxxName) (class : ClassId) → AreSound graph.facts → ((one : Sighting) → IsOne graph wanted one → IsSo P one) → IsMember P graph wanted name class (members_found graph wanted name class)
+member_is P graph wanted name class sound each = member_by_ways P graph wanted name class sound each (ways graph wanted name class) (λ way m. m)
+
+in_members : (P : ℕ → Type 0) (graph : CxxGraph) (wanted : Wanted) (name : CxxName) (class : ClassId) (of : MemberFound) (x : Found) → IsMember P graph wanted name class of → ScopeAnswers (Ok (member_found class of)) (Ok (Some x)) → IsLooked P graph x
+in_members P graph wanted name class _ x member_none e = absurd cc
+in_members P graph wanted name class _ x (member_some one others path so) e = subst (IsLooked P graph) (is_it e) (member_looked class one others path so)
+  where
+    is_it : ScopeAnswers (Ok (Some (found.Member class (member.Set (one ∷ others) path)))) (Ok (Some x)) → found.Member class (member.Set (one ∷ others) path) ≡ x
+    is_it e = cc
+in_members P graph wanted name class _ x (member_two one two are) e = subst (IsLooked P graph) (is_it e) (clash_looked class one two)
+  where
+    is_it : ScopeAnswers (Ok (Some (found.Member class (member.Ambiguous one two)))) (Ok (Some x)) → found.Member class (member.Ambiguous one two) ≡ x
+    is_it e = cc
+
+-- what is found of a name as a member of a class
+pub in_class : (P : ℕ → Type 0) (graph : CxxGraph) (wanted : Wanted) (name : CxxName) (class : ClassId) → AreSound graph.facts → ((one : Sighting) → IsOne graph wanted one → IsSo P one) → (all : List FactId) (path : List ℕ) → member_named graph wanted class name ≡ Ok (member.Set all path) → IsLooked P graph (found.Member class (member.Set all path))
+in_class P graph wanted name class sound each all path e = by (members_found graph wanted name class) (member_is P graph wanted name class sound each) (class_found graph wanted name class (member.Set all path) e)
+  where
+    by : (of : MemberFound) → IsMember P graph wanted name class of → of ≡ member.Set all path → IsLooked P graph (found.Member class (member.Set all path))
+    by _ member_none e = absurd cc
+    by _ (member_some one others bases so) e = subst (λ (of : MemberFound). IsLooked P graph (found.Member class of)) e (member_looked class one others bases so)
+    by _ (member_two one two are) e = absurd cc
+
+-- two that are found do not go together
+abbrev Anyhow : ℕ → Type 0
+Anyhow n = Unit {0}
+
+any_member : (graph : CxxGraph) (wanted : Wanted) (name : CxxName) (class : ClassId) → AreSound graph.facts → IsMember Anyhow graph wanted name class (members_found graph wanted name class)
+any_member graph wanted name class sound = member_is Anyhow graph wanted name class sound (λ one is. record { meant = tt; first = λ n e. tt })
+
+apart_by : (graph : CxxGraph) (wanted : Wanted) (name : CxxName) (class : ClassId) (of : MemberFound) (one two : Hit) → IsMember Anyhow graph wanted name class of → of ≡ member.Ambiguous one two → AreApart graph wanted name class one two
+apart_by graph wanted name class _ one two member_none e = absurd cc
+apart_by graph wanted name class _ one two (member_some n others path so) e = absurd cc
+apart_by graph wanted name class _ one two (member_two m n are) e = subst (λ (x : Hit). AreApart graph wanted name class x two) (ap first_in e) (subst (λ (y : Hit). AreApart graph wanted name class m y) (ap second_in e) are)
+  where
+    first_in : MemberFound → Hit
+    first_in (member.Ambiguous m n) = m
+    first_in _ = one
+
+    second_in : MemberFound → Hit
+    second_in (member.Ambiguous m n) = n
+    second_in _ = two
+
+pub class_apart : (graph : CxxGraph) (wanted : Wanted) (name : CxxName) (class : ClassId) (one two : Hit) → AreSound graph.facts → member_named graph wanted class name ≡ Ok (member.Ambiguous one two) → AreApart graph wanted name class one two
+class_apart graph wanted name class one two sound e = apart_by graph wanted name class (members_found graph wanted name class) one two (any_member graph wanted name class sound) (class_found graph wanted name class (member.Ambiguous one two) e)
+
+-- the same in the scope of a class
+pub scope_apart : (graph : CxxGraph) (wanted : Wanted) (name : CxxName) (cut : ℕ) (shown : List Shown) (scope : ScopeId) (other class : ClassId) (one two : Hit) → AreSound graph.facts → class_of_scope graph.facts scope ≡ Some other → found_in_scope graph wanted name cut shown scope ≡ Ok (Some (found.Member class (member.Ambiguous one two)))
+    → AreApart graph wanted name class one two
+scope_apart graph wanted name cut shown scope other class one two sound is e = by (members_found graph wanted name other) refl (sym (class_finds graph wanted name cut shown scope other is) ∙ e)
+  where
+    same : (m n : Hit) → members_found graph wanted name other ≡ member.Ambiguous m n → found.Member other (member.Ambiguous m n) ≡ found.Member class (member.Ambiguous one two) → AreApart graph wanted name class one two
+    same m n is e = subst (λ (c : ClassId). AreApart graph wanted name c one two) (ap class_in e) (apart_by graph wanted name other (members_found graph wanted name other) one two (any_member graph wanted name other sound) (is ∙ ap member_in_found e))
+      where
+        class_in : Found → ClassId
+        class_in (found.Member one of) = one
+        class_in _ = other
+
+        member_in_found : Found → MemberFound
+        member_in_found (found.Member one of) = of
+        member_in_found _ = member.Ambiguous m n
+
+    by : (of : MemberFound) → members_found graph wanted name other ≡ of → ScopeAnswers (Ok (member_found other of)) (Ok (Some (found.Member class (member.Ambiguous one two)))) → AreApart graph wanted name class one two
+    by member.Empty is e = absurd cc
+    by (member.Set all path) is e = absurd cc
+    by (member.Ambiguous m n) is e = same m n is (it_is e)
+      where
+        it_is : ScopeAnswers (Ok (Some (found.Member other (member.Ambiguous m n)))) (Ok (Some (found.Member class (member.Ambiguous one two)))) → found.Member other (member.Ambiguous m n) ≡ found.Member class (member.Ambiguous one two)
+        it_is e = cc
+
+-- what declares the name itself has no more of it by its bases
+own_kept : (declares : ClassId → Bool) (later : List CxxFact) (now : ClassId → List Way) (class : ClassId) → declares class ≡ true → ways_after declares now later class ≡ now class
+unfolding ways_after with_base
+own_kept declares [] now class own = refl
+own_kept declares (fact ∷ later) now class own = own_kept declares later (with_base declares fact now) class own ∙ by fact.what
+  where
+    kept : (b : Bool) (more less : List Way) → cond (b && false) more less ≡ less
+    kept true more less = refl
+    kept false more less = refl
+
+    by : (what : Declares) → with_base declares (record fact { what = what }) now class ≡ now class
+    by (facts.ancestor derived parent index access) = ap (λ (b : Bool). cond (same_class derived class && not b) (now class ++ map (through index) (now parent)) (now class)) own ∙ kept (same_class derived class) (now class ++ map (through index) (now parent)) (now class)
+    by _ = refl
+
+-- the class itself, where it declares the name
+abbrev itself_alone : ClassId → List Way
+itself_alone class = record { path = []; holder = class } ∷ []
+
+own_way : (graph : CxxGraph) (wanted : Wanted) (name : CxxName) (class : ClassId) → declares_member graph wanted name class ≡ true → ways graph wanted name class ≡ itself_alone class
+unfolding ways own_ways
+own_way graph wanted name class own = own_kept (declares_member graph wanted name) graph.facts (own_ways graph wanted name) class own ∙ ap (λ (b : Bool). cond b (itself_alone class) []) own
+
+own_found : (graph : CxxGraph) (wanted : Wanted) (name : CxxName) (class : ClassId) → member_of graph wanted name (itself_alone class) ≡ member.Set (entities (declared_in graph wanted name class)) []
+unfolding member_of member_by
+own_found graph wanted name class = refl
+
+-- so where nothing is found the class has no declaration of it
+none_declared : (graph : CxxGraph) (wanted : Wanted) (name : CxxName) (class : ClassId) → members_found graph wanted name class ≡ member.Empty → members_in graph wanted name class ≡ []
+unfolding declares_member
+none_declared graph wanted name class e = by (members_in graph wanted name class) refl
+  where
+    apart : (all : List FactId) → member.Set all [] ≡ member.Empty → ⊥
+    apart all e = cc
+
+    by : (all : List Sighting) → members_in graph wanted name class ≡ all → members_in graph wanted name class ≡ []
+    by [] is = is
+    by (one ∷ others) is =
+        let own = own_way graph wanted name class (ap (λ (all : List Sighting). not (is_nothing all)) is) in
+        absurd (apart (entities (declared_in graph wanted name class)) (sym (own_found graph wanted name class) ∙ (ap (member_of graph wanted name) (sym own) ∙ e)))
 
 -- what a scope has, of a class or of none
 pub in_scope : (P : ℕ → Type 0) (graph : CxxGraph) (wanted : Wanted) (name : CxxName) (cut : ℕ) (shown : List Shown) (scope : ScopeId) (x : Found) → AreSound graph.facts → ((one : Sighting) → IsOne graph wanted one → IsSo P one) → found_in_scope graph wanted name cut shown scope ≡ Ok (Some x) → IsLooked P graph x
@@ -559,7 +705,7 @@ in_scope P graph wanted name cut shown scope x sound each e = by (class_of_scope
   where
     by : (o : Option ClassId) → class_of_scope graph.facts scope ≡ o → IsLooked P graph x
     by None none = in_sightings P graph (sightings_at graph cut wanted name shown scope) x (each_so P graph wanted each (sightings_at graph cut wanted name shown scope) (sightings_seen graph cut wanted name shown scope sound)) (sym (scope_finds graph wanted name cut shown scope none) ∙ e)
-    by (Some class) is = in_members P graph class (members_in graph wanted name class) x (each_so P graph wanted each (members_in graph wanted name class) (members_seen graph wanted name class sound)) (sym (class_finds graph wanted name cut shown scope class sound is) ∙ e)
+    by (Some class) is = in_members P graph wanted name class (members_found graph wanted name class) x (member_is P graph wanted name class sound each) (sym (class_finds graph wanted name cut shown scope class is) ∙ e)
 
 -- each scope answers
 pub scope_answers : (graph : CxxGraph) (wanted : Wanted) (name : CxxName) (cut : ℕ) (shown : List Shown) (scope : ScopeId) → AreSound graph.facts → (x : Option Found) × (found_in_scope graph wanted name cut shown scope ≡ Ok x)
@@ -567,7 +713,7 @@ scope_answers graph wanted name cut shown scope sound = by (class_of_scope graph
   where
     by : (o : Option ClassId) → class_of_scope graph.facts scope ≡ o → (x : Option Found) × (found_in_scope graph wanted name cut shown scope ≡ Ok x)
     by None none = (_, scope_finds graph wanted name cut shown scope none)
-    by (Some class) is = (_, class_finds graph wanted name cut shown scope class sound is)
+    by (Some class) is = (_, class_finds graph wanted name cut shown scope class is)
 
 -- ---- outward
 
@@ -617,9 +763,10 @@ no_member_none graph cut wanted name scope class number fact is e = by (nat_eq f
     by true here false n others e = refl
     by true here true n others e = none others (is_of_class class (class_of_scope graph.facts (record { 0 = fact.scope }))) (of_class here) e
 
-no_members_found : (graph : CxxGraph) (class : ClassId) (all : List Sighting) → ScopeAnswers (Ok (found_as_member graph class all)) (Ok None) → all ≡ []
-no_members_found graph class [] e = refl
-no_members_found graph class (one ∷ others) e = absurd cc
+nothing_found : (class : ClassId) (of : MemberFound) → ScopeAnswers (Ok (member_found class of)) (Ok None) → of ≡ member.Empty
+nothing_found class member.Empty e = refl
+nothing_found class (member.Set all path) e = absurd cc
+nothing_found class (member.Ambiguous one two) e = absurd cc
 
 has_nothing : (graph : CxxGraph) (wanted : Wanted) (name : CxxName) (cut : ℕ) (shown : List Shown) (scope : ScopeId) → AreSound graph.facts → found_in_scope graph wanted name cut shown scope ≡ Ok None → HasNothing graph wanted name cut scope
 unfolding sightings_at standing members_in
@@ -631,8 +778,8 @@ has_nothing graph wanted name cut shown scope sound e = by (class_of_scope graph
         apart : None ≡ Some class → ⊥
         apart e = cc
 
-    without : (class : ClassId) → class_of_scope graph.facts scope ≡ Some class → members_in graph wanted name class ≡ []
-    without class is = no_members_found graph class (members_in graph wanted name class) (sym (class_finds graph wanted name cut shown scope class sound is) ∙ e)
+    without : (class : ClassId) → class_of_scope graph.facts scope ≡ Some class → members_found graph wanted name class ≡ member.Empty
+    without class is = nothing_found class (members_found graph wanted name class) (sym (class_finds graph wanted name cut shown scope class is) ∙ e)
 
     by : (o : Option ClassId) → class_of_scope graph.facts scope ≡ o → HasNothing graph wanted name cut scope
     by None none = record {
@@ -641,11 +788,11 @@ has_nothing graph wanted name cut shown scope sound e = by (class_of_scope graph
     }
     by (Some class) is = record {
       none = standing_none class is;
-      no_member = λ one so. class_has graph wanted name scope one sound so ∙ ap (λ (all : List Sighting). Ok (members_found graph all)) (without one so);
+      no_member = λ one so. class_has graph wanted name scope one so ∙ ap (λ (of : MemberFound). Ok of) (without one so);
     }
       where
         standing_none : (class : ClassId) → class_of_scope graph.facts scope ≡ Some class → standing graph cut wanted name scope ≡ []
-        standing_none class is = none_gathered (member_in graph wanted name class) (sighting_in graph cut wanted name scope) (λ n fact none. no_member_none graph cut wanted name scope class n fact is none) 0 graph.facts (without class is)
+        standing_none class is = none_gathered (member_in graph wanted name class) (sighting_in graph cut wanted name scope) (λ n fact none. no_member_none graph cut wanted name scope class n fact is none) 0 graph.facts (none_declared graph wanted name class (without class is))
 
 pub has_none : (graph : CxxGraph) (wanted : Wanted) (name : CxxName) (cut : ℕ) (shown : List Shown) (scope : ScopeId) → AreSound graph.facts → found_in_scope graph wanted name cut shown scope ≡ Ok None → HasNone graph wanted name cut scope
 has_none graph wanted name cut shown scope sound e = (has_nothing graph wanted name cut shown scope sound e).none

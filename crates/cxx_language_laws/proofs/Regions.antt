@@ -7,9 +7,12 @@ use Rattle.cxx_model.specs.declared.evidence.Evidence.TheVariants as evidence
 use Rattle.cxx_model.specs.declared.fault.FaultText.TheVariants as says
 use Rattle.cxx_model.specs.declared.lookup.Found.{Found}
 use Rattle.cxx_model.specs.declared.lookup.Found.TheVariants as sought
+use Rattle.cxx_model.specs.declared.lookup.Hit.{Hit}
+use Rattle.cxx_model.specs.declared.lookup.MemberFound.TheVariants as member_found
 use Rattle.cxx_model.specs.declared.place.Place.{Place}
 use Rattle.cxx_model.specs.declared.punct.TheConstants as punct
 use Rattle.cxx_model.specs.declared.stop.Fault.{Fault}
+use Rattle.cxx_model.specs.declared.types.ClassId.{ClassId}
 use Rattle.cxx_model.specs.declared.types.FactId.{FactId}
 use Rattle.cxx_model.specs.Facts.Conflicts.{scope_facts}
 use Rattle.cxx_model.specs.Facts.Declarations.{CxxFact, CxxGraph, spelled}
@@ -19,7 +22,7 @@ use Rattle.cxx_meaning.specs.Lookups.Wanted.{Wanted, before_colons, namespaces_o
 use Rattle.cxx_reading.specs.declared.region.Region.{Region}
 use Rattle.cxx_reading.specs.declared.region.Region.TheVariants as region
 use Rattle.cxx_reading.specs.Linked.{scope_id}
-use Rattle.cxx_reading.specs.Paths.{ambiguous_at, first_region, first_space, held_by, holder, holder_by, name_in, or_later, place_of_fact, region_by, region_of, scope_of_region, sought_in, space_in, space_region_of}
+use Rattle.cxx_reading.specs.Paths.{ambiguous_at, ambiguous_member_at, by_bases, first_region, first_space, held_by, holder, holder_by, name_in, or_later, place_of_fact, region_by, region_of, scope_of_region, sought_in, space_in, space_region_of, unambiguous}
 use Rattle.cxx_reading.specs.Reads.{Ahead}
 use Rattle.cxx_reading.specs.Seen.{Numbered, numbered_at, numbered_by, set_in}
 use Rattle.cxx_reading.specs.Spaces.{first_opening}
@@ -27,12 +30,13 @@ use Rattle.cxx_reading.specs.State.{CxxState}
 use Rattle.cxx_reading.specs.Tokens.{Passed, begins_name, is_name, is_plain_name, is_punct, is_whole_name, part_of, part_then, passed_from, passed_to, path_ahead}
 use Rattle.cxx_reading.specs.Trees.{CxxPath, CxxPathPart, last_part}
 use Rattle.cxx_language_laws.specs.Best.{IsClear}
-use Rattle.cxx_language_laws.specs.Told.{AreTwo, IsNamed, IsNotThere, IsSought, IsWantedLast, MayStandBefore, twofold_name, unknown_name}
+use Rattle.cxx_language_laws.specs.Told.{AreTwo, IsNamed, IsNotThere, IsSought, IsWantedLast, MayStandBefore, twofold_inherited, twofold_name, unknown_name}
+use Rattle.cxx_language_laws.proofs.Later.{IsLater}
 use Rattle.cxx_language_laws.proofs.Outward.{IsSome}
 use Rattle.cxx_language_laws.proofs.Reached.{IsManifold, IsUndeclared, Told, quiet_told, reached_here}
 use Rattle.cxx_language_laws.proofs.Scopes.{InScopes, opened_of, opened_within}
-use Rattle.cxx_language_laws.proofs.Tells.{IsQuiet}
-use Rattle.cxx_language_laws.proofs.Sought.{IsRegion, fitting, nothing_sought, two_sought}
+use Rattle.cxx_language_laws.proofs.Tells.{IsQuiet, ToldBy, tells_refusal}
+use Rattle.cxx_language_laws.proofs.Sought.{IsRegion, fitting, members_sought, nothing_sought, two_sought}
 
 -- ---- the parts of a name that is ahead
 
@@ -131,6 +135,26 @@ set_space graph (sought.Ambiguous _ _) inner e = absurd cc
 set_space graph (sought.Member _ of) inner e = numbered_space graph _ inner e
 set_space graph sought.Empty inner e = absurd cc
 
+-- ---- what is ambiguous
+
+-- what is found is ambiguous: two declarations, or two members of a class (10.2), with the stop that tells them
+pub data IsTwain (graph : CxxGraph) (part : CxxPathPart) : Found → Stopped → Type 0 where
+  two_found : (one two : FactId) → IsTwain graph part (sought.Ambiguous one two) (ambiguous_at graph part one two)
+  members_found : (class : ClassId) (one two : Hit) → IsTwain graph part (sought.Member class (member_found.Ambiguous one two)) (ambiguous_member_at graph part one two)
+
+-- it is clear, or it stops so
+pub data ClearOr (graph : CxxGraph) (part : CxxPathPart) (x : Found) : Answer (Unit {0}) → Type 0 where
+  is_clear : IsClear x → ClearOr graph part x (Ok tt)
+  is_twain : (why : Stopped) → IsTwain graph part x why → ClearOr graph part x (Err why)
+
+pub clear_or : (graph : CxxGraph) (part : CxxPathPart) (x : Found) → ClearOr graph part x (unambiguous graph part x)
+clear_or graph part (sought.Set all) = is_clear tt
+clear_or graph part sought.Empty = is_clear tt
+clear_or graph part (sought.Ambiguous one two) = is_twain _ (two_found one two)
+clear_or graph part (sought.Member class (member_found.Ambiguous one two)) = is_twain _ (members_found class one two)
+clear_or graph part (sought.Member class (member_found.Set all path)) = is_clear tt
+clear_or graph part (sought.Member class member_found.Empty) = is_clear tt
+
 -- ---- what a part before `::` means
 
 abbrev AreNumbers : Answer ℕ → Answer ℕ → Type 0
@@ -153,7 +177,7 @@ same_reason one two e = cc
 
 -- why it means no namespace
 data HolderStops (graph : CxxGraph) (wants : Wanted) (where_ : Region) (part : CxxPathPart) : Stopped → Type 0 where
-  holds_two : (one two : FactId) → sought_in graph wants where_ (spelled part.word) ≡ sought.Ambiguous one two → HolderStops graph wants where_ part (ambiguous_at graph part one two)
+  holds_two : (x : Found) (why : Stopped) → sought_in graph wants where_ (spelled part.word) ≡ x → IsTwain graph part x why → HolderStops graph wants where_ part why
   holds_none : (x : Found) → sought_in graph wants where_ (spelled part.word) ≡ x → IsClear x → set_in graph x ≡ [] → HolderStops graph wants where_ part (undeclared_at part.place part.word)
   holds_other : (why : Stopped) → IsQuiet why → HolderStops graph wants where_ part why
 
@@ -166,11 +190,12 @@ holder_stops : (graph : CxxGraph) (wants : Wanted) (where_ : Region) (part : Cxx
 unfolding holder
 holder_stops graph wants where_ part why e = by (sought_in graph wants where_ (spelled part.word)) refl e
   where
+    clear : (x : Found) → sought_in graph wants where_ (spelled part.word) ≡ x → {r : Answer (Unit {0})} → ClearOr graph part x r → AreNumbers (r >>= λ clear. held_by part (first_space (set_in graph x)) (set_in graph x)) (Err why) → HolderStops graph wants where_ part why
+    clear x is (is_clear so) e = held_stops graph wants where_ part why x is so (first_space (set_in graph x)) (set_in graph x) refl e
+    clear x is (is_twain other two) e = holds_two x why is (subst (IsTwain graph part x) (same_why other why e) two)
+
     by : (x : Found) → sought_in graph wants where_ (spelled part.word) ≡ x → AreNumbers (holder_by graph part x) (Err why) → HolderStops graph wants where_ part why
-    by (sought.Ambiguous one two) is e = subst (HolderStops graph wants where_ part) (same_why _ why e) (holds_two one two is)
-    by (sought.Set all) is e = held_stops graph wants where_ part why (sought.Set all) is tt (first_space (set_in graph (sought.Set all))) (set_in graph (sought.Set all)) refl e
-    by (sought.Member class found) is e = held_stops graph wants where_ part why (sought.Member class found) is tt (first_space (set_in graph (sought.Member class found))) (set_in graph (sought.Member class found)) refl e
-    by sought.Empty is e = held_stops graph wants where_ part why sought.Empty is tt (first_space (set_in graph sought.Empty)) (set_in graph sought.Empty) refl e
+    by x is e = clear x is (clear_or graph part x) e
 
 -- the namespace that it means
 holder_is : (graph : CxxGraph) (wants : Wanted) (where_ : Region) (part : CxxPathPart) (inner : ℕ) → holder graph wants where_ part ≡ Ok inner → IsSpaceOf graph inner
@@ -182,11 +207,12 @@ holder_is graph wants where_ part inner e = by (sought_in graph wants where_ (sp
     held x None is [] e = absurd cc
     held x None is (one ∷ others) e = absurd cc
 
+    clear : (x : Found) {r : Answer (Unit {0})} → ClearOr graph part x r → AreNumbers (r >>= λ clear. held_by part (first_space (set_in graph x)) (set_in graph x)) (Ok inner) → IsSpaceOf graph inner
+    clear x (is_clear so) e = held x (first_space (set_in graph x)) refl (set_in graph x) e
+    clear x (is_twain why two) e = absurd cc
+
     by : (x : Found) → AreNumbers (holder_by graph part x) (Ok inner) → IsSpaceOf graph inner
-    by (sought.Ambiguous one two) e = absurd cc
-    by (sought.Set all) e = held (sought.Set all) (first_space (set_in graph (sought.Set all))) refl (set_in graph (sought.Set all)) e
-    by (sought.Member class found) e = held (sought.Member class found) (first_space (set_in graph (sought.Member class found))) refl (set_in graph (sought.Member class found)) e
-    by sought.Empty e = held sought.Empty (first_space (set_in graph sought.Empty)) refl (set_in graph sought.Empty) e
+    by x e = clear x (clear_or graph part x) e
 
 -- ---- regions by parts
 
@@ -306,6 +332,10 @@ undeclared_fault part = record { place = part.place; text = says.UndeclaredName 
 abbrev pub ambiguous_fault : CxxGraph → CxxPathPart → FactId → FactId → Fault
 ambiguous_fault graph part one two = record { place = part.place; text = says.AmbiguousName part.word; evidence = evidence.Found (place_of_fact graph one.0) ∷ evidence.Found (place_of_fact graph two.0) ∷ [] }
 
+-- 10.2: two members that do not go together
+abbrev pub ambiguous_member_fault : CxxGraph → CxxPathPart → Hit → Hit → Fault
+ambiguous_member_fault graph part one two = record { place = part.place; text = says.AmbiguousName part.word; evidence = by_bases graph one ∷ by_bases graph two ∷ [] }
+
 pub last_split : (parts : List CxxPathPart) → IsSome parts → (before : List CxxPathPart) × (parts ≡ before ++ last_part parts ∷ [])
 last_split [] is = absurd is
 last_split (part ∷ []) is = ([], refl)
@@ -359,13 +389,22 @@ space_sought graph scope path finds fault where_ some at means is =
 pub are_two : (state : CxxState) (wanted : Wanted) (where_ : Region) (part : CxxPathPart) (one two : FactId) → InScopes state → IsRegion state.graph where_ → sought_in state.graph wanted where_ (spelled part.word) ≡ sought.Ambiguous one two → AreTwo state.graph one two (ambiguous_fault state.graph part one two)
 are_two state wanted where_ part one two is there e = let both = two_sought state.graph wanted where_ (spelled part.word) one two (fitting state is) there e in record { apart = both.apart; declared = both.declared; no_overloads = both.no_overloads; places = refl }
 
--- one that is ambiguous is told of
-pub twofold_ahead : (wanted : Wanted) → IsWantedLast wanted → (state : CxxState) (ahead : Ahead) → begins_name ahead ≡ true → is_whole_name ahead ≡ true → (where_ : Region) → region_of state.graph state.here.scope (path_ahead ahead) ≡ Ok where_ → (one two : FactId) → sought_in state.graph wanted where_ (name_in (path_ahead ahead)) ≡ sought.Ambiguous one two
-    → Told state ahead (ambiguous_at state.graph (last_ahead ahead) one two)
-twofold_ahead wanted so state ahead begins whole where_ means one two is =
-    reached_here state ahead (IsManifold (ambiguous_fault state.graph (last_ahead ahead) one two) (last_ahead ahead).word)
-    (λ scopes. twofold_name wanted one two (record { begins = begins; whole = whole; is_sought = last_sought state.graph state.here.scope (path_ahead ahead) wanted (sought.Ambiguous one two) (ambiguous_fault state.graph (last_ahead ahead) one two) where_ (some_parts ahead begins whole) so refl means is })
-    (are_two state wanted where_ (last_ahead ahead) one two scopes (region_there state (path_ahead ahead) where_ scopes means) is))
+-- a part of a name that is ambiguous is told of
+manifold_told : (state : CxxState) (ahead : Ahead) (wanted : Wanted) (where_ : Region) (part : CxxPathPart) (x : Found) (why : Stopped) → IsTwain state.graph part x why → sought_in state.graph wanted where_ (spelled part.word) ≡ x → (InScopes state → IsRegion state.graph where_) → ((fault : Fault) → fault.place ≡ part.place → IsNamed wanted x state ahead fault part.word)
+    → Told state ahead why
+manifold_told state ahead wanted where_ part _ _ (two_found one two) is there named =
+    reached_here state ahead (IsManifold (ambiguous_fault state.graph part one two) part.word)
+    (λ scopes. twofold_name wanted one two (named (ambiguous_fault state.graph part one two) refl) (are_two state wanted where_ part one two scopes (there scopes) is))
+manifold_told state ahead wanted where_ part _ _ (members_found class one two) is there named =
+    reached_here state ahead (IsManifold (ambiguous_member_fault state.graph part one two) part.word)
+    (λ scopes. twofold_inherited wanted class one two (named (ambiguous_member_fault state.graph part one two) refl) (members_sought state.graph wanted where_ (spelled part.word) class one two scopes.sound is) refl)
+
+-- the last part of one
+pub twofold_ahead : (wanted : Wanted) → IsWantedLast wanted → (state : CxxState) (ahead : Ahead) → begins_name ahead ≡ true → is_whole_name ahead ≡ true → (where_ : Region) → region_of state.graph state.here.scope (path_ahead ahead) ≡ Ok where_ → (x : Found) (why : Stopped) → IsTwain state.graph (last_ahead ahead) x why → sought_in state.graph wanted where_ (name_in (path_ahead ahead)) ≡ x
+    → Told state ahead why
+twofold_ahead wanted so state ahead begins whole where_ means x why two is =
+    manifold_told state ahead wanted where_ (last_ahead ahead) x why two is (λ scopes. region_there state (path_ahead ahead) where_ scopes means)
+    (λ fault at. record { begins = begins; whole = whole; is_sought = last_sought state.graph state.here.scope (path_ahead ahead) wanted x fault where_ (some_parts ahead begins whole) so at means is })
 
 -- one of which nothing is found
 pub unknown_ahead : (wanted : Wanted) → IsWantedLast wanted → (state : CxxState) (ahead : Ahead) → begins_name ahead ≡ true → is_whole_name ahead ≡ true → (where_ : Region) → region_of state.graph state.here.scope (path_ahead ahead) ≡ Ok where_
@@ -379,12 +418,11 @@ unknown_ahead wanted so state ahead begins whole where_ means is =
     })
 
 -- the same of the name of a namespace
-pub space_twofold_ahead : (state : CxxState) (ahead : Ahead) → begins_name ahead ≡ true → is_whole_name ahead ≡ true → (where_ : Region) → space_region_of state.graph state.here.scope (path_ahead ahead) ≡ Ok where_ → (one two : FactId) → sought_in state.graph namespaces_only where_ (name_in (path_ahead ahead)) ≡ sought.Ambiguous one two
-    → Told state ahead (ambiguous_at state.graph (last_ahead ahead) one two)
-space_twofold_ahead state ahead begins whole where_ means one two is =
-    reached_here state ahead (IsManifold (ambiguous_fault state.graph (last_ahead ahead) one two) (last_ahead ahead).word)
-    (λ scopes. twofold_name namespaces_only one two (record { begins = begins; whole = whole; is_sought = space_sought state.graph state.here.scope (path_ahead ahead) (sought.Ambiguous one two) (ambiguous_fault state.graph (last_ahead ahead) one two) where_ (some_parts ahead begins whole) refl means is })
-    (are_two state namespaces_only where_ (last_ahead ahead) one two scopes (space_region_there state (path_ahead ahead) where_ scopes means) is))
+pub space_twofold_ahead : (state : CxxState) (ahead : Ahead) → begins_name ahead ≡ true → is_whole_name ahead ≡ true → (where_ : Region) → space_region_of state.graph state.here.scope (path_ahead ahead) ≡ Ok where_ → (x : Found) (why : Stopped) → IsTwain state.graph (last_ahead ahead) x why → sought_in state.graph namespaces_only where_ (name_in (path_ahead ahead)) ≡ x
+    → Told state ahead why
+space_twofold_ahead state ahead begins whole where_ means x why two is =
+    manifold_told state ahead namespaces_only where_ (last_ahead ahead) x why two is (λ scopes. space_region_there state (path_ahead ahead) where_ scopes means)
+    (λ fault at. record { begins = begins; whole = whole; is_sought = space_sought state.graph state.here.scope (path_ahead ahead) x fault where_ (some_parts ahead begins whole) at means is })
 
 pub space_unknown_ahead : (state : CxxState) (ahead : Ahead) → begins_name ahead ≡ true → is_whole_name ahead ≡ true → (where_ : Region) → space_region_of state.graph state.here.scope (path_ahead ahead) ≡ Ok where_
     → (InScopes state → (sought_in state.graph namespaces_only where_ (name_in (path_ahead ahead)) ≡ sought.Empty) × IsNotThere state.graph namespaces_only where_ (name_in (path_ahead ahead))) → Told state ahead (undeclared_at (last_ahead ahead).place (last_ahead ahead).word)
@@ -402,6 +440,15 @@ pub nothing_ahead : (wanted : Wanted) → IsWantedLast wanted → (state : CxxSt
 nothing_ahead wanted so state ahead begins whole where_ means x is clear none =
     unknown_ahead wanted so state ahead begins whole where_ means (λ scopes. nothing_sought state.graph wanted where_ (name_in (path_ahead ahead)) (fitting state scopes) (region_there state (path_ahead ahead) where_ scopes means) x is clear none)
 
+-- what follows where the last part of a name is not ambiguous
+pub unambiguous_tells : {A : Type 0} (wanted : Wanted) → IsWantedLast wanted → (state : CxxState) (ahead : Ahead) → begins_name ahead ≡ true → is_whole_name ahead ≡ true → (where_ : Region) → region_of state.graph state.here.scope (path_ahead ahead) ≡ Ok where_ → (x : Found) → sought_in state.graph wanted where_ (name_in (path_ahead ahead)) ≡ x
+    → (next : Answer (A × CxxState)) → (IsClear x → ToldBy IsLater Told state ahead next) → ToldBy IsLater Told state ahead (unambiguous state.graph (last_ahead ahead) x >>= λ clear. next)
+unambiguous_tells {A = A} wanted so state ahead begins whole where_ means x is next tells = by (clear_or state.graph (last_ahead ahead) x)
+  where
+    by : {r : Answer (Unit {0})} → ClearOr state.graph (last_ahead ahead) x r → ToldBy IsLater Told state ahead (r >>= λ clear. next)
+    by (is_clear clear) = tells clear
+    by (is_twain why two) = tells_refusal why (twofold_ahead wanted so state ahead begins whole where_ means x why two is)
+
 -- a part before `::`
 split_sought : (state : CxxState) (wants : Wanted) → MayStandBefore wants → (ahead : Ahead) (finds : Found) (fault : Fault) (split : SplitAt state.graph wants (first_region state.here.scope (path_ahead ahead).global) (path_ahead ahead).parts) → begins_name ahead ≡ true → is_whole_name ahead ≡ true → split.part.place ≡ fault.place → sought_in state.graph wants split.where_ (spelled split.part.word) ≡ finds
     → IsNamed wants finds state ahead fault split.part.word
@@ -413,10 +460,9 @@ split_sought state wants stands ahead finds fault split begins whole at is = rec
 
 holder_told : (state : CxxState) (wants : Wanted) → MayStandBefore wants → (ahead : Ahead) (split : SplitAt state.graph wants (first_region state.here.scope (path_ahead ahead).global) (path_ahead ahead).parts) → begins_name ahead ≡ true → is_whole_name ahead ≡ true → (why : Stopped) → HolderStops state.graph wants split.where_ split.part why → Told state ahead why
 unfolding split_sought
-holder_told state wants stands ahead split begins whole _ (holds_two one two is) =
-    reached_here state ahead (IsManifold (ambiguous_fault state.graph split.part one two) split.part.word)
-    (λ scopes. twofold_name wants one two (split_sought state wants stands ahead (sought.Ambiguous one two) (ambiguous_fault state.graph split.part one two) split begins whole refl is)
-    (are_two state wants split.where_ split.part one two scopes (part_there state wants (path_ahead ahead).global (split.before ++ split.part ∷ []) split.where_ scopes split.qualifies) is))
+holder_told state wants stands ahead split begins whole why (holds_two x _ is two) =
+    manifold_told state ahead wants split.where_ split.part x why two is (λ scopes. part_there state wants (path_ahead ahead).global (split.before ++ split.part ∷ []) split.where_ scopes split.qualifies)
+    (λ fault at. split_sought state wants stands ahead x fault split begins whole (sym at) is)
 holder_told state wants stands ahead split begins whole _ (holds_none x is clear none) =
     reached_here state ahead (IsUndeclared (undeclared_fault split.part) split.part.word) (record {
       is = λ scopes. let found = nothing_sought state.graph wants split.where_ (spelled split.part.word) (fitting state scopes) (part_there state wants (path_ahead ahead).global (split.before ++ split.part ∷ []) split.where_ scopes split.qualifies) x is clear none in

@@ -92,7 +92,7 @@ abbrev pub IsFirstThere : ℕ → Option FactId → Type 0
 IsFirstThere count None = Unit {0}
 IsFirstThere count (Some first) = first.0 < count
 
--- nothing is declared but what is read so far: no base of a class, template or friend
+-- nothing is declared but what is read so far: no template and no friend
 abbrev pub IsSound : List CxxFact → Declares → Type 0
 IsSound all (facts.scope parent kind) = Unit {0}
 IsSound all (facts.injected class) = Unit {0}
@@ -106,6 +106,7 @@ IsSound all (facts.synonym of) = Unit {0}
 IsSound all (facts.namespace inner) = inner.0 < length (scope_facts all)
 IsSound all (facts.directive nominated) = Unit {0}
 IsSound all (facts.using target) = target.0 < length all
+IsSound all (facts.ancestor derived base position access) = Unit {0}
 IsSound all _ = ⊥
 
 abbrev pub AreSound : List CxxFact → Type 0
@@ -137,7 +138,7 @@ sound_still xs x (facts.value_parameter _ _ _) is = absurd is
 sound_still xs x (facts.injected _) is = tt
 sound_still xs x (facts.complete _) is = tt
 sound_still xs x (facts.passed _) is = absurd is
-sound_still xs x (facts.ancestor _ _ _ _) is = absurd is
+sound_still xs x (facts.ancestor _ _ _ _) is = tt
 sound_still xs x (facts.friend _ _) is = absurd is
 
 sound_more : (xs : List CxxFact) (last : CxxFact) → AreSound xs → IsSound xs last.what → AreSound (xs ++ last ∷ [])
@@ -332,20 +333,31 @@ unnamed_more all fact sound may are n inner one e no_name space = elim (last_or_
     stands none (inl is) = is
     stands none (inr further) = absurd (no_both (sym none ∙ further.named))
 
--- a fact in a scope
-pub scopes_put : (state : CxxState) (fact : CxxFact) → fact.scope < length (scope_facts state.graph.facts) → MayStand state.graph.facts fact → InScopes state → InScopes (with_fact fact state)
-scopes_put state fact there may is =
+-- a fact behind which each scope is held
+scopes_so : (state : CxxState) (fact : CxxFact) → AreHeld (scope_facts (state.graph.facts ++ fact ∷ [])) → MayStand state.graph.facts fact → InScopes state → InScopes (with_fact fact state)
+scopes_so state fact held may is =
     let all = state.graph.facts in
     let within = is.within in
     let more = scopes_length all fact in
     record {
       within = omega (arith, within, more);
-      held = held_more all fact there is.held;
+      held = held;
       sound = sound_more all fact is.sound may.sound;
       opened = opened_more all fact is.sound may is.opened;
       unnamed = unnamed_more all fact is.sound may is.unnamed;
       unit = unit_still all (fact ∷ []) is.unit;
     }
+
+-- a fact in a scope
+pub scopes_put : (state : CxxState) (fact : CxxFact) → fact.scope < length (scope_facts state.graph.facts) → MayStand state.graph.facts fact → InScopes state → InScopes (with_fact fact state)
+scopes_put state fact there may is = scopes_so state fact (held_more state.graph.facts fact there is.held) may is
+
+-- one with which no scope begins, wherever it stands
+pub scopes_beside_it : (state : CxxState) (fact : CxxFact) → scope_facts (fact ∷ []) ≡ [] → MayStand state.graph.facts fact → InScopes state → InScopes (with_fact fact state)
+scopes_beside_it state fact none may is = scopes_so state fact (subst AreHeld (sym same) is.held) may is
+  where
+    same : scope_facts (state.graph.facts ++ fact ∷ []) ≡ scope_facts state.graph.facts
+    same = scopes_last state.graph.facts fact ∙ (ap (λ (fs : List CxxFact). scope_facts state.graph.facts ++ fs) none ∙ append-nil (scope_facts state.graph.facts))
 
 -- one in the scope where the reader stands
 pub scopes_added : (state : CxxState) (fact : CxxFact) → fact.scope ≡ state.here.scope → MayStand state.graph.facts fact → InScopes state → InScopes (with_fact fact state)

@@ -21,7 +21,7 @@ use Rattle.cxx_meaning.specs.Lookups.Scopes.{chain, first_common, kind_of, paren
 use Rattle.cxx_meaning.specs.Lookups.Sightings.{standing}
 use Rattle.cxx_meaning.specs.Lookups.Wanted.{Wanted}
 use Rattle.cxx_meaning.proofs.Nearest.{nothing_is_none}
-use Rattle.cxx_language_laws.proofs.Outward.{HasNone, IsLooked, class_by_kind, class_in_kind, in_scope, member_looked, set_looked, two_looked}
+use Rattle.cxx_language_laws.proofs.Outward.{HasNone, IsLooked, clash_looked, class_by_kind, class_in_kind, in_scope, member_looked, set_looked, two_looked}
 use Rattle.cxx_language_laws.proofs.Scopes.{AreHeld, AreSound, UnitIsSpace, none_is_past}
 
 -- ---- lists
@@ -165,6 +165,7 @@ passed graph wanted name cut sound shown scope outer x e (Here _ _ _ _ is) = abs
         by _ e (set_looked one others so) = absurd cc
         by _ e (two_looked one two so) = absurd cc
         by _ e (member_looked class one others path so) = absurd cc
+        by _ e (clash_looked class one two) = absurd cc
 passed graph wanted name cut sound shown scope outer x e (Outside _ _ _ _ none further) = record {
   none = λ plain. nothing_is_none graph wanted name cut (shown ++ shows graph.facts cut scope) scope plain none;
   further = subst (IsFirst graph wanted name cut (shown ++ shows graph.facts cut scope) outer) e further;

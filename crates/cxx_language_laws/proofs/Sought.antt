@@ -7,6 +7,7 @@ use Rattle.std.specs.List.{AllByRecursion, Contains, find, slice_get}
 use Rattle.cxx_model.specs.declared.lookup.Associated.{Associated}
 use Rattle.cxx_model.specs.declared.lookup.Found.{Found}
 use Rattle.cxx_model.specs.declared.lookup.Found.TheVariants as found
+use Rattle.cxx_model.specs.declared.lookup.Hit.{Hit}
 use Rattle.cxx_model.specs.declared.lookup.MemberFound.{MemberFound}
 use Rattle.cxx_model.specs.declared.lookup.MemberFound.TheVariants as member_found
 use Rattle.cxx_model.specs.declared.types.ClassId.{ClassId}
@@ -21,8 +22,8 @@ use Rattle.cxx_meaning.specs.Conversions.Standard.{CxxOperand}
 use Rattle.cxx_meaning.specs.Lookups.Associated.{adl, associated, befriended, functions_among, space_id, standing_in_each, target_by, target_of}
 use Rattle.cxx_meaning.specs.Lookups.Directives.{Shown, shows}
 use Rattle.cxx_meaning.specs.Lookups.Gathered.{gathered, holds_scope, spread, with_facts, with_scope, with_scopes}
-use Rattle.cxx_meaning.specs.Lookups.Member.{member}
-use Rattle.cxx_meaning.specs.Lookups.Ordinary.{IsFirst, found_in_scope, or_outside, ordinary, ordinary_in}
+use Rattle.cxx_meaning.specs.Lookups.Member.{class_of_scope, member}
+use Rattle.cxx_meaning.specs.Lookups.Ordinary.{Here, IsFirst, Nowhere, Outside, found_in_scope, found_in_sightings, or_outside, ordinary, ordinary_in, sightings_at}
 use Rattle.cxx_meaning.specs.Lookups.Pending.{Asked}
 use Rattle.cxx_meaning.specs.Lookups.Qualified.{leads_to, searched, sightings_of, standing_in}
 use Rattle.cxx_meaning.specs.Lookups.Scopes.{chain, unit_scope}
@@ -36,8 +37,8 @@ use Rattle.cxx_reading.specs.Seen.{fact_numbers, found_or_none, numbered_at, num
 use Rattle.cxx_reading.specs.State.{CxxState}
 use Rattle.cxx_answers.specs.Answers.{associated_functions, found_in_sets, fresh_among, types_of_operands}
 use Rattle.cxx_language_laws.specs.Best.{IsClear}
-use Rattle.cxx_language_laws.specs.Told.{IsNotAround, IsNotInside, IsNotThere}
-use Rattle.cxx_language_laws.proofs.Outward.{HasNone, HasNothing, IsLooked, IsOne, IsSo, IsTwo, OfNumber, Outward, ScopeAnswers, all_of, beside_all, each_seen, entities_so, filtered_all, gathered_all, in_class, looked_so, member_looked, none_left, none_outward, outward, scope_answers, set_looked, some_outward, two_looked}
+use Rattle.cxx_language_laws.specs.Told.{AreApart, IsNotAround, IsNotInside, IsNotThere}
+use Rattle.cxx_language_laws.proofs.Outward.{HasNone, HasNothing, IsLooked, IsOne, IsSo, IsTwo, OfNumber, Outward, ScopeAnswers, all_of, beside_all, clash_looked, each_seen, entities_so, filtered_all, gathered_all, in_class, looked_so, member_looked, none_left, none_outward, outward, scope_answers, scope_apart, scope_finds, set_looked, some_outward, two_looked}
 use Rattle.cxx_language_laws.proofs.Shown.{reached_none, right_none, unit_in}
 use Rattle.cxx_language_laws.proofs.Scopes.{AreHeld, AreSound, InScopes, IsFirstThere, IsSound, UnitIsSpace, none_is_past}
 
@@ -209,6 +210,38 @@ pub no_member_inside : (graph : CxxGraph) (wanted : Wanted) (space : ScopeId) (n
 unfolding sought_in
 no_member_inside graph wanted space name class of e = no_member_found graph (entities (unhidden graph (sightings_of graph (length graph.facts) wanted name space))) class of e
 
+-- 3.4.1, 10.2: two members that are found do not go together
+first_apart : (graph : CxxGraph) (wanted : Wanted) (name : CxxName) (cut : ℕ) → AreSound graph.facts → (shown : List Shown) (scopes : List ScopeId) (x : Found) (class : ClassId) (one two : Hit) → x ≡ found.Member class (member_found.Ambiguous one two) → IsFirst graph wanted name cut shown scopes x → AreApart graph wanted name class one two
+first_apart graph wanted name cut sound shown scopes x class one two e (Here _ scope outer _ is) = by (class_of_scope graph.facts scope) refl
+  where
+    now : List Shown
+    now = shown ++ shows graph.facts cut scope
+
+    found_here : found_in_scope graph wanted name cut now scope ≡ Ok (Some (found.Member class (member_found.Ambiguous one two)))
+    found_here = is ∙ ap (λ (y : Found). Ok (Some y)) e
+
+    seen : (all : List Sighting) → ScopeAnswers (Ok (found_in_sightings graph all)) (Ok (Some (found.Member class (member_found.Ambiguous one two)))) → ⊥
+    seen [] e = absurd cc
+    seen (sighting ∷ others) e = no_member_found graph (entities (unhidden graph (sighting ∷ others))) class (member_found.Ambiguous one two) (it_is e)
+      where
+        it_is : ScopeAnswers (Ok (Some (looked_up graph (sighting ∷ others)))) (Ok (Some (found.Member class (member_found.Ambiguous one two)))) → looked_up graph (sighting ∷ others) ≡ found.Member class (member_found.Ambiguous one two)
+        it_is e = cc
+
+    by : (o : Option ClassId) → class_of_scope graph.facts scope ≡ o → AreApart graph wanted name class one two
+    by None none = absurd (seen (sightings_at graph cut wanted name now scope) (sym (scope_finds graph wanted name cut now scope none) ∙ found_here))
+    by (Some other) so = scope_apart graph wanted name cut now scope other class one two sound so found_here
+first_apart graph wanted name cut sound shown scopes x class one two e (Outside _ scope outer _ none further) = first_apart graph wanted name cut sound (shown ++ shows graph.facts cut scope) outer x class one two e further
+first_apart graph wanted name cut sound shown scopes _ class one two e (Nowhere _) = absurd cc
+
+pub members_sought : (graph : CxxGraph) (wanted : Wanted) (where_ : Region) (name : CxxName) (class : ClassId) (one two : Hit) → AreSound graph.facts → sought_in graph wanted where_ name ≡ found.Member class (member_found.Ambiguous one two) → AreApart graph wanted name class one two
+unfolding sought_in sought_from
+members_sought graph wanted (region.Outward scope) name class one two sound e = by (ordinary graph wanted scope name (length graph.facts)) refl e
+  where
+    by : (o : Asked Found) → ordinary graph wanted scope name (length graph.facts) ≡ o → found_or_none o ≡ found.Member class (member_found.Ambiguous one two) → AreApart graph wanted name class one two
+    by (Ok x) is e = first_apart graph wanted name (length graph.facts) sound [] (chain graph.facts scope) x class one two e (first_is_found graph wanted scope name (length graph.facts) x is)
+    by (Err pending) is e = absurd cc
+members_sought graph wanted (region.Inside space) name class one two sound e = absurd (no_member_inside graph wanted space name class (member_found.Ambiguous one two) e)
+
 -- ---- declarations that there are
 
 abbrev pub IsThere : CxxGraph → ℕ → Type 0
@@ -240,7 +273,7 @@ entity_there all number n (facts.value_parameter _ _ _) below is e = absurd is
 entity_there all number n (facts.injected _) below is e = absurd cc
 entity_there all number n (facts.complete _) below is e = first_there (length all) number n None below tt e
 entity_there all number n (facts.passed _) below is e = absurd is
-entity_there all number n (facts.ancestor _ _ _ _) below is e = absurd is
+entity_there all number n (facts.ancestor _ _ _ _) below is e = first_there (length all) number n None below tt e
 entity_there all number n (facts.friend _ _) below is e = absurd is
 
 pub one_there : (graph : CxxGraph) (wanted : Wanted) → AreSound graph.facts → (one : Sighting) → IsOne graph wanted one → IsSo (IsThere graph) one
@@ -268,12 +301,14 @@ nothing_sought graph wanted where_ name is there x e clear none = by x (subst (I
     by _ (some_there _ (set_looked one others there)) e clear none = absurd (some_numbered graph one.0 (fact_numbers others) there none)
     by _ (some_there _ (two_looked one two so)) e clear none = absurd clear
     by _ (some_there _ (member_looked class one others path there)) e clear none = absurd (some_numbered graph one.0 (fact_numbers others) there none)
+    by _ (some_there _ (clash_looked class one two)) e clear none = absurd clear
 
 -- 5.2.5, 10.2: the same of a member of a class
 some_looked : (graph : CxxGraph) (x : Found) → IsLooked (IsThere graph) graph x → IsClear x → set_in graph x ≡ [] → ⊥
 some_looked graph _ (set_looked one others there) clear none = some_numbered graph one.0 (fact_numbers others) there none
 some_looked graph _ (two_looked one two so) clear none = absurd clear
 some_looked graph _ (member_looked class one others path there) clear none = some_numbered graph one.0 (fact_numbers others) there none
+some_looked graph _ (clash_looked class one two) clear none = absurd clear
 
 pub some_member : (graph : CxxGraph) (class : ClassId) (name : CxxName) → AreSound graph.facts → (all : List FactId) (path : List ℕ) → member graph any_name class name ≡ Ok (member_found.Set all path) → numbered_at graph (fact_numbers all) ≡ [] → ⊥
 some_member graph class name sound all path e none = some_looked graph (found.Member class (member_found.Set all path)) (in_class (IsThere graph) graph any_name name class sound (one_there graph any_name sound) all path e) tt none
@@ -282,6 +317,7 @@ some_member graph class name sound all path e none = some_looked graph (found.Me
 pub two_looked_so : (P : ℕ → Type 0) (graph : CxxGraph) (x : Found) (one two : FactId) → x ≡ found.Ambiguous one two → IsLooked P graph x → IsTwo P graph one two
 two_looked_so P graph _ one two e (set_looked m others there) = absurd cc
 two_looked_so P graph _ one two e (member_looked class m others path there) = absurd cc
+two_looked_so P graph _ one two e (clash_looked class m n) = absurd cc
 two_looked_so P graph _ one two e (two_looked m n so) = subst (λ (x : FactId). IsTwo P graph x two) (ap first_in e) (subst (λ (y : FactId). IsTwo P graph m y) (ap second_in e) so)
   where
     first_in : Found → FactId
@@ -338,6 +374,7 @@ no_space_sought graph where_ name is there x e clear none = by x (subst (IsSough
     by _ (some_there _ (set_looked one others there)) e clear none = absurd (first_there_space graph one.0 (fact_numbers others) there none)
     by _ (some_there _ (two_looked one two so)) e clear none = absurd clear
     by _ (some_there _ (member_looked class one others path there)) e clear none = absurd (first_there_space graph one.0 (fact_numbers others) there none)
+    by _ (some_there _ (clash_looked class one two)) e clear none = absurd clear
 
 -- 7.3.3: what a using-declaration brings is declared
 pub brought_there : (graph : CxxGraph) (space : ScopeId) (name : CxxName) → AreFitting graph → AllByRecursion (OfNumber (IsThere graph)) (entities (sightings_of graph (length graph.facts) any_name name space))

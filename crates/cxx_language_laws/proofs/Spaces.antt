@@ -38,7 +38,7 @@ use Rattle.cxx_language_laws.specs.Told.{EndsIn, IsGrown}
 use Rattle.cxx_language_laws.proofs.Later.{IsLater, MayBeAdded, added_behind, added_tells, by_answer, by_then, calm_by, declare_tells, free_quiet, later_is_quiet, may_be_added}
 use Rattle.cxx_language_laws.proofs.Outward.{OfNumber}
 use Rattle.cxx_language_laws.proofs.Reached.{Told, later_is_told}
-use Rattle.cxx_language_laws.proofs.Regions.{IsOfSpace, IsSpaceOf, last_ahead, nothing_ahead, region_inside, region_told, set_space, space_region_there, space_region_told, space_twofold_ahead, space_unknown_ahead, twofold_ahead}
+use Rattle.cxx_language_laws.proofs.Regions.{ClearOr, IsOfSpace, IsSpaceOf, clear_or, is_clear, is_twain, last_ahead, nothing_ahead, region_inside, region_told, set_space, space_region_there, space_region_told, space_twofold_ahead, space_unknown_ahead, two_found, twofold_ahead}
 use Rattle.cxx_language_laws.proofs.Scopes.{InScopes, MayStand, may_stand, opened_within}
 use Rattle.cxx_language_laws.proofs.Sought.{IsThere, brought_there, no_member_inside, fitting, no_space_sought}
 use Rattle.cxx_language_laws.proofs.Stopping.{Inside, Stops, calm, innermost_stops, leads_in, later_here, which_in}
@@ -57,10 +57,11 @@ space_unknown state ahead begins whole where_ means x is clear (Some inner) e = 
 space_unknown state ahead begins whole where_ means x is clear None e = space_refused _ (space_unknown_ahead state ahead begins whole where_ means (λ scopes. no_space_sought state.graph where_ (name_in (path_ahead ahead)) (fitting state scopes) (space_region_there state (path_ahead ahead) where_ scopes means) x is clear e))
 
 space_found_so : (state : CxxState) (ahead : Ahead) → begins_name ahead ≡ true → is_whole_name ahead ≡ true → (where_ : Region) → space_region_of state.graph state.here.scope (path_ahead ahead) ≡ Ok where_ → (x : Found) → sought_in state.graph namespaces_only where_ (name_in (path_ahead ahead)) ≡ x → SpaceAnswered state ahead (space_found (last_ahead ahead) x state)
-space_found_so state ahead begins whole where_ means (sought.Ambiguous one two) is = space_refused _ (space_twofold_ahead state ahead begins whole where_ means one two is)
-space_found_so state ahead begins whole where_ means (sought.Set all) is = space_unknown state ahead begins whole where_ means (sought.Set all) is tt (first_space (set_in state.graph (sought.Set all))) refl
-space_found_so state ahead begins whole where_ means (sought.Member class found) is = space_unknown state ahead begins whole where_ means (sought.Member class found) is tt (first_space (set_in state.graph (sought.Member class found))) refl
-space_found_so state ahead begins whole where_ means sought.Empty is = space_unknown state ahead begins whole where_ means sought.Empty is tt (first_space (set_in state.graph sought.Empty)) refl
+space_found_so state ahead begins whole where_ means x is = by (clear_or state.graph (last_ahead ahead) x)
+  where
+    by : {r : Answer (Unit {0})} → ClearOr state.graph (last_ahead ahead) x r → SpaceAnswered state ahead (then_answer r (λ clear. space_by (last_ahead ahead) (first_space (set_in state.graph x)) state))
+    by (is_clear clear) = space_unknown state ahead begins whole where_ means x is clear (first_space (set_in state.graph x)) refl
+    by (is_twain why two) = space_refused why (space_twofold_ahead state ahead begins whole where_ means x why two is)
 
 space_here_so : (state : CxxState) (ahead : Ahead) → begins_name ahead ≡ true → is_whole_name ahead ≡ true → SpaceAnswered state ahead (space_here (path_ahead ahead) state)
 unfolding space_here
@@ -177,7 +178,7 @@ brought_tells state ahead begins whole space means = by (sought_in state.graph a
     sightings = sightings_of state.graph (length state.graph.facts) any_name (name_in (path_ahead ahead)) space
 
     by : (x : Found) → sought_in state.graph any_name (region.Inside space) (name_in (path_ahead ahead)) ≡ x → ToldBy IsLater Told state ahead (bring_found (last_ahead ahead) (brought_by x sightings) state)
-    by (sought.Ambiguous one two) is = tells_refusal _ (twofold_ahead any_name tt state ahead begins whole (region.Inside space) means one two is)
+    by (sought.Ambiguous one two) is = tells_refusal _ (twofold_ahead any_name tt state ahead begins whole (region.Inside space) means (sought.Ambiguous one two) _ (two_found one two) is)
     by (sought.Set all) is = calm_by later_is_told (bring_all_tells state ahead (last_ahead ahead) (entities sightings) (λ scopes. brought_there state.graph space (name_in (path_ahead ahead)) (fitting state scopes)) (space_among (numbered_at state.graph (fact_numbers (entities sightings)))))
     by (sought.Member class found) is = absurd (no_member_inside state.graph any_name space (name_in (path_ahead ahead)) class found is)
     by sought.Empty is = tells_refusal _ (nothing_ahead any_name tt state ahead begins whole (region.Inside space) means sought.Empty is tt refl)

@@ -3,6 +3,7 @@ use Rattle.std.specs.Prelude.{ℕ, ◌≡◌, Bool, ◌&&◌, if◌then◌else�
 use Rattle.std.specs.List.{AllByRecursion}
 use Rattle.cxx_model.specs.declared.lookup.Found.{Found}
 use Rattle.cxx_model.specs.declared.lookup.Found.TheVariants as sought
+use Rattle.cxx_model.specs.declared.lookup.MemberFound.TheVariants as member_found
 use Rattle.cxx_model.specs.declared.types.FactId.{FactId}
 use Rattle.cxx_model.specs.Choice.Better.{IsBest}
 use Rattle.cxx_model.specs.Facts.Declarations.{CxxFact, CxxGraph, CxxName}
@@ -28,9 +29,11 @@ use Rattle.cxx_answers.specs.Answers.{associated_functions, fresh_among, meant_i
 abbrev pub values_of : CxxGraph → Region → CxxName → List Numbered
 values_of graph where_ name = values_among graph (meant_in graph where_ name)
 
--- 3.4: no two declarations are found of which none hides the other
+-- 3.4, 10.2: no two declarations are found of which none hides the other, and no two members of a class that do not go
+-- together
 abbrev pub IsClear : Found → Type 0
 IsClear (sought.Ambiguous one two) = ⊥
+IsClear (sought.Member class (member_found.Ambiguous one two)) = ⊥
 IsClear _ = Unit {0}
 
 -- 3.4.2: the types of arguments are asked for a name that stands in no brackets and has no qualifiers

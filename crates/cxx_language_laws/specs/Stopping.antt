@@ -15,7 +15,7 @@ use Rattle.cxx_reading.specs.declared.specifier.Naming.TheVariants as naming
 use Rattle.cxx_reading.specs.declared.specifier.SpecifierPlace.{SpecifierPlace}
 use Rattle.cxx_reading.specs.declared.specifier.SpecifierPlace.TheVariants as where_
 use Rattle.cxx_reading.specs.Declarators.{Declarator, Specifiers, declared_type, has_type, is_function_type, own_parameters}
-use Rattle.cxx_reading.specs.Declaring.{begin_body, declare_object, define_declared, define_object, enter_block}
+use Rattle.cxx_reading.specs.Declaring.{at_scope, begin_body, declare_object, define_declared, define_object, enter_block}
 use Rattle.cxx_reading.specs.Initializers.{operand_of}
 use Rattle.cxx_reading.specs.Reads.{Ahead, Reads, Turn, More, behind, give, got, kind_ahead, place_ahead, repeat}
 use Rattle.cxx_reading.specs.Spaces.{open_space, open_unnamed}
@@ -27,7 +27,7 @@ use Rattle.cxx_reading.specs.Trees.{CxxTree}
 use Rattle.cxx_reading.specs.Units.{Said, Listed, give_trees, inside_step, linkages_passed, name_in, no_declarators, said_by}
 use Rattle.cxx_language.specs.Blocks.{condition_part, declared_condition_at, local_declaration_at, local_step}
 use Rattle.cxx_language.specs.Bodies.{result_of}
-use Rattle.cxx_language.specs.Classes.{Head as ClassHead, Members, class_at, declaration_specifiers, give_members, head_at, list_step, member_declaration_at, member_step, no_members}
+use Rattle.cxx_language.specs.Classes.{BaseList, Head as ClassHead, Members, base_list, bases_in, bases_or_none, behind_bases, class_at, declaration_specifiers, give_members, head_at, list_step, member_declaration_at, member_step}
 use Rattle.cxx_language.specs.Objects.{begins_initializer, initialized_part}
 use Rattle.cxx_declare.specs.ClassDefinitions.{begin_class}
 use Rattle.cxx_declare.specs.Functions.{declare_function}
@@ -113,6 +113,8 @@ pub data Part : Type 0 where
   some_specifiers : ℕ → SpecifierPlace → Part
   -- clause 9: the definition of a class, from its key on, behind other specifiers
   a_class : ℕ → Specifiers → Part
+  -- clause 10: the bases of a class, behind the `:`
+  some_bases : BaseList → Part
   -- 9.2: the members of the class with a name, up to the end of their list
   some_members : ℕ → Lexeme → Members → Part
   -- 9.2: a declaration of members with an access (11)
@@ -147,11 +149,12 @@ pub data Part : Type 0 where
   a_declared_condition : ℕ → Part
   a_condition_initializer : ℕ → Lexeme → CxxType → ℕ → Part
 
--- it has no part in turn: expressions stand in it, or the name of a namespace
+-- it has no part in turn: expressions stand in it, or names of namespaces or bases
 abbrev pub IsInnermost : Part → Type 0
 IsInnermost (an_alias from name) = Unit {0}
 IsInnermost a_using = Unit {0}
 IsInnermost (some_specifiers room place) = Unit {0}
+IsInnermost (some_bases of) = Unit {0}
 IsInnermost (some_further_specifiers room so_far) = Unit {0}
 IsInnermost (a_declarator room naming) = Unit {0}
 IsInnermost (an_initializer room name of number) = Unit {0}
@@ -176,6 +179,7 @@ IsStopped (a_simple_declaration room as_extern) state ahead fault = simple_decla
 IsStopped (some_declarators room said so_far) state ahead fault = IsStoppedIn (declarator_step room said) give_trees so_far state ahead fault
 IsStopped (some_specifiers room place) state ahead fault = specifiers_of room place state ahead ≡ Err (Faulty fault)
 IsStopped (a_class room so_far) state ahead fault = class_at room so_far state ahead ≡ Err (Faulty fault)
+IsStopped (some_bases of) state ahead fault = base_list of state ahead ≡ Err (Faulty fault)
 IsStopped (some_members room name so_far) state ahead fault = IsStoppedIn (list_step room name) give_members so_far state ahead fault
 IsStopped (a_member_declaration room access) state ahead fault = member_declaration_at room access state ahead ≡ Err (Faulty fault)
 IsStopped (some_member_declarators room access said so_far) state ahead fault = IsStoppedIn (member_step room access said) give_trees so_far state ahead fault
@@ -227,10 +231,17 @@ pub record IsAlias (ahead : Ahead) : Type 0 where
 abbrev pub alias_name : Ahead → Lexeme
 alias_name ahead = token_in (behind ahead).tokens
 
--- 9, 3.3.6: The head of a class stands ahead, its key and its name, and the class begins. The reader stands in its scope then,
--- with its members ahead, behind the brace.
-pub data BeginsClass (state : CxxState) (ahead : Ahead) (head : ClassHead) : CxxState → Ahead → Type 0 where
-  begins_class : (brace : Ahead) (begun : ℕ × CxxState) → Gives head_at state ahead head state brace → begin_class head.is_union head.name state ≡ Ok begun → BeginsClass state ahead head begun.1 (behind brace)
+-- 9, 3.3.6, 10: The head of a class stands ahead, its key and its name, the class begins, and its bases are read where it has
+-- some. The reader stands in its scope then, with its members ahead, behind the brace.
+pub data BeginsClass (state : CxxState) (ahead : Ahead) (head : ClassHead) (bases : List CxxTree) : CxxState → Ahead → Type 0 where
+  begins_class : (colon brace : Ahead) (begun : ℕ × CxxState) (entered : CxxState) → Gives head_at state ahead head state colon → begin_class head.is_union head.name state ≡ Ok begun → Gives (bases_or_none state.here.scope begun.0 head.access) begun.1 colon bases entered brace
+      → BeginsClass state ahead head bases entered (behind brace)
+
+-- 10: The head of a class stands ahead, the class begins, and a `:` is behind its head. The names of its bases are looked up
+-- where it is declared, and the reader stands there, with them ahead.
+pub data NamesBases (state : CxxState) (ahead : Ahead) : BaseList → CxxState → Ahead → Type 0 where
+  names_bases : (head : ClassHead) (colon : Ahead) (begun : ℕ × CxxState) → Gives head_at state ahead head state colon → begin_class head.is_union head.name state ≡ Ok begun → is_punct punct.COLON (kind_ahead colon) ≡ true
+      → NamesBases state ahead (bases_in begun.0 head.access begun.1.here.scope) (at_scope state.here.scope begun.1) (behind colon)
 
 -- 3.1, 3.2, 3.3.1: The name of a declarator is declared, with a number, before its initializer, which is ahead.
 pub data Initializes (said : Said) (declarator : Declarator) (before : CxxState) : ℕ → CxxState → Type 0 where
@@ -309,8 +320,11 @@ pub data Leads : Part → CxxState → Ahead → Part → CxxState → Ahead →
       → Leads (a_simple_declaration room as_extern) state ahead (a_class room specifiers) after rest
   behind_class : {room : ℕ} {as_extern : Bool} {specifiers more : Specifiers} {state between after : CxxState} {ahead middle rest : Ahead} → Gives (specifiers_of room where_.Declaration) state ahead specifiers between middle → has_type specifiers ≡ false
       → Gives (class_at room specifiers) between middle more after rest → Leads (a_simple_declaration room as_extern) state ahead (some_further_specifiers room more) after rest
+  -- 10: its bases
+  in_bases : {room : ℕ} {so_far : Specifiers} {of : BaseList} {state after : CxxState} {ahead rest : Ahead} → NamesBases state ahead of after rest → Leads (a_class room so_far) state ahead (some_bases of) after rest
   -- 9.2: its members, one declaration after another, each of specifiers and declarators
-  in_class : {room : ℕ} {so_far : Specifiers} {head : ClassHead} {state after : CxxState} {ahead rest : Ahead} → BeginsClass state ahead head after rest → Leads (a_class (suc room) so_far) state ahead (some_members room head.name (no_members head.access)) after rest
+  in_class : {room : ℕ} {so_far : Specifiers} {head : ClassHead} {bases : List CxxTree} {state after : CxxState} {ahead rest : Ahead} → BeginsClass state ahead head bases after rest
+      → Leads (a_class (suc room) so_far) state ahead (some_members room head.name (behind_bases bases head.access)) after rest
   next_member : {room : ℕ} {name : Lexeme} {so_far more : Members} {state after : CxxState} {ahead rest : Ahead} → Gives (list_step room name so_far) state ahead (More more) after rest → Leads (some_members room name so_far) state ahead (some_members room name more) after rest
   in_member : {room : ℕ} {name : Lexeme} {so_far : Members} {state : CxxState} {ahead : Ahead} → Leads (some_members room name so_far) state ahead (a_member_declaration room so_far.access) state ahead
   in_member_specifiers : {room : ℕ} {access : Access} {state : CxxState} {ahead : Ahead} → Leads (a_member_declaration room access) state ahead (some_specifiers room where_.Member) state ahead

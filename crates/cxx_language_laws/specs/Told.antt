@@ -22,16 +22,16 @@ use Rattle.cxx_model.specs.Text.Lexemes.{Lexeme, first_place}
 use Rattle.cxx_meaning.specs.Conversions.BuiltIn.{CxxBuiltIn, built_in_result}
 use Rattle.cxx_meaning.specs.Conversions.Standard.{CxxOperand}
 use Rattle.cxx_meaning.specs.Lookups.Directives.{reached}
-use Rattle.cxx_meaning.specs.Lookups.Member.{class_of_scope, member}
+use Rattle.cxx_meaning.specs.Lookups.Member.{IsWay, Way, breaks, class_of_scope, declared_in, has_nonstatic, hit, member}
 use Rattle.cxx_meaning.specs.Lookups.Qualified.{searched}
 use Rattle.cxx_meaning.specs.Lookups.Scopes.{chain}
-use Rattle.cxx_meaning.specs.Lookups.Sightings.{both_functions, standing}
+use Rattle.cxx_meaning.specs.Lookups.Sightings.{Sighting, both_functions, standing}
 use Rattle.cxx_meaning.specs.Lookups.Wanted.{Wanted, any_name, before_colons, namespaces_only}
 use Rattle.cxx_reading.specs.declared.region.Region.{Region}
 use Rattle.cxx_reading.specs.declared.region.Region.TheVariants as region
 use Rattle.cxx_reading.specs.Declaring.{scope_count}
 use Rattle.cxx_reading.specs.Linked.{scope_id}
-use Rattle.cxx_reading.specs.Paths.{first_region, name_in, place_of_fact, region_by, region_of, sought_in}
+use Rattle.cxx_reading.specs.Paths.{by_bases, first_region, name_in, place_of_fact, region_by, region_of, sought_in}
 use Rattle.cxx_reading.specs.Initializers.{operand_of}
 use Rattle.cxx_reading.specs.Reads.{Ahead, Got, More, kind_ahead, place_ahead, behind}
 use Rattle.cxx_reading.specs.Seen.{Numbered}
@@ -44,7 +44,6 @@ use Rattle.cxx_phrases.specs.Operands.{postfix_step}
 use Rattle.cxx_phrases.specs.Phrases.{Phrases, Inner}
 use Rattle.cxx_phrases.specs.Primary.{called_at, parenthesis_at, primary_at}
 use Rattle.cxx_phrases.specs.Productions as phrase
-use Rattle.cxx_answers.specs.Members.{by_bases}
 use Rattle.cxx_expr.specs.Converting.{convert_each}
 use Rattle.cxx_expr.specs.Members.{class_of_object}
 use Rattle.cxx_expr.specs.Operands.{built_operand, judged_each}
@@ -258,12 +257,34 @@ pub record AreTwo (graph : CxxGraph) (one two : FactId) (fault : Fault) : Type 0
   pub no_overloads : both_functions graph one two ≡ false
   pub places : fault.evidence ≡ evidence.Found (place_of_fact graph one.0) ∷ evidence.Found (place_of_fact graph two.0) ∷ []
 
+-- 10.2: a member of a class: the bases that lead to the one that declares it, and a declaration there
+pub record IsMemberBy (graph : CxxGraph) (wanted : Wanted) (name : CxxName) (class : ClassId) (one : Hit) : Type 0 where
+  pub way : Way
+  pub leads : IsWay graph wanted name class way
+  pub sighting : Sighting
+  pub stands : Contains (declared_in graph wanted name way.holder) sighting
+  pub is : one ≡ hit way sighting
+  pub declared : one.fact.0 < length graph.facts
+
+-- 10.2: two members of a class that do not go together: of different classes, or of two subobjects of one, where a member
+-- of the name is nonstatic
+pub record AreApart (graph : CxxGraph) (wanted : Wanted) (name : CxxName) (class : ClassId) (one two : Hit) : Type 0 where
+  pub first : IsMemberBy graph wanted name class one
+  pub second : IsMemberBy graph wanted name class two
+  pub apart : breaks (has_nonstatic (declared_in graph wanted name first.way.holder)) first.way second.way ≡ true
+
+-- their places in the evidence, with the bases that lead to each
+abbrev pub AreShown : CxxGraph → Hit → Hit → Fault → Type 0
+AreShown graph one two fault = fault.evidence ≡ by_bases graph one ∷ by_bases graph two ∷ []
+
 -- 3.4, 7.3.4: a part of a name is ambiguous where it stands: two entities are found that it could mean, and they are no
 -- overloads
 pub data IsTwofold (at : CxxState) (ahead : Ahead) (fault : Fault) (word : List ℕ) : Type 0 where
   twofold_name : (wanted : Wanted) (one two : FactId) → IsNamed wanted (sought.Ambiguous one two) at ahead fault word → AreTwo at.graph one two fault → IsTwofold at ahead fault word
-  -- 10.2: two members of an object's class, by the bases that lead to each
-  twofold_member : (one two : Hit) (is : IsSoughtMember at ahead (member_found.Ambiguous one two) fault word) → fault.evidence ≡ by_bases is.at.graph one ∷ by_bases is.at.graph two ∷ [] → IsTwofold at ahead fault word
+  -- 3.4.1, 10.2: two members of a class whose scope is one of those round the name
+  twofold_inherited : (wanted : Wanted) (class : ClassId) (one two : Hit) → IsNamed wanted (sought.Member class (member_found.Ambiguous one two)) at ahead fault word → AreApart at.graph wanted (spelled word) class one two → AreShown at.graph one two fault → IsTwofold at ahead fault word
+  -- 5.2.5, 10.2: two members of an object's class
+  twofold_member : (one two : Hit) (is : IsSoughtMember at ahead (member_found.Ambiguous one two) fault word) → AreApart is.at.graph any_name (spelled word) (record { 0 = is.class }) one two → AreShown is.at.graph one two fault → IsTwofold at ahead fault word
 
 -- ---- the fault of a unit
 

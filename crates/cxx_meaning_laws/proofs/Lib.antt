@@ -8,3 +8,5 @@ pub mod Identity
 pub mod Grouping
 pub mod Ranking
 mod Rows
+mod Bases
+mod Ranks

@@ -1,15 +1,14 @@
--- What a unit declares today: no templates, no bases, no friends.
+-- What a unit declares today: no templates and no friends.
 use Rattle.std.specs.Prelude.{List, [], ◌∷◌}
 use Rattle.cxx_model.specs.declared.facts.Entity.{Entity}
 use Rattle.cxx_model.specs.declared.facts.Entity.TheVariants as entity
 use Rattle.cxx_model.specs.declared.facts.Fact.{Fact}
 
--- 14, 10, 11.4: no template, no parameter of one, no base class and no friend
+-- 14, 11.4: no template, no parameter of one and no friend
 abbrev pub IsPlainFact : Entity → Type 0
 IsPlainFact (entity.Template template member defaults is_explicit first) = ⊥
 IsPlainFact (entity.Parameter template position default) = ⊥
 IsPlainFact (entity.Passed _) = ⊥
-IsPlainFact (entity.Ancestor _ _ _ _) = ⊥
 IsPlainFact (entity.Friend _ _) = ⊥
 IsPlainFact _ = Unit {0}
 

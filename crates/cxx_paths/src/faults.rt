@@ -3,12 +3,13 @@
 ghost use Rattle.std.specs.Prelude.{◌≡◌, ◌∷◌, [], List, IfOk};
 ghost use Rattle.std.specs.List.{slice_get};
 ghost use Rattle.std.specs.Option.{option_copied};
-ghost use Rattle.cxx_model.specs.declared.evidence.Evidence.TheVariants.{Found};
+ghost use Rattle.cxx_model.specs.declared.evidence.Evidence.TheVariants as evidence_of;
 ghost use Rattle.cxx_model.specs.declared.fault.FaultText.TheVariants as says;
 ghost use Rattle.cxx_model.specs.Facts.Declarations.{graph_at};
-ghost use Rattle.cxx_model.specs.Stops.{Faulty, undeclared_at};
+ghost use Rattle.cxx_model.specs.Stops.{Faulty, Gives, undeclared_at};
 ghost use Rattle.cxx_model.specs.Types.Trees.{CxxType};
-ghost use Rattle.cxx_paths.specs.Asked.{IsStop, not_wanted_at, part_of};
+ghost use Rattle.cxx_paths.specs.Asked.{IsStop, not_wanted_at, part_of, same};
+ghost use Rattle.cxx_reading.specs.Paths as definition;
 ghost use Rattle.cxx_reading.specs.Paths.{ambiguous_at, place_of_fact, wrong_kind_at};
 ghost use Rattle.cxx_reading.specs.Seen.{fact_numbers, numbered_at, place_of_first};
 ghost use Rattle.cxx_reading.specs.Trees.{last_part};
@@ -16,8 +17,12 @@ ghost use Rattle.cxx_tree.specs.Arena.{path_at};
 ghost use Rattle.cxx_tree.specs.Held.{meaning};
 
 use crate::last::{last_place, last_word};
+use cxx_found::Found;
 use cxx_graph::Graph;
-use cxx_model::{Evidence, EvidenceList, Fact, FactId, Fault, FaultText, Path, Place, Stop, Word};
+use cxx_model::{
+    Evidence, EvidenceList, Fact, FactId, Fault, FaultText, Hit, Listed, MemberFound, Path, Place,
+    Stop, Word,
+};
 use cxx_tree::State;
 use std::alloc::{AllocError, Global};
 
@@ -61,7 +66,7 @@ pub fn place_among(state: &State, numbers: &[FactId]) -> Option<Place>
 // ---- evidence
 
 fn found(alloc: Global, other: Place) -> Result<EvidenceList, AllocError>
-    ensures { IfOk result (λ evidence. evidence ≡ Found other ∷ []) }
+    ensures { IfOk result (λ evidence. evidence ≡ evidence_of.Found other ∷ []) }
 {
     let mut evidence = EvidenceList::new(alloc);
     evidence.push(Evidence::Found(other))?;
@@ -69,11 +74,35 @@ fn found(alloc: Global, other: Place) -> Result<EvidenceList, AllocError>
 }
 
 fn found_both(alloc: Global, one: Place, two: Place) -> Result<EvidenceList, AllocError>
-    ensures { IfOk result (λ evidence. evidence ≡ Found one ∷ Found two ∷ []) }
+    ensures { IfOk result (λ evidence. evidence ≡ evidence_of.Found one ∷ evidence_of.Found two ∷ []) }
 {
     let mut evidence = found(alloc, one)?;
     evidence.push(Evidence::Found(two))?;
     Ok(evidence)
+}
+
+// A member with the positions of the bases that lead to it (10.2).
+fn by_bases(alloc: Global, graph: &Graph, one: &Hit) -> Result<Evidence, AllocError>
+    ensures { IfOk result (λ evidence. (types : List CxxType) → evidence ≡ definition.by_bases (graph_at types graph.now) one.now) }
+{
+    let path = Listed::from_slice(alloc, one.path.as_slice())?;
+    Ok(Evidence::ByBases(Some(place_of(graph, one.fact)), path))
+}
+
+fn both_by_bases(
+    alloc: Global,
+    graph: &Graph,
+    one: &Hit,
+    two: &Hit,
+) -> Result<EvidenceList, AllocError>
+    ensures { IfOk result (λ all. (types : List CxxType) → all ≡ definition.by_bases (graph_at types graph.now) one.now ∷ definition.by_bases (graph_at types graph.now) two.now ∷ []) }
+{
+    let first = by_bases(alloc, graph, one)?;
+    let second = by_bases(alloc, graph, two)?;
+    let mut all = EvidenceList::new(alloc);
+    all.push(first)?;
+    all.push(second)?;
+    Ok(all)
 }
 
 // ---- faults
@@ -112,7 +141,7 @@ fn wrong_fault(
     word: &[u8],
     other: Place,
 ) -> Result<Box<Fault>, AllocError>
-    ensures { IfOk result (λ fault. fault.value ≡ record { place = place; text = says.WrongKindOfName word.now; evidence = Found other ∷ [] }) }
+    ensures { IfOk result (λ fault. fault.value ≡ record { place = place; text = says.WrongKindOfName word.now; evidence = evidence_of.Found other ∷ [] }) }
 {
     let word = Word::from_slice(alloc, word)?;
     let evidence = found(alloc, other)?;
@@ -126,10 +155,25 @@ fn ambiguous_fault(
     one: Place,
     two: Place,
 ) -> Result<Box<Fault>, AllocError>
-    ensures { IfOk result (λ fault. fault.value ≡ record { place = place; text = says.AmbiguousName word.now; evidence = Found one ∷ Found two ∷ [] }) }
+    ensures { IfOk result (λ fault. fault.value ≡ record { place = place; text = says.AmbiguousName word.now; evidence = evidence_of.Found one ∷ evidence_of.Found two ∷ [] }) }
 {
     let word = Word::from_slice(alloc, word)?;
     let evidence = found_both(alloc, one, two)?;
+    fault_with(alloc, place, FaultText::AmbiguousName(word), evidence)
+}
+
+fn ambiguous_member_fault(
+    graph: &Graph,
+    alloc: Global,
+    place: Place,
+    word: &[u8],
+    one: &Hit,
+    two: &Hit,
+) -> Result<Box<Fault>, AllocError>
+    ensures { IfOk result (λ fault. (types : List CxxType) → Faulty fault.value ≡ definition.ambiguous_member_at (graph_at types graph.now) (part_of place word.now) one.now two.now) }
+{
+    let word = Word::from_slice(alloc, word)?;
+    let evidence = both_by_bases(alloc, graph, one, two)?;
     fault_with(alloc, place, FaultText::AmbiguousName(word), evidence)
 }
 
@@ -178,7 +222,45 @@ pub fn ambiguous(state: &State, place: Place, word: &[u8], one: FactId, two: Fac
     }
 }
 
+/// At a word that means two members of a class that do not go together (10.2).
+#[tactic(auto, unfolding(cxx_tree::specs::Held::meaning))]
+pub fn ambiguous_member(state: &State, place: Place, word: &[u8], one: &Hit, two: &Hit) -> Stop
+    ensures { IsStop (definition.ambiguous_member_at (meaning state.now).graph (part_of place word.now) one.now two.now) result }
+{
+    match ambiguous_member_fault(state.graph(), state.alloc(), place, word, one, two) {
+        Ok(fault) => Stop::Fault(fault),
+        Err(_) => Stop::OutOfMemory,
+    }
+}
+
+/// What is found of a word is not ambiguous (3.4, 10.2).
+#[tactic(auto, using(crate::proofs::Stopping::stops_at))]
+pub fn unambiguous(state: &State, place: Place, word: &[u8], found: &Found) -> Result<(), Stop>
+    ensures { Gives same result (definition.unambiguous (meaning state.now).graph (part_of place word.now) found.now) }
+{
+    match found {
+        Found::Set(_) => Ok(()),
+        Found::Empty => Ok(()),
+        Found::Ambiguous(one, two) => Err(ambiguous(state, place, word, *one, *two)),
+        Found::Member(_, of) => match of {
+            MemberFound::Empty => Ok(()),
+            MemberFound::Set(_, _) => Ok(()),
+            MemberFound::Ambiguous(one, two) => {
+                Err(ambiguous_member(state, place, word, one, two))
+            }
+        },
+    }
+}
+
 // ---- at a name, whose last part is told
+
+/// What is found of a name is not ambiguous (3.4, 10.2).
+pub fn unambiguous_name(state: &State, path: &Path, found: &Found) -> Result<(), Stop>
+    ensures { Gives same result (definition.unambiguous (meaning state.now).graph (last_part (path_at path.now).parts) found.now) }
+{
+    let parts = path.parts.as_slice();
+    unambiguous(state, last_place(parts), last_word(parts), found)
+}
 
 /// At a name that is not declared (3.4).
 pub fn undeclared_name(state: &State, path: &Path) -> Stop

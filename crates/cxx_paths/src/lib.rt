@@ -9,8 +9,8 @@ mod seeking;
 mod spaces;
 
 pub use faults::{
-    ambiguous, ambiguous_name, not_wanted, not_wanted_name, place_among, place_of, undeclared,
-    undeclared_name, wrong_kind, wrong_name,
+    ambiguous, ambiguous_member, ambiguous_name, not_wanted, not_wanted_name, place_among,
+    place_of, unambiguous, unambiguous_name, undeclared, undeclared_name, wrong_kind, wrong_name,
 };
 pub use last::{last_place, last_word};
 pub use regions::{region_here, scope_of, space_region_here};

@@ -11,8 +11,8 @@ ghost use Rattle.cxx_reading.specs.Seen.{fact_numbers, numbered_at};
 ghost use Rattle.cxx_tree.specs.Arena.{path_at, path_part_at, path_parts_at};
 ghost use Rattle.cxx_tree.specs.Held.{meaning};
 
-use crate::faults::{ambiguous, not_wanted, place_among, undeclared};
-use crate::seeking::{members_in, sought_in};
+use crate::faults::{not_wanted, place_among, unambiguous};
+use crate::seeking::{set_in, sought_in};
 use crate::spaces::space_among;
 use cxx_found::{Found, Wanted};
 use cxx_model::{FactId, Path, PathPart, ScopeId, Stop};
@@ -46,21 +46,14 @@ fn held_among(state: &State, part: &PathPart, numbers: &[FactId]) -> Result<Scop
 }
 
 // The same of what was found.
+#[tactic(auto, using(crate::proofs::Stopping::clear_gives, crate::proofs::Stopping::stopped_on))]
 fn holder_by(state: &State, part: &PathPart, found: &Found) -> Result<ScopeId, Stop>
     ensures is { Gives scope_number result (holder_of (meaning state.now).graph (path_part_at part.now) found.now) }
     ensures there { IfOk result (λ inner. inner.0 < scopes (state.now).graph.facts) }
 {
-    match found {
-        Found::Set(facts) => held_among(state, part, facts.as_slice()),
-        Found::Member(_, of) => held_among(state, part, members_in(of)),
-        Found::Ambiguous(one, two) => Err(ambiguous(
-            state,
-            part.place,
-            part.word.as_slice(),
-            *one,
-            *two,
-        )),
-        _ => Err(undeclared(state, part.place, part.word.as_slice())),
+    match unambiguous(state, part.place, part.word.as_slice(), found) {
+        Ok(()) => held_among(state, part, set_in(found)),
+        Err(stop) => Err(stop),
     }
 }
 

@@ -88,7 +88,7 @@ pub fn name_sought(
 }
 
 /// The entities of a set of members of a class, by their first declarations.
-pub(crate) fn members_in(of: &MemberFound) -> &[FactId]
+fn members_in(of: &MemberFound) -> &[FactId]
     ensures { result.now ≡ members_of of.now }
 {
     match of {

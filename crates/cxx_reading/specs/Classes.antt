@@ -4,7 +4,6 @@ use Rattle.cxx_model.specs.declared.facts.Access.TheVariants.{Public}
 use Rattle.cxx_model.specs.declared.facts.ScopeKind.{ScopeKind}
 use Rattle.cxx_model.specs.declared.facts.ScopeKind.TheVariants as scope_kind
 use Rattle.cxx_model.specs.declared.lookup.Found.{Found as Sought}
-use Rattle.cxx_model.specs.declared.lookup.Found.TheVariants as sought
 use Rattle.cxx_model.specs.declared.place.Place.{Place}
 use Rattle.cxx_model.specs.declared.stop.LimitKind.TheVariants.{Facts}
 use Rattle.cxx_model.specs.declared.types.ClassId.{ClassId}
@@ -18,7 +17,7 @@ use Rattle.cxx_meaning.specs.Lookups.Scopes.{chain, kind_of, unit_scope}
 use Rattle.cxx_meaning.specs.Lookups.Wanted.{types_only}
 use Rattle.cxx_reading.specs.Declaring.{added, declare, free, most_facts}
 use Rattle.cxx_reading.specs.Linked.{scope_id}
-use Rattle.cxx_reading.specs.Paths.{ambiguous_at, name_in, region_of, sought_in, wrong_kind_at}
+use Rattle.cxx_reading.specs.Paths.{name_in, region_of, sought_in, unambiguous, wrong_kind_at}
 use Rattle.cxx_reading.specs.Reads.{Asks}
 use Rattle.cxx_reading.specs.Seen.{Numbered, declared_in, place_of_first, set_in}
 use Rattle.cxx_reading.specs.State.{CxxState}
@@ -132,8 +131,7 @@ abbrev pub class_among : CxxPath → Bool → List Numbered → Asks CxxState Cx
 class_among path is_union all state = class_seen path is_union (first_class all) (place_of_first all) state
 
 abbrev pub class_found : CxxPath → Bool → Sought → Asks CxxState CxxType
-class_found path is_union (sought.Ambiguous one two) state = Err (ambiguous_at state.graph (last_part path.parts) one two)
-class_found path is_union other state = class_among path is_union (set_in state.graph other) state
+class_found path is_union found state = unambiguous state.graph (last_part path.parts) found >>= λ clear. class_among path is_union (set_in state.graph found) state
 
 unfoldable pub class_named : CxxPath → Bool → Asks CxxState CxxType
 class_named path is_union state = region_of state.graph state.here.scope path >>= λ where_. class_found path is_union (sought_in state.graph types_only where_ (name_in path)) state

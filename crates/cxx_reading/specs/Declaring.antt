@@ -24,7 +24,7 @@ use Rattle.cxx_model.specs.Types.Trees.{CxxType, enumeration}
 use Rattle.cxx_meaning.specs.Conversions.Enumerations.{values_in}
 use Rattle.cxx_meaning.specs.Lookups.Wanted.{types_only}
 use Rattle.cxx_reading.specs.Linked.{first_clash, home_of, is_space_at, linked_in, sooner_fact}
-use Rattle.cxx_reading.specs.Paths.{ambiguous_at, found_of, name_in, place_in, place_of_fact, region_of, sought_in, wrong_kind_at}
+use Rattle.cxx_reading.specs.Paths.{found_of, name_in, place_in, place_of_fact, region_of, sought_in, unambiguous, wrong_kind_at}
 use Rattle.cxx_reading.specs.Reads.{Asks}
 use Rattle.cxx_reading.specs.Seen.{Numbered, declared_in, kind_of_found, parent_of, set_in, type_in}
 use Rattle.cxx_reading.specs.State.{CxxState}
@@ -350,8 +350,7 @@ elaborated_by part [] None state = Err (undeclared_at part.place part.word)
 elaborated_by part (one ∷ others) None state = Err (wrong_kind_at part one.fact.place)
 
 abbrev pub elaborated_found : CxxPathPart → Sought → CxxState → Answer (CxxType × CxxState)
-elaborated_found part (sought.Ambiguous one two) state = Err (ambiguous_at state.graph part one two)
-elaborated_found part other state = elaborated_by part (set_in state.graph other) (enumeration_in (set_in state.graph other)) state
+elaborated_found part found state = unambiguous state.graph part found >>= λ clear. elaborated_by part (set_in state.graph found) (enumeration_in (set_in state.graph found)) state
 
 -- 3.4.4, 7.1.5.3: behind `enum` stands the name of an enumeration
 unfoldable pub elaborated_here : CxxPath → Asks CxxState CxxType

@@ -1,10 +1,13 @@
 -- What names with qualifiers mean (3.4.1, 3.4.3, 3.4.3.2).
 use Rattle.std.specs.Prelude.{ℕ, Bool, true, false, List, [], ◌∷◌, length, Option, Some, None, Ok, Err}
 use Rattle.std.specs.List.{slice_get}
-use Rattle.cxx_model.specs.declared.evidence.Evidence.TheVariants.{Found}
+use Rattle.cxx_model.specs.declared.evidence.Evidence.{Evidence}
+use Rattle.cxx_model.specs.declared.evidence.Evidence.TheVariants.{ByBases, Found}
 use Rattle.cxx_model.specs.declared.fault.FaultText.TheVariants as says
 use Rattle.cxx_model.specs.declared.lookup.Found.{Found as Sought}
 use Rattle.cxx_model.specs.declared.lookup.Found.TheVariants as sought
+use Rattle.cxx_model.specs.declared.lookup.Hit.{Hit}
+use Rattle.cxx_model.specs.declared.lookup.MemberFound.TheVariants as member
 use Rattle.cxx_model.specs.declared.place.Place.{Place}
 use Rattle.cxx_model.specs.declared.types.FactId.{FactId}
 use Rattle.cxx_model.specs.Facts.Declarations as facts
@@ -32,6 +35,23 @@ place_of_fact graph number = place_in (slice_get graph.facts number)
 -- 3.4: two declarations of which none hides the other
 abbrev pub ambiguous_at : CxxGraph → CxxPathPart → FactId → FactId → Stopped
 ambiguous_at graph part one two = Faulty (record { place = part.place; text = says.AmbiguousName part.word; evidence = Found (place_of_fact graph one.0) ∷ Found (place_of_fact graph two.0) ∷ [] })
+
+-- 10.2: a member with the positions of the bases that lead to it
+abbrev pub by_bases : CxxGraph → Hit → Evidence
+by_bases graph one = ByBases (Some (place_of_fact graph one.fact.0)) one.path
+
+-- 10.2: two members of a class that do not go together
+abbrev pub ambiguous_member_at : CxxGraph → CxxPathPart → Hit → Hit → Stopped
+ambiguous_member_at graph part one two = Faulty (record { place = part.place; text = says.AmbiguousName part.word; evidence = by_bases graph one ∷ by_bases graph two ∷ [] })
+
+-- 3.4, 10.2: what is found is not ambiguous
+abbrev pub unambiguous : CxxGraph → CxxPathPart → Sought → Answer (Unit {0})
+unambiguous graph part (sought.Set all) = Ok tt
+unambiguous graph part sought.Empty = Ok tt
+unambiguous graph part (sought.Ambiguous one two) = Err (ambiguous_at graph part one two)
+unambiguous graph part (sought.Member class (member.Ambiguous one two)) = Err (ambiguous_member_at graph part one two)
+unambiguous graph part (sought.Member class (member.Set all path)) = Ok tt
+unambiguous graph part (sought.Member class member.Empty) = Ok tt
 
 -- what is declared there is not what may stand here
 abbrev pub wrong_kind_at : CxxPathPart → Place → Stopped
@@ -69,8 +89,7 @@ abbrev pub held_among : CxxPathPart → List Numbered → Answer ℕ
 held_among part all = held_by part (first_space all) all
 
 abbrev pub holder_by : CxxGraph → CxxPathPart → Sought → Answer ℕ
-holder_by graph part (sought.Ambiguous one two) = Err (ambiguous_at graph part one two)
-holder_by graph part other = held_among part (set_in graph other)
+holder_by graph part found = unambiguous graph part found >>= λ clear. held_among part (set_in graph found)
 
 -- 3.4.3: the namespace that a part before `::` means in a region, of what may stand there; objects, functions and enumerators
 -- are passed over

@@ -12,7 +12,7 @@ use Rattle.cxx_model.specs.Text.Lexemes.{Lexeme}
 use Rattle.cxx_meaning.specs.Lookups.Wanted.{namespaces_only}
 use Rattle.cxx_reading.specs.Declaring.{added, at_scope, declare, fact_here, free, scope_count}
 use Rattle.cxx_reading.specs.Linked.{scope_id}
-use Rattle.cxx_reading.specs.Paths.{ambiguous_at, first_space, name_in, or_later, sought_in, space_in, space_region_of}
+use Rattle.cxx_reading.specs.Paths.{unambiguous, first_space, name_in, or_later, sought_in, space_in, space_region_of}
 use Rattle.cxx_reading.specs.Reads.{Asks}
 use Rattle.cxx_reading.specs.Seen.{Numbered, declared_in, parent_of, set_in}
 use Rattle.cxx_reading.specs.State.{CxxState}
@@ -141,8 +141,7 @@ space_by part None state = Err (undeclared_at part.place part.word)
 space_by part (Some inner) state = Ok (inner, state)
 
 abbrev pub space_found : CxxPathPart → Sought → CxxState → Answer (ℕ × CxxState)
-space_found part (sought.Ambiguous one two) state = Err (ambiguous_at state.graph part one two)
-space_found part other state = space_by part (first_space (set_in state.graph other)) state
+space_found part found state = unambiguous state.graph part found >>= λ clear. space_by part (first_space (set_in state.graph found)) state
 
 -- the namespace that a name means; what is no namespace is passed over
 unfoldable pub space_here : CxxPath → Asks CxxState ℕ

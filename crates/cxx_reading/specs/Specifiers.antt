@@ -32,18 +32,24 @@ abbrev pub storage_word : ℕ → Option StorageWord
 storage_word n =
     if n == keyword.AUTO then Some storage.Auto else (
     if n == keyword.EXTERN then Some storage.Extern else (
+    if n == keyword.MUTABLE then Some storage.Mutable else (
     if n == keyword.REGISTER then Some storage.Register else (
     if n == keyword.STATIC then Some storage.Static else (
     if n == keyword.TYPEDEF then Some storage.Typedef else
-    None))))
+    None)))))
 
--- 7.1.1: which of these words may stand among the specifiers of a declaration of a namespace, of one in a block, and of a
--- parameter
+-- 7.1.1: which of these words may stand among the specifiers of a declaration of a namespace, of one in a block, of a member,
+-- and of a parameter
 abbrev pub may_store : SpecifierPlace → StorageWord → Bool
 may_store where_.Declaration storage.Extern = true
 may_store where_.Declaration storage.Static = true
 may_store where_.Declaration storage.Typedef = true
-may_store where_.Block word = true
+may_store where_.Block storage.Auto = true
+may_store where_.Block storage.Extern = true
+may_store where_.Block storage.Register = true
+may_store where_.Block storage.Static = true
+may_store where_.Block storage.Typedef = true
+may_store where_.Member storage.Mutable = true
 may_store where_.Parameter storage.Auto = true
 may_store where_.Parameter storage.Register = true
 may_store _ _ = false
@@ -58,9 +64,9 @@ abbrev pub is_some_storage : Option StorageWord → Bool
 is_some_storage None = false
 is_some_storage (Some word) = true
 
--- 7.1.2, 7.1.1, 11.4: words that stand among the specifiers of members alone
+-- 7.1.2, 11.4: words that stand among the specifiers of members alone
 abbrev pub is_of_members : ℕ → Bool
-is_of_members n = n == keyword.FRIEND || (n == keyword.VIRTUAL || (n == keyword.EXPLICIT || n == keyword.MUTABLE))
+is_of_members n = n == keyword.FRIEND || (n == keyword.VIRTUAL || n == keyword.EXPLICIT)
 
 -- 7.1.5.3, 14.6: a class begins, or a type that a template gives
 abbrev pub begins_class : ℕ → Bool
@@ -236,7 +242,7 @@ abbrev pub begins_members : TokenKind → Bool
 begins_members kind = is_punct punct.LEFT_BRACE kind || is_punct punct.COLON kind
 
 -- 9: The head of a class that is defined. Among the specifiers of a declaration of a namespace reading stops at its key,
--- where its name has no qualifiers and its list follows; other heads are not read there yet. In a block the form is left out
+-- where it has a name without qualifiers; other heads are not read there yet. In a block the form is left out
 -- (9.8), and elsewhere no class is defined (8.3.5, 5.3.3).
 abbrev pub head_reached : {S : Type 0} → SpecifierPlace → Bool → Ahead → Specifiers → Reads S (Turn Specifiers Specifiers)
 head_reached where_.Declaration true from so_far state ahead = got (Done so_far) state from
@@ -247,7 +253,7 @@ head_reached place plain from so_far state ahead = refused state ahead
 
 unfoldable pub class_behind : {S : Type 0} → Kinds S → Bool → SpecifierPlace → Ahead → CxxPath → Specifiers → Reads S (Turn Specifiers Specifiers)
 class_behind asks is_union place from path so_far state ahead =
-    if begins_members (kind_ahead ahead) then head_reached place (is_plain_path path && is_punct punct.LEFT_BRACE (kind_ahead ahead)) from so_far state ahead else
+    if begins_members (kind_ahead ahead) then head_reached place (is_plain_path path) from so_far state ahead else
     class_named_step asks is_union (is_all place so_far path (kind_ahead ahead)) from path so_far state ahead
 
 unfoldable pub class_name_step : {S : Type 0} → Kinds S → Bool → SpecifierPlace → Ahead → Specifiers → Reads S (Turn Specifiers Specifiers)

@@ -32,6 +32,7 @@ abbrev pub storage_text : Option StorageWord → List ℕ
 storage_text None = []
 storage_text (Some storage.Auto) = codes "auto"
 storage_text (Some storage.Extern) = codes "extern"
+storage_text (Some storage.Mutable) = codes "mutable"
 storage_text (Some storage.Register) = codes "register"
 storage_text (Some storage.Static) = codes "static"
 storage_text (Some storage.Typedef) = codes "typedef"
@@ -56,6 +57,8 @@ pub record Said : Type 0 where
   pub of : CxxType
   pub is_typedef : Bool
   pub is_extern : Bool
+  -- 7.1.1: of a member
+  pub is_mutable : Bool
 
 abbrev pub no_token : Lexeme
 no_token = record { kind = End; place = nowhere; spelling = [] }
@@ -167,9 +170,13 @@ abbrev pub is_extern_word : Option StorageWord → Bool
 is_extern_word (Some storage.Extern) = true
 is_extern_word _ = false
 
+abbrev pub is_mutable_word : Option StorageWord → Bool
+is_mutable_word (Some storage.Mutable) = true
+is_mutable_word _ = false
+
 -- 7.5: a linkage without braces counts as `extern` for its one declaration
 abbrev pub said_by : Bool → Specifiers → Said
-said_by counts_as_extern specifiers = record { of = specified_type specifiers; is_typedef = is_typedef_word specifiers.storage; is_extern = counts_as_extern || is_extern_word specifiers.storage }
+said_by counts_as_extern specifiers = record { of = specified_type specifiers; is_typedef = is_typedef_word specifiers.storage; is_extern = counts_as_extern || is_extern_word specifiers.storage; is_mutable = is_mutable_word specifiers.storage }
 
 abbrev pub simple_tree : CxxTree → List CxxTree → Ahead → Ahead → CxxTree
 simple_tree specifiers declarators from to = tree_of (label_from production.simple_declaration [] from to) (specifiers ∷ declarators)

@@ -35,6 +35,7 @@ pub struct TypeWords {
 pub enum StorageWord {
     Auto,
     Extern,
+    Mutable,
     Register,
     Static,
     Typedef,

@@ -1,3 +1,4 @@
+mod Based
 mod Kept
 mod Listing
 mod Opened

@@ -1,4 +1,5 @@
 -- The declarations of namespaces, in the code.
 pub mod Parts
 pub mod Views
+pub mod Bases
 pub mod Classes

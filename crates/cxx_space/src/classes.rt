@@ -99,14 +99,14 @@ fn begun_as(state: &mut State, class: ClassId) -> Result<Begun, Stop>
 
 // ---- the list of members
 
-fn is_access_word(kind: TokenKind) -> bool
+pub(crate) fn is_access_word(kind: TokenKind) -> bool
     ensures { result ≡ definition.access_word kind }
 {
     is_keyword(keyword::PUBLIC, kind)
         || (is_keyword(keyword::PROTECTED, kind) || is_keyword(keyword::PRIVATE, kind))
 }
 
-fn access_by(kind: TokenKind) -> Access
+pub(crate) fn access_by(kind: TokenKind) -> Access
     ensures { result ≡ definition.access_by kind }
 {
     if is_keyword(keyword::PUBLIC, kind) {
@@ -169,15 +169,6 @@ fn with_member(so_far: Members, number: TreeId) -> Result<Members, AllocError>
         trees: with_tree(so_far.trees, number)?,
         access: so_far.access,
     })
-}
-
-fn no_members(alloc: Global, access: Access) -> Members
-    ensures { result ≡ record { trees = []; access = access } }
-{
-    Members {
-        trees: Listed::new(alloc),
-        access,
-    }
 }
 
 // ---- the tree
@@ -275,15 +266,17 @@ impl<D: Defines> Space<'_, D> {
         self.declared_step(state, cursor, head, so_far)
     }
 
-    // Behind the `{` of a class, with its end.
+    // Behind the `{` of a class, with its end: its bases and members.
     #[tactic(auto, using(crate::proofs::Listing::list_zero, crate::proofs::Listing::list_more, cxx_cursor::proofs::Loops::turn, cxx_cursor::proofs::Loops::no_turn, cxx_cursor::proofs::Kept::later_refl, cxx_cursor::proofs::Kept::later_trans))]
     fn list_at(
         &self,
         state: &mut State,
         cursor: &mut Cursor<'_>,
         head: &Head<'_>,
+        bases: TreeIdList,
     ) -> Result<TreeIdList, Stop>
-        ensures { IsRead trees_held AreTreesHeld state.old state.new cursor.new result (definition.list_at self.now.room (head_of head.now) (meaning state.old) cursor.old) }
+        requires { AreTreesHeld state.old bases }
+        ensures { IsRead trees_held AreTreesHeld state.old state.new cursor.new result (definition.list_at self.now.room (head_of head.now) (trees_held state.old bases) (meaning state.old) cursor.old) }
     {
         if self.room == 0 {
             return Err(Stop::Limit(LimitKind::Nesting));
@@ -292,7 +285,10 @@ impl<D: Defines> Space<'_, D> {
             declares: self.declares,
             room: self.room - 1,
         };
-        let mut so_far = no_members(cursor.alloc(), head.access);
+        let mut so_far = Members {
+            trees: bases,
+            access: head.access,
+        };
         for _turn in 0..cursor.count() {
             match inside.list_step(state, cursor, head, so_far)? {
                 Turn::More(next) => so_far = next,
@@ -334,7 +330,7 @@ impl<D: Defines> Space<'_, D> {
         Ok(with_class(so_far, begun.of, number)?)
     }
 
-    // From the `{` on, where it has begun.
+    // From the `{` on, where it has begun and has these bases.
     #[tactic(auto, using(crate::proofs::Kept::begun_later, cxx_cursor::proofs::Kept::named_kept, cxx_cursor::proofs::Kept::named_later, cxx_cursor::proofs::Kept::trees_kept, cxx_cursor::proofs::Kept::trees_later, cxx_cursor::proofs::Kept::later_refl, cxx_cursor::proofs::Kept::later_trans))]
     fn class_opened(
         &self,
@@ -343,19 +339,21 @@ impl<D: Defines> Space<'_, D> {
         so_far: Specifiers,
         head: &Head<'_>,
         begun: Begun,
+        bases: TreeIdList,
         from: &Cursor<'_>,
     ) -> Result<Specifiers, Stop>
         requires known { AreSpecifiers state.old so_far }
         requires begun { IsBegun state.old begun }
-        ensures { IsRead specifiers_of AreSpecifiers state.old state.new cursor.new result (class_opened self.now.room (head_of head.now) begun.class.0 (specifiers_of state.old so_far) from.now (meaning state.old) cursor.old) }
+        requires bases { AreTreesHeld state.old bases }
+        ensures { IsRead specifiers_of AreSpecifiers state.old state.new cursor.new result (class_opened self.now.room (head_of head.now) begun.class.0 (trees_held state.old bases) (specifiers_of state.old so_far) from.now (meaning state.old) cursor.old) }
     {
         cursor.advance();
-        let members = self.list_at(state, cursor, head)?;
+        let members = self.list_at(state, cursor, head, bases)?;
         self.class_ended(state, cursor, so_far, head, begun, members, from)
     }
 
     // A definition of a class, from its key on.
-    #[tactic(auto, using(cxx_cursor::proofs::Kept::named_kept, cxx_cursor::proofs::Kept::named_later, cxx_cursor::proofs::Kept::trees_kept, cxx_cursor::proofs::Kept::trees_later, cxx_cursor::proofs::Kept::later_refl, cxx_cursor::proofs::Kept::later_trans), unfolding(cxx_language::specs::Classes::class_at, cxx_language::specs::Classes::head_at))]
+    #[tactic(auto, using(crate::proofs::Kept::begun_later, cxx_cursor::proofs::Kept::named_kept, cxx_cursor::proofs::Kept::named_later, cxx_cursor::proofs::Kept::trees_kept, cxx_cursor::proofs::Kept::trees_later, cxx_cursor::proofs::Kept::later_refl, cxx_cursor::proofs::Kept::later_trans), unfolding(cxx_tree::specs::Held::meaning, cxx_language::specs::Classes::class_at, cxx_language::specs::Classes::head_at))]
     fn class_at(
         &self,
         state: &mut State,
@@ -365,10 +363,12 @@ impl<D: Defines> Space<'_, D> {
         requires { AreSpecifiers state.old so_far }
         ensures { IsRead specifiers_of AreSpecifiers state.old state.new cursor.new result (definition.class_at self.now.room (specifiers_of state.old so_far) (meaning state.old) cursor.old) }
     {
+        let outside = state.scope();
         let from = cursor.mark();
         let head = head_at(cursor);
         let begun = self.class_begun(state, &head)?;
-        self.class_opened(state, cursor, so_far, &head, begun, &from)
+        let bases = self.bases_or_none(state, cursor, outside, begun.class, head.access)?;
+        self.class_opened(state, cursor, so_far, &head, begun, bases, &from)
     }
 
     // A class, and the specifiers behind it.

@@ -2,6 +2,7 @@
 //! the reader of such declarations stands over anyone who reads what they are made of as the definitions say.
 #![tactic(auto)]
 
+mod bases;
 mod bodies;
 mod classes;
 mod declarations;

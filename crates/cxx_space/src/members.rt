@@ -22,7 +22,7 @@ use cxx_tree::State;
 use cxx_units::ends::nothing_declared;
 use cxx_units::said::{Listed as ListedTrees, Said, said_by};
 use cxx_units::trees::{declaration_tree, declarator_tree, faulty, token_or};
-use cxx_units::types::{is_function_type, is_unbounded};
+use cxx_units::types::{is_const_type, is_function_type, is_reference, is_unbounded};
 use cxx_units::{declarator_ended, declared_fits, no_declarators, place_of_name};
 
 // Bit-fields are left out (9.6).
@@ -97,6 +97,15 @@ fn member_kept(
     declarator_tree(state, false, name, of, number, parts, from, cursor)
 }
 
+// A constant and a reference are not mutable (7.1.1 p8).
+fn is_mutable_member(state: &State, said: Said, of: TypeId) -> bool
+    requires { of.0 < length (state.now).types }
+    ensures { result ≡ definition.is_mutable_member (said_of state.now said) (type_of state.now of) }
+{
+    let types = state.types();
+    said.is_mutable && !(is_reference(types, of) || is_const_type(types, of))
+}
+
 impl<D: Defines> Space<'_, D> {
     // A data member whose declarator fits, given its type.
     #[tactic(auto, using(cxx_cursor::proofs::Kept::trees_kept, cxx_cursor::proofs::Kept::trees_later, cxx_cursor::proofs::Kept::type_kept, cxx_cursor::proofs::Kept::type_later, cxx_cursor::proofs::Kept::later_refl, cxx_cursor::proofs::Kept::later_trans))]
@@ -113,10 +122,12 @@ impl<D: Defines> Space<'_, D> {
         requires { IsDeclared state.old said declarator of }
         ensures { IsRead tree IsTreeKnown state.old state.new cursor.now result (fitting_member access (said_of state.old said) (declarator_of state.old declarator) from.now (meaning state.old) cursor.now) }
     {
-        let _ = said;
         let name = token_or(cursor.alloc(), declarator.name);
         no_function(state, cursor, &name, of)?;
-        let number = self.declares.declare_member(state, access, &name, of)?;
+        let is_mutable = is_mutable_member(state, said, of);
+        let number = self
+            .declares
+            .declare_member(state, access, is_mutable, &name, of)?;
         member_kept(state, cursor, &name, of, number, declarator.parts, from)
     }
 

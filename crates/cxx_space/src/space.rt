@@ -1,6 +1,8 @@
 //! Who reads the bodies of functions, opens namespaces and defines classes.
 
 ghost use Rattle.std.specs.Prelude.{◌<◌, length};
+ghost use Rattle.cxx_declare.specs.Based.{base_of};
+ghost use Rattle.cxx_declare.specs.Bases as bases;
 ghost use Rattle.cxx_declare.specs.ClassDefinitions as classes;
 ghost use Rattle.cxx_language.specs.Bodies.{function_body};
 ghost use Rattle.cxx_reading.specs.Spaces as spaces;
@@ -8,11 +10,13 @@ ghost use Rattle.cxx_cursor.specs.Asking.{AnyKnown, IsAsked, IsTreeKnown, itself
 ghost use Rattle.cxx_cursor.specs.Reading.{IsRead};
 ghost use Rattle.cxx_cursor.specs.Views.{lexeme_at, name_at};
 ghost use Rattle.cxx_tree.specs.Answered.{IsClassKnown, class_number, fact_number};
+ghost use Rattle.cxx_tree.specs.Arena.{path_at};
 ghost use Rattle.cxx_tree.specs.Held.{meaning, tree, type_of};
 
 use cxx_cursor::{Cursor, NameToken, Spelled};
+use cxx_declare::BaseOf;
 use cxx_language::Declares;
-use cxx_model::{Access, ClassId, FactId, Place, ScopeId, Stop, TreeId, TypeId};
+use cxx_model::{Access, ClassId, FactId, Path, Place, ScopeId, Stop, TreeId, TypeId};
 use cxx_tree::State;
 
 /// Who reads the bodies of functions, opens namespaces and defines classes too.
@@ -52,16 +56,21 @@ pub trait Defines: Declares {
     ) -> Result<ClassId, Stop>
         ensures { IsAsked class_number IsClassKnown state.old state.new result (classes.begin_class is_union (lexeme_at name.entry) (meaning state.old)) };
 
-    /// A nonstatic data member, with the access of the label before it (9.2, 11.1).
+    /// A name stands for a base of a class (10).
+    fn declare_base(&self, state: &mut State, of: BaseOf, path: &Path) -> Result<(), Stop>
+        ensures { IsAsked itself AnyKnown state.old state.new result (bases.declare_base (base_of of) (path_at path.now) (meaning state.old)) };
+
+    /// A nonstatic data member, with the access of the label before it (9.2, 11.1), and whether it is mutable (7.1.1).
     fn declare_member(
         &self,
         state: &mut State,
         access: Access,
+        is_mutable: bool,
         name: &NameToken,
         of: TypeId,
     ) -> Result<FactId, Stop>
         requires { of.0 < length (state.old).types }
-        ensures { IsAsked fact_number AnyKnown state.old state.new result (classes.declare_member access (name_at name.now) (type_of state.old of) (meaning state.old)) };
+        ensures { IsAsked fact_number AnyKnown state.old state.new result (classes.declare_member access is_mutable (name_at name.now) (type_of state.old of) (meaning state.old)) };
 
     /// The definition of a class ends, at the place of its name (9.2, 12.1).
     fn end_class(&self, state: &mut State, class: ClassId, place: Place) -> Result<(), Stop>

@@ -38,8 +38,14 @@ fn may_store(place: SpecifierPlace, word: StorageWord) -> bool
             StorageWord::Typedef => true,
             _ => false,
         },
-        SpecifierPlace::Block => true,
-        SpecifierPlace::Member => false,
+        SpecifierPlace::Block => match word {
+            StorageWord::Mutable => false,
+            _ => true,
+        },
+        SpecifierPlace::Member => match word {
+            StorageWord::Mutable => true,
+            _ => false,
+        },
         SpecifierPlace::Parameter => match word {
             StorageWord::Auto => true,
             StorageWord::Register => true,
@@ -249,9 +255,7 @@ fn begins_members(kind: TokenKind) -> bool
 pub(crate) fn is_of_members(number: u8) -> bool
     ensures { result ≡ definition.is_of_members number }
 {
-    number == keyword::FRIEND
-        || (number == keyword::VIRTUAL
-            || (number == keyword::EXPLICIT || number == keyword::MUTABLE))
+    number == keyword::FRIEND || (number == keyword::VIRTUAL || number == keyword::EXPLICIT)
 }
 
 pub(crate) fn begins_class(number: u8) -> bool
@@ -262,7 +266,7 @@ pub(crate) fn begins_class(number: u8) -> bool
 }
 
 // The head of a class that is defined (9). Among the specifiers of a declaration of a namespace reading stops at its key,
-// where its name has no qualifiers and its list follows; other heads are not read there yet. In a block the form is left out
+// where it has a name without qualifiers; other heads are not read there yet. In a block the form is left out
 // (9.8), and elsewhere no class is defined (8.3.5, 5.3.3).
 #[tactic(auto, using(cxx_cursor::proofs::Kept::later_refl))]
 fn head_reached<'a>(
@@ -294,7 +298,7 @@ fn head_reached<'a>(
     }
 }
 
-// A word that stands among the specifiers of members alone; those are not read yet (7.1.2, 7.1.1, 11.4).
+// A word that stands among the specifiers of members alone; those are not read yet (7.1.2, 11.4).
 #[tactic(auto, using(cxx_cursor::proofs::Kept::later_refl))]
 fn member_word(
     state: &State,
@@ -609,8 +613,7 @@ impl<K: Kinds, N: Nested> Reader<'_, K, N> {
         ensures { IsRead specifiers_turn IsSpecifiersTurn state.old state.new cursor.new result (definition.class_behind (K.asks self.now.kinds.now self.now.room) is_union place from.now (path_at path) (specifiers_of state.old so_far) (meaning state.old) cursor.old) }
     {
         if begins_members(cursor.kind()) {
-            let is_plain = is_plain_path(&path) && is_punct(punct::LEFT_BRACE, cursor.kind());
-            return head_reached(state, cursor, place, is_plain, from, so_far);
+            return head_reached(state, cursor, place, is_plain_path(&path), from, so_far);
         }
         let is_all = is_all(state, place, &so_far, &path, cursor.kind());
         self.class_named_step(state, cursor, is_union, is_all, from, path, so_far)

@@ -179,6 +179,26 @@ fn bound_with(bound: Option<u64>) -> Bound
     }
 }
 
+// A state is let go in parts, each of which is proved for itself.
+fn let_tables_go(_graph: Graph, _types: TypeTable, _trees: Trees) {}
+
+fn let_marks_go(
+    _names: Names,
+    _definitions: Definitions,
+    _linkages: Linkages,
+    _openings: Vec<Place>,
+    _noting: Noting,
+) {}
+
+fn let_numbers_go(
+    _defined: Vec<FactId>,
+    _linked: Vec<FactId>,
+    _fallbacks: FallbackList,
+    _offers: OfferList,
+) {}
+
+fn let_parts_go(_calls: Calls, _pieces: PieceList, _uses: BindingList) {}
+
 // The most levels of a type. Types are walked from the top, so a deeper one might not fit on the stack.
 const MOST_TYPE_LEVELS: u64 = 10_000;
 
@@ -539,7 +559,30 @@ impl State {
     }
 
     /// Lets go of the state. It is the one place where that is done.
-    pub fn let_go(self) {}
+    pub fn let_go(self) {
+        let State {
+            graph,
+            types,
+            names,
+            definitions,
+            linkages,
+            openings,
+            noting,
+            trees,
+            defined,
+            linked,
+            fallbacks,
+            offers,
+            calls,
+            pieces,
+            uses,
+            ..
+        } = self;
+        let_tables_go(graph, types, trees);
+        let_marks_go(names, definitions, linkages, openings, noting);
+        let_numbers_go(defined, linked, fallbacks, offers);
+        let_parts_go(calls, pieces, uses);
+    }
 
     /// The state, where somebody is there who can be asked which function a call means (13.3).
     pub fn settled(self) -> Result<State, OutOfMemory>

@@ -21,6 +21,8 @@ pub struct Said {
     pub of: TypeId,
     pub is_typedef: bool,
     pub is_extern: bool,
+    /// Of a member (7.1.1).
+    pub is_mutable: bool,
 }
 
 /// The trees of declarators that were read, and whether the next is the first.
@@ -48,6 +50,15 @@ pub(crate) fn is_extern_word(word: Option<StorageWord>) -> bool
     }
 }
 
+pub(crate) fn is_mutable_word(word: Option<StorageWord>) -> bool
+    ensures { result ≡ definition.is_mutable_word word }
+{
+    match word {
+        Some(StorageWord::Mutable) => true,
+        _ => false,
+    }
+}
+
 /// A storage word as it is spelled (7.1.1).
 pub(crate) fn storage_text(word: Option<StorageWord>) -> &'static [u8]
     ensures { result.now ≡ definition.storage_text word }
@@ -56,6 +67,7 @@ pub(crate) fn storage_text(word: Option<StorageWord>) -> &'static [u8]
         None => b"",
         Some(StorageWord::Auto) => b"auto",
         Some(StorageWord::Extern) => b"extern",
+        Some(StorageWord::Mutable) => b"mutable",
         Some(StorageWord::Register) => b"register",
         Some(StorageWord::Static) => b"static",
         Some(StorageWord::Typedef) => b"typedef",
@@ -134,6 +146,7 @@ pub fn said_by(
             of,
             is_typedef: is_typedef_word(specifiers.storage),
             is_extern: counts_as_extern || is_extern_word(specifiers.storage),
+            is_mutable: is_mutable_word(specifiers.storage),
         }),
         Err(_) => Err(Stop::OutOfMemory),
     }

@@ -1,4 +1,0 @@
-use Rattle.cxx_base_tests.proofs.champion.counter.Given as goal
-
-abbrev pub ghosts-counter_by : goal.ghosts-counter_by
-ghosts-counter_by a = record { name = a.blank.name; parts = a.blank.parts }

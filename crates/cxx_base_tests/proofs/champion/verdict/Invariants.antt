@@ -1,4 +1,0 @@
-use Rattle.cxx_base_tests.proofs.champion.verdict.Given as goal
-
-abbrev pub ghosts-verdict_by : goal.ghosts-verdict_by
-ghosts-verdict_by a = record { name = a.blank.name; parts = a.blank.parts }

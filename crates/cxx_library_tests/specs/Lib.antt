@@ -1,0 +1,3 @@
+pub mod Free
+pub mod Games
+pub mod Sample

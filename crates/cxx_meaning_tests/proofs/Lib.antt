@@ -1,3 +1,0 @@
-mod Bases
-mod Plain
-mod Ranks

@@ -1,3 +1,0 @@
-mod Reserved
-mod Sampled
-mod Typed

@@ -1,5 +1,0 @@
-use Rattle.cxx_type_tests.specs.Free.{IsFree}
-use Rattle.cxx_type_tests.proofs.types.made.Given as goal
-
-abbrev pub invariant-loop-letter : goal.invariant-loop-letter
-invariant-loop-letter l = IsFree l.tree
