@@ -4,7 +4,7 @@ the alignment by the rule of this profile, worked out here, and beside them what
 The profile gives each base its whole size, and an empty one a byte; both compilers let members stand in the padding at the
 end of some bases, and let an empty base take nothing.
 
-Usage: bases.py > crates/cxx_meaning_tests/proofs/Bases.antt"""
+Usage: bases.py > crates/cxx_meaning_laws/proofs/Bases.antt"""
 import os, random, subprocess, sys, tempfile
 
 from extents import WORDS, extent

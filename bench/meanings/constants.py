@@ -1,9 +1,9 @@
 #!/usr/bin/env python3
-"""Asks clang++ and g++ for the values of constant expressions, and writes them as rows of crates/cxx_constant_tests: the
-expressions as its standard input, and the values, or that both refuse, as its standard output. Left out are expressions on
-which the compilers differ, and shifts to the left of a value with a sign to one that its type has not, which both take.
+"""Asks clang++ and g++ for the values of constant expressions, and prints a row for each: the expression, and its value, or
+`none` where both refuse it. Left out are expressions on which the compilers differ, and shifts to the left of a value with a
+sign to one that its type has not, which both take.
 
-Usage: constants.py FOLDER-OF-THE-CRATE"""
+Usage: constants.py > tests/constants.txt"""
 import os, random, subprocess, sys, tempfile
 
 COMPILERS = [["clang++", "-std=c++98", "-pedantic-errors", "-ferror-limit=0"], ["g++", "-std=c++98", "-pedantic-errors", "-fmax-errors=0"]]
@@ -123,21 +123,18 @@ def values(compiler, cases):
     return out
 
 def main():
-    folder = sys.argv[1]
     r = random.Random(11)
     cases = BY_HAND + [tree(r, r.choice([1, 2, 2, 3])) for _ in range(170)]
     clang, gcc = (taken(c, cases) for c in ASKED)
     good = [c for c, a, b in zip(cases, clang, gcc) if a and b]
     rows = dict(zip((c[0] for c in good), zip(*(values(c, good) for c in COMPILERS))))
-    asked, answers, differ = [], [], 0
+    refused = differ = 0
     for case, a, b in zip(cases, clang, gcc):
         if a != b or a and rows[case[0]][0] != rows[case[0]][1]:
             differ += 1
             continue
-        asked += [f"# {case[0]}", " ".join(case[1])]
-        answers.append(str(rows[case[0]][0]) if a else "none")
-    open(os.path.join(folder, "stdin"), "w").write("\n".join(asked) + "\n")
-    open(os.path.join(folder, "stdout"), "w").write("\n".join(answers) + "\n")
-    sys.stderr.write(f"{len(answers)} rows, {answers.count('none')} refused, {differ} on which the compilers differ\n")
+        refused += not a
+        print(f"{case[0]} => {rows[case[0]][0] if a else 'none'}")
+    sys.stderr.write(f"{refused} refused, {differ} on which the compilers differ\n")
 
 main()

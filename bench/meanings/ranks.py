@@ -4,7 +4,7 @@ definitions must compute. A rank is told by overloaded calls with one argument: 
 all others (an exact match), one is preferred to all but that (a promotion), and no two of the others to one another. Nothing
 is converted from or to `void`: of that type there is no parameter, and no parameter takes it.
 
-Usage: ranks.py > crates/cxx_meaning_tests/proofs/Ranks.antt"""
+Usage: ranks.py > crates/cxx_meaning_laws/proofs/Ranks.antt"""
 import os, re, subprocess, sys, tempfile
 
 COMPILERS = [["clang++", "-std=c++98", "-pedantic-errors", "-w", "-ferror-limit=0"], ["g++", "-std=c++98", "-pedantic-errors", "-w", "-fmax-errors=0"]]
