@@ -18,7 +18,7 @@ means_later old new meant later ok = type_later old new meant.operand.of later o
 
 pub means_kept : (old new : Held) (meant : Meant) → Later old new → IsMeant old meant → means_of new meant ≡ means_of old meant
 means_kept old new meant later ok =
-    (let make : CxxType → Means = λ t. record { target = meant.target.0; operand = record { of = t; lvalue = meant.operand.lvalue; constant = meant.operand.constant } } in
+    (let make : CxxType → Means = λ t. record { target = meant.target.0; operand = record { of = t; lvalue = meant.operand.lvalue; constant = meant.operand.constant }; is_enumerator = meant.is_enumerator } in
     ap make (later.types.same meant.operand.of.0 ok))
 
 pub chosen_later : (old new : Held) (chosen : Chosen) → Later old new → IsChosen old chosen → IsChosen new chosen

@@ -20,7 +20,7 @@ use Rattle.cxx_called.specs.declared.signatures.Signature.{Signature}
 -- ---- what a name means
 
 abbrev pub means_of : Held → Meant → Means
-means_of held meant = record { target = meant.target.0; operand = operand_at held.types meant.operand }
+means_of held meant = record { target = meant.target.0; operand = operand_at held.types meant.operand; is_enumerator = meant.is_enumerator }
 
 -- the type of what it gives is there
 abbrev pub IsMeant : Held → Meant → Type 0

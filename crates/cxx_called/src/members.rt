@@ -1,6 +1,6 @@
 //! Members of objects, and of what is pointed to (5.2.5).
 
-ghost use Rattle.std.specs.Prelude.{◌≡◌, ◌<◌, List, Some, Ok, length};
+ghost use Rattle.std.specs.Prelude.{◌≡◌, ◌<◌, [], List, Some, Ok, length, true};
 ghost use Rattle.cxx_builtin.specs.Built.{IsBuiltBelow, built_at};
 ghost use Rattle.cxx_model.specs.Facts.Declarations.{declares_at};
 ghost use Rattle.cxx_model.specs.Facts.Fitted.{IsEntityBelow};
@@ -29,6 +29,7 @@ use cxx_expr::faults::not_built_at;
 use cxx_expr::nodes::{given_over, only_child};
 use cxx_expr::operands::operand_of;
 use cxx_expr::operators::{listed_one, meaning_of, misshapen, no_fit, operands_one};
+use cxx_expr::production::NAME;
 use cxx_model::{
     ClassId, ConstantKind, Cv, Entity, FactId, FactList, Listed, MemberKind, Node, Operand, Stop,
     TreeId, TreeIdList, TypeId, TypeNode, punct,
@@ -127,7 +128,11 @@ fn means_lent(
     ensures { IsAnswered means_of IsMeant state.old state.new result (Ok (definition.means_lent (operand_at (state.old).types object) target.0 is_mutable (type_of state.old of), meaning state.old)) }
 {
     let operand = lent_operand(state, object, is_mutable, of)?;
-    Ok(Meant { target, operand })
+    Ok(Meant {
+        target,
+        operand,
+        is_enumerator: false,
+    })
 }
 
 // A static member is the same for each object (9.4.2).
@@ -229,6 +234,19 @@ fn selected_by(
 
 // ---- the tree
 
+// An enumerator is the same for each object, and it is none of its parts.
+fn selected_alone(state: &mut State, node: Node, meant: Meant) -> Result<TreeId, Stop>
+    requires node { IsNodeHeld state.old node }
+    requires meant { IsMeant state.old meant }
+    ensures { GrowsTree state.old state.new result (definition.selected_as true (node_tree state.old node) [] (means_of state.old meant)) }
+{
+    let none = Listed::new(state.alloc());
+    let mut node = node;
+    node.production = NAME;
+    node.target = Some(meant.target);
+    given_over(state, node, meant.operand, none)
+}
+
 fn selected_tree(
     state: &mut State,
     node: Node,
@@ -240,6 +258,9 @@ fn selected_tree(
     requires meant { IsMeant state.old meant }
     ensures { GrowsTree state.old state.new result (definition.selected_tree (node_tree state.old node) (trees_held state.old parts) (means_of state.old meant)) }
 {
+    if meant.is_enumerator {
+        return selected_alone(state, node, meant);
+    }
     let mut node = node;
     node.target = Some(meant.target);
     given_over(state, node, meant.operand, parts)

@@ -38,6 +38,8 @@ use std::alloc::{AllocError, Global};
 pub(crate) struct Meant {
     pub(crate) target: FactId,
     pub(crate) operand: Operand,
+    /// Whether it is an enumerator (7.2).
+    pub(crate) is_enumerator: bool,
 }
 
 // ---- the word that is looked up
@@ -247,6 +249,7 @@ pub(crate) fn means_enumerator(
             lvalue: false,
             constant: ConstantKind::No,
         },
+        is_enumerator: true,
     })
 }
 
@@ -265,6 +268,7 @@ pub(crate) fn means_object(state: &State, target: FactId, own: TypeId) -> Meant
             lvalue: true,
             constant: ConstantKind::No,
         },
+        is_enumerator: false,
     }
 }
 

@@ -1,11 +1,10 @@
 -- Classes that begin and end (9.2).
-use Rattle.std.specs.Prelude.{ℕ, ◌≡◌, ◌<◌, ◌++◌, Bool, false, List, [], ◌∷◌, length, Option, Some, None, Result, Ok, Err, OnOk, refl}
+use Rattle.std.specs.Prelude.{ℕ, ◌≡◌, ◌<◌, ◌++◌, Bool, true, false, List, [], ◌∷◌, length, Option, None, Result, Ok, Err, refl}
 use Rattle.std.proofs.Common.{ap, sym, subst, ◌∙◌, arith, length-append}
 use Rattle.cxx_model.specs.declared.facts.Access.{Access}
 use Rattle.cxx_model.specs.declared.facts.Entity.{Entity}
 use Rattle.cxx_model.specs.declared.facts.Entity.TheVariants as entity
 use Rattle.cxx_model.specs.declared.facts.Fact.{Fact}
-use Rattle.cxx_model.specs.declared.facts.MemberKind.TheVariants.{Nonstatic}
 use Rattle.cxx_model.specs.declared.facts.Name.{Name}
 use Rattle.cxx_model.specs.declared.facts.Name.TheVariants as name
 use Rattle.cxx_model.specs.declared.facts.ScopeKind.TheVariants as scope_kind
@@ -19,21 +18,21 @@ use Rattle.cxx_model.specs.declared.types.ScopeId.{ScopeId}
 use Rattle.cxx_model.specs.declared.types.TypeId.{TypeId}
 use Rattle.cxx_model.specs.Facts.Declarations.{CxxFact, fact_at, facts_at, spelled}
 use Rattle.cxx_model.specs.Facts.Fitted.{AreFactsBelow}
-use Rattle.cxx_model.specs.Facts.Graph.{EachMayFollow, Graph, MayFollow, appended, scopes, with_class}
+use Rattle.cxx_model.specs.Facts.Graph.{EachMayFollow, Graph, appended, scopes, with_class}
 use Rattle.cxx_model.specs.Stops.{Answer, Stops, ◌>>=◌}
 use Rattle.cxx_model.specs.Text.Lexemes.{Lexeme}
 use Rattle.cxx_model.specs.Types.Numbers.{type_at}
 use Rattle.cxx_model.specs.Types.Trees.{CxxType}
 use Rattle.cxx_defined.specs.Defined.{IsOwnEntity}
-use Rattle.cxx_names.specs.declared.looked.NamedClass.{NamedClass}
+use Rattle.cxx_names.specs.Clashes.{IsNamedMember}
 use Rattle.cxx_names.specs.Plain.{ArePlain}
-use Rattle.cxx_reading.specs.Classes.{ClassNamed, class_count, class_fact, first_class, reserved}
+use Rattle.cxx_reading.specs.Classes.{ClassNamed, first_class, reserved}
 use Rattle.cxx_reading.specs.Declaring.{added, at_scope, declare, free, scope_count, undefined}
 use Rattle.cxx_reading.specs.Seen.{declared_in}
 use Rattle.cxx_reading.specs.State.{CxxState}
 use Rattle.cxx_implicit.specs.Members.{implicit_members}
-use Rattle.cxx_declare.specs.Begun.{IsAddable, class_added, class_completed, class_known, class_reserved, ended_with, named_within, next_class_defined}
-use Rattle.cxx_declare.specs.ClassDefinitions.{added_each, begin_class, begun_as, class_declared, class_end, class_here, class_scope, declare_member, define_again, define_by, define_new, end_class, ended_as, enter_class, injected_name, member_here}
+use Rattle.cxx_declare.specs.Begun.{IsAddable, class_added, class_completed, class_known, class_reserved, ended_with, named_within, next_class_defined, unnamed_added, unnamed_reserved}
+use Rattle.cxx_declare.specs.ClassDefinitions.{added_each, begin_class, begin_unnamed, begun_as, class_declared, class_end, class_here, class_scope, declare_member, define_again, define_by, define_new, end_class, ended_as, enter_class, enter_unnamed, injected_name, member_here, member_kind, unnamed_here}
 use Rattle.cxx_declare.specs.Classes.{IsNextClass}
 use Rattle.cxx_declare.specs.Made.{IsReady, added_defined, definable_by, made, token, word_in}
 use Rattle.cxx_declare.proofs.Classed.{count_is, ready_by}
@@ -45,7 +44,7 @@ use Rattle.cxx_tree.specs.Held.{Held, meaning}
 use Rattle.cxx_tree.specs.Later.{Later}
 use Rattle.cxx_tree.specs.Whole.{added_class_scope, left_scope, scope_fact}
 use Rattle.cxx_tree.proofs.Steps.{Later_refl, Later_trans}
-use Rattle.cxx_tree.proofs.Wholes.{later_fact, may_follow}
+use Rattle.cxx_tree.proofs.Wholes.{may_follow}
 
 -- ---- one step behind another
 
@@ -219,24 +218,91 @@ class_begun old new kind place word is_union scope found r here is answered =
     subst (λ (o : Option ClassNamed). IsAnswered class_number IsClassKnown old new r (define_by (token kind place word) is_union o (meaning old)))
     (is ∙ ap (λ (n : ℕ). first_class (declared_in (meaning old).graph n (spelled word))) (stands_here old scope here)) answered
 
+-- ---- one without a name
+
+pub unnamed_entered : (old middle new : Held) (place : Place) (class : ClassId) (inner : ScopeId) → class.0 < length old.graph.classes → middle ≡ record old { graph = appended old.graph (scope_fact (scope_kind.Class class) place old.scope) } → IsAnswered scope_number IsScopeKnown old middle (Ok inner) (added_class_scope place class.0 (meaning old))
+    → Later middle new → meaning new ≡ at_scope inner.0 (meaning middle) → new ≡ record middle { scope = inner } → IsAnswered class_number IsClassKnown old new (Ok class) (enter_unnamed place class.0 (meaning old))
+unfolding enter_unnamed
+unnamed_entered old middle new place class inner there is one later stands held = record {
+  is = (
+    counted_then (added (class_scope (meaning old) place class.0) (meaning old)) (scope_count (meaning old).graph) inner.0 (meaning middle) (λ n state. Ok (class.0, at_scope n state)) one.is.0 ∙ ap (λ (s : CxxState). Ok (class.0, s)) (sym stands),
+    subst (λ (h : Held). class.0 < length h.graph.classes) (sym held) (class_still old middle (scope_fact (scope_kind.Class class) place old.scope) class.0 is there),
+  );
+  later = Later_trans old middle new one.later later;
+}
+
+pub unnamed_not_entered : (old new : Held) (place : Place) (class : ClassId) (why : Stop) → IsAnswered scope_number IsScopeKnown old new (Err why) (added_class_scope place class.0 (meaning old)) → IsAnswered class_number IsClassKnown old new (Err why) (enter_unnamed place class.0 (meaning old))
+unfolding enter_unnamed
+unnamed_not_entered old new place class why one = record {
+  is = stopped_on why (added (class_scope (meaning old) place class.0) (meaning old)) (λ opened. Ok (begun_as class.0 (scope_count (meaning old).graph) opened)) (counted_stops why (scope_count (meaning old).graph) (added (class_scope (meaning old) place class.0) (meaning old)) one.is);
+  later = one.later;
+}
+
+pub added_unnamed : (old middle new : Held) (place : Place) (n : ℕ) (fact : CxxFact) (number : FactId) (r : Result ClassId Stop) → IsAnswered fact_number IsFactKnown old middle (Ok number) (added_defined fact (meaning old)) → IsAnswered class_number IsClassKnown middle new r (enter_unnamed place n (meaning middle)) → IsAnswered class_number IsClassKnown old new r (unnamed_added place n fact (meaning old))
+added_unnamed old middle new place n fact number r one two = and_then fact_number IsFactKnown class_number IsClassKnown old middle new number r (added_defined fact (meaning old)) (enter_unnamed place n) one two
+
+pub not_added_unnamed : (old new : Held) (place : Place) (n : ℕ) (fact : CxxFact) (why : Stop) → IsAnswered fact_number IsFactKnown old new (Err why) (added_defined fact (meaning old)) → IsAnswered class_number IsClassKnown old new (Err why) (unnamed_added place n fact (meaning old))
+not_added_unnamed old new place n fact why one = and_stops fact_number IsFactKnown class_number IsClassKnown old new why (added_defined fact (meaning old)) (λ answer. enter_unnamed place n answer.1) one
+
+pub reserved_unnamed : (old middle new : Held) (place : Place) (class number : ClassId) (fact : Fact) (r : Result ClassId Stop) → middle ≡ record old { graph = with_class old.graph None } → IsAnswered class_number IsClassKnown old middle (Ok number) (reserved (meaning old))
+    → IsAnswered class_number IsClassKnown middle new r (unnamed_added place class.0 (fact_at middle.types fact) (meaning middle)) → IsAnswered class_number IsClassKnown old new r (unnamed_reserved place class.0 (fact_at old.types fact) (meaning old))
+reserved_unnamed old middle new place class number fact r is one two =
+    and_then class_number IsClassKnown class_number IsClassKnown old middle new number r (reserved (meaning old)) (unnamed_added place class.0 (fact_at old.types fact)) one
+    (subst (λ (h : Held). IsAnswered class_number IsClassKnown middle new r (unnamed_added place class.0 (fact_at h.types fact) (meaning middle))) is two)
+
+pub not_reserved_unnamed : (old new : Held) (place : Place) (n : ℕ) (fact : CxxFact) (why : Stop) → IsAnswered class_number IsClassKnown old new (Err why) (reserved (meaning old)) → IsAnswered class_number IsClassKnown old new (Err why) (unnamed_reserved place n fact (meaning old))
+not_reserved_unnamed old new place n fact why one = and_stops class_number IsClassKnown class_number IsClassKnown old new why (reserved (meaning old)) (λ answer. unnamed_added place n fact answer.1) one
+
+pub unnamed_next : (held : Held) (place : Place) (class : ClassId) (is_union : Bool) (scope : ScopeId) (fact : Fact) → scope.0 < scopes held.graph.facts → class.0 ≡ length held.graph.classes → fact ≡ made scope place name.Unnamed (entity.Class class is_union) → IsNextClass held class fact
+unnamed_next held place class is_union scope fact there next is = subst (λ (f : Fact). IsNextClass held class f) (sym is) (record { is_union = is_union; what_is = refl; plain = tt; there = there; next = next })
+
+unnamed_is : (held : Held) (place : Place) (class : ClassId) (is_union : Bool) → fact_at held.types (made held.scope place name.Unnamed (entity.Class class is_union)) ≡ unnamed_here (meaning held) place class.0 is_union
+unfolding meaning
+unnamed_is held place class is_union = refl
+
+unnamed_declared_is : (place : Place) (n : ℕ) (fact : CxxFact) (state : CxxState) → unnamed_added place n fact state ≡ (added fact state >>= λ declared. enter_unnamed place n (record declared.1 { defined = declared.1.defined ++ declared.0 ∷ [] }))
+unnamed_declared_is place n fact state = assoc (added fact state) (λ answer. Ok (answer.0, record answer.1 { defined = answer.1.defined ++ answer.0 ∷ [] })) (λ answer. enter_unnamed place n answer.1)
+
+unnamed_then : (place : Place) (n : ℕ) (fact : CxxFact) (reply : Answer (ℕ × CxxState)) → (reply >>= λ answer. unnamed_added place n fact answer.1) ≡ (reply >>= λ answer. added fact answer.1 >>= λ declared. enter_unnamed place n (record declared.1 { defined = declared.1.defined ++ declared.0 ∷ [] }))
+unnamed_then place n fact (Ok both) = unnamed_declared_is place n fact both.1
+unnamed_then place n fact (Err why) = refl
+
+abbrev unnamed_by : Bool → Place → CxxState → ℕ → Answer (ℕ × CxxState)
+unnamed_by is_union place state n = reserved state >>= λ answer. added (unnamed_here state place n is_union) answer.1 >>= λ declared. enter_unnamed place n (record declared.1 { defined = declared.1.defined ++ declared.0 ∷ [] })
+
+pub unnamed_begun : (old new : Held) (place : Place) (class : ClassId) (is_union : Bool) (scope : ScopeId) (fact : Fact) (r : Result ClassId Stop) → class.0 ≡ length old.graph.classes → scope ≡ old.scope → fact ≡ made scope place name.Unnamed (entity.Class class is_union)
+    → IsAnswered class_number IsClassKnown old new r (unnamed_reserved place class.0 (fact_at old.types fact) (meaning old)) → IsAnswered class_number IsClassKnown old new r (begin_unnamed is_union place (meaning old))
+unfolding begin_unnamed
+unnamed_begun old new place class is_union scope fact r next here is answered =
+    let whole : CxxFact = unnamed_here (meaning old) place class.0 is_union in
+    subst (λ n. IsAnswered class_number IsClassKnown old new r (unnamed_by is_union place (meaning old) n)) (next ∙ sym (count_is old))
+    (subst (λ (reply : Answer (ℕ × CxxState)). IsAnswered class_number IsClassKnown old new r reply) (unnamed_then place class.0 whole (reserved (meaning old)))
+    (subst (λ (w : CxxFact). IsAnswered class_number IsClassKnown old new r (unnamed_reserved place class.0 w (meaning old))) (unnamed_is old place class is_union)
+    (subst (λ (s : ScopeId). IsAnswered class_number IsClassKnown old new r (unnamed_reserved place class.0 (fact_at old.types (made s place name.Unnamed (entity.Class class is_union))) (meaning old))) here
+    (subst (λ (f : Fact). IsAnswered class_number IsClassKnown old new r (unnamed_reserved place class.0 (fact_at old.types f) (meaning old))) is answered))))
+
 -- ---- its members
 
-abbrev member_fact : Access → Bool → TypeId → ScopeId → Place → Name → Fact
-member_fact access is_mutable of scope place n = record { place = place; scope = scope; name = n; access = access; what = entity.Object of Nonstatic is_mutable None None }
+abbrev member_fact : Access → Bool → Bool → TypeId → ScopeId → Place → Name → Fact
+member_fact access is_static is_mutable of scope place n = record { place = place; scope = scope; name = n; access = access; what = entity.Object of (member_kind is_static) is_mutable None None }
 
-pub member_ready : (held : Held) (access : Access) (is_mutable : Bool) (place : Place) (word : List ℕ) (of : TypeId) (scope : ScopeId) (n : Name) → scope.0 < scopes held.graph.facts → of.0 < length held.types → n ≡ name.Spelled word → IsReady held (member_fact access is_mutable of scope place n)
-member_ready held access is_mutable place word of scope n there below named =
-    subst (λ (m : Name). IsReady held (member_fact access is_mutable of scope place m)) (sym named) (record { follows = may_follow held.graph (member_fact access is_mutable of scope place (name.Spelled word)) there tt; below = record { name = tt; what = below }; plain = record { name = tt; what = tt } })
+named_kind : (is_static : Bool) → IsNamedMember (member_kind is_static)
+named_kind true = tt
+named_kind false = tt
 
-pub member_is : (held : Held) (kind : TokenKind) (access : Access) (is_mutable : Bool) (place : Place) (word : List ℕ) (of : TypeId) (scope : ScopeId) (n : Name) → scope ≡ held.scope → n ≡ name.Spelled word → fact_at held.types (member_fact access is_mutable of scope place n) ≡ member_here (meaning held) access is_mutable (token kind place word) (type_at held.types of.0)
+pub member_ready : (held : Held) (access : Access) (is_static : Bool) (is_mutable : Bool) (place : Place) (word : List ℕ) (of : TypeId) (scope : ScopeId) (n : Name) → scope.0 < scopes held.graph.facts → of.0 < length held.types → n ≡ name.Spelled word → IsReady held (member_fact access is_static is_mutable of scope place n)
+member_ready held access is_static is_mutable place word of scope n there below named =
+    subst (λ (m : Name). IsReady held (member_fact access is_static is_mutable of scope place m)) (sym named) (record { follows = may_follow held.graph (member_fact access is_static is_mutable of scope place (name.Spelled word)) there tt; below = record { name = tt; what = below }; plain = record { name = tt; what = named_kind is_static } })
+
+pub member_is : (held : Held) (kind : TokenKind) (access : Access) (is_static : Bool) (is_mutable : Bool) (place : Place) (word : List ℕ) (of : TypeId) (scope : ScopeId) (n : Name) → scope ≡ held.scope → n ≡ name.Spelled word → fact_at held.types (member_fact access is_static is_mutable of scope place n) ≡ member_here (meaning held) access is_static is_mutable (token kind place word) (type_at held.types of.0)
 unfolding meaning
-member_is held kind access is_mutable place word of scope n here named =
-    ap (λ (m : Name). fact_at held.types (member_fact access is_mutable of scope place m)) named ∙ ap (λ (s : ScopeId). fact_at held.types (member_fact access is_mutable of s place (name.Spelled word))) here
+member_is held kind access is_static is_mutable place word of scope n here named =
+    ap (λ (m : Name). fact_at held.types (member_fact access is_static is_mutable of scope place m)) named ∙ ap (λ (s : ScopeId). fact_at held.types (member_fact access is_static is_mutable of s place (name.Spelled word))) here
 
-pub member_declared : (old new : Held) (kind : TokenKind) (access : Access) (is_mutable : Bool) (place : Place) (word : List ℕ) (of : CxxType) (fact : Fact) (r : Result FactId Stop) → fact_at old.types fact ≡ member_here (meaning old) access is_mutable (token kind place word) of → fact.name ≡ name.Spelled word
-    → IsAnswered fact_number IsFactKnown old new r (declare (fact_at old.types fact) (word_in fact.name) (meaning old)) → IsAnswered fact_number IsFactKnown old new r (declare_member access is_mutable (token kind place word) of (meaning old))
+pub member_declared : (old new : Held) (kind : TokenKind) (access : Access) (is_static : Bool) (is_mutable : Bool) (place : Place) (word : List ℕ) (of : CxxType) (fact : Fact) (r : Result FactId Stop) → fact_at old.types fact ≡ member_here (meaning old) access is_static is_mutable (token kind place word) of → fact.name ≡ name.Spelled word
+    → IsAnswered fact_number IsFactKnown old new r (declare (fact_at old.types fact) (word_in fact.name) (meaning old)) → IsAnswered fact_number IsFactKnown old new r (declare_member access is_static is_mutable (token kind place word) of (meaning old))
 unfolding declare_member
-member_declared old new kind access is_mutable place word of fact r is named answered = declared_as old new fact (member_here (meaning old) access is_mutable (token kind place word) of) word r is named answered
+member_declared old new kind access is_static is_mutable place word of fact r is named answered = declared_as old new fact (member_here (meaning old) access is_static is_mutable (token kind place word) of) word r is named answered
 
 -- ---- it ends
 

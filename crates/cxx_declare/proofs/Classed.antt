@@ -24,9 +24,9 @@ use Rattle.cxx_names.specs.declared.looked.NamedClass.{NamedClass}
 use Rattle.cxx_names.specs.Looked.{class_named_at}
 use Rattle.cxx_reading.specs.Classes.{ClassNamed, class_by, class_fact, declare_again, declare_new, first_class, first_open, is_open, open_of, or_other, scope_or_unit}
 use Rattle.cxx_reading.specs.Linked.{scope_id}
-use Rattle.cxx_reading.specs.Seen.{Numbered, numbered_at, numbered_by, scope_of_option, type_in}
+use Rattle.cxx_reading.specs.Seen.{numbered_at, numbered_by, scope_of_option, type_in}
 use Rattle.cxx_reading.specs.Trees.{CxxPathPart}
-use Rattle.cxx_declare.specs.Classes.{IsClassFact, IsNextClass, declared_as, next_declared}
+use Rattle.cxx_declare.specs.Classes.{IsClassFact, declared_as, next_declared}
 use Rattle.cxx_declare.specs.Made.{IsReady, IsTypeThere, made, word_in}
 use Rattle.cxx_tree.specs.Answered.{IsAnswered}
 use Rattle.cxx_tree.specs.Held.{Held, meaning, type_of}

@@ -1,5 +1,5 @@
 -- Classes that begin and end, in the terms of the definitions (9.2).
-use Rattle.std.specs.Prelude.{ℕ, ◌<◌, List, length, Ok}
+use Rattle.std.specs.Prelude.{ℕ, List, length, Ok}
 use Rattle.cxx_model.specs.declared.facts.Fact.{Fact}
 use Rattle.cxx_model.specs.declared.place.Place.{Place}
 use Rattle.cxx_model.specs.Facts.Declarations.{CxxFact}
@@ -11,7 +11,7 @@ use Rattle.cxx_names.specs.Plain.{IsPlainFact}
 use Rattle.cxx_reading.specs.Classes.{reserved}
 use Rattle.cxx_reading.specs.Declaring.{added, free}
 use Rattle.cxx_reading.specs.State.{CxxState}
-use Rattle.cxx_declare.specs.ClassDefinitions.{added_each, begun_as, class_end, ended_as, enter_class}
+use Rattle.cxx_declare.specs.ClassDefinitions.{added_each, begun_as, class_end, ended_as, enter_class, enter_unnamed}
 use Rattle.cxx_declare.specs.Made.{added_defined, definable_by}
 use Rattle.cxx_tree.specs.Held.{Held}
 
@@ -40,6 +40,13 @@ class_reserved name n fact state = reserved state >>= λ answer. class_added nam
 -- what conflicts comes before the limit
 abbrev pub next_class_defined : Lexeme → ℕ → List ℕ → CxxFact → CxxState → Answer (ℕ × CxxState)
 next_class_defined name n word fact state = free state fact word >>= λ is_free. class_reserved name n fact state
+
+-- the same of one without a name
+abbrev pub unnamed_added : Place → ℕ → CxxFact → CxxState → Answer (ℕ × CxxState)
+unnamed_added place n fact state = added_defined fact state >>= λ answer. enter_unnamed place n answer.1
+
+abbrev pub unnamed_reserved : Place → ℕ → CxxFact → CxxState → Answer (ℕ × CxxState)
+unnamed_reserved place n fact state = reserved state >>= λ answer. unnamed_added place n fact answer.1
 
 -- it is complete, and the reader stands in the scope that holds it
 abbrev pub class_completed : ℕ → Place → CxxState → Answer (Unit {0} × CxxState)

@@ -1,7 +1,8 @@
 -- How a class is defined (clause 9): it begins, its members are declared one after another, and it ends.
-use Rattle.std.specs.Prelude.{ℕ, Bool, false, List, [], ◌∷◌, length, Option, Some, None, Ok}
+use Rattle.std.specs.Prelude.{ℕ, Bool, true, false, List, [], ◌∷◌, length, Option, Some, None, Ok}
 use Rattle.cxx_model.specs.declared.facts.Access.{Access}
 use Rattle.cxx_model.specs.declared.facts.Access.TheVariants.{Public}
+use Rattle.cxx_model.specs.declared.facts.MemberKind.{MemberKind}
 use Rattle.cxx_model.specs.declared.facts.MemberKind.TheVariants as member
 use Rattle.cxx_model.specs.declared.facts.ScopeKind.TheVariants as scope_kind
 use Rattle.cxx_model.specs.declared.place.Place.{Place}
@@ -74,14 +75,37 @@ define_by name is_union None = define_new name is_union
 unfoldable pub begin_class : Bool → Lexeme → Asks CxxState ℕ
 begin_class is_union name state = define_by name is_union (first_class (declared_in state.graph state.here.scope (spelled name.spelling))) state
 
+-- ---- it begins without a name
+
+abbrev pub unnamed_here : CxxState → Place → ℕ → Bool → CxxFact
+unnamed_here state place n is_union = record { place = place; scope = state.here.scope; name = unnamed; access = Public; what = facts.class (class_id n) is_union }
+
+-- its scope has no name of its own
+unfoldable pub enter_unnamed : Place → ℕ → Asks CxxState ℕ
+enter_unnamed place n state = do
+  opened ← added (class_scope state place n) state
+  Ok (begun_as n (scope_count state.graph) opened)
+
+-- 9: The definition of a class without a name begins, at its key: a new class, whose number it answers.
+unfoldable pub begin_unnamed : Bool → Place → Asks CxxState ℕ
+begin_unnamed is_union place state = do
+  answer ← reserved state
+  declared ← added (unnamed_here state place (class_count state.graph) is_union) answer.1
+  enter_unnamed place (class_count state.graph) (with_definition declared.0 declared.1)
+
 -- ---- its members
 
--- 9.2: a nonstatic data member, with the access of the label before it (11.1), and whether it is mutable (7.1.1)
-abbrev pub member_here : CxxState → Access → Bool → Lexeme → CxxType → CxxFact
-member_here state access is_mutable name of = record { place = name.place; scope = state.here.scope; name = spelled name.spelling; access = access; what = facts.object of member.Nonstatic is_mutable None None }
+abbrev pub member_kind : Bool → MemberKind
+member_kind true = member.Static
+member_kind false = member.Nonstatic
 
-unfoldable pub declare_member : Access → Bool → Lexeme → CxxType → Asks CxxState ℕ
-declare_member access is_mutable name of state = declare (member_here state access is_mutable name of) name.spelling state
+-- 9.2, 9.4.2: a data member, with the access of the label before it (11.1), whether it is static, and whether it is mutable
+-- (7.1.1)
+abbrev pub member_here : CxxState → Access → Bool → Bool → Lexeme → CxxType → CxxFact
+member_here state access is_static is_mutable name of = record { place = name.place; scope = state.here.scope; name = spelled name.spelling; access = access; what = facts.object of (member_kind is_static) is_mutable None None }
+
+unfoldable pub declare_member : Access → Bool → Bool → Lexeme → CxxType → Asks CxxState ℕ
+declare_member access is_static is_mutable name of state = declare (member_here state access is_static is_mutable name of) name.spelling state
 
 -- ---- it ends
 

@@ -2,7 +2,6 @@
 use Rattle.std.specs.Prelude.{ℕ, ◌≡◌, ◌<◌, Bool, List, length, Ok}
 use Rattle.cxx_model.specs.declared.facts.Entity.TheVariants as entity
 use Rattle.cxx_model.specs.declared.facts.Fact.{Fact}
-use Rattle.cxx_model.specs.declared.facts.Name.{Name}
 use Rattle.cxx_model.specs.declared.types.ClassId.{ClassId}
 use Rattle.cxx_model.specs.declared.types.ScopeId.{ScopeId}
 use Rattle.cxx_model.specs.Facts.Declarations.{CxxFact}

@@ -9,7 +9,7 @@ ghost use Rattle.cxx_model.specs.Facts.Fitted.{AreFactsBelow};
 ghost use Rattle.cxx_model.specs.Facts.Graph.{EachMayFollow, scopes};
 ghost use Rattle.cxx_defined.specs.Defined.{IsOwnEntity};
 ghost use Rattle.cxx_names.specs.Plain.{ArePlain};
-ghost use Rattle.cxx_declare.specs.Begun.{IsAddable, class_added, class_completed, class_known, class_reserved, ended_with, named_within, next_class_defined};
+ghost use Rattle.cxx_declare.specs.Begun.{IsAddable, class_added, class_completed, class_known, class_reserved, ended_with, named_within, next_class_defined, unnamed_added, unnamed_reserved};
 ghost use Rattle.cxx_declare.specs.ClassDefinitions as definition;
 ghost use Rattle.cxx_declare.specs.Classes.{IsNextClass};
 ghost use Rattle.cxx_declare.specs.Made.{IsReady, token, word_in};
@@ -197,19 +197,83 @@ pub fn begin_class(
     }
 }
 
+// ---- it begins without a name
+
+// Its scope begins (9.2), and the reader stands there then.
+fn enter_unnamed(state: &mut State, place: Place, class: ClassId) -> Result<ClassId, Stop>
+    requires { class.0 < length (state.old).graph.classes }
+    ensures { IsAnswered class_number IsClassKnown state.old state.new result (definition.enter_unnamed place class.0 (meaning state.old)) }
+{
+    match state.add_class_scope(class, place) {
+        Ok(inner) => {
+            state.set_scope(inner);
+            Ok(class)
+        }
+        Err(stop) => Err(stop),
+    }
+}
+
+fn add_unnamed(state: &mut State, fact: Fact, place: Place, class: ClassId) -> Result<ClassId, Stop>
+    requires ready { IsReady state.old fact }
+    requires own { IsOwnEntity fact.what }
+    requires class { class.0 < length (state.old).graph.classes }
+    ensures { IsAnswered class_number IsClassKnown state.old state.new result (unnamed_added place class.0 (fact_at (state.old).types fact) (meaning state.old)) }
+{
+    match add_defined(state, fact) {
+        Ok(_) => enter_unnamed(state, place, class),
+        Err(stop) => Err(stop),
+    }
+}
+
+fn reserve_unnamed(
+    state: &mut State,
+    fact: Fact,
+    place: Place,
+    class: ClassId,
+) -> Result<ClassId, Stop>
+    requires { IsNextClass state.old class fact }
+    ensures { IsAnswered class_number IsClassKnown state.old state.new result (unnamed_reserved place class.0 (fact_at (state.old).types fact) (meaning state.old)) }
+{
+    match state.reserve_class() {
+        Ok(_) => add_unnamed(state, fact, place, class),
+        Err(stop) => Err(stop),
+    }
+}
+
+/// The definition of a class without a name begins, at its key (9): its number. The reader stands in its scope then.
+pub fn begin_unnamed(state: &mut State, is_union: bool, place: Place) -> Result<ClassId, Stop>
+    ensures { IsAnswered class_number IsClassKnown state.old state.new result (definition.begin_unnamed is_union place (meaning state.old)) }
+{
+    let class = next_class(state);
+    let what = Entity::Class { class, is_union };
+    let fact = fact_in(state.scope(), place, Name::Unnamed, what);
+    reserve_unnamed(state, fact, place, class)
+}
+
 // ---- its members
 
-// The declaration of a nonstatic data member (9.2).
+fn member_kind(is_static: bool) -> MemberKind
+    ensures { result ≡ definition.member_kind is_static }
+{
+    if is_static {
+        MemberKind::Static
+    } else {
+        MemberKind::Nonstatic
+    }
+}
+
+// The declaration of a data member (9.2, 9.4.2).
 fn member_fact(
     state: &State,
     access: Access,
+    is_static: bool,
     is_mutable: bool,
     place: Place,
     word: &[u8],
     of: TypeId,
 ) -> Result<Fact, AllocError>
     requires { of.0 < length (state.now).types }
-    ensures is { (kind : TokenKind) → IfOk result (λ fact. fact_at (state.now).types fact ≡ definition.member_here (meaning state.now) access is_mutable (token kind place word.now) (type_of state.now of)) }
+    ensures is { (kind : TokenKind) → IfOk result (λ fact. fact_at (state.now).types fact ≡ definition.member_here (meaning state.now) access is_static is_mutable (token kind place word.now) (type_of state.now of)) }
     ensures ready { IfOk result (IsReady state.now) }
     ensures named { IfOk result (λ fact. fact.name ≡ Spelled word.now) }
 {
@@ -221,7 +285,7 @@ fn member_fact(
         access,
         what: Entity::Object {
             of,
-            member: MemberKind::Nonstatic,
+            member: member_kind(is_static),
             is_mutable,
             value: None,
             first: None,
@@ -229,20 +293,21 @@ fn member_fact(
     })
 }
 
-/// A nonstatic data member is declared, with the access of the label before it (9.2, 11.1), and whether it is mutable
-/// (7.1.1).
+/// A data member is declared (9.2), with the access of the label before it (11.1), whether it is static (9.4.2), and whether
+/// it is mutable (7.1.1).
 pub fn declare_member(
     state: &mut State,
     access: Access,
+    is_static: bool,
     is_mutable: bool,
     place: Place,
     word: &[u8],
     of: TypeId,
 ) -> Result<FactId, Stop>
     requires { of.0 < length (state.old).types }
-    ensures { (kind : TokenKind) → IsAnswered fact_number IsFactKnown state.old state.new result (definition.declare_member access is_mutable (token kind place word.now) (type_of state.old of) (meaning state.old)) }
+    ensures { (kind : TokenKind) → IsAnswered fact_number IsFactKnown state.old state.new result (definition.declare_member access is_static is_mutable (token kind place word.now) (type_of state.old of) (meaning state.old)) }
 {
-    match member_fact(state, access, is_mutable, place, word, of) {
+    match member_fact(state, access, is_static, is_mutable, place, word, of) {
         Ok(fact) => declare(state, fact),
         Err(_) => Err(Stop::OutOfMemory),
     }

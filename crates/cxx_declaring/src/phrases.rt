@@ -136,6 +136,16 @@ impl Defines for Declaring {
     }
 
     #[tactic(auto, using(crate::proofs::Answering::asked))]
+    fn begin_unnamed(
+        &self,
+        state: &mut State,
+        is_union: bool,
+        place: Place,
+    ) -> Result<ClassId, Stop> {
+        declare::begin_unnamed(state, is_union, place)
+    }
+
+    #[tactic(auto, using(crate::proofs::Answering::asked))]
     fn declare_base(&self, state: &mut State, of: BaseOf, path: &Path) -> Result<(), Stop> {
         declare::declare_base(state, of, path)
     }
@@ -144,12 +154,13 @@ impl Defines for Declaring {
         &self,
         state: &mut State,
         access: Access,
+        is_static: bool,
         is_mutable: bool,
         name: &NameToken,
         of: TypeId,
     ) -> Result<FactId, Stop> {
         let word = name.spelling.as_slice();
-        declare::declare_member(state, access, is_mutable, name.place, word, of)
+        declare::declare_member(state, access, is_static, is_mutable, name.place, word, of)
     }
 
     #[tactic(auto, using(crate::proofs::Answering::asked, cxx_cursor::proofs::Kept::later_refl))]

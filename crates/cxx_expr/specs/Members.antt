@@ -18,6 +18,7 @@ use Rattle.cxx_reading.specs.Reads.{Asks}
 use Rattle.cxx_reading.specs.Seen.{Numbered}
 use Rattle.cxx_reading.specs.State.{CxxState}
 use Rattle.cxx_reading.specs.Trees.{CxxPathPart, CxxTree, children_of, tree_of}
+use Rattle.cxx_expr.specs.declared.production.TheConstants as production
 use Rattle.cxx_expr.specs.Asking.{◌>>=◌, fault_at, give, stop}
 use Rattle.cxx_expr.specs.Converting.{convert_each}
 use Rattle.cxx_expr.specs.Names.{Means, is_nonstatic, means_enumerator, means_object, no_value_at, path_in, values_among, word_in}
@@ -51,7 +52,7 @@ lent_operand object is_mutable (reference_to of) = object_operand of
 lent_operand object is_mutable of = lent_object object is_mutable of
 
 abbrev pub means_lent : CxxOperand → ℕ → Bool → CxxType → Means
-means_lent object target is_mutable of = record { target = target; operand = lent_operand object is_mutable of }
+means_lent object target is_mutable of = record { target = target; operand = lent_operand object is_mutable of; is_enumerator = false }
 
 -- 9.4.2: a static member is the same for each object
 abbrev pub means_data : CxxGraph → CxxOperand → ℕ → MemberKind → Bool → CxxType → Means
@@ -74,8 +75,13 @@ selected_by part object all state = selected_value part object all (values_among
 
 -- ---- the tree
 
+-- An enumerator is the same for each object, and it is none of its parts: it stands for itself alone.
+abbrev pub selected_as : Bool → CxxTree → List CxxTree → Means → CxxTree
+selected_as true tree parts means = tree_of (record tree.label { production = production.NAME; operand = Some means.operand; target = Some means.target }) []
+selected_as false tree parts means = tree_of (record tree.label { operand = Some means.operand; target = Some means.target }) parts
+
 abbrev pub selected_tree : CxxTree → List CxxTree → Means → CxxTree
-selected_tree tree parts means = tree_of (record tree.label { operand = Some means.operand; target = Some means.target }) parts
+selected_tree tree parts means = selected_as means.is_enumerator tree parts means
 
 -- a name that has these declarations as a member, given the object and the parts of the tree: what it means is noted
 abbrev pub selected_among : Questions → CxxTree → CxxOperand → List CxxTree → List Numbered → Asks CxxState CxxTree

@@ -32,6 +32,8 @@ use Rattle.cxx_expr.specs.Questions.{Questions}
 pub record Means : Type 0 where
   pub target : ℕ
   pub operand : CxxOperand
+  -- 7.2
+  pub is_enumerator : Bool
 
 -- the type that an object or a function has by a declaration
 abbrev pub type_declared : Declares → Option CxxType
@@ -81,7 +83,7 @@ abbrev pub type_of_first : CxxGraph → ℕ → CxxType → CxxType
 type_of_first graph target own = referred (in_full_by graph target (slice_get graph.facts target) (or_own own (type_by_fact (slice_get graph.facts target))))
 
 abbrev pub means_object : CxxGraph → ℕ → CxxType → Means
-means_object graph target own = record { target = target; operand = object_operand (type_of_first graph target own) }
+means_object graph target own = record { target = target; operand = object_operand (type_of_first graph target own); is_enumerator = false }
 
 -- 7.2: An enumerator is of its enumeration. While the list of that is read, it is of the first type that holds its value.
 abbrev pub is_open_list : Option ℕ → ℕ → Bool
@@ -96,7 +98,7 @@ abbrev pub enumerator_type : Option ℕ → ℕ → ℤ → CxxType
 enumerator_type list n value = if is_open_list list n then base_or_list n (promoted_of_values (value ∷ [])) else enumeration n
 
 abbrev pub means_enumerator : Option ℕ → ℕ → ℕ → ℤ → Means
-means_enumerator list number n value = record { target = number; operand = record { of = enumerator_type list n value; lvalue = false; constant = constant.No } }
+means_enumerator list number n value = record { target = number; operand = record { of = enumerator_type list n value; lvalue = false; constant = constant.No }; is_enumerator = true }
 
 -- ---- functions
 

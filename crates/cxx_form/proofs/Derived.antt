@@ -17,7 +17,7 @@ use Rattle.cxx_form.specs.declared.book.Book.{Book}
 use Rattle.cxx_form.specs.Books.{facts_of, names_of}
 use Rattle.cxx_form.specs.Order.{base_by, bases_by, bases_of, class_in, class_of_fact}
 use Rattle.cxx_form.specs.Parts.{base_at, base_row, bases_unless, front_parts, is_none, parent_by, parent_found, parent_words, IsParentThere}
-use Rattle.cxx_form.specs.Text.{base_words, bases_words, class_front, class_key_of, is_mutable_by, is_mutable_of}
+use Rattle.cxx_form.specs.Text.{base_words, bases_words, class_front, class_key_of, is_mutable_by, is_mutable_of, is_static_by, is_static_of}
 use Rattle.cxx_form.specs.Views.{facts_in}
 use Rattle.cxx_form.proofs.Defining.{found_is}
 
@@ -28,6 +28,12 @@ mutable_is held number fact is = sym (ap is_mutable_of (found_is held number (So
 
 pub none_mutable : (held : Held) (number : ℕ) → None ≡ slice_get held.graph.facts number → false ≡ is_mutable_of (slice_get (facts_in held) number)
 none_mutable held number is = sym (ap is_mutable_of (found_is held number None is))
+
+pub static_is : (held : Held) (number : ℕ) (fact : Fact) → Some fact ≡ slice_get held.graph.facts number → is_static_by (declares_at held.types fact.what) ≡ is_static_of (slice_get (facts_in held) number)
+static_is held number fact is = sym (ap is_static_of (found_is held number (Some fact) is))
+
+pub none_static : (held : Held) (number : ℕ) → None ≡ slice_get held.graph.facts number → false ≡ is_static_of (slice_get (facts_in held) number)
+none_static held number is = sym (ap is_static_of (found_is held number None is))
 
 pub class_is : (held : Held) (number : ℕ) (fact : Fact) → Some fact ≡ slice_get held.graph.facts number → class_in (declares_at held.types fact.what) ≡ class_of_fact (slice_get (facts_in held) number)
 class_is held number fact is = sym (ap class_of_fact (found_is held number (Some fact) is))

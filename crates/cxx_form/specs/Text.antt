@@ -1,6 +1,8 @@
 -- The plain form of a reading with expressions.
 use Rattle.std.specs.Prelude.{ℕ, Bool, true, false, if◌then◌else◌, List, [], ◌∷◌, ◌++◌, flat_map, map, codes, Option, Some, None}
 use Rattle.std.specs.List.{slice_get}
+use Rattle.cxx_model.specs.declared.facts.MemberKind.{MemberKind}
+use Rattle.cxx_model.specs.declared.facts.MemberKind.TheVariants as member
 use Rattle.cxx_model.specs.Facts.Declarations as facts
 use Rattle.cxx_model.specs.Facts.Declarations.{CxxFact, CxxGraph, Declares}
 use Rattle.cxx_reading.specs.Declarators.{no_cv}
@@ -61,7 +63,7 @@ abbrev pub class_end : List Word
 class_end = close_brace ∷ semicolon_word ∷ []
 
 abbrev pub is_mutable_by : Declares → Bool
-is_mutable_by (facts.object of member is_mutable value first) = is_mutable
+is_mutable_by (facts.object of kind is_mutable value first) = is_mutable
 is_mutable_by _ = false
 
 abbrev pub is_mutable_of : Option CxxFact → Bool
@@ -73,12 +75,33 @@ abbrev pub mutable_words : Bool → List Word
 mutable_words true = keyword_word (codes "mutable") ∷ []
 mutable_words false = []
 
+abbrev pub is_static_kind : MemberKind → Bool
+is_static_kind member.Static = true
+is_static_kind _ = false
+
+abbrev pub is_static_by : Declares → Bool
+is_static_by (facts.object of kind is_mutable value first) = is_static_kind kind
+is_static_by _ = false
+
+abbrev pub is_static_of : Option CxxFact → Bool
+is_static_of None = false
+is_static_of (Some fact) = is_static_by fact.what
+
+-- 9.4
+abbrev pub static_words : Bool → List Word
+static_words true = keyword_word (codes "static") ∷ []
+static_words false = []
+
 -- a declaration of a name with a type
 abbrev pub typed_words : NamesOfText → List CxxFact → ℕ → List Word
 typed_words names all number = declared names.tags no_cv (object_type (slice_get all number)) (name_word (names.name_of number) ∷ []) ++ semicolon_word ∷ []
 
+-- what stands behind `static`
+abbrev pub nonstatic_words : NamesOfText → List CxxFact → ℕ → List Word
+nonstatic_words names all number = mutable_words (is_mutable_of (slice_get all number)) ++ typed_words names all number
+
 abbrev pub member_words : NamesOfText → List CxxFact → ℕ → List Word
-member_words names all number = mutable_words (is_mutable_of (slice_get all number)) ++ typed_words names all number
+member_words names all number = static_words (is_static_of (slice_get all number)) ++ nonstatic_words names all number
 
 -- a data member, on a line
 abbrev pub member_lines : NamesOfText → List CxxFact → ℕ → Lines

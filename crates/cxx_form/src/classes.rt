@@ -14,7 +14,7 @@ ghost use Rattle.cxx_statement_text.specs.Statements.{indent, open_brace};
 ghost use Rattle.cxx_form.specs.Books.{facts_of, names_of, IsBook};
 ghost use Rattle.cxx_form.specs.Definitions.{object_type as object_type_of};
 ghost use Rattle.cxx_form.specs.Parts.{bases_unless, class_parts, front_parts, is_none, member_at, member_if, members_at};
-ghost use Rattle.cxx_form.specs.Text.{class_definition_words, class_end, class_front, class_key_of, class_words, is_mutable_by, is_mutable_of, member_lines, member_words, mutable_words, typed_words};
+ghost use Rattle.cxx_form.specs.Text.{class_definition_words, class_end, class_front, class_key_of, class_words, is_mutable_by, is_mutable_of, is_static_by, is_static_kind, is_static_of, member_lines, member_words, mutable_words, nonstatic_words, static_words, typed_words};
 ghost use Rattle.cxx_form.specs.Views.{facts_in};
 
 use crate::bases::{bases, write_bases};
@@ -23,7 +23,7 @@ use crate::facts::find;
 use crate::heads::object_type;
 use crate::members::is_first;
 use crate::words::{write_declared, write_name};
-use cxx_model::{Entity, FactId, ScopeId, TypeId};
+use cxx_model::{Entity, FactId, MemberKind, ScopeId, TypeId};
 use cxx_page::{Page, PlainFault};
 use cxx_reading::Role;
 use cxx_tree::State;
@@ -126,13 +126,62 @@ fn write_type_and_name(book: &Book<'_>, page: &mut Page, number: FactId) -> Resu
     write_typed(book, page, object_type(book.state, number), number)
 }
 
+// Writes what stands behind `static`.
+#[tactic(auto, using(cxx_page::proofs::Put::put_append))]
+fn write_nonstatic(book: &Book<'_>, page: &mut Page, number: FactId) -> Result<(), PlainFault>
+    requires { IsBook book.now }
+    ensures { Writes result page.new (put (nonstatic_words (names_of book.now) (facts_of book.now) number.0) page.old) }
+{
+    write_mutable(page, is_mutable(book.state, number))?;
+    write_type_and_name(book, page, number)
+}
+
+fn is_static_kind(member: MemberKind) -> bool
+    ensures { result ≡ is_static_kind member }
+{
+    match member {
+        MemberKind::Static => true,
+        _ => false,
+    }
+}
+
+fn is_static_in(what: Entity) -> bool
+    ensures { (types : List CxxType) → result ≡ is_static_by (declares_at types what) }
+{
+    match what {
+        Entity::Object { member, .. } => is_static_kind(member),
+        _ => false,
+    }
+}
+
+// Whether an object is a static member (9.4).
+fn is_static(state: &State, number: FactId) -> bool
+    ensures { result ≡ is_static_of (slice_get (facts_in state.now) number.0) }
+{
+    match find(state, number) {
+        Some(fact) => is_static_in(fact.what),
+        None => false,
+    }
+}
+
+// Writes `static` where a member is.
+#[tactic(auto, using(cxx_page::proofs::Put::put_none))]
+fn write_static(page: &mut Page, is_static: bool) -> Result<(), PlainFault>
+    ensures { Writes result page.new (put (static_words is_static) page.old) }
+{
+    if !is_static {
+        return Ok(());
+    }
+    page.word(Role::Alone, b"static")
+}
+
 #[tactic(auto, using(cxx_page::proofs::Put::put_append))]
 fn write_declaration(book: &Book<'_>, page: &mut Page, number: FactId) -> Result<(), PlainFault>
     requires { IsBook book.now }
     ensures { Writes result page.new (put (member_words (names_of book.now) (facts_of book.now) number.0) page.old) }
 {
-    write_mutable(page, is_mutable(book.state, number))?;
-    write_type_and_name(book, page, number)
+    write_static(page, is_static(book.state, number))?;
+    write_nonstatic(book, page, number)
 }
 
 // Writes it behind two spaces.

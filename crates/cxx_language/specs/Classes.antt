@@ -1,11 +1,12 @@
 -- How a class is defined among the specifiers of a declaration (clause 9): its head, and its members up to its end.
-use Rattle.std.specs.Prelude.{ℕ, zero, suc, Bool, true, false, not, ◌&&◌, ◌||◌, if◌then◌else◌, List, [], ◌∷◌, ◌++◌, length, Some}
+use Rattle.std.specs.Prelude.{ℕ, zero, suc, Bool, true, false, not, ◌&&◌, ◌||◌, if◌then◌else◌, List, [], ◌∷◌, ◌++◌, length, Option, Some, None}
 use Rattle.std.specs.Str.{bytes_eq}
 use Rattle.cxx_model.specs.declared.facts.Access.{Access}
 use Rattle.cxx_model.specs.declared.facts.Access.TheVariants as access
 use Rattle.cxx_model.specs.declared.fault.FaultText.TheVariants as says
 use Rattle.cxx_model.specs.declared.fault.LeftOut.TheVariants as form
 use Rattle.cxx_model.specs.declared.keyword.TheConstants as keyword
+use Rattle.cxx_model.specs.declared.place.Place.{Place}
 use Rattle.cxx_model.specs.declared.punct.TheConstants as punct
 use Rattle.cxx_model.specs.declared.stop.LimitKind.TheVariants.{Nesting}
 use Rattle.cxx_model.specs.declared.token.TokenKind.{TokenKind}
@@ -17,16 +18,16 @@ use Rattle.cxx_reading.specs.declared.specifier.SpecifierPlace.TheVariants as wh
 use Rattle.cxx_reading.specs.Declarators.{Specifiers, Declarator, declared_type, has_type, is_function_type, is_reference}
 use Rattle.cxx_reading.specs.Labels.{label_from}
 use Rattle.cxx_reading.specs.Productions as production
-use Rattle.cxx_reading.specs.Reads.{Reads, Ahead, Turn, More, Done, ◌>>=◌, got, give, ask, fault_at, limited, looked, taken, tokens, kind_ahead, place_ahead, word_ahead, count_ahead, behind, repeat}
-use Rattle.cxx_reading.specs.Specifiers.{class_key, path_of, specifiers_at, specifiers_from}
+use Rattle.cxx_reading.specs.Reads.{Reads, Ahead, Asks, Turn, More, Done, ◌>>=◌, got, give, ask, fault_at, limited, looked, taken, tokens, kind_ahead, place_ahead, word_ahead, count_ahead, behind, repeat}
+use Rattle.cxx_reading.specs.Specifiers.{class_key, path_of_option, place_or, specifiers_at, specifiers_from}
 use Rattle.cxx_reading.specs.State.{CxxState}
 use Rattle.cxx_reading.specs.Syntax.{declarator_at}
 use Rattle.cxx_reading.specs.Members.{stand_in}
-use Rattle.cxx_reading.specs.Tokens.{begins_name, is_punct, is_keyword, is_name, not_built, path_taken, punct_taken, refused, token_taken}
+use Rattle.cxx_reading.specs.Tokens.{begins_name, is_punct, is_keyword, is_name, not_built, path_taken, punct_taken, refused, token_in}
 use Rattle.cxx_reading.specs.Trees.{CxxPath, CxxTree, last_part, tree_of}
-use Rattle.cxx_reading.specs.Units.{Said, Listed, declarator_ended, declarator_tree, declared_fits, give_trees, is_const_type, is_incomplete, is_unbounded, name_in, no_declarators, nothing_declared, said_by, simple_tree, specifiers_tree}
+use Rattle.cxx_reading.specs.Units.{Said, Listed, declarator_ended, declarator_tree, declared_fits, declared_synonym, give_trees, is_const_type, is_incomplete, is_unbounded, name_in, no_declarators, nothing_declared, said_by, simple_tree, specifiers_tree}
 use Rattle.cxx_declare.specs.Bases.{BaseOf, declare_base}
-use Rattle.cxx_declare.specs.ClassDefinitions.{begin_class, declare_member, end_class}
+use Rattle.cxx_declare.specs.ClassDefinitions.{begin_class, begin_unnamed, declare_member, end_class}
 use Rattle.cxx_language.specs.Asked.{asked, inner_at}
 use Rattle.cxx_language.specs.Bodies.{standing}
 
@@ -36,18 +37,42 @@ pub record Head : Type 0 where
   pub is_union : Bool
   -- 11: the access of members that no label stands before
   pub access : Access
-  pub name : Lexeme
+  pub name : Option Lexeme
+  -- that of its name, or of its key where it has none
+  pub place : Place
 
 abbrev pub key_access : TokenKind → Access
 key_access kind = if is_keyword keyword.CLASS kind then access.Private else access.Public
 
--- a key and a name, with the `:` of bases or the `{` ahead then
+-- the name that is ahead, if there is one, and what is ahead behind it
+abbrev pub name_ahead : Ahead → Option Lexeme
+name_ahead ahead = if is_name (kind_ahead ahead) then Some (token_in ahead.tokens) else None
+
+abbrev pub behind_name : Ahead → Ahead
+behind_name ahead = if is_name (kind_ahead ahead) then behind ahead else ahead
+
+abbrev pub name_or_none : Reads CxxState (Option Lexeme)
+name_or_none state ahead = got (name_ahead ahead) state (behind_name ahead)
+
+-- a key and a name, or a key alone, with the `:` of bases or the `{` ahead then
 unfoldable pub head_at : Reads CxxState Head
 head_at = do
   from ← looked
   key ← taken
-  name ← token_taken
-  give (record { is_union = is_keyword keyword.UNION (kind_ahead from); access = key_access (kind_ahead from); name = name })
+  name ← name_or_none
+  give (record { is_union = is_keyword keyword.UNION (kind_ahead from); access = key_access (kind_ahead from); name = name; place = place_or (place_ahead from) name })
+
+abbrev pub begins_by : Bool → Place → Option Lexeme → Asks CxxState ℕ
+begins_by is_union place (Some name) = begin_class is_union name
+begins_by is_union place None = begin_unnamed is_union place
+
+abbrev pub is_none : Option Lexeme → Bool
+is_none None = true
+is_none (Some name) = false
+
+-- the definition of a class with a head begins
+abbrev pub class_begins : Head → Asks CxxState ℕ
+class_begins head = begins_by head.is_union head.place head.name
 
 -- ---- one member (9.2)
 
@@ -59,9 +84,14 @@ no_bit_field name state ahead = if is_punct punct.COLON (kind_ahead ahead) then 
 unfoldable pub no_function : Lexeme → CxxType → Reads CxxState (Unit {0})
 no_function name of state ahead = if is_function_type of then fault_at name.place says.NotBuilt state ahead else got tt state ahead
 
--- 9.2: a member is of a complete type; that of its own class is none yet
-unfoldable pub whole_member : Lexeme → CxxType → Reads CxxState (Unit {0})
-whole_member name of state ahead = if is_unbounded of || is_incomplete state.graph of then fault_at name.place says.IncompleteClass state ahead else got tt state ahead
+-- 9.2, 9.4.2: a member that is not static is of a complete type; that of its own class is none yet
+unfoldable pub whole_member : Bool → Lexeme → CxxType → Reads CxxState (Unit {0})
+whole_member is_static name of state ahead =
+    if not is_static && (is_unbounded of || is_incomplete state.graph of) then fault_at name.place says.IncompleteClass state ahead else got tt state ahead
+
+-- 9.4.2: the value of a static constant is not read in a class yet
+unfoldable pub no_constant_value : Bool → CxxType → Reads CxxState (Unit {0})
+no_constant_value is_static of state ahead = if is_static && (is_const_type of && is_punct punct.EQUALS (kind_ahead ahead)) then not_built state ahead else got tt state ahead
 
 -- 7.1.1 p8: a constant and a reference are not mutable
 abbrev pub is_mutable_member : Said → CxxType → Bool
@@ -73,16 +103,27 @@ data_member label said declarator from = do
   narrow ← no_bit_field (name_in declarator)
   fits ← declared_fits said declarator
   object ← no_function (name_in declarator) (declared_type declarator.layers said.of)
-  number ← ask (declare_member label (is_mutable_member said (declared_type declarator.layers said.of)) (name_in declarator) (declared_type declarator.layers said.of))
-  whole ← whole_member (name_in declarator) (declared_type declarator.layers said.of)
+  number ← ask (declare_member label said.is_static (is_mutable_member said (declared_type declarator.layers said.of)) (name_in declarator) (declared_type declarator.layers said.of))
+  whole ← whole_member said.is_static (name_in declarator) (declared_type declarator.layers said.of)
+  bare ← no_constant_value said.is_static (declared_type declarator.layers said.of)
   to ← looked
   give (declarator_tree false (name_in declarator) (declared_type declarator.layers said.of) number declarator.parts from to)
+
+-- 7.1.3: a name of a type, given its declarator
+unfoldable pub synonym_member : Said → Declarator → Ahead → Reads CxxState CxxTree
+synonym_member said declarator from = do
+  fits ← declared_fits said declarator
+  declared_synonym said declarator from
+
+unfoldable pub declared_member : Access → Said → Declarator → Ahead → Reads CxxState CxxTree
+declared_member label said declarator from state ahead =
+    if said.is_typedef then synonym_member said declarator from state ahead else data_member label said declarator from state ahead
 
 unfoldable pub named_member_at : ℕ → Access → Said → Reads CxxState CxxTree
 named_member_at room label said = do
   from ← looked
   declarator ← declarator_at (asked room).kinds (inner_at room).types naming.Required
-  data_member label said declarator from
+  declared_member label said declarator from
 
 -- 9.3: a name and a bracket, a function, whose default arguments are read behind the class (3.3.6)
 abbrev pub begins_function : Ahead → Bool
@@ -92,7 +133,7 @@ begins_function ahead = is_name (kind_ahead ahead) && is_punct punct.LEFT_PARENT
 unfoldable pub member_at : ℕ → Access → Said → Reads CxxState CxxTree
 member_at room label said state ahead =
     if is_punct punct.COLON (kind_ahead ahead) then fault_at (place_ahead ahead) (says.LeftOut form.BitField) state ahead else (
-    if begins_function ahead then not_built state ahead else
+    if not said.is_typedef && begins_function ahead then not_built state ahead else
     named_member_at room label said state ahead)
 
 unfoldable pub member_step : ℕ → Access → Said → Listed → Reads CxxState (Turn Listed (List CxxTree))
@@ -103,10 +144,22 @@ members_by room label specifiers state ahead =
     if is_punct punct.SEMICOLON (kind_ahead ahead) then nothing_declared specifiers state ahead else
     repeat (member_step room label (said_by false specifiers)) give_trees (count_ahead ahead) no_declarators state ahead
 
-unfoldable pub member_declaration_at : ℕ → Access → Reads CxxState CxxTree
-member_declaration_at room label = do
+-- Classes nest: what is defined in a list takes the reader of a class, from its key on, behind specifiers, with less room.
+
+-- 7.1.5, clause 9: behind specifiers that were read: with a class, where one is defined there
+unfoldable pub nested_or_not : (Specifiers → Reads CxxState Specifiers) → ℕ → Specifiers → Reads CxxState Specifiers
+nested_or_not nested room so_far state ahead =
+    if has_type so_far then got so_far state ahead else
+    (nested so_far >>= specifiers_from (asked room).kinds (inner_at room).types where_.Member) state ahead
+
+-- 7.1.5, 9.2: the specifiers of a member
+unfoldable pub member_specifiers_by : (Specifiers → Reads CxxState Specifiers) → ℕ → Reads CxxState Specifiers
+member_specifiers_by nested room = specifiers_at (asked room).kinds (inner_at room).types where_.Member >>= nested_or_not nested room
+
+unfoldable pub member_declaration_by : (Specifiers → Reads CxxState Specifiers) → ℕ → Access → Reads CxxState CxxTree
+member_declaration_by nested room label = do
   from ← looked
-  specifiers ← specifiers_at (asked room).kinds (inner_at room).types where_.Member
+  specifiers ← member_specifiers_by nested room
   between ← looked
   declarators ← members_by room label specifiers
   to ← looked
@@ -138,28 +191,29 @@ abbrev pub begins_other : TokenKind → Bool
 begins_other kind = is_keyword keyword.USING kind || (is_keyword keyword.TEMPLATE kind || is_punct punct.TILDE kind)
 
 -- 12.1: the name of the class and a bracket
-abbrev pub begins_constructor : Lexeme → Ahead → Bool
-begins_constructor name ahead = is_name (kind_ahead ahead) && (bytes_eq (word_ahead ahead) name.spelling && is_punct punct.LEFT_PARENTHESIS (kind_ahead (behind ahead)))
+abbrev pub begins_constructor : Option Lexeme → Ahead → Bool
+begins_constructor None ahead = false
+begins_constructor (Some name) ahead = is_name (kind_ahead ahead) && (bytes_eq (word_ahead ahead) name.spelling && is_punct punct.LEFT_PARENTHESIS (kind_ahead (behind ahead)))
 
 -- constructors, destructors, using-declarations and templates of a class are not read yet
-abbrev pub comes_later : Lexeme → Ahead → Bool
+abbrev pub comes_later : Option Lexeme → Ahead → Bool
 comes_later name ahead = begins_other (kind_ahead ahead) || begins_constructor name ahead
 
 abbrev pub with_member : CxxTree → Members → Members
 with_member tree so_far = record so_far { trees = so_far.trees ++ tree ∷ [] }
 
-unfoldable pub declared_step : ℕ → Lexeme → Members → Reads CxxState (Turn Members (List CxxTree))
-declared_step room name so_far state ahead =
+unfoldable pub declared_step : (Specifiers → Reads CxxState Specifiers) → ℕ → Option Lexeme → Members → Reads CxxState (Turn Members (List CxxTree))
+declared_step nested room name so_far state ahead =
     if comes_later name ahead then not_built state ahead else
-    (member_declaration_at room so_far.access >>= λ tree. give (More (with_member tree so_far))) state ahead
+    (member_declaration_by nested room so_far.access >>= λ tree. give (More (with_member tree so_far))) state ahead
 
 -- a member, a label, `;` alone, or the end of the list
-unfoldable pub list_step : ℕ → Lexeme → Members → Reads CxxState (Turn Members (List CxxTree))
-list_step room name so_far state ahead =
+unfoldable pub list_step_by : (Specifiers → Reads CxxState Specifiers) → ℕ → Option Lexeme → Members → Reads CxxState (Turn Members (List CxxTree))
+list_step_by nested room name so_far state ahead =
     if is_punct punct.RIGHT_BRACE (kind_ahead ahead) then got (Done so_far.trees) state (behind ahead) else (
     if is_punct punct.SEMICOLON (kind_ahead ahead) then got (More so_far) state (behind ahead) else (
     if access_word (kind_ahead ahead) then access_step so_far state ahead else
-    declared_step room name so_far state ahead))
+    declared_step nested room name so_far state ahead))
 
 abbrev pub give_members : Members → Reads CxxState (List CxxTree)
 give_members so_far = give so_far.trees
@@ -167,11 +221,6 @@ give_members so_far = give so_far.trees
 -- the bases stand before the members
 abbrev pub behind_bases : List CxxTree → Access → Members
 behind_bases bases label = record { trees = bases; access = label }
-
--- behind the `{` of a class, with its end: its bases and members
-unfoldable pub list_at : ℕ → Head → List CxxTree → Reads CxxState (List CxxTree)
-list_at zero head bases = limited Nesting
-list_at (suc room) head bases = λ state ahead. repeat (list_step room head.name) give_members (count_ahead ahead) (behind_bases bases head.access) state ahead
 
 -- ---- its bases (clause 10)
 
@@ -251,24 +300,50 @@ bases_or_none outside class label state ahead = if is_punct punct.COLON (kind_ah
 -- ---- the whole
 
 abbrev pub class_tree : Head → ℕ → List CxxTree → Ahead → Ahead → CxxTree
-class_tree head n members from to = tree_of (record (label_from production.class_definition (class_key head.is_union) from to) { place = head.name.place; path = Some (path_of head.name); of = Some (class_type n) }) members
+class_tree head n members from to = tree_of (record (label_from production.class_definition (class_key head.is_union) from to) { place = head.place; path = path_of_option head.name; of = Some (class_type n) }) members
 
 abbrev pub with_class : Specifiers → ℕ → CxxTree → Specifiers
 with_class so_far n tree = record so_far { named = Some (class_type n); stands_alone = true; parts = so_far.parts ++ tree ∷ [] }
 
--- from its key on
-unfoldable pub class_at : ℕ → Specifiers → Reads CxxState Specifiers
-class_at room so_far = do
+-- 9.5: A union without a name that declares no object is anonymous. That is told behind its `}`, at its key.
+unfoldable pub no_anonymous_union : Head → Reads CxxState (Unit {0})
+no_anonymous_union head state ahead =
+    if head.is_union && (is_none head.name && is_punct punct.SEMICOLON (kind_ahead ahead)) then fault_at head.place (says.LeftOut form.AnonymousUnion) state ahead else got tt state ahead
+
+-- from its key on, given how the list of its members is read
+unfoldable pub class_by : (Head → List CxxTree → Reads CxxState (List CxxTree)) → Specifiers → Reads CxxState Specifiers
+class_by list so_far = do
   outside ← standing
   from ← looked
   head ← head_at
-  number ← ask (begin_class head.is_union head.name)
+  number ← ask (class_begins head)
   bases ← bases_or_none outside number head.access
   opened ← taken
-  members ← list_at room head bases
-  ended ← ask (end_class number head.name.place)
+  members ← list head bases
+  ended ← ask (end_class number head.place)
+  whole ← no_anonymous_union head
   to ← looked
   give (with_class so_far number (class_tree head number members from to))
+
+-- behind the `{` of a class, with its end: its bases and members
+unfoldable pub list_at : ℕ → Head → List CxxTree → Reads CxxState (List CxxTree)
+list_at zero head bases = limited Nesting
+list_at (suc room) head bases = λ state ahead. repeat (list_step_by (class_by (list_at room)) room head.name) give_members (count_ahead ahead) (behind_bases bases head.access) state ahead
+
+-- from its key on
+unfoldable pub class_at : ℕ → Specifiers → Reads CxxState Specifiers
+class_at room = class_by (list_at room)
+
+-- ---- the same with room for so many more braces
+
+abbrev pub list_step : ℕ → Option Lexeme → Members → Reads CxxState (Turn Members (List CxxTree))
+list_step room = list_step_by (class_at room) room
+
+abbrev pub member_declaration_at : ℕ → Access → Reads CxxState CxxTree
+member_declaration_at room = member_declaration_by (class_at room) room
+
+abbrev pub member_specifiers : ℕ → Reads CxxState Specifiers
+member_specifiers room = member_specifiers_by (class_at room) room
 
 -- behind those that were read: with a class, where one is defined there
 unfoldable pub class_or_not : ℕ → Specifiers → Reads CxxState Specifiers

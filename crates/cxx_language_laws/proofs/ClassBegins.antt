@@ -17,7 +17,7 @@ use Rattle.cxx_reading.specs.Paths.{space_in}
 use Rattle.cxx_reading.specs.Reads.{Ahead}
 use Rattle.cxx_reading.specs.Seen.{declared_in}
 use Rattle.cxx_reading.specs.State.{CxxState}
-use Rattle.cxx_declare.specs.ClassDefinitions.{added_each, begin_class, begun_as, class_end, class_here, class_scope, declare_member, define_again, define_by, define_new, end_class, ended_as, enter_class, injected_name, member_here}
+use Rattle.cxx_declare.specs.ClassDefinitions.{added_each, begin_class, begin_unnamed, begun_as, class_end, class_here, class_scope, declare_member, define_again, define_by, define_new, end_class, ended_as, enter_class, enter_unnamed, injected_name, member_here, unnamed_here}
 use Rattle.cxx_language_laws.proofs.Classed.{reserved_tells, still_within}
 use Rattle.cxx_language_laws.proofs.Later.{IsLater, added_behind, added_tells, declare_tells, free_quiet, later_is_kept, may_be_added, turned, undefined_quiet}
 use Rattle.cxx_language_laws.proofs.Opened.{InSpace, IsRound, added_is, quiet_then, round_grown, scope_round, space_closed, stands_in, then_answer}
@@ -67,11 +67,31 @@ begin_tells is_union name state ahead = by (first_class (declared_in state.graph
     by None = define_new_tells name is_union state ahead
     by (Some one) = define_again_tells name is_union one.number state ahead
 
+-- without a name
+enter_unnamed_tells : (old t : CxxState) (ahead : Ahead) (place : Place) (n : ℕ) → IsLater old t → ToldBy InSpace Quietly old ahead (enter_unnamed place n t)
+unfolding enter_unnamed
+enter_unnamed_tells old t ahead place n later =
+    let scope = class_scope t place n in
+    let inner = scope_count t.graph in
+    then_answer old t ahead _ (added_tells scope t ahead refl (may_be_added t scope refl tt)) (λ opened is first.
+    let same = added_is scope t opened is in
+    let round : IsRound t.here.scope opened.1.graph inner = subst (λ (u : CxxState). IsRound t.here.scope u.graph inner) (sym same) (scope_round (scope_kind.Class (class_id n)) t place) in
+    tells_answer (begun_as n inner opened) (stands_in old opened.1 inner (later_is_kept.later old t opened.1 later first) (λ is. subst (λ (one : ℕ). IsRound one opened.1.graph inner) (later.here is) round)))
+
+pub unnamed_tells : (is_union : Bool) (place : Place) (state : CxxState) (ahead : Ahead) → ToldBy InSpace Quietly state ahead (begin_unnamed is_union place state)
+unfolding begin_unnamed
+unnamed_tells is_union place state ahead =
+    let n = class_count state.graph in
+    let fact = unnamed_here state place n is_union in
+    then_answer state state ahead _ (reserved_tells state ahead) (λ answer is later.
+    then_answer state state ahead _ (added_behind state answer.1 ahead fact later (λ scopes. still_within state answer.1 state.here.scope later.grown scopes.within) (λ scopes. may_stand answer.1.graph.facts fact refl tt)) (λ last is_last more.
+    enter_unnamed_tells state (with_definition last.0 last.1) ahead place n (turned state last.1 (with_definition last.0 last.1) more refl refl refl)))
+
 -- ---- its members
 
-pub member_tells : (access : Access) (is_mutable : Bool) (name : Lexeme) (of : CxxType) (state : CxxState) (ahead : Ahead) → ToldBy IsLater Quietly state ahead (declare_member access is_mutable name of state)
+pub member_tells : (access : Access) (is_static is_mutable : Bool) (name : Lexeme) (of : CxxType) (state : CxxState) (ahead : Ahead) → ToldBy IsLater Quietly state ahead (declare_member access is_static is_mutable name of state)
 unfolding declare_member
-member_tells access is_mutable name of state ahead = declare_tells (member_here state access is_mutable name of) name.spelling state ahead refl (may_be_added state (member_here state access is_mutable name of) refl tt)
+member_tells access is_static is_mutable name of state ahead = declare_tells (member_here state access is_static is_mutable name of) name.spelling state ahead refl (may_be_added state (member_here state access is_static is_mutable name of) refl tt)
 
 -- ---- it ends
 

@@ -1,37 +1,40 @@
 -- Where the reading of a class stops, and of the specifiers among which it is defined.
 use Rattle.std.proofs.Common.{arith, ◌≡◌, refl}
-use Rattle.std.specs.Prelude.{ℕ, zero, suc, Bool, false, not, ◌&&◌, ◌||◌, List, [], Ok, Err}
+use Rattle.std.specs.Prelude.{ℕ, zero, suc, Bool, true, false, not, ◌&&◌, ◌||◌, if◌then◌else◌, List, [], Option, Some, None, Ok, Err}
 use Rattle.cxx_model.specs.declared.facts.Access.{Access}
 use Rattle.cxx_model.specs.declared.keyword.TheConstants as keyword
+use Rattle.cxx_model.specs.declared.place.Place.{Place}
 use Rattle.cxx_model.specs.declared.punct.TheConstants as punct
 use Rattle.cxx_model.specs.Stops.{Answer, Stopped}
 use Rattle.cxx_model.specs.Text.Lexemes.{Lexeme}
 use Rattle.cxx_model.specs.Types.Trees.{CxxType}
+use Rattle.cxx_reading.specs.declared.specifier.SpecifierPlace.{SpecifierPlace}
 use Rattle.cxx_reading.specs.declared.specifier.SpecifierPlace.TheVariants as where_
 use Rattle.cxx_reading.specs.Declarators.{Declarator, Specifiers, declared_type, has_type, is_function_type, is_void, refused_in, is_refused}
 use Rattle.cxx_reading.specs.Declaring.{at_scope}
 use Rattle.cxx_reading.specs.Members.{stand_in}
-use Rattle.cxx_reading.specs.Reads.{Ahead, Got, Reads, More, Done, ◌>>=◌, then_read, answered, ask, taken, looked, give, count_ahead, kind_ahead, behind}
+use Rattle.cxx_reading.specs.Reads.{Ahead, Got, Reads, More, Done, ◌>>=◌, then_read, answered, ask, taken, looked, give, count_ahead, kind_ahead, place_ahead, behind}
 use Rattle.cxx_reading.specs.State.{CxxState}
-use Rattle.cxx_reading.specs.Tokens.{is_keyword, is_punct, token_in}
+use Rattle.cxx_reading.specs.Specifiers.{place_or}
+use Rattle.cxx_reading.specs.Tokens.{is_keyword, is_name, is_punct}
 use Rattle.cxx_reading.specs.Trees.{CxxTree}
-use Rattle.cxx_reading.specs.Units.{Listed, Said, declared_fits, declarator_tree, give_trees, is_incomplete, is_unbounded, name_in, no_declarators, said_by, simple_tree, specifiers_tree}
-use Rattle.cxx_declare.specs.ClassDefinitions.{begin_class, end_class}
-use Rattle.cxx_language.specs.Classes.{BaseList, Head, Members, access_by, access_step, access_word, bases_at, bases_in, bases_or_none, begins_function, behind_bases, class_at, class_or_not, class_tree, comes_later, data_member, declaration_specifiers, declared_step, give_members, head_at, is_mutable_member, key_access, list_at, list_step, member_at, member_declaration_at, member_step, members_by, named_member_at, no_bit_field, no_function, whole_member, with_class, with_member}
-use Rattle.cxx_language_laws.specs.Stopping.{BeginsClass, Gives, NamesBases, a_class, a_member_declaration, a_simple_declaration, begins_class, behind_class, further_specifiers_of, in_bases, in_class, in_member, in_member_declarator, in_member_specifiers, in_specifiers, names_bases, next_member, next_member_declarator, some_bases, some_further_specifiers, some_member_declarators, some_members, to_class, to_member_declarators}
+use Rattle.cxx_reading.specs.Units.{Listed, Said, declared_fits, declarator_tree, give_trees, is_const_type, is_incomplete, is_unbounded, name_in, no_declarators, said_by, simple_tree, specifiers_tree}
+use Rattle.cxx_declare.specs.ClassDefinitions.{end_class}
+use Rattle.cxx_language.specs.Classes.{BaseList, Head, Members, access_by, access_step, access_word, bases_at, bases_in, bases_or_none, begins_by, begins_function, behind_bases, behind_name, class_at, class_begins, class_by, class_or_not, class_tree, comes_later, data_member, declaration_specifiers, declared_member, declared_step, give_members, head_at, is_mutable_member, is_none, key_access, list_at, list_step, list_step_by, member_at, member_declaration_at, member_declaration_by, member_step, member_specifiers, member_specifiers_by, members_by, name_ahead, named_member_at, nested_or_not, no_anonymous_union, no_bit_field, no_function, no_constant_value, synonym_member, whole_member, with_class, with_member}
+use Rattle.cxx_language_laws.specs.Stopping.{BeginsClass, Gives, NamesBases, a_class, a_member_declaration, a_simple_declaration, begins_class, behind_class, behind_member_class, further_specifiers_of, in_bases, in_class, in_member, in_member_declarator, in_member_specifiers, in_specifiers, names_bases, next_member, next_member_declarator, some_bases, some_further_specifiers, some_member_declarators, some_members, to_class, to_member_class, to_member_declarators}
 use Rattle.cxx_language_laws.specs.Told.{EndsIn}
 use Rattle.cxx_language_laws.proofs.Asked.{kinds_tell}
 use Rattle.cxx_language_laws.proofs.Bases.{bases_stop}
 use Rattle.cxx_language_laws.proofs.Both.{both_tell}
-use Rattle.cxx_language_laws.proofs.ClassBegins.{begin_tells, end_tells, member_tells}
-use Rattle.cxx_language_laws.proofs.Declared.{declarator_ended_tells, give_trees_tells, nothing_tells}
+use Rattle.cxx_language_laws.proofs.ClassBegins.{begin_tells, end_tells, member_tells, unnamed_tells}
+use Rattle.cxx_language_laws.proofs.Declared.{declared_synonym_tells, declarator_ended_tells, give_trees_tells, nothing_tells}
 use Rattle.cxx_language_laws.proofs.DeclaratorsStop.{declarator_stops, specifiers_stop}
 use Rattle.cxx_language_laws.proofs.Later.{IsLater, grown_later, grown_same, later_is_kept, later_is_quiet, same_calls}
 use Rattle.cxx_language_laws.proofs.Opened.{InSpace, round_grown, stands_in}
 use Rattle.cxx_language_laws.proofs.Reached.{behind_by_later, count_more, later_is_told}
 use Rattle.cxx_language_laws.proofs.Scopes.{scope_is_there, scopes_at}
 use Rattle.cxx_language_laws.proofs.Stopping.{ChainedOf, Inside, InsideBy, Stops, calm, calm_from, innermost_stops, leads_here, leads_in, quiet_told, repeat_stops, then_calm, told_within, which_in, whole_calm, whole_stops, within_part}
-use Rattle.cxx_language_laws.proofs.Tells.{Quietly, Tells, ToldBy, ask_from, ask_in, ends_later, give_in, if_in, looked_in, next_in, past_stands, punct_in, quiet_in, same_in, taken_in, tells_answer, tells_read, tells_refusal, tells_stop, then_from, then_in, tokens_in, twice_behind, unit_is_told}
+use Rattle.cxx_language_laws.proofs.Tells.{Quietly, Tells, ToldBy, ask_from, ask_in, behind_stands, ends_later, give_in, if_in, looked_in, next_in, past_stands, punct_in, quiet_in, same_in, taken_in, tells_answer, tells_read, tells_refusal, tells_stop, then_from, then_in, tokens_in, unit_is_told}
 use Rattle.cxx_language_laws.proofs.TellsSpecifiers.{further_tell}
 
 -- ---- one member (9.2)
@@ -44,9 +47,13 @@ no_function_tells : (name : Lexeme) (of : CxxType) → Tells IsLater Quietly (no
 unfolding no_function
 no_function_tells name of state ahead = if_in (is_function_type of) (quiet_in later_is_quiet refl) (same_in later_is_quiet tt state ahead)
 
-whole_member_tells : (name : Lexeme) (of : CxxType) → Tells IsLater Quietly (whole_member name of)
+whole_member_tells : (is_static : Bool) (name : Lexeme) (of : CxxType) → Tells IsLater Quietly (whole_member is_static name of)
 unfolding whole_member
-whole_member_tells name of state ahead = if_in (is_unbounded of || is_incomplete state.graph of) (quiet_in later_is_quiet refl) (same_in later_is_quiet tt state ahead)
+whole_member_tells is_static name of state ahead = if_in (not is_static && (is_unbounded of || is_incomplete state.graph of)) (quiet_in later_is_quiet refl) (same_in later_is_quiet tt state ahead)
+
+no_constant_value_tells : (is_static : Bool) (of : CxxType) → Tells IsLater Quietly (no_constant_value is_static of)
+unfolding no_constant_value
+no_constant_value_tells is_static of state ahead = if_in (is_static && (is_const_type of && is_punct punct.EQUALS (kind_ahead ahead))) (quiet_in later_is_quiet refl) (same_in later_is_quiet tt state ahead)
 
 fits_tells : (said : Said) (declarator : Declarator) → Tells IsLater Quietly (declared_fits said declarator)
 unfolding declared_fits
@@ -60,19 +67,28 @@ data_member_tells label said declarator from state ahead =
     then_in later_is_quiet (no_bit_field_tells name state ahead) (λ narrow state ahead.
     then_in later_is_quiet (fits_tells said declarator state ahead) (λ fits state ahead.
     then_in later_is_quiet (no_function_tells name of state ahead) (λ object state ahead.
-    then_in later_is_quiet (ask_in ahead (member_tells label (is_mutable_member said of) name of state ahead)) (λ number state ahead.
-    then_in later_is_quiet (whole_member_tells name of state ahead) (λ whole state ahead.
-    then_in later_is_quiet (looked_in later_is_quiet state ahead) (λ to. give_in later_is_quiet (declarator_tree false name of number declarator.parts from to)))))))
+    then_in later_is_quiet (ask_in ahead (member_tells label said.is_static (is_mutable_member said of) name of state ahead)) (λ number state ahead.
+    then_in later_is_quiet (whole_member_tells said.is_static name of state ahead) (λ whole state ahead.
+    then_in later_is_quiet (no_constant_value_tells said.is_static of state ahead) (λ bare state ahead.
+    then_in later_is_quiet (looked_in later_is_quiet state ahead) (λ to. give_in later_is_quiet (declarator_tree false name of number declarator.parts from to))))))))
+
+synonym_member_tells : (said : Said) (declarator : Declarator) (from : Ahead) → Tells IsLater Quietly (synonym_member said declarator from)
+unfolding synonym_member
+synonym_member_tells said declarator from state ahead = then_in later_is_quiet (fits_tells said declarator state ahead) (λ fits. declared_synonym_tells said declarator from)
+
+declared_member_tells : (label : Access) (said : Said) (declarator : Declarator) (from : Ahead) → Tells IsLater Quietly (declared_member label said declarator from)
+unfolding declared_member
+declared_member_tells label said declarator from state ahead = if_in said.is_typedef (synonym_member_tells said declarator from state ahead) (data_member_tells label said declarator from state ahead)
 
 named_member_stops : (room : ℕ) (label : Access) (said : Said) (so_far : Listed) (state : CxxState) (ahead : Ahead) → Inside (some_member_declarators room label said so_far) state ahead (named_member_at room label said state ahead)
 unfolding named_member_at
-named_member_stops room label said so_far state ahead = then_calm (leads_here in_member_declarator (declarator_stops room state ahead)) (λ declarator. data_member_tells label said declarator ahead)
+named_member_stops room label said so_far state ahead = then_calm (leads_here in_member_declarator (declarator_stops room state ahead)) (λ declarator. declared_member_tells label said declarator ahead)
 
 member_at_stops : (room : ℕ) (label : Access) (said : Said) (so_far : Listed) (state : CxxState) (ahead : Ahead) → Inside (some_member_declarators room label said so_far) state ahead (member_at room label said state ahead)
 unfolding member_at
 member_at_stops room label said so_far state ahead =
     if_in (is_punct punct.COLON (kind_ahead ahead)) (calm (quiet_in later_is_quiet refl)) (
-    if_in (begins_function ahead) (calm (quiet_in later_is_quiet refl)) (
+    if_in (not said.is_typedef && begins_function ahead) (calm (quiet_in later_is_quiet refl)) (
     named_member_stops room label said so_far state ahead))
 
 member_step_stops : (room : ℕ) (label : Access) (said : Said) (so_far : Listed) (state : CxxState) (ahead : Ahead) → Inside (some_member_declarators room label said so_far) state ahead (member_step room label said so_far state ahead)
@@ -85,10 +101,25 @@ members_by_stop room label specifiers state ahead =
     if_in (is_punct punct.SEMICOLON (kind_ahead ahead)) (whole_calm (nothing_tells specifiers state ahead))
     (repeat_stops (some_member_declarators room label (said_by false specifiers)) (member_step room label (said_by false specifiers)) give_trees (λ so_far s ahead fault is. is) (λ so_far more s t ahead rest is. next_member_declarator is) (member_step_stops room label (said_by false specifiers)) give_trees_tells (count_ahead ahead) no_declarators state ahead)
 
-member_declaration_stops : (room : ℕ) (label : Access) (state : CxxState) (ahead : Ahead) → Stops (a_member_declaration room label) state ahead (member_declaration_at room label state ahead)
-unfolding member_declaration_at
-member_declaration_stops room label state ahead =
-    whole_stops (λ fault is. is) (then_from _ (leads_here in_member_specifiers (specifiers_stop room where_.Member state ahead)) (λ one is later stands.
+-- where the reading of a class that is defined stops, with room for so many more braces
+abbrev ClassStops : ℕ → Type 0
+ClassStops room = (so_far : Specifiers) (state : CxxState) (ahead : Ahead) → Stops (a_class room so_far) state ahead (class_at room so_far state ahead)
+
+further_stop : (room : ℕ) (place : SpecifierPlace) (so_far : Specifiers) (state : CxxState) (ahead : Ahead) → Stops (some_further_specifiers room place so_far) state ahead (further_specifiers_of room place so_far state ahead)
+further_stop room place so_far state ahead = innermost_stops tt (λ fault is. is) (further_tell later_is_told (kinds_tell room) (both_tell room).types place so_far state ahead)
+
+member_specifiers_stop : (room : ℕ) → ClassStops room → (label : Access) (state : CxxState) (ahead : Ahead) → Inside (a_member_declaration room label) state ahead (member_specifiers room state ahead)
+unfolding member_specifiers_by nested_or_not
+member_specifiers_stop room nested label state ahead =
+    then_from (nested_or_not (class_at room) room) (leads_here in_member_specifiers (specifiers_stop room where_.Member state ahead)) (λ one is later stands.
+    which_in (has_type one.value) (λ typed. calm_from later stands (same_in later_is_quiet one.value one.state one.rest)) (λ untyped.
+    then_from (further_specifiers_of room where_.Member) (leads_in (to_member_class is untyped) later stands (nested one.value one.state one.rest)) (λ more is_class further ends.
+    leads_in (behind_member_class is untyped is_class) further ends (further_stop room where_.Member more.value more.state more.rest))))
+
+member_declaration_stops : (room : ℕ) → ClassStops room → (label : Access) (state : CxxState) (ahead : Ahead) → Stops (a_member_declaration room label) state ahead (member_declaration_at room label state ahead)
+unfolding member_declaration_by
+member_declaration_stops room nested label state ahead =
+    whole_stops (λ fault is. is) (then_from _ (member_specifiers_stop room nested label state ahead) (λ one is later stands.
     then_calm (leads_in (to_member_declarators is) later stands (members_by_stop room label one.value one.state one.rest)) (λ declarators state rest.
     then_in later_is_quiet (looked_in later_is_quiet state rest) (λ to. give_in later_is_quiet (simple_tree (specifiers_tree one.value ahead one.rest) declarators ahead to)))))
 
@@ -101,18 +132,18 @@ access_tells so_far state ahead =
     then_in later_is_quiet (taken_in later_is_quiet state ahead) (λ word state ahead.
     then_in later_is_quiet (tokens_in later_is_quiet (punct_in unit_is_told punct.COLON) state ahead) (λ colon. give_in later_is_quiet (More (record so_far { access = access_by (kind_ahead from) })))))
 
-list_step_stops : (room : ℕ) (name : Lexeme) (so_far : Members) (state : CxxState) (ahead : Ahead) → Inside (some_members room name so_far) state ahead (list_step room name so_far state ahead)
-unfolding list_step declared_step
-list_step_stops room name so_far state ahead =
+list_step_stops : (room : ℕ) → ClassStops room → (name : Option Lexeme) (so_far : Members) (state : CxxState) (ahead : Ahead) → Inside (some_members room name so_far) state ahead (list_step room name so_far state ahead)
+unfolding list_step_by declared_step
+list_step_stops room nested name so_far state ahead =
     if_in (is_punct punct.RIGHT_BRACE (kind_ahead ahead)) (calm (next_in later_is_quiet (Done so_far.trees) state ahead)) (
     if_in (is_punct punct.SEMICOLON (kind_ahead ahead)) (calm (next_in later_is_quiet (More so_far) state ahead)) (
     if_in (access_word (kind_ahead ahead)) (calm (access_tells so_far state ahead)) (
     if_in (comes_later name ahead) (calm (quiet_in later_is_quiet refl))
-    (then_calm (leads_here in_member (member_declaration_stops room so_far.access state ahead)) (λ tree. give_in later_is_quiet (More (with_member tree so_far)))))))
+    (then_calm (leads_here in_member (member_declaration_stops room nested so_far.access state ahead)) (λ tree. give_in later_is_quiet (More (with_member tree so_far)))))))
 
-members_stop : (room : ℕ) (head : Head) (bases : List CxxTree) (state : CxxState) (ahead : Ahead) → Stops (some_members room head.name (behind_bases bases head.access)) state ahead (list_at (suc room) head bases state ahead)
-unfolding list_at
-members_stop room head bases state ahead = repeat_stops (some_members room head.name) (list_step room head.name) give_members (λ so_far s ahead fault is. is) (λ so_far more s t ahead rest is. next_member is) (list_step_stops room head.name) (λ so_far. give_in later_is_quiet so_far.trees) (count_ahead ahead) (behind_bases bases head.access) state ahead
+members_stop : (room : ℕ) → ClassStops room → (head : Head) (bases : List CxxTree) (state : CxxState) (ahead : Ahead) → Stops (some_members room head.name (behind_bases bases head.access)) state ahead (list_at (suc room) head bases state ahead)
+unfolding list_at class_at
+members_stop room nested head bases state ahead = repeat_stops (some_members room head.name) (list_step room head.name) give_members (λ so_far s ahead fault is. is) (λ so_far more s t ahead rest is. next_member is) (list_step_stops room nested head.name) (λ so_far. give_in later_is_quiet so_far.trees) (count_ahead ahead) (behind_bases bases head.access) state ahead
 
 -- ---- its bases
 
@@ -141,7 +172,7 @@ entered_again room so_far of state begun ahead colon names is stands (tells_stop
     tells_stop why (told_within (a_class room so_far) (some_bases of) state outside ahead (behind colon) why (in_bases names) (behind_by_later state outside (outside_later state begun is)) (past_stands ahead colon stands) told)
 
 -- where the class has some
-bases_or_none_stop : (room : ℕ) (so_far : Specifiers) (head : Head) (state : CxxState) (begun : ℕ × CxxState) (ahead colon : Ahead) → Gives head_at state ahead head state colon → begin_class head.is_union head.name state ≡ Ok begun → InSpace state begun.1 → EndsIn ahead.tokens colon.tokens
+bases_or_none_stop : (room : ℕ) (so_far : Specifiers) (head : Head) (state : CxxState) (begun : ℕ × CxxState) (ahead colon : Ahead) → Gives head_at state ahead head state colon → class_begins head state ≡ Ok begun → InSpace state begun.1 → EndsIn ahead.tokens colon.tokens
     → InsideBy InSpace (a_class room so_far) state ahead (bases_or_none state.here.scope begun.0 head.access begun.1 colon)
 unfolding bases_at
 bases_or_none_stop room so_far head state begun ahead colon gives begins is stands =
@@ -156,58 +187,82 @@ data InsideClass (room : ℕ) (so_far : Specifiers) (state : CxxState) (ahead : 
   read_inside : (one : Got CxxState (List CxxTree)) → IsLater opened one.state → EndsIn rest.tokens one.rest.tokens → InsideClass room so_far state ahead opened rest (Ok one)
   stopped_inside : (why : Stopped) → ChainedOf within_part (a_class room so_far) state ahead why → InsideClass room so_far state ahead opened rest (Err why)
 
-inside_class : (room : ℕ) (so_far : Specifiers) (head : Head) (bases : List CxxTree) (state opened : CxxState) (ahead rest : Ahead) → BeginsClass state ahead head bases opened rest → InSpace state opened → EndsIn ahead.tokens rest.tokens → InsideClass room so_far state ahead opened rest (list_at room head bases opened rest)
+-- where the reading of its members stops
+abbrev MembersStop : ℕ → Type 0
+MembersStop room = (so_far : Specifiers) (head : Head) (bases : List CxxTree) (state opened : CxxState) (ahead rest : Ahead) → BeginsClass state ahead head bases opened rest → InSpace state opened → EndsIn ahead.tokens rest.tokens → InsideClass room so_far state ahead opened rest (list_at room head bases opened rest)
+
+inside_none : MembersStop zero
 unfolding list_at
-inside_class zero so_far head bases state opened ahead rest begins is stands = stopped_inside _ tt
-inside_class (suc room) so_far head bases state opened ahead rest begins is stands = by (members_stop room head bases opened rest)
+inside_none so_far head bases state opened ahead rest begins is stands = stopped_inside _ tt
+
+inside_class : (room : ℕ) → ClassStops room → MembersStop (suc room)
+inside_class room nested so_far head bases state opened ahead rest begins is stands = by (members_stop room nested head bases opened rest)
   where
     by : {r : Answer (Got CxxState (List CxxTree))} → Stops (some_members room head.name (behind_bases bases head.access)) opened rest r → InsideClass (suc room) so_far state ahead opened rest r
     by (tells_read one later ends) = read_inside one later ends
     by (tells_stop why told) = stopped_inside why (told_within (a_class (suc room) so_far) (some_members room head.name (behind_bases bases head.access)) state opened ahead rest why (in_class begins) (record { grown = is.grown; scopes = is.scopes }) stands told)
 
+no_anonymous_tells : (head : Head) → Tells IsLater Quietly (no_anonymous_union head)
+unfolding no_anonymous_union
+no_anonymous_tells head state ahead = if_in (head.is_union && (is_none head.name && is_punct punct.SEMICOLON (kind_ahead ahead))) (quiet_in later_is_quiet refl) (same_in later_is_quiet tt state ahead)
+
 -- behind them the reader stands where it did
 abbrev behind_members : Specifiers → Head → ℕ → Ahead → List CxxTree → Reads CxxState Specifiers
-behind_members so_far head number from members = ask (end_class number head.name.place) >>= λ ended. looked >>= λ to. give (with_class so_far number (class_tree head number members from to))
+behind_members so_far head number from members = ask (end_class number head.place) >>= λ ended. no_anonymous_union head >>= λ whole. looked >>= λ to. give (with_class so_far number (class_tree head number members from to))
 
 class_ends : (room : ℕ) (so_far : Specifiers) (head : Head) (number : ℕ) (state opened : CxxState) (ahead rest : Ahead) → InSpace state opened → EndsIn ahead.tokens rest.tokens → {r : Answer (Got CxxState (List CxxTree))} → InsideClass room so_far state ahead opened rest r → Inside (a_class room so_far) state ahead (then_read r (behind_members so_far head number ahead))
 class_ends room so_far head number state opened ahead rest is stands (read_inside one later ends) =
-    calm (then_in later_is_quiet (ask_from one.rest (ends_later ahead.tokens rest.tokens one.rest.tokens stands ends) (end_tells state opened one.state ahead number head.name.place is later)) (λ ended state after.
-    then_in later_is_quiet (looked_in later_is_quiet state after) (λ to. give_in later_is_quiet (with_class so_far number (class_tree head number one.value ahead to)))))
+    calm (then_in later_is_quiet (ask_from one.rest (ends_later ahead.tokens rest.tokens one.rest.tokens stands ends) (end_tells state opened one.state ahead number head.place is later)) (λ ended state after.
+    then_in later_is_quiet (no_anonymous_tells head state after) (λ whole state after.
+    then_in later_is_quiet (looked_in later_is_quiet state after) (λ to. give_in later_is_quiet (with_class so_far number (class_tree head number one.value ahead to))))))
 class_ends room so_far head number state opened ahead rest is stands (stopped_inside why told) = tells_stop why told
 
 -- behind the bases
 abbrev behind_bases_of : ℕ → Specifiers → Head → ℕ → Ahead → List CxxTree → Reads CxxState Specifiers
 behind_bases_of room so_far head number from bases = taken >>= λ opened. list_at room head bases >>= behind_members so_far head number from
 
-based_stops : (room : ℕ) (so_far : Specifiers) (head : Head) (state : CxxState) (ahead colon : Ahead) (begun : ℕ × CxxState) → Gives head_at state ahead head state colon → begin_class head.is_union head.name state ≡ Ok begun → {r : Answer (Got CxxState (List CxxTree))} → InsideBy InSpace (a_class room so_far) state ahead r
+based_stops : (room : ℕ) → MembersStop room → (so_far : Specifiers) (head : Head) (state : CxxState) (ahead colon : Ahead) (begun : ℕ × CxxState) → Gives head_at state ahead head state colon → class_begins head state ≡ Ok begun → {r : Answer (Got CxxState (List CxxTree))} → InsideBy InSpace (a_class room so_far) state ahead r
     → ((one : Got CxxState (List CxxTree)) → r ≡ Ok one → bases_or_none state.here.scope begun.0 head.access begun.1 colon ≡ Ok one) → Inside (a_class room so_far) state ahead (then_read r (behind_bases_of room so_far head begun.0 ahead))
-based_stops room so_far head state ahead colon begun gives begins (tells_read one is stands) reads =
+based_stops room inside so_far head state ahead colon begun gives begins (tells_read one is stands) reads =
     class_ends room so_far head begun.0 state one.state ahead (behind one.rest) is (past_stands ahead one.rest stands)
-    (inside_class room so_far head one.value state one.state ahead (behind one.rest) (begins_class colon one.rest begun one.state gives begins (reads one refl)) is (past_stands ahead one.rest stands))
-based_stops room so_far head state ahead colon begun gives begins (tells_stop why told) reads = tells_stop why told
+    (inside so_far head one.value state one.state ahead (behind one.rest) (begins_class colon one.rest begun one.state gives begins (reads one refl)) is (past_stands ahead one.rest stands))
+based_stops room inside so_far head state ahead colon begun gives begins (tells_stop why told) reads = tells_stop why told
 
-begun_stops : (room : ℕ) (so_far : Specifiers) (head : Head) (state : CxxState) (ahead colon : Ahead) → Gives head_at state ahead head state colon → EndsIn ahead.tokens colon.tokens → {r : Answer (ℕ × CxxState)} → ToldBy InSpace Quietly state colon r → ((begun : ℕ × CxxState) → r ≡ Ok begun → begin_class head.is_union head.name state ≡ Ok begun)
+begun_stops : (room : ℕ) → MembersStop room → (so_far : Specifiers) (head : Head) (state : CxxState) (ahead colon : Ahead) → Gives head_at state ahead head state colon → EndsIn ahead.tokens colon.tokens → {r : Answer (ℕ × CxxState)} → ToldBy InSpace Quietly state colon r → ((begun : ℕ × CxxState) → r ≡ Ok begun → class_begins head state ≡ Ok begun)
     → Inside (a_class room so_far) state ahead (then_read (answered r colon) (λ number. bases_or_none state.here.scope number head.access >>= behind_bases_of room so_far head number ahead))
-begun_stops room so_far head state ahead colon gives stands (tells_answer one is) begins =
-    based_stops room so_far head state ahead colon one gives (begins one refl) (bases_or_none_stop room so_far head state one ahead colon gives (begins one refl) is stands) (λ bases reads. reads)
-begun_stops room so_far head state ahead colon gives stands (tells_refusal why quiet) begins = tells_stop why (quiet_told within_part (a_class room so_far) state ahead why quiet)
+begun_stops room inside so_far head state ahead colon gives stands (tells_answer one is) begins =
+    based_stops room inside so_far head state ahead colon one gives (begins one refl) (bases_or_none_stop room so_far head state one ahead colon gives (begins one refl) is stands) (λ bases reads. reads)
+begun_stops room inside so_far head state ahead colon gives stands (tells_refusal why quiet) begins = tells_stop why (quiet_told within_part (a_class room so_far) state ahead why quiet)
 
-class_stops : (room : ℕ) (so_far : Specifiers) (state : CxxState) (ahead : Ahead) → Stops (a_class room so_far) state ahead (class_at room so_far state ahead)
-unfolding class_at head_at
-class_stops room so_far state ahead = whole_stops (λ fault is. is) (begun_stops room so_far head state ahead (behind (behind ahead)) refl (twice_behind ahead) (begin_tells head.is_union head.name state (behind (behind ahead))) (λ begun is. is))
+-- behind a name, where there is one
+name_stands : (from ahead : Ahead) → EndsIn from.tokens ahead.tokens → EndsIn from.tokens (behind_name ahead).tokens
+name_stands from ahead stands = by (is_name (kind_ahead ahead))
+  where
+    by : (b : Bool) → EndsIn from.tokens (if b then behind ahead else ahead).tokens
+    by true = past_stands from ahead stands
+    by false = stands
+
+begins_tells : (is_union : Bool) (place : Place) (name : Option Lexeme) (state : CxxState) (ahead : Ahead) → ToldBy InSpace Quietly state ahead (begins_by is_union place name state)
+begins_tells is_union place (Some name) state ahead = begin_tells is_union name state ahead
+begins_tells is_union place None state ahead = unnamed_tells is_union place state ahead
+
+class_stops_by : (room : ℕ) → MembersStop room → ClassStops room
+unfolding class_at class_by head_at
+class_stops_by room inside so_far state ahead = whole_stops (λ fault is. is) (begun_stops room inside so_far head state ahead (behind_name (behind ahead)) refl (name_stands ahead (behind ahead) (behind_stands ahead)) (begins_tells head.is_union head.place head.name state (behind_name (behind ahead))) (λ begun is. is))
   where
     head : Head
-    head = record { is_union = is_keyword keyword.UNION (kind_ahead ahead); access = key_access (kind_ahead ahead); name = token_in (behind ahead).tokens }
+    head = record { is_union = is_keyword keyword.UNION (kind_ahead ahead); access = key_access (kind_ahead ahead); name = name_ahead (behind ahead); place = place_or (place_ahead ahead) (name_ahead (behind ahead)) }
+
+class_stops : (room : ℕ) → ClassStops room
+class_stops zero = class_stops_by zero inside_none
+class_stops (suc room) = class_stops_by (suc room) (inside_class room (class_stops room))
 
 -- ---- the specifiers of a declaration of a namespace
-
-further_stop : (room : ℕ) (so_far : Specifiers) (state : CxxState) (ahead : Ahead) → Stops (some_further_specifiers room so_far) state ahead (further_specifiers_of room so_far state ahead)
-further_stop room so_far state ahead = innermost_stops tt (λ fault is. is) (further_tell later_is_told (kinds_tell room) (both_tell room).types where_.Declaration so_far state ahead)
 
 pub all_specifiers_stop : (room : ℕ) (as_extern : Bool) (state : CxxState) (ahead : Ahead) → Inside (a_simple_declaration room as_extern) state ahead (declaration_specifiers room state ahead)
 unfolding declaration_specifiers class_or_not
 all_specifiers_stop room as_extern state ahead =
     then_from (class_or_not room) (leads_here in_specifiers (specifiers_stop room where_.Declaration state ahead)) (λ one is later stands.
     which_in (has_type one.value) (λ typed. calm_from later stands (same_in later_is_quiet one.value one.state one.rest)) (λ untyped.
-    then_from (further_specifiers_of room) (leads_in (to_class is untyped) later stands (class_stops room one.value one.state one.rest)) (λ more is_class further ends.
-    leads_in (behind_class is untyped is_class) further ends (further_stop room more.value more.state more.rest))))
+    then_from (further_specifiers_of room where_.Declaration) (leads_in (to_class is untyped) later stands (class_stops room one.value one.state one.rest)) (λ more is_class further ends.
+    leads_in (behind_class is untyped is_class) further ends (further_stop room where_.Declaration more.value more.state more.rest))))

@@ -4,20 +4,24 @@ use Rattle.std.specs.Prelude.{if◌then◌else◌, ℤ, nat_eq, nat_lt}
 use Rattle.std.specs.List.{AllByRecursion, slice_get}
 use Rattle.std.proofs.lemmas.List.{append-nil, append_assoc, length-append}
 use Rattle.std.proofs.lemmas.Option.{slice_get_within}
+use Rattle.cxx_model.specs.declared.fault.FaultText.{FaultText}
+use Rattle.cxx_model.specs.declared.fault.FaultText.TheVariants as says
 use Rattle.cxx_model.specs.declared.place.Place.{Place}
+use Rattle.cxx_model.specs.declared.stop.Fault.{Fault}
 use Rattle.cxx_model.specs.declared.stop.LimitKind.TheVariants.{Facts}
 use Rattle.cxx_model.specs.declared.types.FactId.{FactId}
 use Rattle.cxx_model.specs.Facts.Conflicts.{scope_facts}
 use Rattle.cxx_model.specs.Facts.Declarations.{CxxFact, CxxGraph, CxxName, spelled}
 use Rattle.cxx_model.specs.Facts.Declarations as facts
-use Rattle.cxx_model.specs.Stops.{Answer, Stopped, Limited, ◌>>=◌}
+use Rattle.cxx_model.specs.Stops.{Answer, Stopped, Faulty, Limited, ◌>>=◌}
 use Rattle.cxx_model.specs.Text.Lexemes.{Lexeme}
 use Rattle.cxx_model.specs.Types.Integral.{one_holds}
 use Rattle.cxx_model.specs.Types.Trees.{CxxType}
 use Rattle.cxx_meaning.specs.Conversions.Enumerations.{values_in}
-use Rattle.cxx_reading.specs.Declaring.{with_fact, added, free, free_by, free_linked, declare, declare_linked_object, declare_synonym, declared_here, first_function, first_member_function, first_member_object, first_object, first_object_here, home_here, is_object, is_same_function, linked_as, linked_object_here, name_of, number_id, parameter_object, with_linked, word_of, declare_object, define_object, define_declared, undefined, undefined_by, defined_as, with_definition, declare_parameter, declare_enumeration, begun_as, declare_enumerator, declare_value, held, end_enumeration, kind_here, type_here, most_facts, fact_here, object_here, enumeration_count}
+use Rattle.cxx_reading.specs.Declaring.{with_fact, added, free, free_by, free_linked, declare, declare_linked_object, declare_synonym, declared_here, first_function, first_member_function, first_member_object, first_object, first_object_here, home_here, is_object, is_same_function, linked_as, linked_object_here, name_of, number_id, parameter_object, with_linked, word_of, declare_object, define_object, define_declared, undefined, undefined_by, defined_as, with_definition, declare_parameter, declare_enumeration, begun_as, declare_enumerator, declare_value, held, end_enumeration, kind_here, kind_in, kind_stopped, type_here, most_facts, fact_here, object_here, enumeration_count}
 use Rattle.cxx_reading.specs.Linked.{is_linked_as, is_space_at, linked_among, linked_in, sooner_fact}
-use Rattle.cxx_reading.specs.Paths.{space_in}
+use Rattle.cxx_reading.specs.declared.region.Region.{Region}
+use Rattle.cxx_reading.specs.Paths.{region_of, space_in}
 use Rattle.cxx_reading.specs.Reads.{Ahead, Asks}
 use Rattle.cxx_reading.specs.Seen.{Numbered, declared_from, declared_in, declares_in, numbered_at, numbered_by}
 use Rattle.cxx_reading.specs.State.{CxxState, CxxCall, CxxGiven, CxxOffered}
@@ -28,7 +32,7 @@ use Rattle.cxx_declare.specs.Functions.{declare_function, declare_with, free_if,
 use Rattle.cxx_language_laws.specs.Best.{IsBestCall, AreBestCalls}
 use Rattle.cxx_language_laws.specs.Told.{IsGrown}
 use Rattle.cxx_language_laws.proofs.Scopes.{InScopes, IsFirstThere, IsSound, MayStand, may_stand, scopes_beside_it, scopes_put, scopes_same}
-use Rattle.cxx_language_laws.proofs.Tells.{IsQuiet, Quietly, quiet_is_told, IsTold, ToldBy, tells_answer, tells_refusal, Answers}
+use Rattle.cxx_language_laws.proofs.Tells.{IsQuiet, Quietly, saying, quiet_is_told, IsTold, ToldBy, tells_answer, tells_refusal, Answers}
 
 -- ---- what a state keeps
 
@@ -411,7 +415,16 @@ enumerated_tells number state ahead = tells_answer _ (later_same state _ refl re
 
 pub kind_tells : (path : CxxPath) → Answers IsLater Quietly (kind_here path)
 unfolding kind_here
-kind_tells path state ahead = tells_answer _ (later_same state state refl refl refl)
+kind_tells path state ahead = by (region_of state.graph state.here.scope path)
+  where
+    text_by : (fault : Fault) (text : FaultText) → fault.text ≡ text → ToldBy IsLater Quietly state ahead (kind_stopped state fault text)
+    text_by fault says.NotBuilt is = tells_refusal _ (ap saying is)
+    text_by fault _ is = tells_answer _ (later_same state state refl refl refl)
+
+    by : (reply : Answer Region) → ToldBy IsLater Quietly state ahead (kind_in state path reply)
+    by (Ok where_) = tells_answer _ (later_same state state refl refl refl)
+    by (Err (Faulty fault)) = text_by fault fault.text refl
+    by (Err (Limited limit)) = tells_answer _ (later_same state state refl refl refl)
 
 pub type_tells : (path : CxxPath) → Answers IsLater Quietly (type_here path)
 unfolding type_here

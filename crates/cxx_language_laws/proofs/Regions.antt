@@ -22,7 +22,7 @@ use Rattle.cxx_meaning.specs.Lookups.Wanted.{Wanted, before_colons, namespaces_o
 use Rattle.cxx_reading.specs.declared.region.Region.{Region}
 use Rattle.cxx_reading.specs.declared.region.Region.TheVariants as region
 use Rattle.cxx_reading.specs.Linked.{scope_id}
-use Rattle.cxx_reading.specs.Paths.{ambiguous_at, ambiguous_member_at, by_bases, first_region, first_space, held_by, holder, holder_by, name_in, or_later, place_of_fact, region_by, region_of, scope_of_region, sought_in, space_in, space_region_of, unambiguous}
+use Rattle.cxx_reading.specs.Paths.{ambiguous_at, ambiguous_member_at, by_bases, first_region, first_space, held_by, holder, holder_by, name_in, names_class, not_held_at, or_later, place_of_fact, region_by, region_of, scope_of_region, sought_in, space_in, space_region_of, unambiguous}
 use Rattle.cxx_reading.specs.Reads.{Ahead}
 use Rattle.cxx_reading.specs.Seen.{Numbered, numbered_at, numbered_by, set_in}
 use Rattle.cxx_reading.specs.Spaces.{first_opening}
@@ -184,7 +184,11 @@ data HolderStops (graph : CxxGraph) (wants : Wanted) (where_ : Region) (part : C
 held_stops : (graph : CxxGraph) (wants : Wanted) (where_ : Region) (part : CxxPathPart) (why : Stopped) (x : Found) → sought_in graph wants where_ (spelled part.word) ≡ x → IsClear x → (o : Option ℕ) (all : List Numbered) → set_in graph x ≡ all → AreNumbers (held_by part o all) (Err why) → HolderStops graph wants where_ part why
 held_stops graph wants where_ part why x is clear (Some inner) all are e = absurd cc
 held_stops graph wants where_ part why x is clear None [] are e = subst (HolderStops graph wants where_ part) (same_why _ why e) (holds_none x is clear are)
-held_stops graph wants where_ part why x is clear None (one ∷ others) are e = subst (HolderStops graph wants where_ part) (same_why _ why e) (holds_other _ refl)
+held_stops graph wants where_ part why x is clear None (one ∷ others) are e = subst (HolderStops graph wants where_ part) (same_why _ why e) (holds_other _ (by (names_class one.fact.what)))
+  where
+    by : (b : Bool) → IsQuiet (not_held_at part b one.fact.place)
+    by true = refl
+    by false = refl
 
 holder_stops : (graph : CxxGraph) (wants : Wanted) (where_ : Region) (part : CxxPathPart) (why : Stopped) → holder graph wants where_ part ≡ Err why → HolderStops graph wants where_ part why
 unfolding holder

@@ -24,7 +24,7 @@ use Rattle.cxx_language_laws.proofs.Tells.{IsTold, behind_stands, from_in, path_
 
 pub storage_tells : {S : Type 0} {kept : S → S → Type 0} {told : S → Ahead → Stopped → Type 0} → IsTold kept told → (place : SpecifierPlace) (word : StorageWord) (so_far : Specifiers) → Tells kept told (storage_step {S = S} place word so_far)
 unfolding storage_step
-storage_tells is place word so_far state ahead = if_in _ (quiet_in is refl) (if_in _ (next_in is _ state ahead) (quiet_in is refl))
+storage_tells is place word so_far state ahead = if_in _ (next_in is _ state ahead) (quiet_in is refl)
 
 pub inline_tells : {S : Type 0} {kept : S → S → Type 0} {told : S → Ahead → Stopped → Type 0} → IsTold kept told → (place : SpecifierPlace) (so_far : Specifiers) → Tells kept told (inline_step {S = S} place so_far)
 unfolding inline_step
@@ -76,7 +76,7 @@ defined_tells is asks inner from name so_far state ahead = then_in is (ask_in ah
 
 pub list_tells : {S : Type 0} {kept : S → S → Type 0} {told : S → Ahead → Stopped → Type 0} → IsTold kept told → {asks : Kinds S} → KindsTell kept told asks → {inner : Readers S} → ReadersTell kept told inner → (place : SpecifierPlace) (from : Ahead) (name : Option Lexeme) (so_far : Specifiers) → Tells kept told (list_step asks inner place from name so_far)
 unfolding list_step
-list_tells is asks inner place from name so_far state ahead = if_in _ (quiet_in is refl) (if_in _ (defined_tells is asks inner from name so_far state ahead) (quiet_in is refl))
+list_tells is asks inner place from name so_far state ahead = if_in _ (defined_tells is asks inner from name so_far state ahead) (quiet_in is refl)
 
 named_list_tells : {S : Type 0} {kept : S → S → Type 0} {told : S → Ahead → Stopped → Type 0} → IsTold kept told → {asks : Kinds S} → KindsTell kept told asks → {inner : Readers S} → ReadersTell kept told inner → (place : SpecifierPlace) (from : Ahead) (so_far : Specifiers) → Tells kept told (named_list_step asks inner place from so_far)
 unfolding named_list_step
@@ -99,7 +99,8 @@ class_named_tells is asks is_union is_all from so_far state ahead begins whole =
 head_tells : {S : Type 0} {kept : S → S → Type 0} {told : S → Ahead → Stopped → Type 0} → IsTold kept told → (place : SpecifierPlace) (plain : Bool) (from : Ahead) (so_far : Specifiers) (state : S) (ahead : Ahead) → ToldIn kept told state from (head_reached place plain from so_far state ahead)
 head_tells is where_.Declaration true from so_far state ahead = same_in is _ state from
 head_tells is where_.Declaration false from so_far state ahead = quiet_in is refl
-head_tells is where_.Member plain from so_far state ahead = quiet_in is refl
+head_tells is where_.Member true from so_far state ahead = same_in is _ state from
+head_tells is where_.Member false from so_far state ahead = quiet_in is refl
 head_tells is where_.Block plain from so_far state ahead = quiet_in is refl
 head_tells is where_.Parameter plain from so_far state ahead = quiet_in is refl
 head_tells is where_.TypeId plain from so_far state ahead = quiet_in is refl
@@ -116,7 +117,7 @@ class_name_tells is asks is_union place from so_far state ahead stands begins = 
 
 class_key_tells : {S : Type 0} {kept : S → S → Type 0} {told : S → Ahead → Stopped → Type 0} → IsTold kept told → {asks : Kinds S} → KindsTell kept told asks → (is_union : Bool) (place : SpecifierPlace) (from : Ahead) (so_far : Specifiers) (state : S) (ahead : Ahead) → EndsIn from.tokens ahead.tokens → ToldIn kept told state from (class_key_step asks is_union place from so_far state ahead)
 unfolding class_key_step
-class_key_tells is asks is_union place from so_far state ahead stands = when_in (begins_name ahead) (λ begins. class_name_tells is asks is_union place from so_far state ahead stands begins) (if_in _ (head_tells is place false from so_far state ahead) (quiet_in is refl))
+class_key_tells is asks is_union place from so_far state ahead stands = when_in (begins_name ahead) (λ begins. class_name_tells is asks is_union place from so_far state ahead stands begins) (if_in _ (head_tells is place true from so_far state ahead) (quiet_in is refl))
 
 pub class_tells : {S : Type 0} {kept : S → S → Type 0} {told : S → Ahead → Stopped → Type 0} → IsTold kept told → {asks : Kinds S} → KindsTell kept told asks → (place : SpecifierPlace) (n : ℕ) (so_far : Specifiers) → Tells kept told (class_step asks place n so_far)
 unfolding class_step

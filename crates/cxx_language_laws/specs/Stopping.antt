@@ -1,7 +1,7 @@
 -- Where the reading of a declaration stops: in which of its parts, and of the statements in its body, in which state, and
 -- with which tokens ahead. What stands before is read whole, and the reading of each part round that place stops with the
 -- same fault.
-use Rattle.std.specs.Prelude.{◌≡◌, ℕ, suc, Bool, true, false, ◌||◌, List, [], Some, None, Ok, Err}
+use Rattle.std.specs.Prelude.{◌≡◌, ℕ, suc, Bool, true, false, ◌||◌, List, [], Option, Some, None, Ok, Err}
 use Rattle.cxx_model.specs.declared.facts.Access.{Access}
 use Rattle.cxx_model.specs.declared.keyword.TheConstants as keyword
 use Rattle.cxx_model.specs.declared.punct.TheConstants as punct
@@ -27,9 +27,8 @@ use Rattle.cxx_reading.specs.Trees.{CxxTree}
 use Rattle.cxx_reading.specs.Units.{Said, Listed, give_trees, inside_step, linkages_passed, name_in, no_declarators, said_by}
 use Rattle.cxx_language.specs.Blocks.{condition_part, declared_condition_at, local_declaration_at, local_step}
 use Rattle.cxx_language.specs.Bodies.{result_of}
-use Rattle.cxx_language.specs.Classes.{BaseList, Head as ClassHead, Members, base_list, bases_in, bases_or_none, behind_bases, class_at, declaration_specifiers, give_members, head_at, list_step, member_declaration_at, member_step}
+use Rattle.cxx_language.specs.Classes.{BaseList, Head as ClassHead, Members, base_list, bases_in, bases_or_none, behind_bases, class_at, class_begins, declaration_specifiers, give_members, head_at, list_step, member_declaration_at, member_specifiers, member_step}
 use Rattle.cxx_language.specs.Objects.{begins_initializer, initialized_part}
-use Rattle.cxx_declare.specs.ClassDefinitions.{begin_class}
 use Rattle.cxx_declare.specs.Functions.{declare_function}
 use Rattle.cxx_heads.specs.Heads.{is_declared_condition}
 use Rattle.cxx_statements.specs.declared.parts.Head.{Head}
@@ -51,8 +50,8 @@ abbrev pub specifiers_of : ℕ → SpecifierPlace → Reads CxxState Specifiers
 specifiers_of room place = specifiers_at (asked room).kinds (inner_at room).types place
 
 -- 7.1: those behind a class that is defined among the specifiers of a declaration of a namespace
-abbrev pub further_specifiers_of : ℕ → Specifiers → Reads CxxState Specifiers
-further_specifiers_of room so_far = specifiers_from (asked room).kinds (inner_at room).types where_.Declaration so_far
+abbrev pub further_specifiers_of : ℕ → SpecifierPlace → Specifiers → Reads CxxState Specifiers
+further_specifiers_of room place so_far = specifiers_from (asked room).kinds (inner_at room).types place so_far
 
 -- 8.3: a declarator with a name, which may have qualifiers or not
 abbrev pub declarator_of : ℕ → Naming → Reads CxxState Declarator
@@ -116,12 +115,12 @@ pub data Part : Type 0 where
   -- clause 10: the bases of a class, behind the `:`
   some_bases : BaseList → Part
   -- 9.2: the members of the class with a name, up to the end of their list
-  some_members : ℕ → Lexeme → Members → Part
+  some_members : ℕ → Option Lexeme → Members → Part
   -- 9.2: a declaration of members with an access (11)
   a_member_declaration : ℕ → Access → Part
   some_member_declarators : ℕ → Access → Said → Listed → Part
   -- 7.1: the specifiers behind a class that is defined among them
-  some_further_specifiers : ℕ → Specifiers → Part
+  some_further_specifiers : ℕ → SpecifierPlace → Specifiers → Part
   -- 8.3: a declarator, with bounds and parameters
   a_declarator : ℕ → Naming → Part
   -- 8.5: an initializer, from `=` or `(` on
@@ -155,7 +154,7 @@ IsInnermost (an_alias from name) = Unit {0}
 IsInnermost a_using = Unit {0}
 IsInnermost (some_specifiers room place) = Unit {0}
 IsInnermost (some_bases of) = Unit {0}
-IsInnermost (some_further_specifiers room so_far) = Unit {0}
+IsInnermost (some_further_specifiers room place so_far) = Unit {0}
 IsInnermost (a_declarator room naming) = Unit {0}
 IsInnermost (an_initializer room name of number) = Unit {0}
 IsInnermost (an_expression room purpose.Whole) = Unit {0}
@@ -183,7 +182,7 @@ IsStopped (some_bases of) state ahead fault = base_list of state ahead ≡ Err (
 IsStopped (some_members room name so_far) state ahead fault = IsStoppedIn (list_step room name) give_members so_far state ahead fault
 IsStopped (a_member_declaration room access) state ahead fault = member_declaration_at room access state ahead ≡ Err (Faulty fault)
 IsStopped (some_member_declarators room access said so_far) state ahead fault = IsStoppedIn (member_step room access said) give_trees so_far state ahead fault
-IsStopped (some_further_specifiers room so_far) state ahead fault = further_specifiers_of room so_far state ahead ≡ Err (Faulty fault)
+IsStopped (some_further_specifiers room place so_far) state ahead fault = further_specifiers_of room place so_far state ahead ≡ Err (Faulty fault)
 IsStopped (a_declarator room naming) state ahead fault = declarator_of room naming state ahead ≡ Err (Faulty fault)
 IsStopped (an_initializer room name of number) state ahead fault = initializer_of room name of number state ahead ≡ Err (Faulty fault)
 IsStopped (a_body room) state ahead fault = body_of room state ahead ≡ Err (Faulty fault)
@@ -231,16 +230,16 @@ pub record IsAlias (ahead : Ahead) : Type 0 where
 abbrev pub alias_name : Ahead → Lexeme
 alias_name ahead = token_in (behind ahead).tokens
 
--- 9, 3.3.6, 10: The head of a class stands ahead, its key and its name, the class begins, and its bases are read where it has
+-- 9, 3.3.6, 10: The head of a class stands ahead, its key and its name, if it has one, the class begins, and its bases are read where it has
 -- some. The reader stands in its scope then, with its members ahead, behind the brace.
 pub data BeginsClass (state : CxxState) (ahead : Ahead) (head : ClassHead) (bases : List CxxTree) : CxxState → Ahead → Type 0 where
-  begins_class : (colon brace : Ahead) (begun : ℕ × CxxState) (entered : CxxState) → Gives head_at state ahead head state colon → begin_class head.is_union head.name state ≡ Ok begun → Gives (bases_or_none state.here.scope begun.0 head.access) begun.1 colon bases entered brace
+  begins_class : (colon brace : Ahead) (begun : ℕ × CxxState) (entered : CxxState) → Gives head_at state ahead head state colon → class_begins head state ≡ Ok begun → Gives (bases_or_none state.here.scope begun.0 head.access) begun.1 colon bases entered brace
       → BeginsClass state ahead head bases entered (behind brace)
 
 -- 10: The head of a class stands ahead, the class begins, and a `:` is behind its head. The names of its bases are looked up
 -- where it is declared, and the reader stands there, with them ahead.
 pub data NamesBases (state : CxxState) (ahead : Ahead) : BaseList → CxxState → Ahead → Type 0 where
-  names_bases : (head : ClassHead) (colon : Ahead) (begun : ℕ × CxxState) → Gives head_at state ahead head state colon → begin_class head.is_union head.name state ≡ Ok begun → is_punct punct.COLON (kind_ahead colon) ≡ true
+  names_bases : (head : ClassHead) (colon : Ahead) (begun : ℕ × CxxState) → Gives head_at state ahead head state colon → class_begins head state ≡ Ok begun → is_punct punct.COLON (kind_ahead colon) ≡ true
       → NamesBases state ahead (bases_in begun.0 head.access begun.1.here.scope) (at_scope state.here.scope begun.1) (behind colon)
 
 -- 3.1, 3.2, 3.3.1: The name of a declarator is declared, with a number, before its initializer, which is ahead.
@@ -319,16 +318,21 @@ pub data Leads : Part → CxxState → Ahead → Part → CxxState → Ahead →
   to_class : {room : ℕ} {as_extern : Bool} {specifiers : Specifiers} {state after : CxxState} {ahead rest : Ahead} → Gives (specifiers_of room where_.Declaration) state ahead specifiers after rest → has_type specifiers ≡ false
       → Leads (a_simple_declaration room as_extern) state ahead (a_class room specifiers) after rest
   behind_class : {room : ℕ} {as_extern : Bool} {specifiers more : Specifiers} {state between after : CxxState} {ahead middle rest : Ahead} → Gives (specifiers_of room where_.Declaration) state ahead specifiers between middle → has_type specifiers ≡ false
-      → Gives (class_at room specifiers) between middle more after rest → Leads (a_simple_declaration room as_extern) state ahead (some_further_specifiers room more) after rest
+      → Gives (class_at room specifiers) between middle more after rest → Leads (a_simple_declaration room as_extern) state ahead (some_further_specifiers room where_.Declaration more) after rest
   -- 10: its bases
   in_bases : {room : ℕ} {so_far : Specifiers} {of : BaseList} {state after : CxxState} {ahead rest : Ahead} → NamesBases state ahead of after rest → Leads (a_class room so_far) state ahead (some_bases of) after rest
   -- 9.2: its members, one declaration after another, each of specifiers and declarators
   in_class : {room : ℕ} {so_far : Specifiers} {head : ClassHead} {bases : List CxxTree} {state after : CxxState} {ahead rest : Ahead} → BeginsClass state ahead head bases after rest
       → Leads (a_class (suc room) so_far) state ahead (some_members room head.name (behind_bases bases head.access)) after rest
-  next_member : {room : ℕ} {name : Lexeme} {so_far more : Members} {state after : CxxState} {ahead rest : Ahead} → Gives (list_step room name so_far) state ahead (More more) after rest → Leads (some_members room name so_far) state ahead (some_members room name more) after rest
-  in_member : {room : ℕ} {name : Lexeme} {so_far : Members} {state : CxxState} {ahead : Ahead} → Leads (some_members room name so_far) state ahead (a_member_declaration room so_far.access) state ahead
+  next_member : {room : ℕ} {name : Option Lexeme} {so_far more : Members} {state after : CxxState} {ahead rest : Ahead} → Gives (list_step room name so_far) state ahead (More more) after rest → Leads (some_members room name so_far) state ahead (some_members room name more) after rest
+  in_member : {room : ℕ} {name : Option Lexeme} {so_far : Members} {state : CxxState} {ahead : Ahead} → Leads (some_members room name so_far) state ahead (a_member_declaration room so_far.access) state ahead
   in_member_specifiers : {room : ℕ} {access : Access} {state : CxxState} {ahead : Ahead} → Leads (a_member_declaration room access) state ahead (some_specifiers room where_.Member) state ahead
-  to_member_declarators : {room : ℕ} {access : Access} {specifiers : Specifiers} {state after : CxxState} {ahead rest : Ahead} → Gives (specifiers_of room where_.Member) state ahead specifiers after rest
+  -- clause 9: a class that is defined there, and further specifiers behind it
+  to_member_class : {room : ℕ} {access : Access} {specifiers : Specifiers} {state after : CxxState} {ahead rest : Ahead} → Gives (specifiers_of room where_.Member) state ahead specifiers after rest → has_type specifiers ≡ false
+      → Leads (a_member_declaration room access) state ahead (a_class room specifiers) after rest
+  behind_member_class : {room : ℕ} {access : Access} {specifiers more : Specifiers} {state between after : CxxState} {ahead middle rest : Ahead} → Gives (specifiers_of room where_.Member) state ahead specifiers between middle → has_type specifiers ≡ false
+      → Gives (class_at room specifiers) between middle more after rest → Leads (a_member_declaration room access) state ahead (some_further_specifiers room where_.Member more) after rest
+  to_member_declarators : {room : ℕ} {access : Access} {specifiers : Specifiers} {state after : CxxState} {ahead rest : Ahead} → Gives (member_specifiers room) state ahead specifiers after rest
       → Leads (a_member_declaration room access) state ahead (some_member_declarators room access (said_by false specifiers) no_declarators) after rest
   next_member_declarator : {room : ℕ} {access : Access} {said : Said} {so_far more : Listed} {state after : CxxState} {ahead rest : Ahead} → Gives (member_step room access said so_far) state ahead (More more) after rest
       → Leads (some_member_declarators room access said so_far) state ahead (some_member_declarators room access said more) after rest

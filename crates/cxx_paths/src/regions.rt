@@ -11,7 +11,7 @@ ghost use Rattle.cxx_reading.specs.Seen.{fact_numbers, numbered_at};
 ghost use Rattle.cxx_tree.specs.Arena.{path_at, path_part_at, path_parts_at};
 ghost use Rattle.cxx_tree.specs.Held.{meaning};
 
-use crate::faults::{not_wanted, place_among, unambiguous};
+use crate::faults::{not_held, unambiguous};
 use crate::seeking::{set_in, sought_in};
 use crate::spaces::space_among;
 use cxx_found::{Found, Wanted};
@@ -36,12 +36,7 @@ fn held_among(state: &State, part: &PathPart, numbers: &[FactId]) -> Result<Scop
 {
     match space_among(state, numbers) {
         Some(inner) => Ok(inner),
-        None => Err(not_wanted(
-            state,
-            part.place,
-            part.word.as_slice(),
-            place_among(state, numbers),
-        )),
+        None => Err(not_held(state, part, numbers)),
     }
 }
 

@@ -6,12 +6,15 @@ use Rattle.cxx_model.specs.declared.facts.Access.TheVariants.{Public}
 use Rattle.cxx_model.specs.declared.facts.FunctionFlags.{FunctionFlags}
 use Rattle.cxx_model.specs.declared.facts.MemberKind.TheVariants as member
 use Rattle.cxx_model.specs.declared.facts.ScopeKind.TheVariants as scope_kind
+use Rattle.cxx_model.specs.declared.fault.FaultText.{FaultText}
 use Rattle.cxx_model.specs.declared.fault.FaultText.TheVariants as says
 use Rattle.cxx_model.specs.declared.lookup.Found.{Found as Sought}
 use Rattle.cxx_model.specs.declared.lookup.Found.TheVariants as sought
 use Rattle.cxx_model.specs.declared.place.Place.{Place}
+use Rattle.cxx_model.specs.declared.stop.Fault.{Fault}
 use Rattle.cxx_model.specs.declared.stop.LimitKind.TheVariants.{Facts}
 use Rattle.cxx_model.specs.declared.tree.Kind.{Kind}
+use Rattle.cxx_model.specs.declared.tree.Kind.TheVariants as kind
 use Rattle.cxx_model.specs.declared.types.FactId.{FactId}
 use Rattle.cxx_model.specs.Facts.Conflicts.{same_parameters, scope_facts, defined_before}
 use Rattle.cxx_model.specs.Facts.Declarations as facts
@@ -23,8 +26,9 @@ use Rattle.cxx_model.specs.Types.Integral.{one_holds}
 use Rattle.cxx_model.specs.Types.Trees.{CxxType, enumeration}
 use Rattle.cxx_meaning.specs.Conversions.Enumerations.{values_in}
 use Rattle.cxx_meaning.specs.Lookups.Wanted.{types_only}
+use Rattle.cxx_reading.specs.declared.region.Region.{Region}
 use Rattle.cxx_reading.specs.Linked.{first_clash, home_of, is_space_at, linked_in, sooner_fact}
-use Rattle.cxx_reading.specs.Paths.{found_of, name_in, place_in, place_of_fact, region_of, sought_in, unambiguous, wrong_kind_at}
+use Rattle.cxx_reading.specs.Paths.{found_in, found_of, name_in, place_in, place_of_fact, region_of, sought_in, unambiguous, wrong_kind_at}
 use Rattle.cxx_reading.specs.Reads.{Asks}
 use Rattle.cxx_reading.specs.Seen.{Numbered, declared_in, kind_of_found, parent_of, set_in, type_in}
 use Rattle.cxx_reading.specs.State.{CxxState}
@@ -330,8 +334,18 @@ end_enumeration number state = Ok (tt, in_enumeration None state)
 -- ---- names that are read
 
 -- 3.4
+abbrev pub kind_stopped : CxxState → Fault → FaultText → Answer (Kind × CxxState)
+kind_stopped state fault says.NotBuilt = Err (Faulty fault)
+kind_stopped state fault _ = Ok (kind.Value, state)
+
+-- what a name with a part that means nothing which may stand there is, is told where it is read
+abbrev pub kind_in : CxxState → CxxPath → Answer Region → Answer (Kind × CxxState)
+kind_in state path (Ok where_) = Ok (kind_of_found state.graph (found_in state.graph where_ (name_in path)), state)
+kind_in state path (Err (Faulty fault)) = kind_stopped state fault fault.text
+kind_in state path (Err (Limited limit)) = Ok (kind.Value, state)
+
 unfoldable pub kind_here : CxxPath → Asks CxxState Kind
-kind_here path state = Ok (kind_of_found state.graph (found_of state.graph state.here.scope path), state)
+kind_here path state = kind_in state path (region_of state.graph state.here.scope path)
 
 unfoldable pub type_here : CxxPath → Asks CxxState CxxType
 type_here path state = Ok (type_in (found_of state.graph state.here.scope path), state)

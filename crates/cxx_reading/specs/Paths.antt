@@ -12,8 +12,9 @@ use Rattle.cxx_model.specs.declared.place.Place.{Place}
 use Rattle.cxx_model.specs.declared.types.FactId.{FactId}
 use Rattle.cxx_model.specs.Facts.Declarations as facts
 use Rattle.cxx_model.specs.Facts.Declarations.{CxxFact, CxxGraph, CxxName, Declares, spelled}
-use Rattle.cxx_model.specs.Stops.{Answer, Stopped, Faulty, ◌>>=◌, undeclared_at}
+use Rattle.cxx_model.specs.Stops.{Answer, Stopped, Faulty, ◌>>=◌, not_built_at, undeclared_at}
 use Rattle.cxx_model.specs.Text.Lexemes.{nowhere}
+use Rattle.cxx_model.specs.Types.Trees.{CxxType, class_type, qualified as with_words}
 use Rattle.cxx_meaning.specs.Lookups.Qualified.{qualified}
 use Rattle.cxx_meaning.specs.Lookups.Wanted.{Wanted, any_name, before_colons, namespaces_only}
 use Rattle.cxx_reading.specs.declared.region.Region.{Region}
@@ -79,11 +80,34 @@ unfoldable pub sought_in : CxxGraph → Wanted → Region → CxxName → Sought
 sought_in graph wanted (region.Outward scope) name = sought_from graph wanted scope.0 name
 sought_in graph wanted (region.Inside space) name = found_or_none (qualified graph wanted space name (length graph.facts))
 
+abbrev pub is_plain_class : CxxType → Bool
+is_plain_class (class_type n) = true
+is_plain_class _ = false
+
+-- the cv words of a synonym say nothing (7.1.3)
+abbrev pub is_class : CxxType → Bool
+is_class (with_words cv of) = is_plain_class of
+is_class of = is_plain_class of
+
+abbrev pub names_class : Declares → Bool
+names_class (facts.injected class) = true
+names_class (facts.class class is_union) = true
+names_class (facts.synonym of) = is_class of
+names_class _ = false
+
+-- 3.4.3.1: members of classes are not named there yet
+abbrev pub not_held_at : CxxPathPart → Bool → Place → Stopped
+not_held_at part true other = not_built_at part.place
+not_held_at part false other = wrong_kind_at part other
+
+abbrev pub not_held : CxxPathPart → List Numbered → Stopped
+not_held part [] = undeclared_at part.place part.word
+not_held part (one ∷ others) = not_held_at part (names_class one.fact.what) one.fact.place
+
 -- what is found of a part before `::` is a namespace
 abbrev pub held_by : CxxPathPart → Option ℕ → List Numbered → Answer ℕ
 held_by part (Some inner) all = Ok inner
-held_by part None [] = Err (undeclared_at part.place part.word)
-held_by part None (one ∷ others) = Err (wrong_kind_at part one.fact.place)
+held_by part None all = Err (not_held part all)
 
 abbrev pub held_among : CxxPathPart → List Numbered → Answer ℕ
 held_among part all = held_by part (first_space all) all

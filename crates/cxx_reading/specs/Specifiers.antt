@@ -50,6 +50,8 @@ may_store where_.Block storage.Register = true
 may_store where_.Block storage.Static = true
 may_store where_.Block storage.Typedef = true
 may_store where_.Member storage.Mutable = true
+may_store where_.Member storage.Static = true
+may_store where_.Member storage.Typedef = true
 may_store where_.Parameter storage.Auto = true
 may_store where_.Parameter storage.Register = true
 may_store _ _ = false
@@ -76,18 +78,11 @@ begins_class n = n == keyword.CLASS || (n == keyword.STRUCT || (n == keyword.UNI
 abbrev pub went_on : {S : Type 0} → Specifiers → Reads S (Turn Specifiers Specifiers)
 went_on so_far state ahead = got (More so_far) state (behind ahead)
 
--- 9.2, 9.4, 7.1.3: of members that are static and of names of types in a class nothing is read yet
-abbrev pub stores_later : SpecifierPlace → StorageWord → Bool
-stores_later where_.Member storage.Static = true
-stores_later where_.Member storage.Typedef = true
-stores_later _ _ = false
-
 unfoldable pub storage_step : {S : Type 0} → SpecifierPlace → StorageWord → Specifiers → Reads S (Turn Specifiers Specifiers)
 storage_step place word so_far state ahead =
-    if stores_later place word then not_built state ahead else (
     if may_store place word && not (is_some_storage so_far.storage)
     then went_on (record so_far { storage = Some word }) state ahead
-    else refused state ahead)
+    else refused state ahead
 
 abbrev pub is_member_place : SpecifierPlace → Bool
 is_member_place where_.Member = true
@@ -190,11 +185,10 @@ defined_step asks inner from name so_far = do
   to ← looked
   give (More (record so_far { named = Some (enumeration number); stands_alone = true; parts = so_far.parts ++ enumeration_tree name number values from to ∷ [] }))
 
--- 8.3.5, 5.3.3: no enumeration is defined among parameters and in a type that is named; one of a class is not read yet
+-- 8.3.5, 5.3.3: no enumeration is defined among parameters and in a type that is named
 unfoldable pub list_step : {S : Type 0} → Kinds S → Readers S → SpecifierPlace → Ahead → Option Lexeme → Specifiers → Reads S (Turn Specifiers Specifiers)
 list_step asks inner place from name so_far state ahead =
-    if is_member_place place then fault_at (place_ahead from) says.NotBuilt state ahead else (
-    if is_declaration place then defined_step asks inner from name so_far state ahead else refused state ahead)
+    if is_declaration place then defined_step asks inner from name so_far state ahead else refused state ahead
 
 -- 7.2: one name and its list
 abbrev pub begins_named_list : Ahead → Bool
@@ -241,13 +235,14 @@ class_named_step asks is_union all from path so_far = do
 abbrev pub begins_members : TokenKind → Bool
 begins_members kind = is_punct punct.LEFT_BRACE kind || is_punct punct.COLON kind
 
--- 9: The head of a class that is defined. Among the specifiers of a declaration of a namespace reading stops at its key,
--- where it has a name without qualifiers; other heads are not read there yet. In a block the form is left out
--- (9.8), and elsewhere no class is defined (8.3.5, 5.3.3).
+-- 9: The head of a class that is defined. Among the specifiers of a declaration of a namespace or of a member reading stops
+-- at its key, unless its name has qualifiers; such heads are not read yet. In a block the form is left out (9.8), and
+-- elsewhere no class is defined (8.3.5, 5.3.3).
 abbrev pub head_reached : {S : Type 0} → SpecifierPlace → Bool → Ahead → Specifiers → Reads S (Turn Specifiers Specifiers)
 head_reached where_.Declaration true from so_far state ahead = got (Done so_far) state from
 head_reached where_.Declaration false from so_far state ahead = fault_at (place_ahead from) says.NotBuilt state ahead
-head_reached where_.Member plain from so_far state ahead = fault_at (place_ahead from) says.NotBuilt state ahead
+head_reached where_.Member true from so_far state ahead = got (Done so_far) state from
+head_reached where_.Member false from so_far state ahead = fault_at (place_ahead from) says.NotBuilt state ahead
 head_reached where_.Block plain from so_far state ahead = fault_at (place_ahead from) (says.LeftOut form.LocalClass) state ahead
 head_reached place plain from so_far state ahead = refused state ahead
 
@@ -263,7 +258,7 @@ class_name_step asks is_union place from so_far = path_taken >>= λ path. class_
 unfoldable pub class_key_step : {S : Type 0} → Kinds S → Bool → SpecifierPlace → Ahead → Specifiers → Reads S (Turn Specifiers Specifiers)
 class_key_step asks is_union place from so_far state ahead =
     if begins_name ahead then class_name_step asks is_union place from so_far state ahead else (
-    if begins_members (kind_ahead ahead) then head_reached place false from so_far state ahead else
+    if begins_members (kind_ahead ahead) then head_reached place true from so_far state ahead else
     refused state ahead)
 
 -- 14.6: `typename` is not read yet
@@ -313,6 +308,7 @@ specifier_step asks inner place so_far state ahead = step_by asks inner place (k
 -- 9: where no type stands among the specifiers, a key of a class is that of a class that is defined there
 abbrev pub is_head : SpecifierPlace → TokenKind → Bool
 is_head where_.Declaration (Keyword n) = begins_class n
+is_head where_.Member (Keyword n) = begins_class n
 is_head _ _ = false
 
 -- 7.1.5: a type stands among the specifiers, or a class follows that is one

@@ -57,8 +57,9 @@ pub record Said : Type 0 where
   pub of : CxxType
   pub is_typedef : Bool
   pub is_extern : Bool
-  -- 7.1.1: of a member
+  -- 7.1.1, 9.4: of a member
   pub is_mutable : Bool
+  pub is_static : Bool
 
 abbrev pub no_token : Lexeme
 no_token = record { kind = End; place = nowhere; spelling = [] }
@@ -174,9 +175,13 @@ abbrev pub is_mutable_word : Option StorageWord → Bool
 is_mutable_word (Some storage.Mutable) = true
 is_mutable_word _ = false
 
+abbrev pub is_static_word : Option StorageWord → Bool
+is_static_word (Some storage.Static) = true
+is_static_word _ = false
+
 -- 7.5: a linkage without braces counts as `extern` for its one declaration
 abbrev pub said_by : Bool → Specifiers → Said
-said_by counts_as_extern specifiers = record { of = specified_type specifiers; is_typedef = is_typedef_word specifiers.storage; is_extern = counts_as_extern || is_extern_word specifiers.storage; is_mutable = is_mutable_word specifiers.storage }
+said_by counts_as_extern specifiers = record { of = specified_type specifiers; is_typedef = is_typedef_word specifiers.storage; is_extern = counts_as_extern || is_extern_word specifiers.storage; is_mutable = is_mutable_word specifiers.storage; is_static = is_static_word specifiers.storage }
 
 abbrev pub simple_tree : CxxTree → List CxxTree → Ahead → Ahead → CxxTree
 simple_tree specifiers declarators from to = tree_of (label_from production.simple_declaration [] from to) (specifiers ∷ declarators)

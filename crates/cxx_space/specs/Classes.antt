@@ -1,12 +1,12 @@
 -- The definitions of classes, in the code: what their values stand for, given the trees and types of a state, and what is left
 -- of a definition behind its beginning.
-use Rattle.std.specs.Prelude.{ℕ, ◌≡◌, ◌<◌, Bool, false, length, List}
+use Rattle.std.specs.Prelude.{ℕ, ◌≡◌, ◌<◌, Bool, false, length, List, option_map}
 use Rattle.cxx_model.specs.declared.facts.Access.{Access}
 use Rattle.cxx_model.specs.declared.types.TreeId.{TreeId}
 use Rattle.cxx_model.specs.Text.Lexemes.{Lexeme}
 use Rattle.cxx_model.specs.Types.Numbers.{type_at}
 use Rattle.cxx_model.specs.Types.Trees.{CxxType, class_type}
-use Rattle.cxx_reading.specs.declared.specifier.SpecifierPlace.TheVariants as where_
+use Rattle.cxx_reading.specs.declared.specifier.SpecifierPlace.{SpecifierPlace}
 use Rattle.cxx_reading.specs.Declarators as declarators
 use Rattle.cxx_reading.specs.Declarators.{Declarator, declared_type}
 use Rattle.cxx_reading.specs.Reads as reads
@@ -20,7 +20,7 @@ use Rattle.cxx_cursor.specs.Views.{AreTreesHeld, IsTurn, lexeme_at, trees_held, 
 use Rattle.cxx_declare.specs.ClassDefinitions.{declare_member, end_class}
 use Rattle.cxx_language.specs.Asked.{asked, inner_at}
 use Rattle.cxx_language.specs.Classes as definition
-use Rattle.cxx_language.specs.Classes.{class_at, class_tree, is_mutable_member, list_at, member_step, no_function, whole_member, with_class}
+use Rattle.cxx_language.specs.Classes.{class_at, class_tree, is_mutable_member, list_at, member_step, no_anonymous_union, no_function, no_constant_value, whole_member, with_class}
 use Rattle.cxx_space.specs.declared.classes.Begun.{Begun}
 use Rattle.cxx_space.specs.declared.classes.Head.{Head}
 use Rattle.cxx_space.specs.declared.classes.Members.{Members}
@@ -29,7 +29,7 @@ use Rattle.cxx_tree.specs.Held.{Held}
 -- ---- values
 
 abbrev pub head_of : Head → definition.Head
-head_of head = record { is_union = head.is_union; access = head.access; name = lexeme_at head.name }
+head_of head = record { is_union = head.is_union; access = head.access; name = option_map lexeme_at head.name; place = head.place }
 
 abbrev pub begun_number : Held → Begun → ℕ
 begun_number held begun = begun.class.0
@@ -54,15 +54,15 @@ IsMembersTurn held = IsTurn (AreMembers held) (AreTreesHeld held)
 -- ---- a member
 
 -- once it is declared
-abbrev pub member_kept : Lexeme → CxxType → ℕ → List CxxTree → Ahead → Reads CxxState CxxTree
-member_kept name of number parts from = whole_member name of >>= λ whole. looked >>= λ to. give (declarator_tree false name of number parts from to)
+abbrev pub member_kept : Bool → Lexeme → CxxType → ℕ → List CxxTree → Ahead → Reads CxxState CxxTree
+member_kept is_static name of number parts from = whole_member is_static name of >>= λ whole. no_constant_value is_static of >>= λ bare. looked >>= λ to. give (declarator_tree false name of number parts from to)
 
 -- once it is no bit-field and its declarator fits
-abbrev pub member_of : Access → Bool → Lexeme → CxxType → List CxxTree → Ahead → Reads CxxState CxxTree
-member_of access is_mutable name of parts from = no_function name of >>= λ object. ask (declare_member access is_mutable name of) >>= λ number. member_kept name of number parts from
+abbrev pub member_of : Access → Bool → Bool → Lexeme → CxxType → List CxxTree → Ahead → Reads CxxState CxxTree
+member_of access is_static is_mutable name of parts from = no_function name of >>= λ object. ask (declare_member access is_static is_mutable name of) >>= λ number. member_kept is_static name of number parts from
 
 abbrev pub fitting_member : Access → Said → Declarator → Ahead → Reads CxxState CxxTree
-fitting_member access said declarator from = member_of access (is_mutable_member said (declared_type declarator.layers said.of)) (name_in declarator) (declared_type declarator.layers said.of) declarator.parts from
+fitting_member access said declarator from = member_of access said.is_static (is_mutable_member said (declared_type declarator.layers said.of)) (name_in declarator) (declared_type declarator.layers said.of) declarator.parts from
 
 -- behind specifiers
 abbrev pub members_at : ℕ → Access → Said → Reads CxxState (List CxxTree)
@@ -72,12 +72,12 @@ members_at room access said state ahead = repeat (member_step room access said) 
 
 -- behind the list of its members
 abbrev pub class_ended : definition.Head → ℕ → List CxxTree → declarators.Specifiers → Ahead → Reads CxxState declarators.Specifiers
-class_ended head n members so_far from = ask (end_class n head.name.place) >>= λ ended. looked >>= λ to. give (with_class so_far n (class_tree head n members from to))
+class_ended head n members so_far from = ask (end_class n head.place) >>= λ ended. no_anonymous_union head >>= λ whole. looked >>= λ to. give (with_class so_far n (class_tree head n members from to))
 
 -- from the `{` on, where it has begun and has these bases
 abbrev pub class_opened : ℕ → definition.Head → ℕ → List CxxTree → declarators.Specifiers → Ahead → Reads CxxState declarators.Specifiers
 class_opened room head n bases so_far from = taken >>= λ opened. list_at room head bases >>= λ members. class_ended head n members so_far from
 
--- a class, and the specifiers behind it
-abbrev pub class_then : ℕ → declarators.Specifiers → Reads CxxState declarators.Specifiers
-class_then room so_far = class_at room so_far >>= specifiers_from (asked room).kinds (inner_at room).types where_.Declaration
+-- a class, and the specifiers behind it, of a declaration or a member
+abbrev pub class_then : ℕ → SpecifierPlace → declarators.Specifiers → Reads CxxState declarators.Specifiers
+class_then room place so_far = class_at room so_far >>= specifiers_from (asked room).kinds (inner_at room).types place

@@ -1,17 +1,17 @@
 //! Definitions of classes (clause 9): their heads, and the lists of their members up to their ends.
 
-ghost use Rattle.std.specs.Prelude.{◌≡◌, ◌<◌, ◌++◌, ◌∷◌, [], Ok, Some, length, true, IfOk};
-ghost use Rattle.cxx_declare.specs.ClassDefinitions.{begin_class};
+ghost use Rattle.std.specs.Prelude.{◌≡◌, ◌<◌, ◌++◌, ◌∷◌, [], Ok, Some, length, option_map, true, IfOk};
 ghost use Rattle.cxx_language.specs.Classes as definition;
 ghost use Rattle.cxx_model.specs.declared.keyword.TheConstants as key;
-ghost use Rattle.cxx_reading.specs.Reads.{behind, kind_ahead};
-ghost use Rattle.cxx_reading.specs.Specifiers.{path_of};
+ghost use Rattle.cxx_reading.specs.Reads.{behind, kind_ahead, place_ahead};
+ghost use Rattle.cxx_reading.specs.Specifiers.{path_of, path_of_option, place_or as place_or_of};
 ghost use Rattle.cxx_reading.specs.Tokens as token;
 ghost use Rattle.cxx_space.specs.Classes.{AreMembers, IsBegun, IsMembersTurn, begun_number, class_ended, class_opened, class_then, head_of, members_of, members_turn};
-ghost use Rattle.cxx_cursor.specs.Asking.{IsAsked};
+ghost use Rattle.cxx_cursor.specs.Asking.{AnyKnown, IsAsked, itself};
 ghost use Rattle.cxx_cursor.specs.Making.{GrowsTree};
 ghost use Rattle.cxx_cursor.specs.Reading.{IsRead};
 ghost use Rattle.cxx_cursor.specs.Views.{AreSpecifiers, AreTreesHeld, lexeme_at, specifiers_of, trees_held};
+ghost use Rattle.cxx_tree.specs.Answered.{IsClassKnown, class_number};
 ghost use Rattle.cxx_tree.specs.Arena.{path_at};
 ghost use Rattle.cxx_tree.specs.Held.{meaning};
 
@@ -21,13 +21,13 @@ use cxx_cursor::{
     push,
 };
 use cxx_model::{
-    Access, ClassId, LimitKind, Listed, Path, PathPart, Stop, Text, TokenKind, TreeId, TreeIdList,
-    TypeId, Word, keyword, punct,
+    Access, ClassId, FaultText, LeftOut, LimitKind, Listed, Path, PathPart, Place, Stop, Text,
+    TokenKind, TreeId, TreeIdList, TypeId, Word, keyword, punct,
 };
 use cxx_reading::SpecifierPlace;
 use cxx_syntax::{class_key, has_type};
 use cxx_tree::State;
-use cxx_units::trees::with_tree;
+use cxx_units::trees::{faulty, with_tree};
 use std::alloc::{AllocError, Global};
 
 /// The number of the production.
@@ -39,7 +39,9 @@ pub(crate) struct Head<'a> {
     pub is_union: bool,
     /// The access of members that no label stands before (11).
     pub access: Access,
-    pub name: Spelled<'a>,
+    pub name: Option<Spelled<'a>>,
+    /// That of its name, or of its key where it has none.
+    pub place: Place,
 }
 
 /// A class that has begun, with its type.
@@ -68,20 +70,44 @@ fn key_access(kind: TokenKind) -> Access
     }
 }
 
-// A key and a name, taken.
+// A name, taken if there is one.
+fn name_or_none<'a>(cursor: &mut Cursor<'a>) -> Option<Spelled<'a>>
+    ensures name { option_map lexeme_at result ≡ definition.name_ahead cursor.old }
+    ensures taken { cursor.new ≡ definition.behind_name cursor.old }
+{
+    if is_name(cursor.kind()) {
+        return Some(cursor.token());
+    }
+    None
+}
+
+fn place_or(place: Place, name: Option<Spelled<'_>>) -> Place
+    ensures { result ≡ place_or_of place (option_map lexeme_at name.entry) }
+{
+    match name {
+        Some(token) => token.place,
+        None => place,
+    }
+}
+
+// A key and a name, or a key alone, taken.
 fn head_at<'a>(cursor: &mut Cursor<'a>) -> Head<'a>
     ensures is_union { result.is_union ≡ token.is_keyword key.UNION (kind_ahead cursor.old) }
     ensures access { result.access ≡ definition.key_access (kind_ahead cursor.old) }
-    ensures name { lexeme_at result.name ≡ token.token_in (behind cursor.old).tokens }
-    ensures taken { cursor.new ≡ behind (behind cursor.old) }
+    ensures name { option_map lexeme_at result.name ≡ definition.name_ahead (behind cursor.old) }
+    ensures place { result.place ≡ place_or_of (place_ahead cursor.old) (definition.name_ahead (behind cursor.old)) }
+    ensures taken { cursor.new ≡ definition.behind_name (behind cursor.old) }
 {
     let is_union = is_keyword(keyword::UNION, cursor.kind());
     let access = key_access(cursor.kind());
+    let place = cursor.place();
     cursor.advance();
+    let name = name_or_none(cursor);
     Head {
         is_union,
         access,
-        name: cursor.token(),
+        name,
+        place: place_or(place, name),
     }
 }
 
@@ -146,18 +172,28 @@ fn begins_other(kind: TokenKind) -> bool
         || (is_keyword(keyword::TEMPLATE, kind) || is_punct(punct::TILDE, kind))
 }
 
-// The name of the class and a bracket (12.1).
-fn begins_constructor(head: &Head<'_>, cursor: &Cursor<'_>) -> bool
-    ensures { result ≡ definition.begins_constructor (lexeme_at head.now.name) cursor.now }
+// That name and a bracket.
+fn begins_with(name: Spelled<'_>, cursor: &Cursor<'_>) -> bool
+    ensures { result ≡ definition.begins_constructor (Some (lexeme_at name.entry)) cursor.now }
 {
     is_name(cursor.kind())
-        && (cursor.spelling() == head.name.spelling
+        && (cursor.spelling() == name.spelling
             && is_punct(punct::LEFT_PARENTHESIS, cursor.kind_behind()))
+}
+
+// The name of the class and a bracket (12.1).
+fn begins_constructor(head: &Head<'_>, cursor: &Cursor<'_>) -> bool
+    ensures { result ≡ definition.begins_constructor (option_map lexeme_at head.now.name) cursor.now }
+{
+    match head.name {
+        Some(name) => begins_with(name, cursor),
+        None => false,
+    }
 }
 
 // Constructors, destructors, using-declarations and templates of a class are not read yet.
 fn comes_later(head: &Head<'_>, cursor: &Cursor<'_>) -> bool
-    ensures { result ≡ definition.comes_later (lexeme_at head.now.name) cursor.now }
+    ensures { result ≡ definition.comes_later (option_map lexeme_at head.now.name) cursor.now }
 {
     begins_other(cursor.kind()) || begins_constructor(head, cursor)
 }
@@ -189,6 +225,15 @@ fn path_to(alloc: Global, name: Spelled<'_>) -> Result<Path, AllocError>
     })
 }
 
+fn path_if(alloc: Global, name: Option<Spelled<'_>>) -> Result<Option<Path>, AllocError>
+    ensures { IfOk result (λ path. option_map path_at path ≡ path_of_option (option_map lexeme_at name.entry)) }
+{
+    match name {
+        Some(token) => Ok(Some(path_to(alloc, token)?)),
+        None => Ok(None),
+    }
+}
+
 fn class_tree(
     state: &mut State,
     head: &Head<'_>,
@@ -201,11 +246,11 @@ fn class_tree(
     requires members { AreTreesHeld state.old members }
     ensures { GrowsTree state.old state.new result (definition.class_tree (head_of head.now) begun.class.0 (trees_held state.old members) from.now to.now) }
 {
-    let path = path_to(from.alloc(), head.name)?;
+    let path = path_if(from.alloc(), head.name)?;
     let spelling = Text::from_slice(from.alloc(), class_key(head.is_union))?;
     let mut node = node_from(CLASS_DEFINITION, spelling, from, to, members);
-    node.place = head.name.place;
-    node.path = Some(path);
+    node.place = head.place;
+    node.path = path;
     node.of = Some(begun.of);
     push(state, node)
 }
@@ -220,8 +265,22 @@ fn with_class(so_far: Specifiers, of: TypeId, number: TreeId) -> Result<Specifie
     Ok(so_far)
 }
 
+// A union without a name that declares no object is anonymous (9.5), which is left out.
+#[tactic(auto, using(cxx_cursor::proofs::Kept::later_refl), unfolding(cxx_language::specs::Classes::no_anonymous_union))]
+fn no_anonymous_union(state: &State, cursor: &Cursor<'_>, head: &Head<'_>) -> Result<(), Stop>
+    ensures { IsRead itself AnyKnown state.now state.now cursor.now result (definition.no_anonymous_union (head_of head.now) (meaning state.now) cursor.now) }
+{
+    let _ = state;
+    if head.is_union && (head.name.is_none() && is_punct(punct::SEMICOLON, cursor.kind())) {
+        let text = FaultText::LeftOut(LeftOut::AnonymousUnion);
+        return Err(Stop::Fault(faulty(cursor.alloc(), head.place, text)?));
+    }
+    Ok(())
+}
+
 impl<D: Defines> Space<'_, D> {
     // A declaration in the list of a class.
+    #[cycle(nested)]
     #[tactic(auto, using(cxx_cursor::proofs::Kept::trees_kept, cxx_cursor::proofs::Kept::trees_later, cxx_cursor::proofs::Kept::trees_append, cxx_cursor::proofs::Kept::trees_below_append, cxx_cursor::proofs::Kept::later_refl, cxx_cursor::proofs::Kept::later_trans), unfolding(cxx_language::specs::Classes::declared_step))]
     fn declared_step(
         &self,
@@ -231,7 +290,7 @@ impl<D: Defines> Space<'_, D> {
         so_far: Members,
     ) -> Result<Turn<Members, TreeIdList>, Stop>
         requires { AreMembers state.old so_far }
-        ensures { IsRead members_turn IsMembersTurn state.old state.new cursor.new result (definition.declared_step self.now.room (lexeme_at head.now.name) (members_of state.old so_far) (meaning state.old) cursor.old) }
+        ensures { IsRead members_turn IsMembersTurn state.old state.new cursor.new result (definition.declared_step (definition.class_at self.now.room) self.now.room (option_map lexeme_at head.now.name) (members_of state.old so_far) (meaning state.old) cursor.old) }
     {
         if comes_later(head, cursor) {
             return Err(Stop::Fault(cursor.not_built()?));
@@ -241,7 +300,8 @@ impl<D: Defines> Space<'_, D> {
     }
 
     // A member, a label, `;` alone, or the end of the list.
-    #[tactic(auto, using(cxx_cursor::proofs::Kept::later_refl), unfolding(cxx_language::specs::Classes::list_step))]
+    #[cycle(nested)]
+    #[tactic(auto, using(cxx_cursor::proofs::Kept::later_refl), unfolding(cxx_language::specs::Classes::list_step_by))]
     fn list_step(
         &self,
         state: &mut State,
@@ -250,7 +310,7 @@ impl<D: Defines> Space<'_, D> {
         so_far: Members,
     ) -> Result<Turn<Members, TreeIdList>, Stop>
         requires { AreMembers state.old so_far }
-        ensures { IsRead members_turn IsMembersTurn state.old state.new cursor.new result (definition.list_step self.now.room (lexeme_at head.now.name) (members_of state.old so_far) (meaning state.old) cursor.old) }
+        ensures { IsRead members_turn IsMembersTurn state.old state.new cursor.new result (definition.list_step self.now.room (option_map lexeme_at head.now.name) (members_of state.old so_far) (meaning state.old) cursor.old) }
     {
         if is_punct(punct::RIGHT_BRACE, cursor.kind()) {
             cursor.advance();
@@ -267,6 +327,7 @@ impl<D: Defines> Space<'_, D> {
     }
 
     // Behind the `{` of a class, with its end: its bases and members.
+    #[cycle(nested)]
     #[tactic(auto, using(crate::proofs::Listing::list_zero, crate::proofs::Listing::list_more, cxx_cursor::proofs::Loops::turn, cxx_cursor::proofs::Loops::no_turn, cxx_cursor::proofs::Kept::later_refl, cxx_cursor::proofs::Kept::later_trans))]
     fn list_at(
         &self,
@@ -298,12 +359,24 @@ impl<D: Defines> Space<'_, D> {
         Ok(so_far.trees)
     }
 
+    // A class begins, by its name or without one.
+    fn class_number(&self, state: &mut State, head: &Head<'_>) -> Result<ClassId, Stop>
+        ensures { IsAsked class_number IsClassKnown state.old state.new result (definition.class_begins (head_of head.now) (meaning state.old)) }
+    {
+        match head.name {
+            Some(name) => self.declares.begin_class(state, head.is_union, name),
+            None => self
+                .declares
+                .begin_unnamed(state, head.is_union, head.place),
+        }
+    }
+
     // A class begins.
     #[tactic(auto, using(cxx_cursor::proofs::Kept::later_trans))]
     fn class_begun(&self, state: &mut State, head: &Head<'_>) -> Result<Begun, Stop>
-        ensures { IsAsked begun_number IsBegun state.old state.new result (begin_class head.now.is_union (lexeme_at head.now.name) (meaning state.old)) }
+        ensures { IsAsked begun_number IsBegun state.old state.new result (definition.class_begins (head_of head.now) (meaning state.old)) }
     {
-        let class = self.declares.begin_class(state, head.is_union, head.name)?;
+        let class = self.class_number(state, head)?;
         begun_as(state, class)
     }
 
@@ -324,13 +397,14 @@ impl<D: Defines> Space<'_, D> {
         requires members { AreTreesHeld state.old members }
         ensures { IsRead specifiers_of AreSpecifiers state.old state.new cursor.now result (class_ended (head_of head.now) begun.class.0 (trees_held state.old members) (specifiers_of state.old so_far) from.now (meaning state.old) cursor.now) }
     {
-        self.declares
-            .end_class(state, begun.class, head.name.place)?;
+        self.declares.end_class(state, begun.class, head.place)?;
+        no_anonymous_union(state, cursor, head)?;
         let number = class_tree(state, head, begun, members, from, cursor)?;
         Ok(with_class(so_far, begun.of, number)?)
     }
 
     // From the `{` on, where it has begun and has these bases.
+    #[cycle(nested)]
     #[tactic(auto, using(crate::proofs::Kept::begun_later, cxx_cursor::proofs::Kept::named_kept, cxx_cursor::proofs::Kept::named_later, cxx_cursor::proofs::Kept::trees_kept, cxx_cursor::proofs::Kept::trees_later, cxx_cursor::proofs::Kept::later_refl, cxx_cursor::proofs::Kept::later_trans))]
     fn class_opened(
         &self,
@@ -353,7 +427,8 @@ impl<D: Defines> Space<'_, D> {
     }
 
     // A definition of a class, from its key on.
-    #[tactic(auto, using(crate::proofs::Kept::begun_later, cxx_cursor::proofs::Kept::named_kept, cxx_cursor::proofs::Kept::named_later, cxx_cursor::proofs::Kept::trees_kept, cxx_cursor::proofs::Kept::trees_later, cxx_cursor::proofs::Kept::later_refl, cxx_cursor::proofs::Kept::later_trans), unfolding(cxx_tree::specs::Held::meaning, cxx_language::specs::Classes::class_at, cxx_language::specs::Classes::head_at))]
+    #[cycle(nested)]
+    #[tactic(auto, using(crate::proofs::Kept::begun_later, cxx_cursor::proofs::Kept::named_kept, cxx_cursor::proofs::Kept::named_later, cxx_cursor::proofs::Kept::trees_kept, cxx_cursor::proofs::Kept::trees_later, cxx_cursor::proofs::Kept::later_refl, cxx_cursor::proofs::Kept::later_trans), unfolding(cxx_tree::specs::Held::meaning, cxx_language::specs::Classes::class_at, cxx_language::specs::Classes::class_by, cxx_language::specs::Classes::head_at))]
     fn class_at(
         &self,
         state: &mut State,
@@ -372,18 +447,56 @@ impl<D: Defines> Space<'_, D> {
     }
 
     // A class, and the specifiers behind it.
+    #[cycle(nested)]
     #[tactic(auto, using(cxx_cursor::proofs::Kept::later_refl, cxx_cursor::proofs::Kept::later_trans))]
     fn class_then(
+        &self,
+        state: &mut State,
+        cursor: &mut Cursor<'_>,
+        place: SpecifierPlace,
+        so_far: Specifiers,
+    ) -> Result<Specifiers, Stop>
+        requires { AreSpecifiers state.old so_far }
+        ensures { IsRead specifiers_of AreSpecifiers state.old state.new cursor.new result (class_then self.now.room place (specifiers_of state.old so_far) (meaning state.old) cursor.old) }
+    {
+        let with = self.class_at(state, cursor, so_far)?;
+        self.declares
+            .specifiers(state, cursor, place, with, self.room)
+    }
+
+    // Behind specifiers of a member that were read: with a class, where one is defined there.
+    #[cycle(nested)]
+    #[tactic(auto, using(cxx_cursor::proofs::Kept::later_refl), unfolding(cxx_language::specs::Classes::nested_or_not))]
+    fn nested_or_not(
         &self,
         state: &mut State,
         cursor: &mut Cursor<'_>,
         so_far: Specifiers,
     ) -> Result<Specifiers, Stop>
         requires { AreSpecifiers state.old so_far }
-        ensures { IsRead specifiers_of AreSpecifiers state.old state.new cursor.new result (class_then self.now.room (specifiers_of state.old so_far) (meaning state.old) cursor.old) }
+        ensures { IsRead specifiers_of AreSpecifiers state.old state.new cursor.new result (definition.nested_or_not (definition.class_at self.now.room) self.now.room (specifiers_of state.old so_far) (meaning state.old) cursor.old) }
     {
-        let with = self.class_at(state, cursor, so_far)?;
-        self.declares.specifiers(state, cursor, SpecifierPlace::Declaration, with, self.room)
+        if has_type(state, &so_far) {
+            return Ok(so_far);
+        }
+        self.class_then(state, cursor, SpecifierPlace::Member, so_far)
+    }
+
+    /// The specifiers of a member, with a class that is defined among them (7.1.5, 9.2).
+    #[cycle(nested)]
+    #[tactic(auto, using(cxx_cursor::proofs::Kept::later_refl, cxx_cursor::proofs::Kept::later_trans), unfolding(cxx_language::specs::Classes::member_specifiers_by))]
+    pub(crate) fn member_specifiers(
+        &self,
+        state: &mut State,
+        cursor: &mut Cursor<'_>,
+    ) -> Result<Specifiers, Stop>
+        ensures { IsRead specifiers_of AreSpecifiers state.old state.new cursor.new result (definition.member_specifiers self.now.room (meaning state.old) cursor.old) }
+    {
+        let none = no_specifiers_yet(cursor.alloc());
+        let first = self
+            .declares
+            .specifiers(state, cursor, SpecifierPlace::Member, none, self.room)?;
+        self.nested_or_not(state, cursor, first)
     }
 
     // Behind specifiers that were read: with a class, where one is defined there.
@@ -400,7 +513,7 @@ impl<D: Defines> Space<'_, D> {
         if has_type(state, &so_far) {
             return Ok(so_far);
         }
-        self.class_then(state, cursor, so_far)
+        self.class_then(state, cursor, SpecifierPlace::Declaration, so_far)
     }
 
     /// The specifiers of a declaration of a namespace, with a class that is defined among them (7.1.5).

@@ -2,7 +2,7 @@
 
 ghost use Rattle.std.specs.Prelude.{◌≡◌, ◌<◌, length};
 ghost use Rattle.cxx_language.specs.Classes as definition;
-ghost use Rattle.cxx_reading.specs.Units.{name_in};
+ghost use Rattle.cxx_reading.specs.Units.{declared_synonym, name_in};
 ghost use Rattle.cxx_space.specs.Classes.{fitting_member, member_kept, members_at};
 ghost use Rattle.cxx_cursor.specs.Asking.{AnyKnown, IsTreeKnown, itself};
 ghost use Rattle.cxx_cursor.specs.Reading.{IsRead};
@@ -11,12 +11,11 @@ ghost use Rattle.cxx_tree.specs.Held.{meaning, tree, type_of};
 ghost use Rattle.cxx_units.specs.Said.{IsDeclared, IsListed, IsListedTurn, IsSaid, listed_of, listed_turn, said_of};
 
 use crate::space::{Defines, Space};
-use cxx_cursor::{
-    Cursor, Declarator, NameToken, Specifiers, Turn, is_name, is_punct, no_specifiers_yet,
-};
+use cxx_cursor::{Cursor, Declarator, NameToken, Specifiers, Turn, is_name, is_punct};
+use cxx_language::Reader;
 use cxx_model::{Access, FactId, FaultText, LeftOut, Stop, TreeId, TreeIdList, TypeId, punct};
 use cxx_names::is_incomplete;
-use cxx_reading::{Naming, SpecifierPlace};
+use cxx_reading::Naming;
 use cxx_syntax::declared;
 use cxx_tree::State;
 use cxx_units::ends::nothing_declared;
@@ -59,21 +58,39 @@ fn no_function(state: &State, cursor: &Cursor<'_>, name: &NameToken, of: TypeId)
     Ok(())
 }
 
-// A member is of a complete type; that of its own class is none yet (9.2).
+// A member that is not static is of a complete type; that of its own class is none yet (9.2, 9.4.2).
 #[tactic(auto, using(cxx_cursor::proofs::Kept::later_refl), unfolding(cxx_language::specs::Classes::whole_member, cxx_tree::specs::Held::meaning))]
 fn whole_member(
     state: &State,
     cursor: &Cursor<'_>,
+    is_static: bool,
     name: &NameToken,
     of: TypeId,
 ) -> Result<(), Stop>
     requires { of.0 < length (state.now).types }
-    ensures { IsRead itself AnyKnown state.now state.now cursor.now result (definition.whole_member (name_at name.now) (type_of state.now of) (meaning state.now) cursor.now) }
+    ensures { IsRead itself AnyKnown state.now state.now cursor.now result (definition.whole_member is_static (name_at name.now) (type_of state.now of) (meaning state.now) cursor.now) }
 {
     let types = state.types();
-    if is_unbounded(types, of) || is_incomplete(state.graph(), types, of) {
+    if !is_static && (is_unbounded(types, of) || is_incomplete(state.graph(), types, of)) {
         let fault = faulty(cursor.alloc(), name.place, FaultText::IncompleteClass)?;
         return Err(Stop::Fault(fault));
+    }
+    Ok(())
+}
+
+// The value of a static constant is not read in a class yet (9.4.2).
+#[tactic(auto, using(cxx_cursor::proofs::Kept::later_refl), unfolding(cxx_language::specs::Classes::no_constant_value))]
+fn no_constant_value(
+    state: &State,
+    cursor: &Cursor<'_>,
+    is_static: bool,
+    of: TypeId,
+) -> Result<(), Stop>
+    requires { of.0 < length (state.now).types }
+    ensures { IsRead itself AnyKnown state.now state.now cursor.now result (definition.no_constant_value is_static (type_of state.now of) (meaning state.now) cursor.now) }
+{
+    if is_static && (is_const_type(state.types(), of) && is_punct(punct::EQUALS, cursor.kind())) {
+        return Err(Stop::Fault(cursor.not_built()?));
     }
     Ok(())
 }
@@ -83,6 +100,7 @@ fn whole_member(
 fn member_kept(
     state: &mut State,
     cursor: &Cursor<'_>,
+    is_static: bool,
     name: &NameToken,
     of: TypeId,
     number: FactId,
@@ -91,9 +109,10 @@ fn member_kept(
 ) -> Result<TreeId, Stop>
     requires of { of.0 < length (state.old).types }
     requires parts { AreTreesHeld state.old parts }
-    ensures { IsRead tree IsTreeKnown state.old state.new cursor.now result (member_kept (name_at name.now) (type_of state.old of) number.0 (trees_held state.old parts) from.now (meaning state.old) cursor.now) }
+    ensures { IsRead tree IsTreeKnown state.old state.new cursor.now result (member_kept is_static (name_at name.now) (type_of state.old of) number.0 (trees_held state.old parts) from.now (meaning state.old) cursor.now) }
 {
-    whole_member(state, cursor, name, of)?;
+    whole_member(state, cursor, is_static, name, of)?;
+    no_constant_value(state, cursor, is_static, of)?;
     declarator_tree(state, false, name, of, number, parts, from, cursor)
 }
 
@@ -127,8 +146,17 @@ impl<D: Defines> Space<'_, D> {
         let is_mutable = is_mutable_member(state, said, of);
         let number = self
             .declares
-            .declare_member(state, access, is_mutable, &name, of)?;
-        member_kept(state, cursor, &name, of, number, declarator.parts, from)
+            .declare_member(state, access, said.is_static, is_mutable, &name, of)?;
+        member_kept(
+            state,
+            cursor,
+            said.is_static,
+            &name,
+            of,
+            number,
+            declarator.parts,
+            from,
+        )
     }
 
     // The same with the type that the declarator declares.
@@ -172,6 +200,69 @@ impl<D: Defines> Space<'_, D> {
         self.member_as(state, cursor, access, said, declarator, from)
     }
 
+    // A name of a type that fits, with the type that the declarator declares.
+    #[tactic(auto, using(cxx_cursor::proofs::Kept::layers_kept, cxx_cursor::proofs::Kept::layers_later, cxx_cursor::proofs::Kept::trees_kept, cxx_cursor::proofs::Kept::trees_later, cxx_cursor::proofs::Kept::type_kept, cxx_cursor::proofs::Kept::type_later, cxx_cursor::proofs::Kept::later_refl, cxx_cursor::proofs::Kept::later_trans))]
+    fn synonym_as(
+        &self,
+        state: &mut State,
+        cursor: &Cursor<'_>,
+        said: Said,
+        declarator: Declarator,
+        from: &Cursor<'_>,
+    ) -> Result<TreeId, Stop>
+        requires said { IsSaid state.old said }
+        requires declarator { IsDeclarator state.old declarator }
+        ensures { IsRead tree IsTreeKnown state.old state.new cursor.now result (declared_synonym (said_of state.old said) (declarator_of state.old declarator) from.now (meaning state.old) cursor.now) }
+    {
+        let reader = Reader {
+            declares: self.declares,
+            room: self.room,
+        };
+        match declared(state, declarator.layers.as_slice(), said.of) {
+            Ok(of) => reader.declared_synonym(state, cursor, said, from, declarator, of),
+            Err(_) => Err(Stop::OutOfMemory),
+        }
+    }
+
+    // A name of a type, given its declarator (7.1.3).
+    #[tactic(auto, using(cxx_cursor::proofs::Kept::later_refl, cxx_cursor::proofs::Kept::later_trans), unfolding(cxx_language::specs::Classes::synonym_member))]
+    fn synonym_member(
+        &self,
+        state: &mut State,
+        cursor: &Cursor<'_>,
+        said: Said,
+        declarator: Declarator,
+        from: &Cursor<'_>,
+    ) -> Result<TreeId, Stop>
+        requires said { IsSaid state.old said }
+        requires declarator { IsDeclarator state.old declarator }
+        ensures { IsRead tree IsTreeKnown state.old state.new cursor.now result (definition.synonym_member (said_of state.old said) (declarator_of state.old declarator) from.now (meaning state.old) cursor.now) }
+    {
+        declared_fits(state, cursor, said, &declarator)?;
+        self.synonym_as(state, cursor, said, declarator, from)
+    }
+
+    // A member, given its declarator.
+    #[tactic(auto, using(cxx_cursor::proofs::Kept::later_refl, cxx_cursor::proofs::Kept::later_trans), unfolding(cxx_language::specs::Classes::declared_member))]
+    fn declared_member(
+        &self,
+        state: &mut State,
+        cursor: &Cursor<'_>,
+        access: Access,
+        said: Said,
+        declarator: Declarator,
+        from: &Cursor<'_>,
+    ) -> Result<TreeId, Stop>
+        requires said { IsSaid state.old said }
+        requires declarator { IsDeclarator state.old declarator }
+        ensures { IsRead tree IsTreeKnown state.old state.new cursor.now result (definition.declared_member access (said_of state.old said) (declarator_of state.old declarator) from.now (meaning state.old) cursor.now) }
+    {
+        if said.is_typedef {
+            return self.synonym_member(state, cursor, said, declarator, from);
+        }
+        self.data_member(state, cursor, access, said, declarator, from)
+    }
+
     #[tactic(auto, using(cxx_cursor::proofs::Kept::type_kept, cxx_cursor::proofs::Kept::type_later, cxx_cursor::proofs::Kept::later_refl, cxx_cursor::proofs::Kept::later_trans), unfolding(cxx_language::specs::Classes::named_member_at))]
     fn named_member_at(
         &self,
@@ -187,7 +278,7 @@ impl<D: Defines> Space<'_, D> {
         let declarator = self
             .declares
             .declarator(state, cursor, Naming::Required, self.room)?;
-        self.data_member(state, cursor, access, said, declarator, &from)
+        self.declared_member(state, cursor, access, said, declarator, &from)
     }
 
     // A member; a bit-field may have no name (9.6), and functions are not read yet.
@@ -206,7 +297,7 @@ impl<D: Defines> Space<'_, D> {
             let form = FaultText::LeftOut(LeftOut::BitField);
             return Err(Stop::Fault(cursor.faulty(form)?));
         }
-        if begins_function(cursor) {
+        if !said.is_typedef && begins_function(cursor) {
             return Err(Stop::Fault(cursor.not_built()?));
         }
         self.named_member_at(state, cursor, access, said)
@@ -271,7 +362,8 @@ impl<D: Defines> Space<'_, D> {
     }
 
     /// A declaration of members, with the access of the label before it (9.2, 11.1).
-    #[tactic(auto, using(cxx_cursor::proofs::Kept::named_kept, cxx_cursor::proofs::Kept::named_later, cxx_cursor::proofs::Kept::trees_kept, cxx_cursor::proofs::Kept::trees_later, cxx_cursor::proofs::Kept::later_refl, cxx_cursor::proofs::Kept::later_trans), unfolding(cxx_language::specs::Classes::member_declaration_at))]
+    #[cycle(nested)]
+    #[tactic(auto, using(cxx_cursor::proofs::Kept::named_kept, cxx_cursor::proofs::Kept::named_later, cxx_cursor::proofs::Kept::trees_kept, cxx_cursor::proofs::Kept::trees_later, cxx_cursor::proofs::Kept::later_refl, cxx_cursor::proofs::Kept::later_trans), unfolding(cxx_language::specs::Classes::member_declaration_by))]
     pub(crate) fn member_declaration_at(
         &self,
         state: &mut State,
@@ -281,10 +373,7 @@ impl<D: Defines> Space<'_, D> {
         ensures { IsRead tree IsTreeKnown state.old state.new cursor.new result (definition.member_declaration_at self.now.room access (meaning state.old) cursor.old) }
     {
         let from = cursor.mark();
-        let none = no_specifiers_yet(cursor.alloc());
-        let specifiers = self
-            .declares
-            .specifiers(state, cursor, SpecifierPlace::Member, none, self.room)?;
+        let specifiers = self.member_specifiers(state, cursor)?;
         let between = cursor.mark();
         let declarators = self.members_by(state, cursor, access, &specifiers)?;
         declaration_tree(state, specifiers, declarators, &from, &between, cursor)

@@ -56,21 +56,32 @@ pub trait Defines: Declares {
     ) -> Result<ClassId, Stop>
         ensures { IsAsked class_number IsClassKnown state.old state.new result (classes.begin_class is_union (lexeme_at name.entry) (meaning state.old)) };
 
+    /// The definition of a class without a name begins, at its key (clause 9): its number.
+    fn begin_unnamed(
+        &self,
+        state: &mut State,
+        is_union: bool,
+        place: Place,
+    ) -> Result<ClassId, Stop>
+        ensures { IsAsked class_number IsClassKnown state.old state.new result (classes.begin_unnamed is_union place (meaning state.old)) };
+
     /// A name stands for a base of a class (10).
     fn declare_base(&self, state: &mut State, of: BaseOf, path: &Path) -> Result<(), Stop>
         ensures { IsAsked itself AnyKnown state.old state.new result (bases.declare_base (base_of of) (path_at path.now) (meaning state.old)) };
 
-    /// A nonstatic data member, with the access of the label before it (9.2, 11.1), and whether it is mutable (7.1.1).
+    /// A data member (9.2), with the access of the label before it (11.1), whether it is static (9.4.2), and whether it is
+    /// mutable (7.1.1).
     fn declare_member(
         &self,
         state: &mut State,
         access: Access,
+        is_static: bool,
         is_mutable: bool,
         name: &NameToken,
         of: TypeId,
     ) -> Result<FactId, Stop>
         requires { of.0 < length (state.old).types }
-        ensures { IsAsked fact_number AnyKnown state.old state.new result (classes.declare_member access is_mutable (name_at name.now) (type_of state.old of) (meaning state.old)) };
+        ensures { IsAsked fact_number AnyKnown state.old state.new result (classes.declare_member access is_static is_mutable (name_at name.now) (type_of state.old of) (meaning state.old)) };
 
     /// The definition of a class ends, at the place of its name (9.2, 12.1).
     fn end_class(&self, state: &mut State, class: ClassId, place: Place) -> Result<(), Stop>

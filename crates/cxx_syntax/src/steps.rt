@@ -44,6 +44,8 @@ fn may_store(place: SpecifierPlace, word: StorageWord) -> bool
         },
         SpecifierPlace::Member => match word {
             StorageWord::Mutable => true,
+            StorageWord::Static => true,
+            StorageWord::Typedef => true,
             _ => false,
         },
         SpecifierPlace::Parameter => match word {
@@ -52,20 +54,6 @@ fn may_store(place: SpecifierPlace, word: StorageWord) -> bool
             _ => false,
         },
         SpecifierPlace::TypeId => false,
-    }
-}
-
-// Members that are static, and names of types in a class, are not read yet (9.2, 9.4, 7.1.3).
-fn stores_later(place: SpecifierPlace, word: StorageWord) -> bool
-    ensures { result ≡ definition.stores_later place word }
-{
-    match place {
-        SpecifierPlace::Member => match word {
-            StorageWord::Static => true,
-            StorageWord::Typedef => true,
-            _ => false,
-        },
-        _ => false,
     }
 }
 
@@ -80,9 +68,6 @@ fn storage_step(
     requires { AreSpecifiers state.now so_far }
     ensures { IsRead specifiers_turn IsSpecifiersTurn state.now state.now cursor.new result (definition.storage_step place word (specifiers_of state.now so_far) (meaning state.now) cursor.old) }
 {
-    if stores_later(place, word) {
-        return Err(Stop::Fault(cursor.not_built()?));
-    }
     if !may_store(place, word) || so_far.storage.is_some() {
         return Err(Stop::Fault(cursor.refused()?));
     }
@@ -265,9 +250,9 @@ pub(crate) fn begins_class(number: u8) -> bool
         || (number == keyword::STRUCT || (number == keyword::UNION || number == keyword::TYPENAME))
 }
 
-// The head of a class that is defined (9). Among the specifiers of a declaration of a namespace reading stops at its key,
-// where it has a name without qualifiers; other heads are not read there yet. In a block the form is left out
-// (9.8), and elsewhere no class is defined (8.3.5, 5.3.3).
+// The head of a class that is defined (9). Among the specifiers of a declaration of a namespace or of a member reading stops
+// at its key, unless its name has qualifiers; such heads are not read yet. In a block the form is left out (9.8), and
+// elsewhere no class is defined (8.3.5, 5.3.3).
 #[tactic(auto, using(cxx_cursor::proofs::Kept::later_refl))]
 fn head_reached<'a>(
     state: &State,
@@ -288,7 +273,13 @@ fn head_reached<'a>(
             *cursor = from.mark();
             Ok(Turn::Done(so_far))
         }
-        SpecifierPlace::Member => Err(Stop::Fault(from.not_built()?)),
+        SpecifierPlace::Member => {
+            if !is_plain {
+                return Err(Stop::Fault(from.not_built()?));
+            }
+            *cursor = from.mark();
+            Ok(Turn::Done(so_far))
+        }
         SpecifierPlace::Block => {
             let text = FaultText::LeftOut(LeftOut::LocalClass);
             Err(Stop::Fault(from.faulty(text)?))
@@ -314,13 +305,17 @@ fn member_word(
     }
 }
 
-// Where no type stands among the specifiers of a declaration of a namespace, a key of a class is that of a class that is
-// defined there (9).
+// Where no type stands among the specifiers of a declaration of a namespace or of a member, a key of a class is that of a
+// class that is defined there (9).
 fn is_head(place: SpecifierPlace, kind: TokenKind) -> bool
     ensures { result ≡ definition.is_head place kind }
 {
     match place {
         SpecifierPlace::Declaration => match kind {
+            TokenKind::Keyword(number) => begins_class(number),
+            _ => false,
+        },
+        SpecifierPlace::Member => match kind {
             TokenKind::Keyword(number) => begins_class(number),
             _ => false,
         },
@@ -479,7 +474,7 @@ impl<K: Kinds, N: Nested> Reader<'_, K, N> {
         Ok(Turn::More(with_declared(so_far, both.1, tree)?))
     }
 
-    // No enumeration is defined among parameters and in a type that is named (8.3.5, 5.3.3); one of a class is not read yet.
+    // No enumeration is defined among parameters and in a type that is named (8.3.5, 5.3.3).
     #[tactic(auto, using(cxx_cursor::proofs::Kept::trees_kept, cxx_cursor::proofs::Kept::trees_later, cxx_cursor::proofs::Kept::trees_append, cxx_cursor::proofs::Kept::trees_below_append, cxx_cursor::proofs::Kept::named_kept, cxx_cursor::proofs::Kept::named_later, cxx_cursor::proofs::Kept::type_kept, cxx_cursor::proofs::Kept::type_later, cxx_cursor::proofs::Kept::later_trans, cxx_cursor::proofs::Kept::later_refl), unfolding(cxx_reading::specs::Specifiers::list_step))]
     fn list_step(
         &self,
@@ -495,9 +490,6 @@ impl<K: Kinds, N: Nested> Reader<'_, K, N> {
         requires open { N.is_open self.now.nested.now }
         ensures { IsRead specifiers_turn IsSpecifiersTurn state.old state.new cursor.new result (definition.list_step (K.asks self.now.kinds.now self.now.room) (N.inner self.now.nested.now) place from.now (name_of_option name.now) (specifiers_of state.old so_far) (meaning state.old) cursor.old) }
     {
-        if is_member_place(place) {
-            return Err(Stop::Fault(from.not_built()?));
-        }
         if !is_declaration(place) {
             return Err(Stop::Fault(cursor.refused()?));
         }
@@ -657,7 +649,7 @@ impl<K: Kinds, N: Nested> Reader<'_, K, N> {
             return self.class_name_step(state, cursor, is_union, place, from, so_far);
         }
         if begins_members(cursor.kind()) {
-            return head_reached(state, cursor, place, false, from, so_far);
+            return head_reached(state, cursor, place, true, from, so_far);
         }
         Err(Stop::Fault(cursor.refused()?))
     }

@@ -20,7 +20,7 @@ use Rattle.cxx_units.specs.declared.said.Said.{Said}
 -- ---- what the specifiers say
 
 abbrev pub said_of : Held → Said → definition.Said
-said_of held said = record { of = type_of held said.of; is_typedef = said.is_typedef; is_extern = said.is_extern; is_mutable = said.is_mutable }
+said_of held said = record { of = type_of held said.of; is_typedef = said.is_typedef; is_extern = said.is_extern; is_mutable = said.is_mutable; is_static = said.is_static }
 
 abbrev pub IsSaid : Held → Said → Type 0
 IsSaid held said = said.of.0 < length held.types

@@ -21,8 +21,9 @@ pub struct Said {
     pub of: TypeId,
     pub is_typedef: bool,
     pub is_extern: bool,
-    /// Of a member (7.1.1).
+    /// Of a member (7.1.1, 9.4).
     pub is_mutable: bool,
+    pub is_static: bool,
 }
 
 /// The trees of declarators that were read, and whether the next is the first.
@@ -55,6 +56,15 @@ pub(crate) fn is_mutable_word(word: Option<StorageWord>) -> bool
 {
     match word {
         Some(StorageWord::Mutable) => true,
+        _ => false,
+    }
+}
+
+pub(crate) fn is_static_word(word: Option<StorageWord>) -> bool
+    ensures { result ≡ definition.is_static_word word }
+{
+    match word {
+        Some(StorageWord::Static) => true,
         _ => false,
     }
 }
@@ -147,6 +157,7 @@ pub fn said_by(
             is_typedef: is_typedef_word(specifiers.storage),
             is_extern: counts_as_extern || is_extern_word(specifiers.storage),
             is_mutable: is_mutable_word(specifiers.storage),
+            is_static: is_static_word(specifiers.storage),
         }),
         Err(_) => Err(Stop::OutOfMemory),
     }
