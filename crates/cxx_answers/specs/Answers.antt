@@ -1,5 +1,7 @@
 -- What is asked to find what an expression means, answered by the declarations so far (3.4, 5.3.3, 5.19, 13.3).
 use Rattle.std.specs.Prelude.{ℕ, zero, ◌^◌, nat_eq, nat_lt, ℤ, pos, negsuc, Bool, true, false, not, ◌&&◌, ◌||◌, if◌then◌else◌, List, [], ◌∷◌, ◌++◌, length, Option, Some, None, Result, Ok, Err}
+use Rattle.cxx_model.specs.declared.facts.MemberKind.{MemberKind}
+use Rattle.cxx_model.specs.declared.facts.MemberKind.TheVariants as member_kind
 use Rattle.cxx_model.specs.declared.fault.FaultText.TheVariants as says
 use Rattle.cxx_model.specs.declared.fault.LeftOut.TheVariants as form
 use Rattle.cxx_model.specs.declared.limits.TheConstants as limits
@@ -8,7 +10,8 @@ use Rattle.cxx_model.specs.declared.place.Place.{Place}
 use Rattle.cxx_model.specs.declared.stop.LimitKind.TheVariants.{Arguments}
 use Rattle.cxx_model.specs.declared.types.ClassId.{ClassId}
 use Rattle.cxx_model.specs.declared.types.FactId.{FactId}
-use Rattle.cxx_model.specs.Facts.Declarations.{CxxGraph, CxxName, spelled}
+use Rattle.cxx_model.specs.Facts.Declarations as facts
+use Rattle.cxx_model.specs.Facts.Declarations.{CxxGraph, CxxName, Declares, spelled}
 use Rattle.cxx_model.specs.Stops.{Answer, Stopped, Limited, ◌>>=◌, fault, not_built_at, undeclared_at}
 use Rattle.cxx_model.specs.Text.Lexemes.{nowhere}
 use Rattle.cxx_model.specs.Types.Trees.{CxxType}
@@ -21,7 +24,6 @@ use Rattle.cxx_meaning.specs.Lookups.Associated.{adl, associated}
 use Rattle.cxx_meaning.specs.Lookups.Wanted.{any_name}
 use Rattle.cxx_constant.specs.Constants.{CxxFault, CxxValue, not_constant, overflow, divide_by_zero, constant}
 use Rattle.cxx_reading.specs.declared.region.Region.{Region}
-use Rattle.cxx_reading.specs.Declaring.{is_object}
 use Rattle.cxx_reading.specs.Givers.{giver, with_givers}
 use Rattle.cxx_reading.specs.Initializers.{with_call}
 use Rattle.cxx_reading.specs.Linked.{is_space_at}
@@ -38,9 +40,18 @@ use Rattle.cxx_answers.specs.Members.{member_here}
 
 -- ---- names (3.4.1)
 
--- 8.3.6: an object whose first declaration stands in a block or among parameters
+-- an object that is no member of a class
+abbrev pub is_free : MemberKind → Bool
+is_free member_kind.Free = true
+is_free _ = false
+
+abbrev pub is_free_object : Declares → Bool
+is_free_object (facts.object of kind is_mutable value first) = is_free kind
+is_free_object _ = false
+
+-- 8.3.6: an object whose first declaration stands in a block or among parameters; members of classes are none
 abbrev pub is_local : CxxGraph → Numbered → Bool
-is_local graph one = is_object one.fact.what && not (is_space_at graph one.fact.scope)
+is_local graph one = is_free_object one.fact.what && not (is_space_at graph one.fact.scope)
 
 abbrev pub names_local : CxxGraph → List Numbered → Bool
 names_local graph [] = false

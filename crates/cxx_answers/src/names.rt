@@ -9,7 +9,6 @@ ghost use Rattle.cxx_model.specs.Facts.Declarations.{declares_at, graph_at};
 ghost use Rattle.cxx_model.specs.Types.Trees.{CxxType};
 ghost use Rattle.cxx_names.specs.Index.{Notes};
 ghost use Rattle.cxx_names.specs.Looked.{looked_up};
-ghost use Rattle.cxx_reading.specs.Declaring.{is_object as is_an_object};
 ghost use Rattle.cxx_reading.specs.Paths.{found_in, name_in, sought_in};
 ghost use Rattle.cxx_reading.specs.Seen.{fact_numbers, numbered_at};
 ghost use Rattle.cxx_reading.specs.Trees.{last_part};
@@ -23,7 +22,7 @@ use cxx_expr::faults::fault;
 use cxx_found::{Found, Wanted};
 use cxx_graph::Graph;
 use cxx_model::{
-    Entity, FactId, FactList, FaultText, LeftOut, Path, PathPart, Place, ScopeId, Stop,
+    Entity, FactId, FactList, FaultText, LeftOut, MemberKind, Path, PathPart, Place, ScopeId, Stop,
 };
 use cxx_names::Names;
 use cxx_paths::{last_place, name_sought, region_here, scope_of, set_in, unambiguous_name};
@@ -31,11 +30,21 @@ use cxx_reading::Region;
 use cxx_tree::State;
 use std::alloc::Global;
 
-fn is_object(what: Entity) -> bool
-    ensures { (types : List CxxType) → result ≡ is_an_object (declares_at types what) }
+fn is_free(member: MemberKind) -> bool
+    ensures { result ≡ definition.is_free member }
+{
+    match member {
+        MemberKind::Free => true,
+        _ => false,
+    }
+}
+
+// Whether it is an object that is no member of a class.
+fn is_free_object(what: Entity) -> bool
+    ensures { (types : List CxxType) → result ≡ definition.is_free_object (declares_at types what) }
 {
     match what {
-        Entity::Object { .. } => true,
+        Entity::Object { member, .. } => is_free(member),
         _ => false,
     }
 }
@@ -46,7 +55,7 @@ fn is_local(graph: &Graph, names: &Names, number: FactId) -> bool
     ensures { (types : List CxxType) → result ≡ definition.names_local (graph_at types graph.now) (looked_up types graph.now.facts (number ∷ [])) }
 {
     match fact_of(graph, number) {
-        Some(fact) => is_object(fact.what) && !names.is_space(graph, fact.scope),
+        Some(fact) => is_free_object(fact.what) && !names.is_space(graph, fact.scope),
         None => false,
     }
 }

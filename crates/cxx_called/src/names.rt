@@ -1,14 +1,14 @@
 //! What a name means in an expression (3.3.7, 3.4, 5.1, 7.2).
 
-ghost use Rattle.std.specs.Prelude.{◌≡◌, ◌<◌, ◌-◌, ◌∷◌, [], length, option_map, IfOk, Ok};
+ghost use Rattle.std.specs.Prelude.{◌≡◌, ◌<◌, ◌-◌, ◌∷◌, [], length, option_map, IfOk, Ok, Some};
 ghost use Rattle.std.specs.List.{slice_get};
 ghost use Rattle.std.specs.Option.{option_copied};
-ghost use Rattle.cxx_model.specs.Facts.Declarations.{declares_at};
-ghost use Rattle.cxx_model.specs.Facts.Fitted.{IsEntityBelow};
+ghost use Rattle.cxx_model.specs.Facts.Declarations.{declares_at, type_of_option};
+ghost use Rattle.cxx_model.specs.Facts.Fitted.{IsEntityBelow, IsTypeNumberBelow};
 ghost use Rattle.cxx_model.specs.Facts.Graph.{enumerations};
 ghost use Rattle.cxx_model.specs.Stops.{Faulty};
 ghost use Rattle.cxx_model.specs.Types.Integral.{promoted_of_values};
-ghost use Rattle.cxx_model.specs.Types.Trees.{enumeration};
+ghost use Rattle.cxx_model.specs.Types.Trees.{class_type, enumeration};
 ghost use Rattle.cxx_reading.specs.Paths.{wrong_kind_at};
 ghost use Rattle.cxx_reading.specs.Trees.{is_plain_path};
 ghost use Rattle.cxx_tree.specs.Answered.{IsAnswered};
@@ -22,13 +22,13 @@ ghost use Rattle.cxx_called.specs.Views.{IsMeant, IsOfThere, means_of};
 
 use crate::facts::{are_one_function, fact_at, first_or, type_of_first, values_among};
 use cxx_computed::holds;
-use cxx_expr::Questions;
 use cxx_expr::faults::fault;
 use cxx_expr::nodes::given_over;
 use cxx_expr::operands::plain_type;
+use cxx_expr::{Questions, static_class};
 use cxx_model::{
-    Base, ConstantKind, Entity, EnumId, Evidence, FactId, FactList, Fault, FaultText, LeftOut,
-    Listed, MemberKind, Node, Operand, Path, PathPart, Place, Stop, TreeId, TypeId, Word,
+    Base, ClassId, ConstantKind, Entity, EnumId, Evidence, FactId, FactList, Fault, FaultText,
+    LeftOut, Listed, MemberKind, Node, Operand, Path, PathPart, Place, Stop, TreeId, TypeId, Word,
 };
 use cxx_tree::{State, is_plain_path};
 use std::alloc::{AllocError, Global};
@@ -385,14 +385,63 @@ fn meant_by(alloc: Global, state: &mut State, node: &Node, all: &[FactId]) -> Re
 
 // ---- the tree
 
+fn type_of_class(state: &mut State, class: ClassId) -> Result<TypeId, Stop>
+    requires { class.0 < length (state.old).graph.classes }
+    ensures { GrowsType state.old state.new result (class_type class.0) }
+{
+    match state.class_type(class) {
+        Ok(of) => Ok(of),
+        Err(_) => Err(Stop::OutOfMemory),
+    }
+}
+
+// A name whose type is given.
+fn named_of(
+    alloc: Global,
+    state: &mut State,
+    node: Node,
+    meant: Meant,
+    of: Option<TypeId>,
+) -> Result<TreeId, Stop>
+    requires node { IsNodeHeld state.old node }
+    requires meant { IsMeant state.old meant }
+    requires of { IsTypeNumberBelow (length (state.old).types) of }
+    ensures { GrowsTree state.old state.new result (definition.named_tree (node_tree state.old node).label (means_of state.old meant) (type_of_option (state.old).types of)) }
+{
+    let mut node = node;
+    node.of = of;
+    node.target = Some(meant.target);
+    given_over(state, node, meant.operand, Listed::new(alloc))
+}
+
+// A name whose type is a class.
+#[tactic(auto, using(cxx_expr::proofs::Kept::later_trans, cxx_expr::proofs::NodeKept::node_later, cxx_expr::proofs::NodeKept::node_kept, crate::proofs::Chosen::means_later, crate::proofs::Chosen::means_kept))]
+fn named_in(
+    alloc: Global,
+    state: &mut State,
+    node: Node,
+    meant: Meant,
+    class: ClassId,
+) -> Result<TreeId, Stop>
+    requires node { IsNodeHeld state.old node }
+    requires meant { IsMeant state.old meant }
+    requires class { class.0 < length (state.old).graph.classes }
+    ensures { GrowsTree state.old state.new result (definition.named_tree (node_tree state.old node).label (means_of state.old meant) (Some (class_type class.0))) }
+{
+    let of = type_of_class(state, class)?;
+    named_of(alloc, state, node, meant, Some(of))
+}
+
+// The name of a static member is of its class (9.4).
 fn named_tree(alloc: Global, state: &mut State, node: Node, meant: Meant) -> Result<TreeId, Stop>
     requires node { IsNodeHeld state.old node }
     requires meant { IsMeant state.old meant }
-    ensures { GrowsTree state.old state.new result (definition.named_tree (node_tree state.old node).label (means_of state.old meant)) }
+    ensures { GrowsTree state.old state.new result (definition.named_tree (node_tree state.old node).label (means_of state.old meant) (definition.static_class (meaning state.old).graph meant.target.0)) }
 {
-    let mut node = node;
-    node.target = Some(meant.target);
-    given_over(state, node, meant.operand, Listed::new(alloc))
+    match static_class(state, meant.target) {
+        Some(class) => named_in(alloc, state, node, meant, class),
+        None => named_of(alloc, state, node, meant, None),
+    }
 }
 
 /// A name that has these declarations, as an expression.

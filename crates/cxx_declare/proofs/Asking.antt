@@ -30,9 +30,9 @@ unfolding found_of region_of region_by sought_in found_from sought_from
 found_plain graph scope kind place word = refl
 
 pub kind_answered : (held : Held) (kind : TokenKind) (place : Place) (word : List ℕ) (k : Kind) → k ≡ kind_of_found (meaning held).graph (found_from (meaning held).graph (meaning held).here.scope (spelled word)) → IsAnswered itself AnyKnown held held (Ok k) (kind_here (path_of (token kind place word)) (meaning held))
-unfolding kind_here found_of region_of region_by sought_in found_from sought_from
+unfolding kind_here
 kind_answered held kind place word k is = record {
-  is = (ap (λ (c : Kind). Ok (c, meaning held)) (sym is), tt);
+  is = (ap (λ (c : Kind). Ok (c, meaning held)) (ap (kind_of_found (meaning held).graph) (found_plain (meaning held).graph (meaning held).here.scope kind place word) ∙ sym is), tt);
   later = Later_refl held;
 }
 

@@ -15,9 +15,9 @@ use Rattle.cxx_model.specs.Types.Trees.{CxxType}
 use Rattle.cxx_model.specs.Facts.Declarations.{CxxFact, Declares, declares_at, fact_at, facts_at, spelled}
 use Rattle.cxx_model.specs.Facts.Entities.{CxxEntity, of_fact}
 use Rattle.cxx_model.specs.Stops.{Answer, Gives, Stops, ◌>>=◌}
-use Rattle.cxx_reading.specs.Declaring.{declares_by, define_declared, define_object, fact_here, free, object_here, undefined, with_definition}
+use Rattle.cxx_reading.specs.Declaring.{declares_by, define_declared, define_object, fact_here, free, free_object, object_here, undefined, with_definition}
 use Rattle.cxx_reading.specs.State.{CxxState}
-use Rattle.cxx_declare.specs.Made.{added_defined, definable_by, defined_by, token, word_in}
+use Rattle.cxx_declare.specs.Made.{added_defined, definable_by, definable_object_by, object_defined_by, token, word_in}
 use Rattle.cxx_paths.proofs.Stopping.{stopped_on}
 use Rattle.cxx_tree.specs.Answered.{AnyKnown, IsAnswered, IsFactKnown, fact_number, itself}
 use Rattle.cxx_tree.specs.Held.{Held, meaning}
@@ -47,19 +47,26 @@ definable_is held fact word n r u named count is_free gives =
     (subst (λ w. Gives (λ unit. unit) r (undefined (meaning held) fact.place w (length (meaning held).graph.facts) (declares_at held.types fact.what))) named
     (subst (λ m. Gives (λ unit. unit) r (undefined (meaning held) fact.place word m (declares_at held.types fact.what))) (count ∙ sym (number_is held)) gives))
 
+pub object_definable_is : (held : Held) (fact : Fact) (word : List ℕ) (n : ℕ) (r : Result (Unit {0}) Stop) (u : Unit {0}) → word ≡ word_in fact.name → n ≡ length held.graph.facts → free_object (meaning held) (fact_at held.types fact) (word_in fact.name) ≡ Ok u
+    → Gives (λ unit. unit) r (undefined (meaning held) fact.place word n (declares_at held.types fact.what)) → Gives (λ unit. unit) r (definable_object_by (meaning held) fact.place (word_in fact.name) (fact_at held.types fact))
+object_definable_is held fact word n r u named count is_free gives =
+    subst (λ reply. Gives (λ unit. unit) r reply) (sym (ap (λ (a : Answer (Unit {0})). a >>= λ unit. undefined (meaning held) fact.place (word_in fact.name) (length (meaning held).graph.facts) (declares_at held.types fact.what)) is_free))
+    (subst (λ w. Gives (λ unit. unit) r (undefined (meaning held) fact.place w (length (meaning held).graph.facts) (declares_at held.types fact.what))) named
+    (subst (λ m. Gives (λ unit. unit) r (undefined (meaning held) fact.place word m (declares_at held.types fact.what))) (count ∙ sym (number_is held)) gives))
+
 pub assoc : {A B C : Type 0} (a : Answer A) (f : A → Answer B) (g : B → Answer C) → ((a >>= f) >>= g) ≡ (a >>= λ x. f x >>= g)
 assoc (Ok x) f g = refl
 assoc (Err why) f g = refl
 
 pub object_defined : (old new : Held) (kind : TokenKind) (place : Place) (word : List ℕ) (of : CxxType) (fact : Fact) (r : Result FactId Stop) → fact_at old.types fact ≡ fact_here (meaning old) (spelled word) place (object_here (meaning old) (spelled word) of) → fact.name ≡ name.Spelled word
-    → IsAnswered fact_number IsFactKnown old new r (defined_by fact.place (word_in fact.name) (fact_at old.types fact) (meaning old)) → IsAnswered fact_number IsFactKnown old new r (define_object (token kind place word) of (meaning old))
+    → IsAnswered fact_number IsFactKnown old new r (object_defined_by fact.place (word_in fact.name) (fact_at old.types fact) (meaning old)) → IsAnswered fact_number IsFactKnown old new r (define_object (token kind place word) of (meaning old))
 unfolding define_object
 object_defined old new kind place word of fact r is named answered =
     let whole : CxxFact = fact_here (meaning old) (spelled word) place (object_here (meaning old) (spelled word) of) in
     subst (λ reply. IsAnswered fact_number IsFactKnown old new r reply)
-    (assoc (free (meaning old) whole word) (λ unit. undefined (meaning old) place word (length (meaning old).graph.facts) whole.what) (λ unit. added_defined whole (meaning old)))
-    (subst (λ (w : CxxFact). IsAnswered fact_number IsFactKnown old new r (defined_by w.place word w (meaning old))) is
-    (subst (λ n. IsAnswered fact_number IsFactKnown old new r (defined_by fact.place (word_in n) (fact_at old.types fact) (meaning old))) named answered))
+    (assoc (free_object (meaning old) whole word) (λ unit. undefined (meaning old) place word (length (meaning old).graph.facts) whole.what) (λ unit. added_defined whole (meaning old)))
+    (subst (λ (w : CxxFact). IsAnswered fact_number IsFactKnown old new r (object_defined_by w.place word w (meaning old))) is
+    (subst (λ n. IsAnswered fact_number IsFactKnown old new r (object_defined_by fact.place (word_in n) (fact_at old.types fact) (meaning old))) named answered))
 
 -- ---- an object that was declared
 

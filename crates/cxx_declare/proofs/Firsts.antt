@@ -3,6 +3,8 @@ use Rattle.std.specs.Prelude.{ℕ, zero, suc, ◌≡◌, ◌+◌, Bool, true, fa
 use Rattle.std.specs.List.{slice_get}
 use Rattle.std.proofs.Common.{ap, sym, subst, ◌∙◌, arith}
 use Rattle.std.proofs.lemmas.Slice.Eq.{bytes_eq-Decides}
+use Rattle.cxx_model.specs.declared.facts.MemberKind.{MemberKind}
+use Rattle.cxx_model.specs.declared.facts.MemberKind.TheVariants.{Free}
 use Rattle.cxx_model.specs.declared.facts.Entity.{Entity}
 use Rattle.cxx_model.specs.declared.facts.Entity.TheVariants as entity
 use Rattle.cxx_model.specs.declared.facts.Fact.{Fact}
@@ -146,7 +148,7 @@ first_earlier types facts test word (one ∷ others) k ok e = by (test one.fact.
       named = ok.0.named;
     }
 
-object_pair : (types : List CxxType) (graph : Graph) (word : List ℕ) (k : FactId) (other : Fact) → slice_get graph.facts k.0 ≡ Some other → other.name ≡ name.Spelled word → (what : Entity) → other.what ≡ what → is_object (declares_at types what) ≡ true → IsEntityInRange graph (named word (object_first a_type (Some k))) (object_first a_type (Some k))
+object_pair : (types : List CxxType) (graph : Graph) (word : List ℕ) (k : FactId) (other : Fact) → slice_get graph.facts k.0 ≡ Some other → other.name ≡ name.Spelled word → (what : Entity) → other.what ≡ what → is_object (declares_at types what) ≡ true → IsEntityInRange graph (named word (object_first a_type Free (Some k))) (object_first a_type Free (Some k))
 object_pair types graph word k other at is (entity.Object two member is_mutable value first) same e = (other, at, rw same (refl), is)
 object_pair types graph word k other at is (entity.Scope parent kind) same e = absurd (cc)
 object_pair types graph word k other at is (entity.Function two member flags defaults first) same e = absurd (cc)
@@ -232,9 +234,9 @@ linked_function_by held of graph types slice numbers space word first same are e
 
 -- ---- a new declaration after it
 
-pub object_after : (graph : Graph) (word : List ℕ) (fact : Fact) (of : TypeId) (first : Option FactId) → fact.name ≡ name.Spelled word → IsEntityInRange graph (named word (object_first a_type first)) (object_first a_type first) → IsEntityInRange graph fact (object_first of first)
-object_after graph word fact of None is ok = tt
-object_after graph word fact of (Some k) is ok = (ok.0, ok.1, ok.2, ok.3 ∙ sym is)
+pub object_after : (graph : Graph) (word : List ℕ) (fact : Fact) (of : TypeId) (kind : MemberKind) (first : Option FactId) → fact.name ≡ name.Spelled word → IsEntityInRange graph (named word (object_first a_type Free first)) (object_first a_type Free first) → IsEntityInRange graph fact (object_first of kind first)
+object_after graph word fact of kind None is ok = tt
+object_after graph word fact of kind (Some k) is ok = (ok.0, ok.1, ok.2, ok.3 ∙ sym is)
 
 pub function_after : (graph : Graph) (word : List ℕ) (fact : Fact) (of : TypeId) (count : ℕ) (first : Option FactId) → fact.name ≡ name.Spelled word → IsEntityInRange graph (named word (function_first a_type 0 first)) (function_first a_type 0 first) → IsEntityInRange graph fact (function_first of count first)
 function_after graph word fact of count None is ok = tt

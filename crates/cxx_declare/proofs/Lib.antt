@@ -7,6 +7,7 @@ pub mod Brought
 pub mod Clashing
 pub mod Classed
 pub mod Defining
+mod Entering
 pub mod Giving
 pub mod Holding
 pub mod Linkage

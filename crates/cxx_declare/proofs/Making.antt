@@ -4,6 +4,7 @@ use Rattle.std.specs.List.{slice_get}
 use Rattle.std.proofs.Common.{ap, sym, subst, ◌∙◌}
 use Rattle.cxx_model.specs.declared.facts.Entity.TheVariants as entity
 use Rattle.cxx_model.specs.declared.facts.Fact.{Fact}
+use Rattle.cxx_model.specs.declared.facts.MemberKind.{MemberKind}
 use Rattle.cxx_model.specs.declared.facts.MemberKind.TheVariants.{Free}
 use Rattle.cxx_model.specs.declared.facts.Name.{Name}
 use Rattle.cxx_model.specs.declared.facts.Name.TheVariants as name
@@ -15,6 +16,7 @@ use Rattle.cxx_model.specs.declared.types.TypeId.{TypeId}
 use Rattle.cxx_model.specs.Facts.Declarations as facts
 use Rattle.cxx_model.specs.Facts.Declarations.{CxxFact, classes_at, fact_at, facts_at, spelled}
 use Rattle.cxx_defined.specs.Defined.{IsOwn, IsOwnEntity}
+use Rattle.cxx_names.specs.Clashes.{IsNamedMember}
 use Rattle.cxx_model.specs.declared.stop.LimitKind.TheVariants.{Facts}
 use Rattle.cxx_model.specs.declared.token.TokenKind.{TokenKind}
 use Rattle.cxx_model.specs.Text.Lexemes.{Lexeme}
@@ -23,9 +25,9 @@ use Rattle.cxx_model.specs.Stops.{Answer, Limited, Stops, ◌>>=◌}
 use Rattle.cxx_model.specs.Types.Trees.{CxxType}
 use Rattle.cxx_model.specs.Types.Numbers.{type_at}
 use Rattle.cxx_reading.specs.State.{CxxState}
-use Rattle.cxx_reading.specs.Declaring.{added, declare, declare_object, declare_parameter, declare_synonym, fact_here, free, name_of, object_here, parameter_object, with_fact, word_of}
+use Rattle.cxx_reading.specs.Declaring.{added, declare, declare_object, declare_parameter, declare_synonym, fact_here, free, free_object, name_of, object_here, parameter_object, with_fact, word_of}
 use Rattle.cxx_declare.specs.Functions.{function_with}
-use Rattle.cxx_declare.specs.Made.{IsEarlierFunction, IsEarlierObject, IsNameOf, IsReady, function_first, made, object_first, token, unit_of, word_in}
+use Rattle.cxx_declare.specs.Made.{IsEarlierFunction, IsEarlierObject, IsNameOf, IsReady, function_first, made, object_added, object_first, token, unit_of, word_in}
 use Rattle.cxx_declare.proofs.Firsts.{function_after, object_after}
 use Rattle.cxx_paths.proofs.Stopping.{stopped_on}
 use Rattle.cxx_tree.specs.Held.{Held, meaning}
@@ -36,20 +38,20 @@ use Rattle.cxx_tree.proofs.Wholes.{may_follow}
 
 -- ---- objects and functions
 
-pub object_ready : (held : Held) (place : Place) (word : List ℕ) (one : TypeId) (scope : ScopeId) (first : Option FactId) (n : Name) (fact : Fact) → scope.0 < scopes held.graph.facts → IsEarlierObject held word first → one.0 < length held.types → n ≡ name.Spelled word → fact ≡ made scope place n (object_first one first) → IsReady held fact
-object_ready held place word one scope first n fact there earlier below named made_is =
-    subst (λ (f : Fact). IsReady held f) (sym (made_is ∙ ap (λ m. made scope place m (object_first one first)) named)) (record {
-      follows = may_follow held.graph (made scope place (name.Spelled word) (object_first one first)) there (object_after held.graph word (made scope place (name.Spelled word) (object_first one first)) one first refl earlier);
+pub object_ready : (held : Held) (place : Place) (word : List ℕ) (one : TypeId) (kind : MemberKind) (scope : ScopeId) (first : Option FactId) (n : Name) (fact : Fact) → scope.0 < scopes held.graph.facts → IsEarlierObject held word first → one.0 < length held.types → IsNamedMember kind → n ≡ name.Spelled word → fact ≡ made scope place n (object_first one kind first) → IsReady held fact
+object_ready held place word one kind scope first n fact there earlier below member named made_is =
+    subst (λ (f : Fact). IsReady held f) (sym (made_is ∙ ap (λ m. made scope place m (object_first one kind first)) named)) (record {
+      follows = may_follow held.graph (made scope place (name.Spelled word) (object_first one kind first)) there (object_after held.graph word (made scope place (name.Spelled word) (object_first one kind first)) one kind first refl earlier);
       below = record { name = tt; what = below };
-      plain = record { name = tt; what = tt };
+      plain = record { name = tt; what = member };
     })
 
-pub object_is : (held : Held) (place : Place) (word : List ℕ) (one : TypeId) (scope : ScopeId) (first : Option FactId) (n : Name) (fact : Fact) → scope ≡ held.scope → n ≡ name.Spelled word → fact ≡ made scope place n (object_first one first)
-    → fact_at held.types fact ≡ fact_here (meaning held) (spelled word) place (facts.object (type_at held.types one.0) Free false None first)
+pub object_is : (held : Held) (place : Place) (word : List ℕ) (one : TypeId) (kind : MemberKind) (scope : ScopeId) (first : Option FactId) (n : Name) (fact : Fact) → scope ≡ held.scope → n ≡ name.Spelled word → fact ≡ made scope place n (object_first one kind first)
+    → fact_at held.types fact ≡ fact_here (meaning held) (spelled word) place (facts.object (type_at held.types one.0) kind false None first)
 unfolding meaning
-object_is held place word one scope first n fact here named made_is =
-    ap (fact_at held.types) (made_is ∙ ap (λ m. made scope place m (object_first one first)) named)
-    ∙ ap (λ (s : ScopeId). fact_at held.types (made s place (name.Spelled word) (object_first one first))) here
+object_is held place word one kind scope first n fact here named made_is =
+    ap (fact_at held.types) (made_is ∙ ap (λ m. made scope place m (object_first one kind first)) named)
+    ∙ ap (λ (s : ScopeId). fact_at held.types (made s place (name.Spelled word) (object_first one kind first))) here
 
 pub function_ready : (held : Held) (place : Place) (word : List ℕ) (one : TypeId) (count : ℕ) (scope : ScopeId) (first : Option FactId) (n : Name) (fact : Fact) → scope.0 < scopes held.graph.facts → IsEarlierFunction held word first → one.0 < length held.types → n ≡ name.Spelled word → fact ≡ made scope place n (function_first one count first) → IsReady held fact
 function_ready held place word one count scope first n fact there earlier below named made_is =
@@ -71,6 +73,14 @@ function_is held place word one count scope first n fact here named made_is =
 pub declare_stopped : (held : Held) (fact : CxxFact) (word : List ℕ) (why : Stop) → Stops why (free (meaning held) fact word) → IsAnswered fact_number IsFactKnown held held (Err why) (declare fact word (meaning held))
 unfolding declare
 declare_stopped held fact word why e = record { is = stopped_on why (free (meaning held) fact word) (λ is_free. added fact (meaning held)) e; later = Later_refl held }
+
+-- ---- objects, which may be static members that their classes declare
+
+pub object_stopped : (held : Held) (fact : CxxFact) (word : List ℕ) (why : Stop) → Stops why (free_object (meaning held) fact word) → IsAnswered fact_number IsFactKnown held held (Err why) (object_added fact word (meaning held))
+object_stopped held fact word why e = record { is = stopped_on why (free_object (meaning held) fact word) (λ is_free. added fact (meaning held)) e; later = Later_refl held }
+
+pub object_put : (old new : Held) (fact : CxxFact) (word : List ℕ) (r : Result FactId Stop) (unit : Unit {0}) → free_object (meaning old) fact word ≡ Ok unit → IsAnswered fact_number IsFactKnown old new r (added fact (meaning old)) → IsAnswered fact_number IsFactKnown old new r (object_added fact word (meaning old))
+object_put old new fact word r unit e answered = subst (λ reply. IsAnswered fact_number IsFactKnown old new r reply) (sym (ap (λ (a : Answer (Unit {0})). a >>= λ is_free. added fact (meaning old)) e)) answered
 
 pub declare_added : (old new : Held) (fact : CxxFact) (word : List ℕ) (r : Result FactId Stop) (unit : Unit {0}) → free (meaning old) fact word ≡ Ok unit → IsAnswered fact_number IsFactKnown old new r (added fact (meaning old)) → IsAnswered fact_number IsFactKnown old new r (declare fact word (meaning old))
 unfolding declare
@@ -129,9 +139,11 @@ pub synonym_declared : (old new : Held) (kind : TokenKind) (place : Place) (word
 unfolding declare_synonym meaning
 synonym_declared old new kind place word of fact r is answered = declared_as old new fact (fact_at old.types (made old.scope place (name.Spelled word) (entity.Synonym of))) word r (ap (fact_at old.types) is) (ap (λ (f : Fact). f.name) is) answered
 
-pub object_declared : (old new : Held) (kind : TokenKind) (place : Place) (word : List ℕ) (of : CxxType) (fact : Fact) (r : Result FactId Stop) → fact_at old.types fact ≡ fact_here (meaning old) (spelled word) place (object_here (meaning old) (spelled word) of) → fact.name ≡ name.Spelled word → IsAnswered fact_number IsFactKnown old new r (declare (fact_at old.types fact) (word_in fact.name) (meaning old)) → IsAnswered fact_number IsFactKnown old new r (declare_object (token kind place word) of (meaning old))
+pub object_declared : (old new : Held) (kind : TokenKind) (place : Place) (word : List ℕ) (of : CxxType) (fact : Fact) (r : Result FactId Stop) → fact_at old.types fact ≡ fact_here (meaning old) (spelled word) place (object_here (meaning old) (spelled word) of) → fact.name ≡ name.Spelled word → IsAnswered fact_number IsFactKnown old new r (object_added (fact_at old.types fact) (word_in fact.name) (meaning old)) → IsAnswered fact_number IsFactKnown old new r (declare_object (token kind place word) of (meaning old))
 unfolding declare_object
-object_declared old new kind place word of fact r is named answered = declared_as old new fact (fact_here (meaning old) (spelled word) place (object_here (meaning old) (spelled word) of)) word r is named answered
+object_declared old new kind place word of fact r is named answered =
+    subst (λ (w : CxxFact). IsAnswered fact_number IsFactKnown old new r (object_added w word (meaning old))) is
+    (subst (λ n. IsAnswered fact_number IsFactKnown old new r (object_added (fact_at old.types fact) (word_in n) (meaning old))) named answered)
 
 parameter_is : (held : Held) (scope : ScopeId) (n : Name) (place : Place) (of : TypeId) (one : Option Lexeme) → scope ≡ held.scope → IsNameOf one n → fact_at held.types (made scope place n (entity.Object of Free false None None)) ≡ fact_here (meaning held) (name_of one) place (parameter_object (type_at held.types of.0))
 unfolding meaning

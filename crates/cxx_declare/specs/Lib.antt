@@ -9,3 +9,4 @@ pub mod Functions
 pub mod Given
 pub mod Made
 pub mod Opened
+pub mod Outside

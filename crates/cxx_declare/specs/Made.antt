@@ -4,6 +4,7 @@ use Rattle.cxx_model.specs.declared.facts.Access.TheVariants.{Public}
 use Rattle.cxx_model.specs.declared.facts.Entity.{Entity}
 use Rattle.cxx_model.specs.declared.facts.Entity.TheVariants as entity
 use Rattle.cxx_model.specs.declared.facts.Fact.{Fact}
+use Rattle.cxx_model.specs.declared.facts.MemberKind.{MemberKind}
 use Rattle.cxx_model.specs.declared.facts.MemberKind.TheVariants.{Free}
 use Rattle.cxx_model.specs.declared.facts.Name.{Name}
 use Rattle.cxx_model.specs.declared.facts.Name.TheVariants as name
@@ -23,7 +24,7 @@ use Rattle.cxx_meaning.specs.Conversions.Enumerations.{values_in}
 use Rattle.cxx_model.specs.Types.Integral.{one_holds}
 use Rattle.cxx_model.specs.Types.Trees.{CxxType}
 use Rattle.cxx_reading.specs.Declaring as declaring
-use Rattle.cxx_reading.specs.Declaring.{added, defined_as, free, free_linked, linked_as, no_flags, undefined}
+use Rattle.cxx_reading.specs.Declaring.{added, defined_as, free, free_linked, free_object, linked_as, no_flags, undefined}
 use Rattle.cxx_reading.specs.Linked.{is_an_object}
 use Rattle.cxx_reading.specs.State.{CxxState}
 use Rattle.cxx_tree.specs.Held.{Held}
@@ -79,15 +80,15 @@ a_type = record { 0 = 0 }
 abbrev pub named : List ℕ → Entity → Fact
 named word what = made (record { 0 = 0 }) nowhere (name.Spelled word) what
 
-abbrev pub object_first : TypeId → Option FactId → Entity
-object_first of first = entity.Object of Free false None first
+abbrev pub object_first : TypeId → MemberKind → Option FactId → Entity
+object_first of kind first = entity.Object of kind false None first
 
 abbrev pub function_first : TypeId → ℕ → Option FactId → Entity
 function_first of defaults first = entity.Function of Free no_flags defaults first
 
 -- 3: an object with a name may have this first declaration
 abbrev pub IsEarlierObject : Held → List ℕ → Option FactId → Type 0
-IsEarlierObject held word first = IsEntityInRange held.graph (named word (object_first a_type first)) (object_first a_type first)
+IsEarlierObject held word first = IsEntityInRange held.graph (named word (object_first a_type Free first)) (object_first a_type Free first)
 
 -- 13.1: the same of a function
 abbrev pub IsEarlierFunction : Held → List ℕ → Option FactId → Type 0
@@ -104,12 +105,23 @@ unit_of (Err e) = Err e
 abbrev pub definable_by : CxxState → Place → List ℕ → CxxFact → Answer (Unit {0})
 definable_by state place word fact = free state fact word >>= λ is_free. undefined state place word (length state.graph.facts) fact.what
 
+-- 9.4.2: the same of an object, which may be a static member that its class declares
+abbrev pub definable_object_by : CxxState → Place → List ℕ → CxxFact → Answer (Unit {0})
+definable_object_by state place word fact = free_object state fact word >>= λ is_free. undefined state place word (length state.graph.facts) fact.what
+
+-- an object is declared
+abbrev pub object_added : CxxFact → List ℕ → CxxState → Answer (ℕ × CxxState)
+object_added fact word state = free_object state fact word >>= λ is_free. added fact state
+
 -- a fact is added and noted as a definition
 abbrev pub added_defined : CxxFact → CxxState → Answer (ℕ × CxxState)
 added_defined fact state = added fact state >>= λ answer. Ok (defined_as answer)
 
 abbrev pub defined_by : Place → List ℕ → CxxFact → CxxState → Answer (ℕ × CxxState)
 defined_by place word fact state = definable_by state place word fact >>= λ is_first. added_defined fact state
+
+abbrev pub object_defined_by : Place → List ℕ → CxxFact → CxxState → Answer (ℕ × CxxState)
+object_defined_by place word fact state = definable_object_by state place word fact >>= λ is_first. added_defined fact state
 
 -- 3.5: what was declared is linked
 abbrev pub linking : Answer (ℕ × CxxState) → Answer (ℕ × CxxState)

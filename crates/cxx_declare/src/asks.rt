@@ -7,10 +7,7 @@ ghost use Rattle.cxx_model.specs.Facts.Graph.{enumerations};
 ghost use Rattle.cxx_model.specs.Types.Trees.{enumeration};
 ghost use Rattle.cxx_names.specs.Looked.{enumeration_number};
 ghost use Rattle.cxx_reading.specs.Declaring.{elaborated_by, enumeration_in};
-ghost use Rattle.cxx_reading.specs.Paths.{found_in as found_in_region, name_in, sought_in};
-ghost use Rattle.cxx_reading.specs.declared.region.Region.{Region as OneRegion};
-ghost use Rattle.cxx_reading.specs.Trees.{CxxPath};
-ghost use Rattle.cxx_model.specs.Stops.{Answer, Stops};
+ghost use Rattle.cxx_reading.specs.Paths.{found_of as found_of_name, name_in, sought_in};
 ghost use Rattle.cxx_reading.specs.Seen.{fact_numbers, found as found_from, kind_of_found, numbered_at, type_in};
 ghost use Rattle.cxx_model.specs.declared.token.TokenKind.{TokenKind};
 ghost use Rattle.cxx_reading.specs.Declaring as declaring;
@@ -19,11 +16,11 @@ ghost use Rattle.cxx_reading.specs.Trees.{last_part};
 ghost use Rattle.cxx_declare.specs.Made.{IsTypeThere, token};
 ghost use Rattle.cxx_tree.specs.Answered.{AnyKnown, IsAnswered, itself};
 ghost use Rattle.cxx_tree.specs.Arena.{path_at};
-ghost use Rattle.cxx_tree.specs.Held.{Held, meaning, type_of};
+ghost use Rattle.cxx_tree.specs.Held.{meaning, type_of};
 ghost use Rattle.cxx_model.specs.declared.place.Place.{Place as OnePlace};
 
 use cxx_found::{Found, Wanted, found};
-use cxx_model::{EnumId, FactId, FactList, FaultText, Kind, OutOfMemory, Path, Stop, TypeId};
+use cxx_model::{EnumId, FactId, FactList, Kind, OutOfMemory, Path, Stop, TypeId};
 use cxx_names::{first_enumeration, kind_of_found as kind_of};
 use cxx_paths::{
     found_of, name_sought, not_wanted_name, place_among, region_here, set_in, unambiguous_name,
@@ -72,45 +69,21 @@ pub fn kind(state: &State, word: &[u8]) -> Result<Kind, Stop>
     }
 }
 
-#[tactic(auto, unfolding(cxx_tree::specs::Held::meaning))]
-fn kind_inside(state: &State, path: &Path, region: Region) -> Result<Kind, OutOfMemory>
-    ensures { IfOk result (λ kind. kind ≡ kind_of_found (meaning state.now).graph (found_in_region (meaning state.now).graph region (name_in (path_at path.now)))) }
+fn kind_there(state: &State, path: &Path) -> Result<Kind, OutOfMemory>
+    ensures { IfOk result (λ kind. kind ≡ kind_of_found (meaning state.now).graph (found_of_name (meaning state.now).graph (meaning state.now).here.scope (path_at path.now))) }
 {
-    let found = name_sought(state, Wanted::Any, region, path)?;
-    Ok(kind_among(state, set_in(&found)))
-}
-
-fn kind_in(state: &State, path: &Path, region: Region) -> Result<Kind, Stop>
-    ensures { IsAnswered itself AnyKnown state.now state.now result (declaring.kind_in (meaning state.now) (path_at path.now) (Ok region)) }
-{
-    match kind_inside(state, path, region) {
-        Ok(kind) => Ok(kind),
-        Err(_) => Err(Stop::OutOfMemory),
-    }
-}
-
-// What a name with a part that means nothing which may stand there is, is told where it is read.
-fn kind_stopped(stop: Stop) -> Result<Kind, Stop>
-    ensures { (held : Held) (path : CxxPath) (reply : Answer OneRegion) → Stops stop reply → IsAnswered itself AnyKnown held held result (declaring.kind_in (meaning held) path reply) }
-{
-    match stop {
-        Stop::Fault(fault) => match fault.text {
-            FaultText::NotBuilt => Err(Stop::Fault(fault)),
-            _ => Ok(Kind::Value),
-        },
-        Stop::Limit(_) => Ok(Kind::Value),
-        Stop::OutOfMemory => Err(Stop::OutOfMemory),
-    }
+    let numbers = found_of(state, path)?;
+    Ok(kind_among(state, numbers.as_slice()))
 }
 
 /// What a name with its qualifiers is where the reader stands (3.3.7, 3.4.3).
-#[tactic(auto, unfolding(cxx_reading::specs::Declaring::kind_here))]
+#[tactic(auto, using(cxx_tree::proofs::Steps::Later_refl), unfolding(cxx_reading::specs::Declaring::kind_here))]
 pub fn kind_of_name(state: &State, path: &Path) -> Result<Kind, Stop>
     ensures { IsAnswered itself AnyKnown state.now state.now result (declaring.kind_here (path_at path.now) (meaning state.now)) }
 {
-    match region_here(state, path) {
-        Ok(region) => kind_in(state, path, region),
-        Err(stop) => kind_stopped(stop),
+    match kind_there(state, path) {
+        Ok(kind) => Ok(kind),
+        Err(_) => Err(Stop::OutOfMemory),
     }
 }
 

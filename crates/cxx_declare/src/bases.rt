@@ -139,6 +139,7 @@ fn is_open(state: &State, of: BaseOf) -> bool
     ensures scope { result ≡ true → of.scope.0 < scopes (state.now).graph.facts }
     ensures class { result ≡ true → of.class.0 < length (state.now).graph.classes }
     ensures unended { result ≡ true → is_complete (state.now).graph.facts of.class.0 ≡ false }
+    ensures open { of.scope.0 < scopes (state.now).graph.facts → of.class.0 < length (state.now).graph.classes → is_complete (state.now).graph.facts of.class.0 ≡ false → result ≡ true }
 {
     let graph = state.graph();
     if of.scope.0 >= state.names().scopes(graph).0 {

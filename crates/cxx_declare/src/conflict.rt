@@ -17,13 +17,13 @@ ghost use Rattle.cxx_reading.specs.Linked as linked_by;
 ghost use Rattle.cxx_reading.specs.Linked.{is_an_object as is_one_object, linked_in};
 ghost use Rattle.cxx_reading.specs.Seen.{declared_in, fact_numbers, numbered_at};
 ghost use Rattle.cxx_declare.specs.Functions.{free_if as free_if_by};
-ghost use Rattle.cxx_declare.specs.Made.{IsReady, definable_by, is_object_there, moved, word_in};
+ghost use Rattle.cxx_declare.specs.Made.{IsReady, definable_by, definable_object_by, is_object_there, moved, word_in};
 ghost use Rattle.cxx_tree.specs.Held.{meaning};
 
-use crate::members::{home_of, is_space, sooner};
+use crate::members::{class_of_here, home_of, is_space, sooner};
 use crate::parts::{conflicting, fact_of, first_of, spelled, word_of};
 use cxx_graph::Graph;
-use cxx_model::{Entity, Fact, FactId, FactList, Name, OutOfMemory, Place, ScopeId, Stop};
+use cxx_model::{ClassId, Entity, Fact, FactId, FactList, Name, OutOfMemory, Place, ScopeId, Stop};
 use cxx_paths::place_of;
 use cxx_tree::State;
 use std::alloc::{AllocError, Global};
@@ -274,6 +274,27 @@ pub(crate) fn free(state: &State, fact: &Fact) -> Result<(), Stop>
     free_by_clash(state, false, fact)
 }
 
+fn free_in_class(state: &State, class: Option<ClassId>, fact: &Fact) -> Result<(), Stop>
+    requires below { IsFactBelow (length (state.now).types) fact.now }
+    requires plain { IsPlain fact.now }
+    ensures { Gives (λ unit. unit) result (declaring.free_in_class (meaning state.now) (fact_at (state.now).types fact.now) (word_in (fact.now).name) class) }
+{
+    match class {
+        None => free(state, fact),
+        Some(_) => Ok(()),
+    }
+}
+
+/// The same of an object; nothing that a class declares stands in the way of its static member (9.4.2).
+#[tactic(auto, unfolding(cxx_reading::specs::Declaring::free_object))]
+pub(crate) fn free_object(state: &State, fact: &Fact) -> Result<(), Stop>
+    requires below { IsFactBelow (length (state.now).types) fact.now }
+    requires plain { IsPlain fact.now }
+    ensures { Gives (λ unit. unit) result (declaring.free_object (meaning state.now) (fact_at (state.now).types fact.now) (word_in (fact.now).name)) }
+{
+    free_in_class(state, class_of_here(state), fact)
+}
+
 /// The same of one in a block that declares a member of its namespace (3.5).
 #[tactic(auto, unfolding(cxx_reading::specs::Declaring::free_linked))]
 pub(crate) fn free_linked(state: &State, fact: &Fact) -> Result<(), Stop>
@@ -350,6 +371,17 @@ pub(crate) fn definable(state: &State, fact: &Fact) -> Result<(), Stop>
     ensures { Gives (λ unit. unit) result (definable_by (meaning state.now) (fact.now).place (word_in (fact.now).name) (fact_at (state.now).types fact.now)) }
 {
     free(state, fact)?;
+    let number = FactId(state.graph().length());
+    undefined(state, fact.place, word_of(&fact.name), number, fact.what)
+}
+
+/// The same of the definition of an object.
+pub(crate) fn definable_object(state: &State, fact: &Fact) -> Result<(), Stop>
+    requires ready { IsReady state.now fact.now }
+    requires own { IsOwnEntity (fact.now).what }
+    ensures { Gives (λ unit. unit) result (definable_object_by (meaning state.now) (fact.now).place (word_in (fact.now).name) (fact_at (state.now).types fact.now)) }
+{
+    free_object(state, fact)?;
     let number = FactId(state.graph().length());
     undefined(state, fact.place, word_of(&fact.name), number, fact.what)
 }

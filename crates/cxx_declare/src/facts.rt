@@ -2,11 +2,11 @@
 
 ghost use Rattle.std.specs.Prelude.{◌≡◌, ◌<◌, ◌++◌, ◌∷◌, [], false, length, IfOk, OnOk, None, Some};
 ghost use Rattle.std.specs.List.{slice_get};
-ghost use Rattle.cxx_model.specs.declared.facts.MemberKind.TheVariants.{Free};
 ghost use Rattle.cxx_model.specs.declared.facts.Name.TheVariants.{Spelled};
 ghost use Rattle.cxx_model.specs.Facts.Declarations.{fact_at, object, spelled as spelled_name};
 ghost use Rattle.cxx_model.specs.Facts.Graph.{appended, scopes};
 ghost use Rattle.cxx_defined.specs.Defined.{IsOwnEntity};
+ghost use Rattle.cxx_names.specs.Clashes.{IsNamedMember};
 ghost use Rattle.cxx_reading.specs.Declaring as declaring;
 ghost use Rattle.cxx_reading.specs.Declaring.{fact_here, linked_object_here, object_here};
 ghost use Rattle.cxx_declare.specs.Made.{IsEarlierObject, IsReady, made, word_in};
@@ -15,10 +15,11 @@ ghost use Rattle.cxx_tree.specs.Answered.{AnyKnown, IsAnswered, IsFactKnown, fac
 ghost use Rattle.cxx_tree.specs.Held.{meaning, type_of};
 
 use crate::conflict::free;
-use crate::members::{first_linked_object, first_object_here};
+use crate::members::{class_of_here, first_linked_object, first_object_here};
 use crate::parts::spelled;
 use cxx_model::{
-    Access, Entity, Fact, FactId, MemberKind, Name, OutOfMemory, Place, ScopeId, Stop, TypeId,
+    Access, ClassId, Entity, Fact, FactId, MemberKind, Name, OutOfMemory, Place, ScopeId, Stop,
+    TypeId,
 };
 use cxx_tree::State;
 use std::alloc::AllocError;
@@ -66,11 +67,13 @@ fn object_with(
     place: Place,
     word: &[u8],
     of: TypeId,
+    kind: MemberKind,
     first: Option<FactId>,
 ) -> Result<Fact, AllocError>
     requires known { of.0 < length (state.now).types }
     requires earlier { IsEarlierObject state.now word.now first }
-    ensures is { IfOk result (λ fact. fact_at (state.now).types fact ≡ fact_here (meaning state.now) (spelled_name word.now) place (object (type_of state.now of) Free false None first)) }
+    requires kind { IsNamedMember kind }
+    ensures is { IfOk result (λ fact. fact_at (state.now).types fact ≡ fact_here (meaning state.now) (spelled_name word.now) place (object (type_of state.now of) kind false None first)) }
     ensures ready { IfOk result (IsReady state.now) }
     ensures own { IfOk result (λ fact. IsOwnEntity fact.what) }
     ensures named { IfOk result (λ fact. fact.name ≡ Spelled word.now) }
@@ -82,7 +85,7 @@ fn object_with(
         name,
         Entity::Object {
             of,
-            member: MemberKind::Free,
+            member: kind,
             is_mutable: false,
             value: None,
             first,
@@ -90,7 +93,17 @@ fn object_with(
     ))
 }
 
-/// The declaration of an object (3.1).
+fn kind_in_class(class: Option<ClassId>) -> MemberKind
+    ensures is { result ≡ declaring.kind_in_class class }
+    ensures named { IsNamedMember result }
+{
+    match class {
+        None => MemberKind::Free,
+        Some(_) => MemberKind::Static,
+    }
+}
+
+/// The declaration of an object (3.1), which is a static member where the reader stands in a class (9.4.2).
 pub(crate) fn object_fact(
     state: &State,
     place: Place,
@@ -104,7 +117,8 @@ pub(crate) fn object_fact(
     ensures named { IfOk result (λ fact. fact.name ≡ Spelled word.now) }
 {
     let first = first_object_here(state, word)?;
-    Ok(object_with(state, place, word, of, first)?)
+    let kind = kind_in_class(class_of_here(state));
+    Ok(object_with(state, place, word, of, kind, first)?)
 }
 
 /// The declaration of an object by a block with `extern` (3.5).
@@ -120,7 +134,7 @@ pub(crate) fn linked_object_fact(
     ensures named { IfOk result (λ fact. fact.name ≡ Spelled word.now) }
 {
     let first = first_linked_object(state, word)?;
-    Ok(object_with(state, place, word, of, first)?)
+    Ok(object_with(state, place, word, of, MemberKind::Free, first)?)
 }
 
 /// A declaration of another kind, for the scope where the reader stands.

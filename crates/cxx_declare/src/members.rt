@@ -11,7 +11,7 @@ ghost use Rattle.cxx_declare.specs.Functions.{is_linked_here as is_one_linked_he
 ghost use Rattle.cxx_declare.specs.Made.{IsEarlierFunction, IsEarlierObject};
 ghost use Rattle.cxx_tree.specs.Held.{meaning, type_of};
 
-use cxx_model::{FactId, OutOfMemory, ScopeId, TypeId};
+use cxx_model::{ClassId, FactId, OutOfMemory, ScopeId, TypeId};
 use cxx_names::{first_function, first_object};
 use cxx_tree::State;
 
@@ -63,6 +63,14 @@ fn is_space_here(state: &State) -> bool
     ensures { result ≡ linked_by.is_space_at (meaning state.now).graph (meaning state.now).here.scope }
 {
     is_space(state, state.scope())
+}
+
+/// The class in whose scope the reader stands (9.2).
+#[tactic(auto, unfolding(cxx_tree::specs::Held::meaning))]
+pub(crate) fn class_of_here(state: &State) -> Option<ClassId>
+    ensures { result ≡ declaring.class_of_here (meaning state.now) }
+{
+    state.names().class_of_scope(state.graph(), state.scope())
 }
 
 /// Whether a function is linked that is declared where the reader stands.

@@ -1,6 +1,6 @@
 //! Names of types, objects and parameters (7.1.3, 8.3.5, 3.1, 3.2, 3.5).
 
-ghost use Rattle.std.specs.Prelude.{◌≡◌, ◌<◌, length, IfErr, IfOk, Ok, OnOk, List, Option};
+ghost use Rattle.std.specs.Prelude.{◌≡◌, ◌<◌, length, IfErr, IfOk, Ok, OnOk, List, Option, Some};
 ghost use Rattle.std.specs.List.{slice_get};
 ghost use Rattle.cxx_model.specs.declared.token.TokenKind.{TokenKind};
 ghost use Rattle.cxx_model.specs.declared.stop.Stop.TheVariants as stop;
@@ -11,12 +11,12 @@ ghost use Rattle.cxx_defined.specs.Defined.{IsOwn, IsOwnEntity};
 ghost use Rattle.cxx_names.specs.Clashes.{IsPlainName};
 ghost use Rattle.cxx_reading.specs.Declaring as declaring;
 ghost use Rattle.cxx_reading.specs.Declaring.{added, with_definition};
-ghost use Rattle.cxx_declare.specs.Made.{IsNameOf, IsReady, added_defined, defined_by, linked_by, linking, token, word_in};
+ghost use Rattle.cxx_declare.specs.Made.{IsNameOf, IsReady, added_defined, linked_by, linking, object_added, object_defined_by, token, word_in};
 ghost use Rattle.cxx_tree.specs.Answered.{AnyKnown, IsAnswered, IsFactKnown, fact_number, itself};
 ghost use Rattle.cxx_tree.specs.Held.{Held, meaning, type_of};
 ghost use Rattle.cxx_tree.specs.Later.{Later};
 
-use crate::conflict::{definable, free_linked, undefined};
+use crate::conflict::{definable_object, free_linked, free_object, undefined};
 use crate::facts::{declare, fact_in, linked_object_fact, object_fact, word_fact};
 use crate::linking::link;
 use crate::parts::what_of;
@@ -39,6 +39,17 @@ pub fn declare_synonym(
     }
 }
 
+// Adds the declaration of an object in whose way nothing stands.
+#[tactic(auto, using(cxx_names::proofs::Plain::plain_fact))]
+fn add_object(state: &mut State, fact: Fact) -> Result<FactId, Stop>
+    requires { IsReady state.old fact }
+    ensures answered { IsAnswered fact_number IsFactKnown state.old state.new result (object_added (fact_at (state.old).types fact) (word_in fact.name) (meaning state.old)) }
+    ensures at { IfOk result (λ number. slice_get (state.new).graph.facts number.0 ≡ Some fact) }
+{
+    free_object(state, &fact)?;
+    state.add(fact)
+}
+
 /// An object is declared, and not defined (3.1, 3.2).
 pub fn declare_object(
     state: &mut State,
@@ -51,7 +62,7 @@ pub fn declare_object(
     ensures own { IfOk result (λ number. IsOwn (slice_get (state.new).graph.facts number.0)) }
 {
     match object_fact(state, place, word, of) {
-        Ok(fact) => declare(state, fact),
+        Ok(fact) => add_object(state, fact),
         Err(_) => Err(Stop::OutOfMemory),
     }
 }
@@ -161,9 +172,9 @@ pub(crate) fn add_defined(state: &mut State, fact: Fact) -> Result<FactId, Stop>
 fn define(state: &mut State, fact: Fact) -> Result<FactId, Stop>
     requires ready { IsReady state.old fact }
     requires own { IsOwnEntity fact.what }
-    ensures { IsAnswered fact_number IsFactKnown state.old state.new result (defined_by fact.place (word_in fact.name) (fact_at (state.old).types fact) (meaning state.old)) }
+    ensures { IsAnswered fact_number IsFactKnown state.old state.new result (object_defined_by fact.place (word_in fact.name) (fact_at (state.old).types fact) (meaning state.old)) }
 {
-    match definable(state, &fact) {
+    match definable_object(state, &fact) {
         Ok(()) => add_defined(state, fact),
         Err(stop) => Err(stop),
     }

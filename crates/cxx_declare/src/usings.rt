@@ -19,7 +19,9 @@ use crate::parts::fact_of;
 use cxx_found::{Found, brought};
 use cxx_graph::Graph;
 use cxx_model::{Entity, FactId, OutOfMemory, Path, Place, ScopeId, Stop};
-use cxx_paths::{ambiguous_name, last_place, last_word, region_here, undeclared_name, wrong_name};
+use cxx_paths::{
+    ambiguous_name, last_place, last_word, undeclared_name, using_region_here, wrong_name,
+};
 use cxx_reading::Region;
 use cxx_tree::State;
 
@@ -43,7 +45,7 @@ fn brought_from(state: &State, space: ScopeId, path: &Path) -> Result<Found, Out
     )
 }
 
-// A name without qualifiers brings nothing.
+// A name without qualifiers, or behind a class, brings nothing.
 #[tactic(auto, unfolding(cxx_reading::specs::Usings::brought_in))]
 fn brought_in(state: &State, region: Region, path: &Path) -> Result<Found, OutOfMemory>
     ensures is { IfOk result (λ found. found ≡ usings.brought_in (meaning state.now).graph region (name_in (path_at path.now))) }
@@ -52,6 +54,7 @@ fn brought_in(state: &State, region: Region, path: &Path) -> Result<Found, OutOf
     match region {
         Region::Outward(_) => Ok(Found::Empty),
         Region::Inside(space) => brought_from(state, space, path),
+        Region::Class(_) => Ok(Found::Empty),
     }
 }
 
@@ -172,7 +175,7 @@ fn bring_in(state: &mut State, path: &Path, region: Region) -> Result<(), Stop>
 pub fn bring_here(state: &mut State, path: &Path) -> Result<(), Stop>
     ensures { IsAnswered itself AnyKnown state.old state.new result (usings.bring_here (path_at path.now) (meaning state.old)) }
 {
-    match region_here(state, path) {
+    match using_region_here(state, path) {
         Ok(region) => bring_in(state, path, region),
         Err(stop) => Err(stop),
     }

@@ -1,5 +1,6 @@
 mod BaseRows
 pub mod Chained
+pub mod Classed
 pub mod Each
 mod InitialRows
 pub mod Kept

@@ -7,15 +7,17 @@ use Rattle.cxx_model.specs.declared.facts.MemberKind.{MemberKind}
 use Rattle.cxx_model.specs.declared.facts.MemberKind.TheVariants as member
 use Rattle.cxx_model.specs.declared.fault.LeftOut.TheVariants as form
 use Rattle.cxx_model.specs.declared.place.Place.{Place}
+use Rattle.cxx_model.specs.declared.types.ClassId.{ClassId}
 use Rattle.cxx_model.specs.declared.sequence.ConstantKind.TheVariants as constant
 use Rattle.cxx_model.specs.Facts.Declarations as facts
 use Rattle.cxx_model.specs.Facts.Declarations.{CxxFact, CxxGraph, Declares}
 use Rattle.cxx_model.specs.Facts.Entities.{first_or, has_no_bound}
 use Rattle.cxx_model.specs.Stops.{Stopped, fault, undeclared_at}
 use Rattle.cxx_model.specs.Types.Integral.{promoted_of_values}
-use Rattle.cxx_model.specs.Types.Trees.{CxxType, enumeration, fundamental}
+use Rattle.cxx_model.specs.Types.Trees.{CxxType, class_type, enumeration, fundamental}
 use Rattle.cxx_meaning.specs.Conversions.Sizes.{referred}
 use Rattle.cxx_meaning.specs.Conversions.Standard.{CxxOperand}
+use Rattle.cxx_meaning.specs.Lookups.Member.{class_of_scope}
 use Rattle.cxx_meaning.specs.Lookups.Wanted.{hides_types}
 use Rattle.cxx_reading.specs.Paths.{wrong_kind_at}
 use Rattle.cxx_reading.specs.Reads.{Asks}
@@ -176,15 +178,44 @@ last_part path = slice_get path.parts (length path.parts - 1)
 abbrev pub word_in : Label → CxxPathPart
 word_in label = part_or (last_part (path_in label))
 
-abbrev pub named_tree : Label → Means → CxxTree
-named_tree label means = tree_of (record label { operand = Some means.operand; target = Some means.target }) []
+-- 9.4: whether a declaration is that of a static data member
+abbrev pub is_static : MemberKind → Bool
+is_static member.Static = true
+is_static _ = false
+
+abbrev pub is_static_object : Declares → Bool
+is_static_object (facts.object of kind is_mutable value first) = is_static kind
+is_static_object _ = false
+
+abbrev pub class_or_none : Option ClassId → Option CxxType
+class_or_none None = None
+class_or_none (Some class) = Some (class_type class.0)
+
+abbrev pub class_if : CxxGraph → ℕ → Bool → Option CxxType
+class_if graph scope true = class_or_none (class_of_scope graph.facts (record { 0 = scope }))
+class_if graph scope false = None
+
+abbrev pub class_of_fact : CxxGraph → Option CxxFact → Option CxxType
+class_of_fact graph None = None
+class_of_fact graph (Some fact) = class_if graph fact.scope (is_static_object fact.what)
+
+-- 9.4: the class that declares what is named, where that is a static data member
+unfoldable pub static_class : CxxGraph → ℕ → Option CxxType
+static_class graph target = class_of_fact graph (slice_get graph.facts target)
+
+-- the type of the name of a static member is its class
+abbrev pub named_tree : Label → Means → Option CxxType → CxxTree
+named_tree label means class = tree_of (record label { of = class; operand = Some means.operand; target = Some means.target }) []
+
+abbrev pub named_as : Label → Means → Asks CxxState CxxTree
+named_as label means state = Ok (named_tree label means (static_class state.graph means.target), state)
 
 -- A name that has these declarations, as an expression: what it means, which is noted.
 unfoldable pub named : Questions → Label → List Numbered → Asks CxxState CxxTree
 named q label all = do
   means ← meant_by (word_in label) label.place all
   noted ← q.bound label.place means.target
-  give (named_tree label means)
+  named_as label means
 
 unfoldable pub name : Questions → CxxTree → Asks CxxState CxxTree
 name q tree = do

@@ -14,6 +14,7 @@ pub mod operators;
 pub mod production;
 mod questions;
 mod sizes;
+mod statics;
 
 pub use casts::{cast, functional};
 pub use converting::convert;
@@ -21,3 +22,4 @@ pub use literals::literal;
 pub use operators::{binary, prefix, step, subscript};
 pub use questions::{Chosen, Questions};
 pub use sizes::size;
+pub use statics::static_class;

@@ -13,7 +13,7 @@ use Rattle.cxx_tree.specs.Arena.{tree_in, tree_over, trees_in, AreTreesBelow}
 use Rattle.cxx_tree.specs.Held.{tree, trees, Held}
 use Rattle.cxx_tree.proofs.Arenas.{below_later}
 use Rattle.cxx_form.specs.declared.book.Book.{Book}
-use Rattle.cxx_form.specs.Books.{named_by, names_of, trees_of}
+use Rattle.cxx_form.specs.Books.{graph_of, named_by, names_of, trees_of}
 use Rattle.cxx_form.specs.Order.{first_tree}
 use Rattle.cxx_form.specs.Parts.{initializer_among, object_parts}
 use Rattle.cxx_form.specs.Text.{calls_of_trees, initializer_words, initializers_in, object_words}
@@ -51,9 +51,9 @@ pub its_calls : (held : Held) (parts : List TreeId) (number : TreeId) → Some (
 unfolding calls_at
 its_calls held parts number is = ap calls_in is ∙ calls_by_first (initializers_in (in_turn (trees_in (trees held) parts)))
 
-pub object_is : (book : Book) (node : Node) (tree : TreeId) (number : ℕ) → tree_in (trees_of book) tree.0 ≡ tree_over book.state.now.types (trees_of book) node → object_parts book node number ≡ object_words (names_of book) (tree_in (trees_of book) tree.0) number
+pub object_is : (book : Book) (node : Node) (tree : TreeId) (number : ℕ) → tree_in (trees_of book) tree.0 ≡ tree_over book.state.now.types (trees_of book) node → object_parts book node number ≡ object_words (names_of book) (graph_of book) (tree_in (trees_of book) tree.0) number
 unfolding object_parts initializer_among
-object_is book node tree number is = sym (ap (λ (t : CxxTree). object_words (names_of book) t number) is)
+object_is book node tree number is = sym (ap (λ (t : CxxTree). object_words (names_of book) (graph_of book) t number) is)
 
 pub earlier_below : (number count : ℕ) (children : List TreeId) → AreTreesBelow number children → number < count → AreTreesBelow count children
 earlier_below number count children all within = below_later number count children (omega arith) all

@@ -11,12 +11,12 @@ use Rattle.cxx_model.specs.declared.types.FactId.{FactId}
 use Rattle.cxx_model.specs.declared.types.TreeId.{TreeId}
 use Rattle.cxx_model.specs.Types.Trees.{CxxType}
 use Rattle.cxx_model.specs.Facts.Declarations as facts
-use Rattle.cxx_model.specs.Facts.Declarations.{CxxFact, CxxName, Declares, fact_at, facts_at}
+use Rattle.cxx_model.specs.Facts.Declarations.{CxxFact, CxxName, Declares, declares_at, fact_at, facts_at}
 use Rattle.cxx_meaning.specs.Lookups.Gathered.{before, gathered}
 use Rattle.cxx_form.specs.Order as text
 use Rattle.cxx_reading.specs.TextOrder.{part_tree}
 use Rattle.cxx_statement_text.specs.Objects.{first_by, first_found, first_in, first_of_fact}
-use Rattle.cxx_form.specs.Order.{class_definitions, definition_of_class, ended_class, declarators_of, definitions_of, enumeration_of, enumeration_lines, function_of_fact, function_lines, lines, is_written_out, object_at, object_by, object_lines, object_of_fact, scope_of_fact}
+use Rattle.cxx_form.specs.Order.{class_definitions, definition_of_class, ended_class, declarators_of, definitions_of, enumeration_of, enumeration_lines, function_of_fact, function_lines, lines, is_outside_by, is_outside_in, is_written_out, object_at, object_by, object_lines, object_of_fact, scope_of_fact}
 use Rattle.cxx_reading.specs.Trees.{CxxTree}
 use Rattle.cxx_tree.specs.Arena.{tree_in, trees_in, AreTreesBelow}
 use Rattle.cxx_tree.specs.Held.{meaning, pieces_at, trees, Held}
@@ -82,6 +82,12 @@ scope_there types facts n fact is = sym (ap scope_of_fact (fact_is types facts n
 
 pub scope_nowhere : (types : List CxxType) (facts : List Fact) (n : ℕ) → slice_get facts n ≡ None → 0 ≡ scope_of_fact (slice_get (facts_at types facts) n)
 scope_nowhere types facts n is = sym (ap scope_of_fact (fact_is types facts n ∙ ap (option_map (fact_at types)) is))
+
+pub outside_there : (types : List CxxType) (facts : List Fact) (n : ℕ) (fact : Fact) → slice_get facts n ≡ Some fact → is_outside_by (declares_at types fact.what) ≡ is_outside_in (slice_get (facts_at types facts) n)
+outside_there types facts n fact is = sym (ap is_outside_in (fact_is types facts n ∙ ap (option_map (fact_at types)) is))
+
+pub outside_nowhere : (types : List CxxType) (facts : List Fact) (n : ℕ) → slice_get facts n ≡ None → false ≡ is_outside_in (slice_get (facts_at types facts) n)
+outside_nowhere types facts n is = sym (ap is_outside_in (fact_is types facts n ∙ ap (option_map (fact_at types)) is))
 
 object_read : (tree : CxxTree) (number : ℕ) (place : Place) (scope : ℕ) (name : CxxName) (rights : Access) (what : Declares) → object_of_fact tree number (Some (record { place = place; scope = scope; name = name; access = rights; what = what })) ≡ object_line_by tree (first_by number what)
 object_read tree number place scope name rights (facts.scope parent kind) = refl

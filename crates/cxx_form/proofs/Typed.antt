@@ -1,5 +1,5 @@
 -- Types are written with the printed names of enumerations.
-use Rattle.std.proofs.Common.{◌≡◌, ℕ, List, [], ◌∷◌, ◌++◌, length, Option, Some, None, ap, sym, ◌∙◌}
+use Rattle.std.proofs.Common.{◌≡◌, ℕ, List, [], ◌∷◌, ◌++◌, length, Option, Some, None, ap, sym, ◌∙◌, append_assoc}
 use Rattle.std.specs.List.{slice_get}
 use Rattle.cxx_model.specs.declared.types.TypeId.{TypeId}
 use Rattle.cxx_model.specs.Facts.Fitted.{IsTypeNumberBelow}
@@ -36,6 +36,10 @@ declared_as book of inner is below =
 
 pub declared_with : (book : Book) (of : Option TypeId) (word : Word) → IsBook book → IsTypeNumberBelow (length book.state.now.types) of → declared (names_of book).tags no_cv (type_for book of) (word ∷ []) ≡ front (tags_of book.tags.now) no_cv (type_for book of) ++ (word ∷ [] ++ back (tags_of book.tags.now) (type_for book of))
 declared_with book of word is below = declared_as book of (word ∷ []) is below
+
+-- a name behind its class, and what stands behind it
+pub behind_scope : (scope : List Word) (name : Word) (behind : List Word) → (scope ++ name ∷ []) ++ behind ≡ scope ++ (name ∷ behind)
+behind_scope scope name behind = append_assoc scope (name ∷ []) behind
 
 pub declared_alone : (book : Book) (of : Option TypeId) → IsBook book → IsTypeNumberBelow (length book.state.now.types) of → declared (names_of book).tags no_cv (type_for book of) [] ≡ front (tags_of book.tags.now) no_cv (type_for book of) ++ back (tags_of book.tags.now) (type_for book of)
 declared_alone book of is below = declared_as book of [] is below

@@ -6,7 +6,9 @@
 -- stands first in the text.
 use Rattle.std.specs.Prelude.{ℕ, zero, suc, Bool, true, false, not, ◌&&◌, ◌||◌, nat_eq, if◌then◌else◌, List, [], ◌∷◌, ◌++◌, length, flat_map, map, Option, Some, None}
 use Rattle.std.specs.List.{slice_get}
-use Rattle.cxx_model.specs.declared.facts.MemberKind.TheVariants.{Free}
+use Rattle.cxx_model.specs.declared.facts.MemberKind.{MemberKind}
+use Rattle.cxx_model.specs.declared.facts.MemberKind.TheVariants.{Free, Static}
+use Rattle.cxx_model.specs.declared.types.FactId.{FactId}
 use Rattle.cxx_model.specs.Facts.Conflicts.{has_name}
 use Rattle.cxx_model.specs.Facts.Declarations as facts
 use Rattle.cxx_model.specs.Facts.Declarations.{CxxFact, Declares}
@@ -119,9 +121,28 @@ abbrev pub is_of_namespace : List CxxFact → Option ℕ → Bool
 is_of_namespace all None = false
 is_of_namespace all (Some number) = is_space (slice_get (scope_kinds all) (scope_of_fact (slice_get all number)))
 
--- 3.5: what a namespace declares, or what is declared with `extern`, which is how its declarator is spelled
+-- 9.4.2: a static member that its class declared before
+abbrev pub is_static_again : MemberKind → Option FactId → Bool
+is_static_again Static (Some first) = true
+is_static_again _ _ = false
+
+abbrev pub is_outside_by : Declares → Bool
+is_outside_by (facts.object of kind is_mutable value first) = is_static_again kind first
+is_outside_by _ = false
+
+abbrev pub is_outside_in : Option CxxFact → Bool
+is_outside_in None = false
+is_outside_in (Some fact) = is_outside_by fact.what
+
+-- 9.4.2: whether what a declarator declares is a member that stands outside of its class
+abbrev pub is_outside : List CxxFact → Option ℕ → Bool
+is_outside all None = false
+is_outside all (Some number) = is_outside_in (slice_get all number)
+
+-- 3.5: what a namespace declares, a member that stands outside of its class, or what is declared with `extern`, which is how
+-- its declarator is spelled
 abbrev pub is_written_out : List CxxFact → CxxTree → Bool
-is_written_out all tree = is_of_namespace all tree.label.target || not (is_empty tree.label.spelling)
+is_written_out all tree = is_of_namespace all tree.label.target || (is_outside all tree.label.target || not (is_empty tree.label.spelling))
 
 abbrev pub object_by : List CxxFact → CxxTree → Option ℕ → List Line
 object_by all tree target = if is_written_out all tree then object_at all tree target else []

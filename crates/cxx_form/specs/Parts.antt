@@ -16,7 +16,9 @@ use Rattle.cxx_reading.specs.Plain.{enumerator_words, is_empty, NamesOfText}
 use Rattle.cxx_reading.specs.Trees.{in_turn, CxxTree}
 use Rattle.cxx_reading.specs.Words.{close_word, declared, keyword_word, name_word, open_word, semicolon_word, Word}
 use Rattle.cxx_model.specs.Types.Trees.{CxxType}
+use Rattle.cxx_expr.specs.Names.{static_class}
 use Rattle.cxx_phrase_text.specs.Listed.{listed_words}
+use Rattle.cxx_phrase_text.specs.Phrases.{named_words}
 use Rattle.cxx_statement_text.specs.Statements.{close_brace, open_brace, Lines}
 use Rattle.cxx_tree.specs.Arena.{trees_in}
 use Rattle.cxx_form.specs.declared.book.Book.{Book}
@@ -66,7 +68,7 @@ initializer_among book children = initializer_words (names_of book) (initializer
 
 unfoldable pub object_parts : Book → Node → ℕ → List Word
 object_parts book node number =
-    extern_words node.spelling ++ (declared (names_of book).tags no_cv (type_for book node.of) (name_word ((names_of book).name_of number) ∷ []) ++ (initializer_among book node.children ++ semicolon_word ∷ []))
+    extern_words node.spelling ++ (declared (names_of book).tags no_cv (type_for book node.of) (named_words (names_of book).tags (names_of book).name_of (static_class (graph_of book) number) number) ++ (initializer_among book node.children ++ semicolon_word ∷ []))
 
 -- ---- definitions of classes (9.2)
 

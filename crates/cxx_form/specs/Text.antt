@@ -13,6 +13,7 @@ use Rattle.cxx_reading.specs.State.{CxxState}
 use Rattle.cxx_reading.specs.Trees.{CxxTree, CxxTrees}
 use Rattle.cxx_reading.specs.Units.{CxxReading}
 use Rattle.cxx_reading.specs.Words.{Word, keyword_word, name_word, type_name_word, semicolon_word, separated, declared, line_text}
+use Rattle.cxx_expr.specs.Names.{static_class}
 use Rattle.cxx_phrase_text.specs.Calls.{CallOfText, calls_of}
 use Rattle.cxx_phrase_text.specs.Phrases as phrases
 use Rattle.cxx_statement_text.specs.Statements.{Lines, close_brace, line, open_brace}
@@ -27,11 +28,11 @@ abbrev pub initializer_words : NamesOfText → List CxxTree → List Word
 initializer_words names [] = []
 initializer_words names (tree ∷ others) = phrases.initializer_words names.tags names.name_of tree
 
--- 8.5; the word `extern` stays
-abbrev pub object_words : NamesOfText → CxxTree → ℕ → List Word
-object_words names tree number =
+-- 8.5; the word `extern` stays, and a static member stands behind its class (9.4.2)
+abbrev pub object_words : NamesOfText → CxxGraph → CxxTree → ℕ → List Word
+object_words names graph tree number =
     (if is_empty tree.label.spelling then [] else keyword_word (codes "extern") ∷ []) ++
-    (declared names.tags no_cv (type_or_void tree.label.of) (name_word (names.name_of number) ∷ []) ++ (initializer_words names (initializers_in tree.children) ++ semicolon_word ∷ []))
+    (declared names.tags no_cv (type_or_void tree.label.of) (phrases.named_words names.tags names.name_of (static_class graph number) number) ++ (initializer_words names (initializers_in tree.children) ++ semicolon_word ∷ []))
 
 abbrev pub class_key_of : Option CxxFact → List ℕ
 class_key_of None = class_key false
@@ -118,7 +119,7 @@ words_on names graph (class_line number) = class_words names graph.facts number 
 words_on names graph (enumeration_line n number) = enumeration_words names graph.facts n number ∷ []
 words_on names graph (class_definition number scope) = class_definition_words names graph.facts number scope
 words_on names graph (function_line number) = function_words names graph.facts number ∷ []
-words_on names graph (object_line tree number) = object_words names tree number ∷ []
+words_on names graph (object_line tree number) = object_words names graph tree number ∷ []
 words_on names graph (definition_lines tree) = definition_words names graph tree
 
 abbrev pub text_on : NamesOfText → CxxGraph → Line → List ℕ

@@ -78,7 +78,8 @@ fn class_name(tags: &Tags, class: u32) -> &[u8]
     }
 }
 
-fn write_class(book: &Book<'_>, page: &mut Page, class: u32) -> Result<(), PlainFault>
+/// Writes the printed name of a class.
+pub(crate) fn write_class(book: &Book<'_>, page: &mut Page, class: u32) -> Result<(), PlainFault>
     requires book { IsBook book.now }
     requires below { class < length (book.now.state.now).graph.classes }
     ensures { Writes result page.new (put (type_name_word ((names_of book.now).tags.class_name class) ∷ []) page.old) }

@@ -28,6 +28,7 @@ mod names;
 mod numbering;
 mod objects;
 mod order;
+mod outside;
 mod parts;
 mod production;
 mod rows;

@@ -4,7 +4,7 @@ ghost use Rattle.std.specs.List.{slice_get};
 ghost use Rattle.cxx_model.specs.Facts.Declarations.{declares_at};
 ghost use Rattle.cxx_model.specs.Types.Trees.{CxxType};
 ghost use Rattle.cxx_meaning.specs.Lookups.Gathered.{before};
-ghost use Rattle.cxx_form.specs.Order.{class_definitions, class_lines, definition_lines, ended_class as ended_class_of, enumeration_lines, function_lines, is_of_namespace as is_of_a_namespace, is_written_out as is_written_out_by, lines as lines_of, object_by, object_lines, scope_of_fact};
+ghost use Rattle.cxx_form.specs.Order.{class_definitions, class_lines, definition_lines, ended_class as ended_class_of, enumeration_lines, function_lines, is_of_namespace as is_of_a_namespace, is_outside as is_outside_of, is_outside_by as is_outside_by_what, is_outside_in, is_static_again as is_a_static_again, is_written_out as is_written_out_by, lines as lines_of, object_by, object_lines, scope_of_fact};
 ghost use Rattle.cxx_reading.specs.Trees.{CxxTree};
 ghost use Rattle.cxx_tree.specs.Arena.{tree_in, trees_in, AreTreesBelow};
 ghost use Rattle.cxx_tree.specs.Held.{meaning, trees};
@@ -211,13 +211,52 @@ fn is_of_namespace(state: &State, target: Option<FactId>) -> bool
     }
 }
 
-// Whether a declarator is written among those of namespaces (3.5).
+fn is_static_again(member: MemberKind, first: Option<FactId>) -> bool
+    ensures { result ≡ is_a_static_again member first }
+{
+    match member {
+        MemberKind::Static => first.is_some(),
+        _ => false,
+    }
+}
+
+fn is_outside_by(what: Entity) -> bool
+    ensures { (types : List CxxType) → result ≡ is_outside_by_what (declares_at types what) }
+{
+    match what {
+        Entity::Object { member, first, .. } => is_static_again(member, first),
+        _ => false,
+    }
+}
+
+#[tactic(auto, using(crate::proofs::Lined::outside_there, crate::proofs::Lined::outside_nowhere))]
+fn is_outside_at(state: &State, number: FactId) -> bool
+    ensures { result ≡ is_outside_in (slice_get (facts_in state.now) number.0) }
+{
+    match find(state, number) {
+        Some(fact) => is_outside_by(fact.what),
+        None => false,
+    }
+}
+
+// Whether what a declarator declares is a member that stands outside of its class (9.4.2).
+fn is_outside(state: &State, target: Option<FactId>) -> bool
+    ensures { result ≡ is_outside_of (facts_in state.now) (option_map number_in target) }
+{
+    match target {
+        None => false,
+        Some(number) => is_outside_at(state, number),
+    }
+}
+
+// Whether a declarator is written among those of namespaces (3.5, 9.4.2).
 fn is_written_out(state: &State, tree: TreeId) -> bool
     requires { tree.0 < length (trees state.now) }
     ensures { result ≡ is_written_out_by (facts_in state.now) (tree_in (trees state.now) tree.0) }
 {
     let node = state.node(tree);
-    is_of_namespace(state, node.target) || !node.spelling.as_slice().is_empty()
+    is_of_namespace(state, node.target)
+        || (is_outside(state, node.target) || !node.spelling.as_slice().is_empty())
 }
 
 // The line of a declarator, where it declares an object.

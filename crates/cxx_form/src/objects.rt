@@ -3,15 +3,17 @@ ghost use Rattle.std.specs.Prelude.{◌<◌, [], ◌∷◌, ◌++◌, length};
 ghost use Rattle.cxx_model.specs.Facts.Fitted.{IsTypeNumberBelow};
 ghost use Rattle.cxx_page.specs.Sheets.{Writes, put};
 ghost use Rattle.cxx_reading.specs.Declarators.{no_cv};
-ghost use Rattle.cxx_reading.specs.Words.{declared, name_word, semicolon_word};
+ghost use Rattle.cxx_reading.specs.Words.{declared, semicolon_word};
 ghost use Rattle.cxx_tree.specs.Arena.{tree_in, AreTreesBelow};
-ghost use Rattle.cxx_form.specs.Books.{names_of, trees_of, type_for, IsBook};
+ghost use Rattle.cxx_expr.specs.Names.{static_class};
+ghost use Rattle.cxx_phrase_text.specs.Phrases.{named_words};
+ghost use Rattle.cxx_form.specs.Books.{graph_of, names_of, trees_of, type_for, IsBook};
 ghost use Rattle.cxx_form.specs.Parts.{extern_words, initializer_among, object_parts};
 ghost use Rattle.cxx_form.specs.Text.{object_words};
 
 use crate::book::Book;
 use crate::initializers::write_among;
-use crate::words::write_declared;
+use crate::outside::write_declared_outside;
 use cxx_model::{FactId, Node, TreeId, TypeId};
 use cxx_page::{Page, PlainFault};
 use cxx_reading::Role;
@@ -48,9 +50,9 @@ fn write_rest(
     requires book { IsBook book.now }
     requires of { IsTypeNumberBelow (length (book.now.state.now).types) of }
     requires below { AreTreesBelow (length (trees_of book.now)) parts.now }
-    ensures { Writes result page.new (put (declared (names_of book.now).tags no_cv (type_for book.now of) (name_word ((names_of book.now).name_of number.0) ∷ []) ++ (initializer_among book.now parts.now ++ semicolon_word ∷ [])) page.old) }
+    ensures { Writes result page.new (put (declared (names_of book.now).tags no_cv (type_for book.now of) (named_words (names_of book.now).tags (names_of book.now).name_of (static_class (graph_of book.now) number.0) number.0) ++ (initializer_among book.now parts.now ++ semicolon_word ∷ [])) page.old) }
 {
-    write_declared(book, page, of, number)?;
+    write_declared_outside(book, page, of, number)?;
     write_end(book, page, parts)
 }
 
@@ -79,7 +81,7 @@ pub(crate) fn write_object(
 ) -> Result<(), PlainFault>
     requires book { IsBook book.now }
     requires known { tree.0 < length (trees_of book.now) }
-    ensures { Writes result page.new (put (object_words (names_of book.now) (tree_in (trees_of book.now) tree.0) number.0) page.old) }
+    ensures { Writes result page.new (put (object_words (names_of book.now) (graph_of book.now) (tree_in (trees_of book.now) tree.0) number.0) page.old) }
 {
     let node = book.state.node(tree);
     write_parts(book, page, node, number)

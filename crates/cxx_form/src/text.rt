@@ -5,7 +5,7 @@ ghost use Rattle.cxx_model.specs.Facts.Declarations.{declares_at, type_of_option
 ghost use Rattle.cxx_model.specs.Facts.Fitted.{IsEntityBelow, IsTypeNumberBelow};
 ghost use Rattle.cxx_page.specs.Sheets.{Writes, put, put_lines};
 ghost use Rattle.cxx_reading.specs.Plain.{enumeration_words, function_words, type_of_function, type_or_void};
-ghost use Rattle.cxx_form.specs.Books.{facts_of, names_of, trees_of, IsBook};
+ghost use Rattle.cxx_form.specs.Books.{facts_of, graph_of, names_of, trees_of, IsBook};
 ghost use Rattle.cxx_form.specs.Functions.{function_type_by};
 ghost use Rattle.cxx_form.specs.Lines.{AreLinesBelow, IsLineBelow};
 ghost use Rattle.cxx_form.specs.Parts.{lines_written};
@@ -113,7 +113,7 @@ fn write_object_line(
 ) -> Result<(), PlainFault>
     requires book { IsBook book.now }
     requires known { tree.0 < length (trees_of book.now) }
-    ensures { Writes result page.new (put_lines (object_words (names_of book.now) (tree_in (trees_of book.now) tree.0) number.0 ∷ []) page.old) }
+    ensures { Writes result page.new (put_lines (object_words (names_of book.now) (graph_of book.now) (tree_in (trees_of book.now) tree.0) number.0 ∷ []) page.old) }
 {
     write_object(book, page, tree, number)?;
     page.end_line()

@@ -83,9 +83,9 @@ pub(crate) fn write_back(
     }
 }
 
-// Writes a name and what stands behind it.
+/// Writes a name and what stands behind it.
 #[tactic(auto, using(cxx_page::proofs::Put::put_more))]
-fn write_named(
+pub(crate) fn write_named(
     book: &Book<'_>,
     page: &mut Page,
     of: Option<TypeId>,

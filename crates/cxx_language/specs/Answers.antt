@@ -2,7 +2,7 @@
 use Rattle.std.specs.Prelude.{ℕ}
 use Rattle.cxx_reading.specs.Classes.{class_here}
 use Rattle.cxx_reading.specs.Declaring.{kind_here, type_here, elaborated_here, declare_enumeration, declare_enumerator, end_enumeration, enter_parameters, declare_parameter, leave_parameters}
-use Rattle.cxx_reading.specs.Members.{enter_member}
+use Rattle.cxx_declare.specs.Outside.{enter_member}
 use Rattle.cxx_reading.specs.State.{CxxState}
 use Rattle.cxx_expr.specs.Elaborating.{elaborate}
 use Rattle.cxx_answers.specs.Answers.{constant_here, questions}

@@ -22,7 +22,7 @@ use Rattle.cxx_reading.specs.Reads.{Reads, Ahead, Asks, Turn, More, Done, ◌>>=
 use Rattle.cxx_reading.specs.Specifiers.{class_key, path_of_option, place_or, specifiers_at, specifiers_from}
 use Rattle.cxx_reading.specs.State.{CxxState}
 use Rattle.cxx_reading.specs.Syntax.{declarator_at}
-use Rattle.cxx_reading.specs.Members.{stand_in}
+use Rattle.cxx_declare.specs.Outside.{stand_in}
 use Rattle.cxx_reading.specs.Tokens.{begins_name, is_punct, is_keyword, is_name, not_built, path_taken, punct_taken, refused, token_in}
 use Rattle.cxx_reading.specs.Trees.{CxxPath, CxxTree, last_part, tree_of}
 use Rattle.cxx_reading.specs.Units.{Said, Listed, declarator_ended, declarator_tree, declared_fits, declared_synonym, give_trees, is_const_type, is_incomplete, is_unbounded, name_in, no_declarators, nothing_declared, said_by, simple_tree, specifiers_tree}

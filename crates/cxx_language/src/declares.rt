@@ -12,7 +12,7 @@ ghost use Rattle.cxx_language.specs.Blocks as blocks;
 ghost use Rattle.cxx_phrases.specs.Initializers.{initializer_at};
 ghost use Rattle.cxx_phrases.specs.Views.{IsInitializer, initializer_of};
 ghost use Rattle.cxx_reading.specs.Declaring as definition;
-ghost use Rattle.cxx_reading.specs.Members as members;
+ghost use Rattle.cxx_declare.specs.Outside as members;
 ghost use Rattle.cxx_reading.specs.Spaces as spaces;
 ghost use Rattle.cxx_reading.specs.Specifiers.{specifiers_from};
 ghost use Rattle.cxx_reading.specs.Syntax.{declarator_at};

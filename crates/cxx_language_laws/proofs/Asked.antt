@@ -5,7 +5,6 @@ use Rattle.std.specs.List.{slice_get}
 use Rattle.cxx_model.specs.declared.fault.FaultText.TheVariants as says
 use Rattle.cxx_model.specs.declared.fault.LeftOut.TheVariants as form
 use Rattle.cxx_model.specs.declared.lookup.Found.{Found}
-use Rattle.cxx_model.specs.declared.lookup.Found.TheVariants as sought
 use Rattle.cxx_model.specs.declared.lookup.Hit.{Hit}
 use Rattle.cxx_model.specs.declared.lookup.MemberFound.{MemberFound}
 use Rattle.cxx_model.specs.declared.lookup.MemberFound.TheVariants as member_found
@@ -42,7 +41,7 @@ use Rattle.cxx_answers.specs.Defaults.{begin_default, end_default, offered_as}
 use Rattle.cxx_answers.specs.Members.{has_begun, in_state, member_found as member_answered, member_here}
 use Rattle.cxx_language.specs.Asked.{answers, asked, inner_at, phrases_at}
 use Rattle.cxx_language_laws.specs.Best.{IsClear, asked_word, functions_by_types, values_besides, values_of}
-use Rattle.cxx_language_laws.specs.Told.{IsFoundClear, IsOfObject, of_object, of_pointed, IsSelector, IsSoughtMember, IsUnitCall, IsUnitSelected, called, called_by_types, operands, place_of_call, selected_part, twofold_member, unknown_call, unknown_member}
+use Rattle.cxx_language_laws.specs.Told.{IsFoundClear, IsOfObject, of_object, of_pointed, IsSelector, IsSoughtMember, IsUnitCall, IsUnitSelected, called, called_by_types, nothing_in, operands, place_of_call, selected_part, twofold_member, unknown_call, unknown_member}
 use Rattle.cxx_language_laws.proofs.CallsTell.{NothingTold, asked_for, call_asked_tells}
 use Rattle.cxx_language_laws.proofs.Classed.{class_tells}
 use Rattle.cxx_language_laws.proofs.Later.{IsLater, by_answer, later_same, later_is_kept, later_is_quiet, calmly, turned, parameter_answer_tells, enumeration_answer_tells, enumerator_answer_tells, enumerated_tells, kind_tells, type_tells}
@@ -50,7 +49,7 @@ use Rattle.cxx_language_laws.proofs.Lists.{listed_tells}
 use Rattle.cxx_language_laws.proofs.PhrasesTell.{PhrasesTell, brackets_of}
 use Rattle.cxx_language_laws.proofs.QuestionsTell.{DefaultsTell, QuestionsTell, if_by, quiet_by, same_by}
 use Rattle.cxx_language_laws.proofs.Reached.{Told, ToldSince, IsManifold, IsUndeclared, reached_by_later, reached_here, later_is_told, later_is_told_since, told_sooner}
-use Rattle.cxx_language_laws.proofs.Regions.{ClearOr, IsTwain, clear_or, is_clear, is_twain, last_ahead, last_sought, nothing_ahead, region_there, region_told, some_parts, twofold_ahead, unambiguous_tells, undeclared_fault}
+use Rattle.cxx_language_laws.proofs.Regions.{ClearOr, IsTwain, by_region, clear_or, is_clear, is_twain, last_ahead, last_sought, nothing_ahead, region_there, region_told, some_parts, twofold_ahead, unambiguous_tells, undeclared_fault}
 use Rattle.cxx_language_laws.proofs.Scopes.{AreSound, InScopes}
 use Rattle.cxx_language_laws.proofs.Outward.{class_apart, none_left}
 use Rattle.cxx_language_laws.proofs.Sought.{fitting, none_by_types, nothing_sought, some_member}
@@ -283,7 +282,9 @@ call_unknown state ahead room call later where_ means clear none by_types =
         unknown_call any_name (record {
           room = room;
           call = call;
-          is_sought = last_sought call.at.graph call.at.here.scope (called call) any_name sought.Empty (undeclared_fault (last_ahead call.named)) where_ (some_parts call.named call.begins call.whole) tt refl means found.0;
+          finds = nothing_in where_;
+          is_sought = last_sought call.at.graph call.at.here.scope (called call) any_name (nothing_in where_) (undeclared_fault (last_ahead call.named)) where_ (some_parts call.named call.begins call.whole) tt refl (by_region call.at.graph call.at.here.scope (called call) where_ means) found.0;
+          nothing = refl;
           by_types = by_types (later.scopes is);
         }),
         found.1,

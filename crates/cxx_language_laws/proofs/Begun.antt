@@ -6,6 +6,8 @@ use Rattle.cxx_model.specs.declared.keyword.TheConstants as keyword
 use Rattle.cxx_model.specs.declared.limits.TheConstants as limits
 use Rattle.cxx_model.specs.declared.lookup.Found.{Found}
 use Rattle.cxx_model.specs.declared.lookup.Found.TheVariants as sought
+use Rattle.cxx_model.specs.declared.lookup.MemberFound.{MemberFound}
+use Rattle.cxx_model.specs.declared.lookup.MemberFound.TheVariants as member_found
 use Rattle.cxx_model.specs.declared.punct.TheConstants as punct
 use Rattle.cxx_model.specs.Stops.{Answer, Stopped, ◌>>=◌}
 use Rattle.cxx_meaning.specs.Lookups.Wanted.{any_name}
@@ -16,7 +18,7 @@ use Rattle.cxx_reading.specs.declared.specifier.SpecifierPlace.TheVariants as wh
 use Rattle.cxx_reading.specs.Declarators.{Declarator, Layer, pointer_layer, reference_layer, array_layer, function_layer, ParameterTypes, adjusted_types, no_declarator_yet, is_named, own_parameters, parameter_type}
 use Rattle.cxx_reading.specs.Declaring.{at_scope, scope_count}
 use Rattle.cxx_reading.specs.Kinds.{Fallback, Kinds, Readers}
-use Rattle.cxx_reading.specs.Members.{enter_member, entered_found}
+use Rattle.cxx_declare.specs.Outside.{enter_member, entered_found, entered_member, scope_of_class}
 use Rattle.cxx_reading.specs.Paths.{name_in, region_of, scope_of_region, sought_in}
 use Rattle.cxx_reading.specs.Reads.{Ahead, Got, Reads, Turn, More, Done, then_read, answered, ask, tokens, go_on, repeat, kind_ahead, count_ahead, behind}
 use Rattle.cxx_reading.specs.Shapes.{begins_type}
@@ -352,7 +354,12 @@ member_grows path state = by (region_of state.graph state.here.scope path)
     found : (where_ : Region) (x : Found) → Grows state (entered_found (last_part path.parts) where_ x state)
     found where_ (sought.Ambiguous one two) = no_growth _
     found where_ (sought.Set targets) = it_grows (tt, at_scope (scope_of_region where_) state) (grown_same state (at_scope (scope_of_region where_) state) refl)
-    found where_ (sought.Member class of) = no_growth _
+    found where_ (sought.Member class of) = entered of
+      where
+        entered : (of : MemberFound) → Grows state (entered_member (last_part path.parts) class of state)
+        entered member_found.Empty = no_growth _
+        entered (member_found.Set targets bases) = it_grows (tt, at_scope (scope_of_class state.graph class) state) (grown_same state (at_scope (scope_of_class state.graph class) state) refl)
+        entered (member_found.Ambiguous one two) = no_growth _
     found where_ sought.Empty = no_growth _
 
     by : (o : Answer Region) → Grows state (o >>= λ where_. entered_found (last_part path.parts) where_ (sought_in state.graph any_name where_ (name_in path)) state)

@@ -12,7 +12,7 @@ use Rattle.cxx_reading.specs.declared.specifier.SpecifierPlace.{SpecifierPlace}
 use Rattle.cxx_reading.specs.declared.specifier.SpecifierPlace.TheVariants as where_
 use Rattle.cxx_reading.specs.Declarators.{Declarator, Specifiers, declared_type, has_type, is_function_type, is_void, refused_in, is_refused}
 use Rattle.cxx_reading.specs.Declaring.{at_scope}
-use Rattle.cxx_reading.specs.Members.{stand_in}
+use Rattle.cxx_declare.specs.Outside.{stand_in}
 use Rattle.cxx_reading.specs.Reads.{Ahead, Got, Reads, More, Done, ◌>>=◌, then_read, answered, ask, taken, looked, give, count_ahead, kind_ahead, place_ahead, behind}
 use Rattle.cxx_reading.specs.State.{CxxState}
 use Rattle.cxx_reading.specs.Specifiers.{place_or}

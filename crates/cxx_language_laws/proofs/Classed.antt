@@ -76,7 +76,7 @@ still_within s t scope grown there =
 -- ---- a class is declared
 
 reserved_later : (state : CxxState) → IsLater state (with_class state)
-reserved_later state = later_by state (with_class state) (record { own = []; reserved = None ∷ []; declared = sym (append-nil state.graph.facts); classes = refl; patterns = refl }) (λ is. record { within = is.within; held = is.held; sound = is.sound; opened = is.opened; unnamed = is.unnamed; unit = is.unit }) refl refl
+reserved_later state = later_by state (with_class state) (record { own = []; reserved = None ∷ []; declared = sym (append-nil state.graph.facts); classes = refl; patterns = refl }) (λ is. record { within = is.within; held = is.held; sound = is.sound; opened = is.opened; unnamed = is.unnamed; unit = is.unit; patterns = is.patterns }) refl refl
 
 pub reserved_tells : (state : CxxState) (ahead : Ahead) → ToldBy IsLater Quietly state ahead (reserved state)
 unfolding reserved

@@ -13,7 +13,7 @@ use Rattle.cxx_reading.specs.declared.specifier.Naming.TheVariants as naming
 use Rattle.cxx_reading.specs.Declarators.{Declarator, declared_type, Specifiers, is_function_type, own_parameters}
 use Rattle.cxx_reading.specs.Declaring.{at_scope, begin_body, declare_object, define_object, define_declared, end_body, number_id, scope_count}
 use Rattle.cxx_reading.specs.Reads.{Ahead, Asks, Got, Reads, More, Done, ◌>>=◌, then_read, answered, ask, fault_at, taken, give, count_ahead, kind_ahead, place_ahead, behind}
-use Rattle.cxx_reading.specs.Members.{stand_in}
+use Rattle.cxx_declare.specs.Outside.{stand_in}
 use Rattle.cxx_reading.specs.Productions as unit_production
 use Rattle.cxx_reading.specs.Spaces.{close_space, open_space, open_unnamed}
 use Rattle.cxx_reading.specs.State.{CxxState}

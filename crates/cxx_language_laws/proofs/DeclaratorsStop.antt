@@ -9,7 +9,7 @@ use Rattle.cxx_reading.specs.declared.specifier.Naming.TheVariants as naming
 use Rattle.cxx_reading.specs.declared.specifier.SpecifierPlace.{SpecifierPlace}
 use Rattle.cxx_reading.specs.Declarators.{Declarator, declared_type, refused_in, is_refused, is_void}
 use Rattle.cxx_reading.specs.Declaring.{define_declared}
-use Rattle.cxx_reading.specs.Members.{agree_here, agreed_by, any_agrees, members_here}
+use Rattle.cxx_declare.specs.Outside.{agree_here, agreed_by, any_agrees, members_here}
 use Rattle.cxx_reading.specs.Reads.{Ahead, Got, Reads, answered, ask, then_read, fault_at, got, kind_ahead}
 use Rattle.cxx_reading.specs.Seen.{Numbered}
 use Rattle.cxx_reading.specs.State.{CxxState}

@@ -4,24 +4,21 @@ use Rattle.std.specs.Prelude.{if◌then◌else◌, ℤ, nat_eq, nat_lt}
 use Rattle.std.specs.List.{AllByRecursion, slice_get}
 use Rattle.std.proofs.lemmas.List.{append-nil, append_assoc, length-append}
 use Rattle.std.proofs.lemmas.Option.{slice_get_within}
-use Rattle.cxx_model.specs.declared.fault.FaultText.{FaultText}
-use Rattle.cxx_model.specs.declared.fault.FaultText.TheVariants as says
 use Rattle.cxx_model.specs.declared.place.Place.{Place}
-use Rattle.cxx_model.specs.declared.stop.Fault.{Fault}
 use Rattle.cxx_model.specs.declared.stop.LimitKind.TheVariants.{Facts}
+use Rattle.cxx_model.specs.declared.types.ClassId.{ClassId}
 use Rattle.cxx_model.specs.declared.types.FactId.{FactId}
 use Rattle.cxx_model.specs.Facts.Conflicts.{scope_facts}
 use Rattle.cxx_model.specs.Facts.Declarations.{CxxFact, CxxGraph, CxxName, spelled}
 use Rattle.cxx_model.specs.Facts.Declarations as facts
-use Rattle.cxx_model.specs.Stops.{Answer, Stopped, Faulty, Limited, ◌>>=◌}
+use Rattle.cxx_model.specs.Stops.{Answer, Stopped, Limited, ◌>>=◌}
 use Rattle.cxx_model.specs.Text.Lexemes.{Lexeme}
 use Rattle.cxx_model.specs.Types.Integral.{one_holds}
 use Rattle.cxx_model.specs.Types.Trees.{CxxType}
 use Rattle.cxx_meaning.specs.Conversions.Enumerations.{values_in}
-use Rattle.cxx_reading.specs.Declaring.{with_fact, added, free, free_by, free_linked, declare, declare_linked_object, declare_synonym, declared_here, first_function, first_member_function, first_member_object, first_object, first_object_here, home_here, is_object, is_same_function, linked_as, linked_object_here, name_of, number_id, parameter_object, with_linked, word_of, declare_object, define_object, define_declared, undefined, undefined_by, defined_as, with_definition, declare_parameter, declare_enumeration, begun_as, declare_enumerator, declare_value, held, end_enumeration, kind_here, kind_in, kind_stopped, type_here, most_facts, fact_here, object_here, enumeration_count}
+use Rattle.cxx_reading.specs.Declaring.{class_of_here, free_in_class, free_object, with_fact, added, free, free_by, free_linked, declare, declare_linked_object, declare_synonym, declared_here, first_function, first_member_function, first_member_object, first_object, first_object_here, home_here, is_object, is_same_function, linked_as, linked_object_here, name_of, number_id, parameter_object, with_linked, word_of, declare_object, define_object, define_declared, undefined, undefined_by, defined_as, with_definition, declare_parameter, declare_enumeration, begun_as, declare_enumerator, declare_value, held, end_enumeration, kind_here, type_here, most_facts, fact_here, object_here, enumeration_count}
 use Rattle.cxx_reading.specs.Linked.{is_linked_as, is_space_at, linked_among, linked_in, sooner_fact}
-use Rattle.cxx_reading.specs.declared.region.Region.{Region}
-use Rattle.cxx_reading.specs.Paths.{region_of, space_in}
+use Rattle.cxx_reading.specs.Paths.{space_in}
 use Rattle.cxx_reading.specs.Reads.{Ahead, Asks}
 use Rattle.cxx_reading.specs.Seen.{Numbered, declared_from, declared_in, declares_in, numbered_at, numbered_by}
 use Rattle.cxx_reading.specs.State.{CxxState, CxxCall, CxxGiven, CxxOffered}
@@ -32,7 +29,7 @@ use Rattle.cxx_declare.specs.Functions.{declare_function, declare_with, free_if,
 use Rattle.cxx_language_laws.specs.Best.{IsBestCall, AreBestCalls}
 use Rattle.cxx_language_laws.specs.Told.{IsGrown}
 use Rattle.cxx_language_laws.proofs.Scopes.{InScopes, IsFirstThere, IsSound, MayStand, may_stand, scopes_beside_it, scopes_put, scopes_same}
-use Rattle.cxx_language_laws.proofs.Tells.{IsQuiet, Quietly, saying, quiet_is_told, IsTold, ToldBy, tells_answer, tells_refusal, Answers}
+use Rattle.cxx_language_laws.proofs.Tells.{IsQuiet, Quietly, quiet_is_told, IsTold, ToldBy, tells_answer, tells_refusal, Answers}
 
 -- ---- what a state keeps
 
@@ -140,6 +137,14 @@ free_by_quiet state fact word (Some number) = quiet_refusal _ refl
 pub free_quiet : (state : CxxState) (fact : CxxFact) (word : List ℕ) → QuietBy (free state fact word)
 unfolding free
 free_quiet state fact word = free_by_quiet state fact word _
+
+free_in_class_quiet : (state : CxxState) (fact : CxxFact) (word : List ℕ) (class : Option ClassId) → QuietBy (free_in_class state fact word class)
+free_in_class_quiet state fact word None = free_quiet state fact word
+free_in_class_quiet state fact word (Some class) = quiet_answer tt
+
+free_object_quiet : (state : CxxState) (fact : CxxFact) (word : List ℕ) → QuietBy (free_object state fact word)
+unfolding free_object
+free_object_quiet state fact word = free_in_class_quiet state fact word (class_of_here state)
 
 free_linked_quiet : (state : CxxState) (fact : CxxFact) (word : List ℕ) → QuietBy (free_linked state fact word)
 unfolding free_linked
@@ -289,7 +294,7 @@ object_may state name of = may_be_added state (object_fact state name of) refl (
 
 pub object_tells : (name : Lexeme) (of : CxxType) → Answers IsLater Quietly (declare_object name of)
 unfolding declare_object
-object_tells name of state ahead = declare_tells (object_fact state name of) name.spelling state ahead refl (object_may state name of)
+object_tells name of state ahead = by_then state ahead _ (free_object_quiet state (object_fact state name of) name.spelling) (λ is_free. added_tells (object_fact state name of) state ahead refl (object_may state name of))
 
 -- what else an answer changes
 pub turned : (state old new : CxxState) → IsLater state old → new.graph ≡ old.graph → new.here.scope ≡ old.here.scope → new.calls ≡ old.calls → IsLater state new
@@ -299,7 +304,7 @@ pub define_tells : (name : Lexeme) (of : CxxType) → Answers IsLater Quietly (d
 unfolding define_object
 define_tells name of state ahead =
     let fact = object_fact state name of in
-    by_then state ahead _ (free_quiet state fact name.spelling) (λ is_free. by_then state ahead _ (undefined_quiet state name.place name.spelling (length state.graph.facts) fact.what) (λ is_first. by_answer state ahead _ (added_tells fact state ahead refl (object_may state name of)) (λ answer later. tells_answer (defined_as answer) (turned state answer.1 (with_definition answer.0 answer.1) later refl refl refl))))
+    by_then state ahead _ (free_object_quiet state fact name.spelling) (λ is_free. by_then state ahead _ (undefined_quiet state name.place name.spelling (length state.graph.facts) fact.what) (λ is_first. by_answer state ahead _ (added_tells fact state ahead refl (object_may state name of)) (λ answer later. tells_answer (defined_as answer) (turned state answer.1 (with_definition answer.0 answer.1) later refl refl refl))))
 
 -- 3.5: one that a block declares with `extern`
 pub linked_object_tells : (name : Lexeme) (of : CxxType) → Answers IsLater Quietly (declare_linked_object name of)
@@ -332,14 +337,14 @@ behind_answer (Ok one) go answer e = (one, e)
 behind_answer (Err why) go answer e = absurd cc
 
 pub declared_is_there : (name : Lexeme) (of : CxxType) (state : CxxState) (answer : ℕ × CxxState) → declare_object name of state ≡ Ok answer → answer.0 < length answer.1.graph.facts
-unfolding declare_object declare
-declared_is_there name of state answer e = let one = behind_answer (free state (object_fact state name of) name.spelling) (λ is_free. added (object_fact state name of) state) answer e in added_there (object_fact state name of) state answer one.1
+unfolding declare_object
+declared_is_there name of state answer e = let one = behind_answer (free_object state (object_fact state name of) name.spelling) (λ is_free. added (object_fact state name of) state) answer e in added_there (object_fact state name of) state answer one.1
 
 pub defined_is_there : (name : Lexeme) (of : CxxType) (state : CxxState) (answer : ℕ × CxxState) → define_object name of state ≡ Ok answer → answer.0 < length answer.1.graph.facts
 unfolding define_object
 defined_is_there name of state answer e =
     let fact = object_fact state name of in
-    let one = behind_answer (free state fact name.spelling) (λ is_free. undefined state name.place name.spelling (length state.graph.facts) fact.what >>= λ is_first. added fact state >>= λ answer. Ok (defined_as answer)) answer e in
+    let one = behind_answer (free_object state fact name.spelling) (λ is_free. undefined state name.place name.spelling (length state.graph.facts) fact.what >>= λ is_first. added fact state >>= λ answer. Ok (defined_as answer)) answer e in
     let two = behind_answer (undefined state name.place name.spelling (length state.graph.facts) fact.what) (λ is_first. added fact state >>= λ answer. Ok (defined_as answer)) answer one.1 in
     by (added fact state) refl two.1
   where
@@ -415,16 +420,7 @@ enumerated_tells number state ahead = tells_answer _ (later_same state _ refl re
 
 pub kind_tells : (path : CxxPath) → Answers IsLater Quietly (kind_here path)
 unfolding kind_here
-kind_tells path state ahead = by (region_of state.graph state.here.scope path)
-  where
-    text_by : (fault : Fault) (text : FaultText) → fault.text ≡ text → ToldBy IsLater Quietly state ahead (kind_stopped state fault text)
-    text_by fault says.NotBuilt is = tells_refusal _ (ap saying is)
-    text_by fault _ is = tells_answer _ (later_same state state refl refl refl)
-
-    by : (reply : Answer Region) → ToldBy IsLater Quietly state ahead (kind_in state path reply)
-    by (Ok where_) = tells_answer _ (later_same state state refl refl refl)
-    by (Err (Faulty fault)) = text_by fault fault.text refl
-    by (Err (Limited limit)) = tells_answer _ (later_same state state refl refl refl)
+kind_tells path state ahead = tells_answer _ (later_same state state refl refl refl)
 
 pub type_tells : (path : CxxPath) → Answers IsLater Quietly (type_here path)
 unfolding type_here

@@ -1,20 +1,29 @@
 -- Where the reader stands behind a declarator whose name may have qualifiers, and what stops it (8.3, 3.4.1).
-use Rattle.std.proofs.Common.{arith, ◌≡◌, inr, refl}
-use Rattle.std.specs.Prelude.{ℕ, zero, suc, Bool, true, false, if◌then◌else◌, [], Ok, Err}
+use Rattle.std.proofs.Common.{arith, ◌≡◌, inr, refl, subst}
+use Rattle.std.specs.Prelude.{ℕ, zero, suc, ◌+◌, ◌<◌, Bool, true, false, if◌then◌else◌, List, [], ◌∷◌, length, Option, Some, None, Ok, Err}
 use Rattle.cxx_model.specs.declared.lookup.Found.{Found}
 use Rattle.cxx_model.specs.declared.lookup.Found.TheVariants as sought
+use Rattle.cxx_model.specs.declared.facts.ScopeKind.{ScopeKind}
+use Rattle.cxx_model.specs.declared.lookup.MemberFound.{MemberFound}
+use Rattle.cxx_model.specs.declared.lookup.MemberFound.TheVariants as member_found
 use Rattle.cxx_model.specs.declared.punct.TheConstants as punct
+use Rattle.cxx_model.specs.declared.types.ClassId.{ClassId}
 use Rattle.cxx_model.specs.declared.types.ScopeId.{ScopeId}
+use Rattle.cxx_model.specs.Facts.Declarations.{CxxGraph, CxxName}
+use Rattle.cxx_model.specs.Facts.Entities.{scope_kinds}
 use Rattle.cxx_model.specs.Stops.{Answer, Stopped, ◌>>=◌}
-use Rattle.cxx_meaning.specs.Lookups.Wanted.{any_name}
+use Rattle.cxx_meaning.specs.Lookups.Member.{member}
+use Rattle.cxx_meaning.specs.Lookups.Pending.{Asked}
+use Rattle.cxx_meaning.specs.Lookups.Wanted.{Wanted, any_name}
 use Rattle.cxx_reading.specs.declared.region.Region.{Region}
 use Rattle.cxx_reading.specs.declared.region.Region.TheVariants as region
 use Rattle.cxx_reading.specs.declared.specifier.Naming.TheVariants as naming
 use Rattle.cxx_reading.specs.Declarators.{Declarator, outward, pointer_layer, reference_layer}
-use Rattle.cxx_reading.specs.Declaring.{at_scope}
+use Rattle.cxx_reading.specs.Declaring.{at_scope, scope_count}
 use Rattle.cxx_reading.specs.Kinds.{Kinds, Readers}
-use Rattle.cxx_reading.specs.Members.{enter_member, entered_found}
-use Rattle.cxx_reading.specs.Paths.{name_in, region_of, sought_in}
+use Rattle.cxx_declare.specs.Outside.{enter_member, entered_found, first_scope, holds_class, scope_of_class, scope_or, scope_or_unit}
+use Rattle.cxx_reading.specs.Linked.{scope_id}
+use Rattle.cxx_reading.specs.Paths.{member_or_none, name_in, region_of, sought_in}
 use Rattle.cxx_reading.specs.Reads.{Ahead, Got, Reads, answered, ask, got, kind_ahead, behind, beside, then_read, tokens}
 use Rattle.cxx_reading.specs.State.{CxxState}
 use Rattle.cxx_reading.specs.Syntax.{ampersand_part, bracket_part, declarator_at, grouped_at, grouped_part, member_read, name_part, name_read, pointed_at, qualified_part, referred_at, star_part, suffixes_at}
@@ -28,9 +37,9 @@ use Rattle.cxx_language_laws.specs.Told.{EndsIn}
 use Rattle.cxx_language_laws.proofs.Both.{both_tell}
 use Rattle.cxx_language_laws.proofs.Later.{IsLater, grown_same, same_calls}
 use Rattle.cxx_language_laws.proofs.Reached.{ArrivedAt, IsPlaced, Told, arrived, arrived_here, arrived_sooner, later_is_told, placed_here, placed_later, placed_sooner}
-use Rattle.cxx_language_laws.proofs.Regions.{IsOfSpace, last_ahead, nothing_ahead, region_inside, region_told, region_within, two_found, twofold_ahead}
+use Rattle.cxx_language_laws.proofs.Regions.{IsQualifier, last_ahead, members_found, nothing_ahead, region_inside, region_told, region_within, two_found, twofold_ahead}
 use Rattle.cxx_language_laws.proofs.Scopes.{scopes_at, scopes_counted}
-use Rattle.cxx_language_laws.proofs.Sought.{no_member_inside}
+use Rattle.cxx_language_laws.proofs.Sought.{IsOfClass, member_inside, no_member_inside}
 use Rattle.cxx_language_laws.proofs.Tells.{Always, Quietly, ReadersTell, Tells, ToldIn, behind_stands, ends_later, give_in, name_stands, punct_in, tells_read, tells_stop, then_in, token_told, tokens_in, unit_is_told, whole_stands}
 use Rattle.cxx_language_laws.proofs.TellsSyntax.{cv_tells, no_declarator_tells, suffixes_tell}
 
@@ -48,23 +57,76 @@ member_placed state ahead space begins means = record {
     scopes = λ is. let counted = scopes_counted state.graph.facts in let within = region_within state (path_ahead ahead) (region.Inside space) is means in scopes_at space.0 state (omega (arith, counted, within)) is;
     best = same_calls state (at_scope space.0 state) (grown_same state (at_scope space.0 state) refl) refl;
   };
-  place = λ is. inr (record { named = ahead; stands = whole_stands ahead.tokens; begins = begins; space = space; means = means; inside = refl });
+  place = λ is. inr (record { named = ahead; stands = whole_stands ahead.tokens; begins = begins; where_ = region.Inside space; qualifies = tt; means = means; inside = refl });
 }
 
-member_found : (state : CxxState) (ahead : Ahead) (space : ScopeId) → begins_name ahead ≡ true → is_whole_name ahead ≡ true → region_of state.graph state.here.scope (path_ahead ahead) ≡ Ok (region.Inside space) → (x : Found) → sought_in state.graph any_name (region.Inside space) (name_in (path_ahead ahead)) ≡ x
+space_found : (state : CxxState) (ahead : Ahead) (space : ScopeId) → begins_name ahead ≡ true → is_whole_name ahead ≡ true → region_of state.graph state.here.scope (path_ahead ahead) ≡ Ok (region.Inside space) → (x : Found) → sought_in state.graph any_name (region.Inside space) (name_in (path_ahead ahead)) ≡ x
     → EntersBy state ahead (entered_found (last_ahead ahead) (region.Inside space) x state)
-member_found state ahead space begins whole means (sought.Ambiguous one two) is = enters_refusal _ (twofold_ahead any_name tt state ahead begins whole (region.Inside space) means (sought.Ambiguous one two) _ (two_found one two) is)
-member_found state ahead space begins whole means (sought.Set targets) is = enters_answer (tt, at_scope space.0 state) (member_placed state ahead space begins means)
-member_found state ahead space begins whole means (sought.Member class of) is = enters_refusal _ (absurd (no_member_inside state.graph any_name space (name_in (path_ahead ahead)) class of is))
-member_found state ahead space begins whole means sought.Empty is = enters_refusal _ (nothing_ahead any_name tt state ahead begins whole (region.Inside space) means sought.Empty is tt refl)
+space_found state ahead space begins whole means (sought.Ambiguous one two) is = enters_refusal _ (twofold_ahead any_name tt state ahead begins whole (region.Inside space) means (sought.Ambiguous one two) _ (two_found one two) is)
+space_found state ahead space begins whole means (sought.Set targets) is = enters_answer (tt, at_scope space.0 state) (member_placed state ahead space begins means)
+space_found state ahead space begins whole means (sought.Member class of) is = absurd (no_member_inside state.graph any_name space (name_in (path_ahead ahead)) class of is)
+space_found state ahead space begins whole means sought.Empty is = enters_refusal _ (nothing_ahead any_name tt state ahead begins whole (region.Inside space) means sought.Empty is tt refl)
+
+-- 9.2: the scope of a class is there
+or_there : (count : ℕ) (o : Option ScopeId) → 0 < count → ((s : ScopeId) → o ≡ Some s → s.0 < count) → (scope_or_unit o).0 < count
+or_there count None some all = some
+or_there count (Some s) some all = all s refl
+
+first_there : (class : ClassId) (number : ℕ) (kinds : List ScopeKind) (s : ScopeId) → first_scope class number kinds ≡ Some s → s.0 < number + length kinds
+first_there class number [] s e = absurd cc
+first_there class number (kind ∷ kinds) s e = by (holds_class class kind) e (first_there class (suc number) kinds s)
+  where
+    same : (m : ℕ) → Some (scope_id m) ≡ Some s → m ≡ s.0
+    same m e = cc
+
+    by : (b : Bool) → scope_or number b (first_scope class (suc number) kinds) ≡ Some s → (first_scope class (suc number) kinds ≡ Some s → s.0 < suc number + length kinds) → s.0 < number + length (kind ∷ kinds)
+    by true e rest = let at : number ≡ s.0 = same number e in omega (arith, at)
+    by false e rest = let later : s.0 < suc number + length kinds = rest e in omega (arith, later)
+
+class_within : (graph : CxxGraph) (class : ClassId) → 0 < scope_count graph → scope_of_class graph class < scope_count graph
+unfolding scope_of_class
+class_within graph class some = or_there (scope_count graph) (first_scope class zero (scope_kinds graph.facts)) some (λ s e. let there = first_there class zero (scope_kinds graph.facts) s e in omega (arith, there))
+
+class_placed : (state : CxxState) (ahead : Ahead) (class : ClassId) → begins_name ahead ≡ true → region_of state.graph state.here.scope (path_ahead ahead) ≡ Ok (region.Class class) → IsPlaced state ahead (at_scope (scope_of_class state.graph class) state)
+class_placed state ahead class begins means = record {
+  elsewhere = record {
+    grown = grown_same state (at_scope (scope_of_class state.graph class) state) refl;
+    scopes = λ is. let counted = scopes_counted state.graph.facts in let stands = is.within in scopes_at (scope_of_class state.graph class) state (class_within state.graph class (omega (arith, counted, stands))) is;
+    best = same_calls state (at_scope (scope_of_class state.graph class) state) (grown_same state (at_scope (scope_of_class state.graph class) state) refl) refl;
+  };
+  place = λ is. inr (record { named = ahead; stands = whole_stands ahead.tokens; begins = begins; where_ = region.Class class; qualifies = tt; means = means; inside = refl });
+}
+
+-- what is found behind a class is a member of that class
+is_of_it : (graph : CxxGraph) (wanted : Wanted) (class one : ClassId) (name : CxxName) (of : MemberFound) → sought_in graph wanted (region.Class class) name ≡ sought.Member one of → class ≡ one
+unfolding sought_in
+is_of_it graph wanted class one name of e = by (member graph wanted class name) e
+  where
+    by : (o : Asked MemberFound) → member_or_none class o ≡ sought.Member one of → class ≡ one
+    by (Ok other) e = cc
+    by (Err needed) e = absurd cc
+
+entered_there : (state : CxxState) (ahead : Ahead) (class one : ClassId) → class ≡ one → begins_name ahead ≡ true → region_of state.graph state.here.scope (path_ahead ahead) ≡ Ok (region.Class class) → EntersBy state ahead (Ok (tt, at_scope (scope_of_class state.graph one) state))
+entered_there state ahead class one same begins means = subst (λ (c : ClassId). EntersBy state ahead (Ok (tt, at_scope (scope_of_class state.graph c) state))) same (enters_answer (tt, at_scope (scope_of_class state.graph class) state) (class_placed state ahead class begins means))
+
+-- 9.4.2: in a class
+static_found : (state : CxxState) (ahead : Ahead) (class : ClassId) → begins_name ahead ≡ true → is_whole_name ahead ≡ true → region_of state.graph state.here.scope (path_ahead ahead) ≡ Ok (region.Class class) → (x : Found) → IsOfClass x → sought_in state.graph any_name (region.Class class) (name_in (path_ahead ahead)) ≡ x
+    → EntersBy state ahead (entered_found (last_ahead ahead) (region.Class class) x state)
+static_found state ahead class begins whole means (sought.Ambiguous one two) of is = absurd of
+static_found state ahead class begins whole means (sought.Set targets) of is = absurd of
+static_found state ahead class begins whole means (sought.Member one member_found.Empty) of is = enters_refusal _ (nothing_ahead any_name tt state ahead begins whole (region.Class class) means (sought.Member one member_found.Empty) is tt refl)
+static_found state ahead class begins whole means (sought.Member one (member_found.Set targets path)) of is = entered_there state ahead class one (is_of_it state.graph any_name class one (name_in (path_ahead ahead)) (member_found.Set targets path) is) begins means
+static_found state ahead class begins whole means (sought.Member one (member_found.Ambiguous first second)) of is = enters_refusal _ (twofold_ahead any_name tt state ahead begins whole (region.Class class) means (sought.Member one (member_found.Ambiguous first second)) _ (members_found one first second) is)
+static_found state ahead class begins whole means sought.Empty of is = enters_refusal _ (nothing_ahead any_name tt state ahead begins whole (region.Class class) means sought.Empty is tt refl)
 
 member_enters : (state : CxxState) (ahead : Ahead) → begins_name ahead ≡ true → is_whole_name ahead ≡ true → is_plain_name ahead ≡ false → EntersBy state ahead (enter_member (path_ahead ahead) state)
 unfolding enter_member
 member_enters state ahead begins whole plain = by (region_of state.graph state.here.scope (path_ahead ahead)) refl
   where
-    inside : (where_ : Region) → IsOfSpace where_ → region_of state.graph state.here.scope (path_ahead ahead) ≡ Ok where_ → EntersBy state ahead (entered_found (last_ahead ahead) where_ (sought_in state.graph any_name where_ (name_in (path_ahead ahead))) state)
-    inside (region.Inside space) is means = member_found state ahead space begins whole means (sought_in state.graph any_name (region.Inside space) (name_in (path_ahead ahead))) refl
+    inside : (where_ : Region) → IsQualifier where_ → region_of state.graph state.here.scope (path_ahead ahead) ≡ Ok where_ → EntersBy state ahead (entered_found (last_ahead ahead) where_ (sought_in state.graph any_name where_ (name_in (path_ahead ahead))) state)
+    inside (region.Inside space) is means = space_found state ahead space begins whole means (sought_in state.graph any_name (region.Inside space) (name_in (path_ahead ahead))) refl
     inside (region.Outward scope) is means = absurd is
+    inside (region.Class class) is means = static_found state ahead class begins whole means (sought_in state.graph any_name (region.Class class) (name_in (path_ahead ahead))) (member_inside state.graph any_name class (name_in (path_ahead ahead))) refl
 
     by : (o : Answer Region) → region_of state.graph state.here.scope (path_ahead ahead) ≡ o → EntersBy state ahead (o >>= λ where_. entered_found (last_ahead ahead) where_ (sought_in state.graph any_name where_ (name_in (path_ahead ahead))) state)
     by (Ok where_) means = inside where_ (region_inside state.graph state.here.scope ahead where_ begins whole plain means) means

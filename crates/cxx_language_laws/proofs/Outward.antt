@@ -14,9 +14,9 @@ use Rattle.cxx_model.specs.declared.types.ClassId.{ClassId}
 use Rattle.cxx_model.specs.declared.types.FactId.{FactId}
 use Rattle.cxx_model.specs.declared.types.ScopeId.{ScopeId}
 use Rattle.cxx_model.specs.Facts.Declarations as facts
-use Rattle.cxx_model.specs.Facts.Declarations.{CxxFact, CxxGraph, CxxName, CxxSpecialisation, Declares}
+use Rattle.cxx_model.specs.Facts.Declarations.{CxxFact, CxxGraph, CxxName, CxxPattern, CxxSpecialisation, Declares}
 use Rattle.cxx_model.specs.Facts.Entities.{CxxEntity, Meant, is_seen, meant_by, of_fact, of_space, of_type, same_entity, scope_kinds}
-use Rattle.cxx_model.specs.Facts.Pending.{begins_or_ends, is_pending}
+use Rattle.cxx_model.specs.Facts.Pending.{begins_or_ends, defining_classes, is_defined_since, is_pending}
 use Rattle.cxx_model.proofs.Champion.{find_some, first_of, first_or_later, later_of}
 use Rattle.cxx_meaning.specs.Lookups.Directives.{Shown, shows}
 use Rattle.cxx_meaning.specs.Lookups.Gathered.{before, gathered, same_scope, with_fact, with_facts}
@@ -427,13 +427,42 @@ never_pending graph scope class is = by (slice_get graph.classes class.0) refl
     by (Some None) e = rw e refl
     by (Some (Some of)) e = rw e (rw begun refl)
 
+-- clause 14: without templates no class is pending
+none_defined : (class : ℕ) (all : List CxxFact) → is_defined_since [] class false all ≡ false
+none_defined class [] = refl
+none_defined class (fact ∷ later) = by fact.what (none_defined class later)
+  where
+    by : (what : Declares) → is_defined_since [] class false later ≡ false → is_defined_since [] class false (record fact { what = what } ∷ later) ≡ false
+    by (facts.complete number) e = e
+    by (facts.passed number) e = e
+    by _ e = e
+
+and_false : (b : Bool) → (b && false) ≡ false
+and_false true = refl
+and_false false = refl
+
+none_pending : (graph : CxxGraph) (class : ClassId) → graph.patterns ≡ [] → is_pending graph class.0 ≡ false
+unfolding is_pending
+none_pending graph class none = by (slice_get graph.classes class.0) refl
+  where
+    defined : (template : ℕ) → is_defined_since (defining_classes graph template) class.0 false graph.facts ≡ false
+    defined template = ap (λ (all : List ℕ). is_defined_since all class.0 false graph.facts) (ap (λ (ps : List CxxPattern). defining_classes (record graph { patterns = ps }) template) none) ∙ none_defined class.0 graph.facts
+
+    by : (o : Option (Option CxxSpecialisation)) → slice_get graph.classes class.0 ≡ o → is_pending graph class.0 ≡ false
+    by None e = rw e refl
+    by (Some None) e = rw e refl
+    by (Some (Some of)) e = rw e (rw (defined of.template) (and_false (not (list_any (λ fact. begins_or_ends class.0 fact.what) graph.facts))))
+
 -- what a class has of a name, by the subobjects that declare it
 abbrev members_found : CxxGraph → Wanted → CxxName → ClassId → MemberFound
 members_found graph wanted name class = member_of graph wanted name (ways graph wanted name class)
 
-class_has : (graph : CxxGraph) (wanted : Wanted) (name : CxxName) (scope : ScopeId) (class : ClassId) → class_of_scope graph.facts scope ≡ Some class → member_named graph wanted class name ≡ Ok (members_found graph wanted name class)
+class_answers : (graph : CxxGraph) (wanted : Wanted) (name : CxxName) (class : ClassId) → is_pending graph class.0 ≡ false → member_named graph wanted class name ≡ Ok (members_found graph wanted name class)
 unfolding member_named
-class_has graph wanted name scope class is = ap (λ (b : Bool). cond b (Err class) (Ok (members_found graph wanted name class))) (never_pending graph scope class is)
+class_answers graph wanted name class ready = ap (λ (b : Bool). cond b (Err class) (Ok (members_found graph wanted name class))) ready
+
+class_has : (graph : CxxGraph) (wanted : Wanted) (name : CxxName) (scope : ScopeId) (class : ClassId) → class_of_scope graph.facts scope ≡ Some class → member_named graph wanted class name ≡ Ok (members_found graph wanted name class)
+class_has graph wanted name scope class is = class_answers graph wanted name class (never_pending graph scope class is)
 
 abbrev MemberAnswers : Asked MemberFound → Asked MemberFound → Type 0
 MemberAnswers one two = one ≡ two
@@ -611,6 +640,19 @@ in_class P graph wanted name class sound each all path e = by (members_found gra
     by _ member_none e = absurd cc
     by _ (member_some one others bases so) e = subst (λ (of : MemberFound). IsLooked P graph (found.Member class of)) e (member_looked class one others bases so)
     by _ (member_two one two are) e = absurd cc
+
+-- 3.4.3.1: what a class answers where there are no templates: nothing, or something
+pub data ClassAnswers (P : ℕ → Type 0) (graph : CxxGraph) (wanted : Wanted) (name : CxxName) (class : ClassId) : Type 0 where
+  class_without : member_named graph wanted class name ≡ Ok member.Empty → ClassAnswers P graph wanted name class
+  class_with : (of : MemberFound) → member_named graph wanted class name ≡ Ok of → IsLooked P graph (found.Member class of) → ClassAnswers P graph wanted name class
+
+pub class_looked : (P : ℕ → Type 0) (graph : CxxGraph) (wanted : Wanted) (name : CxxName) (class : ClassId) → AreSound graph.facts → graph.patterns ≡ [] → ((one : Sighting) → IsOne graph wanted one → IsSo P one) → ClassAnswers P graph wanted name class
+class_looked P graph wanted name class sound none each = by (members_found graph wanted name class) (member_is P graph wanted name class sound each) (class_answers graph wanted name class (none_pending graph class none))
+  where
+    by : (of : MemberFound) → IsMember P graph wanted name class of → member_named graph wanted class name ≡ Ok of → ClassAnswers P graph wanted name class
+    by _ member_none e = class_without e
+    by _ (member_some one others path so) e = class_with (member.Set (one ∷ others) path) e (member_looked class one others path so)
+    by _ (member_two one two are) e = class_with (member.Ambiguous one two) e (clash_looked class one two)
 
 -- two that are found do not go together
 abbrev Anyhow : ℕ → Type 0

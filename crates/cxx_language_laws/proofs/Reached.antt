@@ -146,7 +146,7 @@ elsewhere_by_later old new later = record { grown = later.grown; scopes = later.
 pub elsewhere_later : (s t u : CxxState) → IsElsewhere s t → IsLater t u → IsElsewhere s u
 elsewhere_later s t u one two = record { grown = grown_later s t u one.grown two.grown; scopes = λ is. two.scopes (one.scopes is); best = λ is. two.best (one.best is) }
 
--- It stands where it did, or in the namespace that the qualifiers of a name ahead mean.
+-- It stands where it did, or in the namespace or the class that the qualifiers of a name ahead mean.
 abbrev pub IsPlace : CxxState → Ahead → CxxState → Type 0
 IsPlace old ahead new = (new.here.scope ≡ old.here.scope) ⊎ IsInside old ahead new
 
@@ -159,14 +159,14 @@ placed_here state ahead = record { elsewhere = elsewhere_by_later state state (l
 
 place_later : (s t u : CxxState) (ahead : Ahead) → u.here.scope ≡ t.here.scope → IsPlace s ahead t → IsPlace s ahead u
 place_later s t u ahead e (inl same) = inl (e ∙ same)
-place_later s t u ahead e (inr is) = inr (record { named = is.named; stands = is.stands; begins = is.begins; space = is.space; means = is.means; inside = e ∙ is.inside })
+place_later s t u ahead e (inr is) = inr (record { named = is.named; stands = is.stands; begins = is.begins; where_ = is.where_; qualifies = is.qualifies; means = is.means; inside = e ∙ is.inside })
 
 pub placed_later : (s t u : CxxState) (ahead : Ahead) → IsPlaced s ahead t → IsLater t u → IsPlaced s ahead u
 placed_later s t u ahead one two = record { elsewhere = elsewhere_later s t u one.elsewhere two; place = λ is. place_later s t u ahead (two.here (one.elsewhere.scopes is)) (one.place is) }
 
 place_sooner : (s t : CxxState) (ahead middle : Ahead) → EndsIn ahead.tokens middle.tokens → IsPlace s middle t → IsPlace s ahead t
 place_sooner s t ahead middle stands (inl same) = inl same
-place_sooner s t ahead middle stands (inr is) = inr (record { named = is.named; stands = ends_later ahead.tokens middle.tokens is.named.tokens stands is.stands; begins = is.begins; space = is.space; means = is.means; inside = is.inside })
+place_sooner s t ahead middle stands (inr is) = inr (record { named = is.named; stands = ends_later ahead.tokens middle.tokens is.named.tokens stands is.stands; begins = is.begins; where_ = is.where_; qualifies = is.qualifies; means = is.means; inside = is.inside })
 
 pub placed_sooner : (s t : CxxState) (ahead middle : Ahead) → EndsIn ahead.tokens middle.tokens → IsPlaced s middle t → IsPlaced s ahead t
 placed_sooner s t ahead middle stands one = record { elsewhere = one.elsewhere; place = λ is. place_sooner s t ahead middle stands (one.place is) }
@@ -183,7 +183,7 @@ pub record Arrived (state : CxxState) (ahead : Ahead) (P : CxxState → Ahead �
 
 since : (s t u : CxxState) (ahead : Ahead) → IsGrown s t → IsPlace s ahead t → IsScopeFrom t u → IsScopeSince s ahead u
 since s t u ahead grown (inl same) (inl here) = inl (here ∙ same)
-since s t u ahead grown (inr is) (inl here) = inr (inr (record { named = is.named; stands = is.stands; begins = is.begins; space = is.space; means = is.means; inside = here ∙ is.inside }))
+since s t u ahead grown (inr is) (inl here) = inr (inr (record { named = is.named; stands = is.stands; begins = is.begins; where_ = is.where_; qualifies = is.qualifies; means = is.means; inside = here ∙ is.inside }))
 since s t u ahead grown place (inr later) = let more = count_more s t grown in inr (inl (omega (arith, more, later)))
 
 arrived_from : (s t : CxxState) (ahead rest : Ahead) (P : CxxState → Ahead → Type 0) → IsPlaced s ahead t → EndsIn ahead.tokens rest.tokens → Reached t rest P → Arrived s ahead P
@@ -223,7 +223,7 @@ arrived_here state ahead why told = arrived state state ahead ahead why (placed_
 since_sooner : (s at : CxxState) (ahead middle : Ahead) → EndsIn ahead.tokens middle.tokens → IsScopeSince s middle at → IsScopeSince s ahead at
 since_sooner s at ahead middle stands (inl same) = inl same
 since_sooner s at ahead middle stands (inr (inl later)) = inr (inl later)
-since_sooner s at ahead middle stands (inr (inr is)) = inr (inr (record { named = is.named; stands = ends_later ahead.tokens middle.tokens is.named.tokens stands is.stands; begins = is.begins; space = is.space; means = is.means; inside = is.inside }))
+since_sooner s at ahead middle stands (inr (inr is)) = inr (inr (record { named = is.named; stands = ends_later ahead.tokens middle.tokens is.named.tokens stands is.stands; begins = is.begins; where_ = is.where_; qualifies = is.qualifies; means = is.means; inside = is.inside }))
 
 -- where more tokens are ahead
 behind_arrived : (s : CxxState) (ahead middle : Ahead) (P : CxxState → Ahead → Type 0) → EndsIn ahead.tokens middle.tokens → Arrived s middle P → Arrived s ahead P

@@ -251,6 +251,8 @@ pub record InScopes (state : CxxState) : Type 0 where
   pub opened : AreOpened state.graph.facts
   pub unnamed : AreUnnamed state.graph.facts
   pub unit : UnitIsSpace state.graph.facts
+  -- clause 14: there are no templates
+  pub patterns : state.graph.patterns ≡ []
 
 -- by the facts and the scope in which the reader stands
 abbrev StandsIn : List CxxFact → ℕ → Type 0
@@ -266,6 +268,7 @@ scopes_same old new graph here is =
       opened = subst AreOpened all is.opened;
       unnamed = subst AreUnnamed all is.unnamed;
       unit = subst UnitIsSpace all is.unit;
+      patterns = ap (λ (g : CxxGraph). g.patterns) graph ∙ is.patterns;
     }
 
 held_last : (scopes : List CxxFact) (last : CxxFact) → last.scope < length scopes → AreHeld scopes → AreHeld (scopes ++ last ∷ [])
@@ -346,6 +349,7 @@ scopes_so state fact held may is =
       opened = opened_more all fact is.sound may is.opened;
       unnamed = unnamed_more all fact is.sound may is.unnamed;
       unit = unit_still all (fact ∷ []) is.unit;
+      patterns = is.patterns;
     }
 
 -- a fact in a scope
@@ -381,7 +385,7 @@ entered kind state = at_scope (scope_count state.graph) (with_fact (scope_within
 pub scopes_at : (scope : ℕ) (state : CxxState) → scope < scope_count state.graph → InScopes state → InScopes (at_scope scope state)
 scopes_at scope state there is =
     let counted = scopes_counted state.graph.facts in
-    record { within = omega (arith, counted, there); held = is.held; sound = is.sound; opened = is.opened; unnamed = is.unnamed; unit = is.unit }
+    record { within = omega (arith, counted, there); held = is.held; sound = is.sound; opened = is.opened; unnamed = is.unnamed; unit = is.unit; patterns = is.patterns }
 
 pub scopes_entered : (kind : ScopeKind) (state : CxxState) → InScopes state → InScopes (entered kind state)
 scopes_entered kind state is =
@@ -417,7 +421,7 @@ scopes_left state is =
     ]) is
 
 pub scopes_first : InScopes first_state
-scopes_first = record { within = omega arith; held = held; sound = sound; opened = opened; unnamed = none_unnamed; unit = refl }
+scopes_first = record { within = omega arith; held = held; sound = sound; opened = opened; unnamed = none_unnamed; unit = refl; patterns = refl }
   where
     held : AreHeld (scope_facts first_state.graph.facts)
     held zero fact e = inl (sym (ap (λ (o : Option CxxFact). scope_of_option 0 o) e))

@@ -32,13 +32,13 @@ use Rattle.cxx_meaning.specs.Lookups.Wanted.{Wanted, any_name, is_function, name
 use Rattle.cxx_meaning.proofs.Nearest.{first_is_found}
 use Rattle.cxx_reading.specs.declared.region.Region.{Region}
 use Rattle.cxx_reading.specs.declared.region.Region.TheVariants as region
-use Rattle.cxx_reading.specs.Paths.{first_space, or_later, sought_in, space_in}
+use Rattle.cxx_reading.specs.Paths.{first_space, member_or_none, or_later, sought_in, space_in}
 use Rattle.cxx_reading.specs.Seen.{fact_numbers, found_or_none, numbered_at, numbered_by, set_in, sought_from}
 use Rattle.cxx_reading.specs.State.{CxxState}
 use Rattle.cxx_answers.specs.Answers.{associated_functions, found_in_sets, fresh_among, types_of_operands}
 use Rattle.cxx_language_laws.specs.Best.{IsClear}
-use Rattle.cxx_language_laws.specs.Told.{AreApart, IsNotAround, IsNotInside, IsNotThere}
-use Rattle.cxx_language_laws.proofs.Outward.{HasNone, HasNothing, IsLooked, IsOne, IsSo, IsTwo, OfNumber, Outward, ScopeAnswers, all_of, beside_all, clash_looked, each_seen, entities_so, filtered_all, gathered_all, in_class, looked_so, member_looked, none_left, none_outward, outward, scope_answers, scope_apart, scope_finds, set_looked, some_outward, two_looked}
+use Rattle.cxx_language_laws.specs.Told.{AreApart, IsNotAround, IsNotInside, IsNotThere, nothing_in}
+use Rattle.cxx_language_laws.proofs.Outward.{ClassAnswers, HasNone, HasNothing, IsLooked, IsOne, IsSo, IsTwo, OfNumber, Outward, ScopeAnswers, all_of, beside_all, clash_looked, class_apart, class_looked, class_with, class_without, each_seen, entities_so, filtered_all, gathered_all, in_class, looked_so, member_looked, none_left, none_outward, outward, scope_answers, scope_apart, scope_finds, set_looked, some_outward, two_looked}
 use Rattle.cxx_language_laws.proofs.Shown.{reached_none, right_none, unit_in}
 use Rattle.cxx_language_laws.proofs.Scopes.{AreHeld, AreSound, InScopes, IsFirstThere, IsSound, UnitIsSpace, none_is_past}
 
@@ -49,9 +49,10 @@ pub record AreFitting (graph : CxxGraph) : Type 0 where
   pub sound : AreSound graph.facts
   pub held : AreHeld (scope_facts graph.facts)
   pub unit : UnitIsSpace graph.facts
+  pub patterns : graph.patterns ≡ []
 
 pub fitting : (state : CxxState) → InScopes state → AreFitting state.graph
-fitting state is = record { sound = is.sound; held = is.held; unit = is.unit }
+fitting state is = record { sound = is.sound; held = is.held; unit = is.unit; patterns = is.patterns }
 
 -- from a scope that there is
 abbrev pub IsStanding : CxxGraph → ScopeId → Type 0
@@ -144,13 +145,14 @@ never_asks graph wanted name cut sound (scope ∷ outer) shown class e = by (fou
 
 -- what is sought in a region: nothing, and then nothing there has it, or something
 pub data IsSoughtSo (P : ℕ → Type 0) (graph : CxxGraph) (wanted : Wanted) (where_ : Region) (name : CxxName) : Found → Type 0 where
-  nothing_there : IsNotThere graph wanted where_ name → IsSoughtSo P graph wanted where_ name found.Empty
+  nothing_there : IsNotThere graph wanted where_ name → IsSoughtSo P graph wanted where_ name (nothing_in where_)
   some_there : (x : Found) → IsLooked P graph x → IsSoughtSo P graph wanted where_ name x
 
 -- a region that there is
 abbrev pub IsRegion : CxxGraph → Region → Type 0
 IsRegion graph (region.Outward scope) = IsStanding graph scope
 IsRegion graph (region.Inside space) = Unit {0}
+IsRegion graph (region.Class class) = Unit {0}
 
 outward_so : (P : ℕ → Type 0) (graph : CxxGraph) (wanted : Wanted) (scope : ScopeId) (name : CxxName) → AreFitting graph → IsStanding graph scope → ((one : Sighting) → IsOne graph wanted one → IsSo P one) → IsSoughtSo P graph wanted (region.Outward scope) name (sought_from graph wanted scope.0 name)
 unfolding sought_from
@@ -179,10 +181,21 @@ inside_so P graph wanted space name is each = by (sightings_of graph (length gra
     by [] e are = subst (IsSoughtSo P graph wanted (region.Inside space) name) (sym (nothing_looked graph)) (nothing_there (not_inside graph wanted space name e))
     by (one ∷ others) e are = some_there (looked_up graph (one ∷ others)) (looked_so P graph (one ∷ others) tt are)
 
+class_so : (P : ℕ → Type 0) (graph : CxxGraph) (wanted : Wanted) (class : ClassId) (name : CxxName) → AreFitting graph → ((one : Sighting) → IsOne graph wanted one → IsSo P one) → IsSoughtSo P graph wanted (region.Class class) name (member_or_none class (member graph wanted class name))
+class_so P graph wanted class name is each = by (class_looked P graph wanted name class is.sound is.patterns each)
+  where
+    answered : Asked MemberFound → Type 0
+    answered x = IsSoughtSo P graph wanted (region.Class class) name (member_or_none class x)
+
+    by : ClassAnswers P graph wanted name class → answered (member graph wanted class name)
+    by (class_without e) = subst answered (sym e) (nothing_there e)
+    by (class_with of e looked) = subst answered (sym e) (some_there (found.Member class of) looked)
+
 pub sought_so : (P : ℕ → Type 0) (graph : CxxGraph) (wanted : Wanted) (where_ : Region) (name : CxxName) → AreFitting graph → IsRegion graph where_ → ((one : Sighting) → IsOne graph wanted one → IsSo P one) → IsSoughtSo P graph wanted where_ name (sought_in graph wanted where_ name)
 unfolding sought_in
 sought_so P graph wanted (region.Outward scope) name is there each = outward_so P graph wanted scope name is there each
 sought_so P graph wanted (region.Inside space) name is there each = inside_so P graph wanted space name is each
+sought_so P graph wanted (region.Class class) name is there each = class_so P graph wanted class name is each
 
 -- 3.4.3.2: no member of a class is found in a namespace
 no_member_found : (graph : CxxGraph) (all : List FactId) (class : ClassId) (of : MemberFound) → found_of graph all ≡ found.Member class of → ⊥
@@ -241,6 +254,36 @@ members_sought graph wanted (region.Outward scope) name class one two sound e = 
     by (Ok x) is e = first_apart graph wanted name (length graph.facts) sound [] (chain graph.facts scope) x class one two e (first_is_found graph wanted scope name (length graph.facts) x is)
     by (Err pending) is e = absurd cc
 members_sought graph wanted (region.Inside space) name class one two sound e = absurd (no_member_inside graph wanted space name class (member_found.Ambiguous one two) e)
+members_sought graph wanted (region.Class other) name class one two sound e = by (member graph wanted other name) refl e
+  where
+    same : (of : MemberFound) → member graph wanted other name ≡ Ok of → found.Member other of ≡ found.Member class (member_found.Ambiguous one two) → AreApart graph wanted name class one two
+    same of is e = subst (λ (c : ClassId). AreApart graph wanted name c one two) (ap class_in e) (class_apart graph wanted name other one two sound (is ∙ ap (λ (x : MemberFound). Ok x) (ap member_in_found e)))
+      where
+        class_in : Found → ClassId
+        class_in (found.Member one of) = one
+        class_in _ = other
+
+        member_in_found : Found → MemberFound
+        member_in_found (found.Member one of) = of
+        member_in_found _ = of
+
+    by : (o : Asked MemberFound) → member graph wanted other name ≡ o → member_or_none other o ≡ found.Member class (member_found.Ambiguous one two) → AreApart graph wanted name class one two
+    by (Ok of) is e = same of is e
+    by (Err pending) is e = absurd cc
+
+-- 3.4.3.1: only members are found in a class
+abbrev pub IsOfClass : Found → Type 0
+IsOfClass (found.Set all) = ⊥
+IsOfClass (found.Ambiguous one two) = ⊥
+IsOfClass _ = Unit {0}
+
+pub member_inside : (graph : CxxGraph) (wanted : Wanted) (class : ClassId) (name : CxxName) → IsOfClass (sought_in graph wanted (region.Class class) name)
+unfolding sought_in
+member_inside graph wanted class name = by (member graph wanted class name)
+  where
+    by : (o : Asked MemberFound) → IsOfClass (member_or_none class o)
+    by (Ok of) = tt
+    by (Err pending) = tt
 
 -- ---- declarations that there are
 
@@ -293,10 +336,10 @@ some_numbered graph n others there e = by (slice_get graph.facts n) refl e
     by (Some fact) is e = cc
 
 -- 3.4: what is no ambiguity and has no declarations is nothing
-pub nothing_sought : (graph : CxxGraph) (wanted : Wanted) (where_ : Region) (name : CxxName) → AreFitting graph → IsRegion graph where_ → (x : Found) → sought_in graph wanted where_ name ≡ x → IsClear x → set_in graph x ≡ [] → (sought_in graph wanted where_ name ≡ found.Empty) × IsNotThere graph wanted where_ name
+pub nothing_sought : (graph : CxxGraph) (wanted : Wanted) (where_ : Region) (name : CxxName) → AreFitting graph → IsRegion graph where_ → (x : Found) → sought_in graph wanted where_ name ≡ x → IsClear x → set_in graph x ≡ [] → (sought_in graph wanted where_ name ≡ nothing_in where_) × IsNotThere graph wanted where_ name
 nothing_sought graph wanted where_ name is there x e clear none = by x (subst (IsSoughtSo (IsThere graph) graph wanted where_ name) e (sought_so (IsThere graph) graph wanted where_ name is there (one_there graph wanted is.sound))) e clear none
   where
-    by : (x : Found) → IsSoughtSo (IsThere graph) graph wanted where_ name x → sought_in graph wanted where_ name ≡ x → IsClear x → set_in graph x ≡ [] → (sought_in graph wanted where_ name ≡ found.Empty) × IsNotThere graph wanted where_ name
+    by : (x : Found) → IsSoughtSo (IsThere graph) graph wanted where_ name x → sought_in graph wanted where_ name ≡ x → IsClear x → set_in graph x ≡ [] → (sought_in graph wanted where_ name ≡ nothing_in where_) × IsNotThere graph wanted where_ name
     by _ (nothing_there none_there) e clear none = (e, none_there)
     by _ (some_there _ (set_looked one others there)) e clear none = absurd (some_numbered graph one.0 (fact_numbers others) there none)
     by _ (some_there _ (two_looked one two so)) e clear none = absurd clear
@@ -332,7 +375,12 @@ pub two_sought : (graph : CxxGraph) (wanted : Wanted) (where_ : Region) (name : 
 two_sought graph wanted where_ name one two is there e = by (sought_in graph wanted where_ name) (sought_so (IsThere graph) graph wanted where_ name is there (one_there graph wanted is.sound)) e
   where
     by : (x : Found) → IsSoughtSo (IsThere graph) graph wanted where_ name x → x ≡ found.Ambiguous one two → IsTwo (IsThere graph) graph one two
-    by _ (nothing_there none_there) e = absurd cc
+    by _ (nothing_there none_there) e = absurd (nothing where_ e)
+      where
+        nothing : (where_ : Region) → nothing_in where_ ≡ found.Ambiguous one two → ⊥
+        nothing (region.Outward scope) e = cc
+        nothing (region.Inside space) e = cc
+        nothing (region.Class class) e = cc
     by x (some_there _ so) e = two_looked_so (IsThere graph) graph x one two e so
 
 -- ---- namespaces
@@ -366,10 +414,10 @@ first_there_space graph n others there e = by there.0.what there.2 (ap (λ (o : 
 
 -- 3.4.6: the same of namespaces
 pub no_space_sought : (graph : CxxGraph) (where_ : Region) (name : CxxName) → AreFitting graph → IsRegion graph where_ → (x : Found) → sought_in graph namespaces_only where_ name ≡ x → IsClear x → first_space (set_in graph x) ≡ None
-    → (sought_in graph namespaces_only where_ name ≡ found.Empty) × IsNotThere graph namespaces_only where_ name
+    → (sought_in graph namespaces_only where_ name ≡ nothing_in where_) × IsNotThere graph namespaces_only where_ name
 no_space_sought graph where_ name is there x e clear none = by x (subst (IsSoughtSo (IsSpaceThere graph) graph namespaces_only where_ name) e (sought_so (IsSpaceThere graph) graph namespaces_only where_ name is there (one_space graph))) e clear none
   where
-    by : (x : Found) → IsSoughtSo (IsSpaceThere graph) graph namespaces_only where_ name x → sought_in graph namespaces_only where_ name ≡ x → IsClear x → first_space (set_in graph x) ≡ None → (sought_in graph namespaces_only where_ name ≡ found.Empty) × IsNotThere graph namespaces_only where_ name
+    by : (x : Found) → IsSoughtSo (IsSpaceThere graph) graph namespaces_only where_ name x → sought_in graph namespaces_only where_ name ≡ x → IsClear x → first_space (set_in graph x) ≡ None → (sought_in graph namespaces_only where_ name ≡ nothing_in where_) × IsNotThere graph namespaces_only where_ name
     by _ (nothing_there none_there) e clear none = (e, none_there)
     by _ (some_there _ (set_looked one others there)) e clear none = absurd (first_there_space graph one.0 (fact_numbers others) there none)
     by _ (some_there _ (two_looked one two so)) e clear none = absurd clear

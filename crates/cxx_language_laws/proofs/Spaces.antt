@@ -22,7 +22,7 @@ use Rattle.cxx_meaning.specs.Lookups.Wanted.{any_name, namespaces_only}
 use Rattle.cxx_reading.specs.declared.region.Region.{Region}
 use Rattle.cxx_reading.specs.declared.region.Region.TheVariants as region
 use Rattle.cxx_reading.specs.Declaring.{added, declare}
-use Rattle.cxx_reading.specs.Paths.{first_space, name_in, region_of, sought_in, space_region_of}
+use Rattle.cxx_reading.specs.Paths.{first_space, name_in, sought_in, space_region_of, using_region_of}
 use Rattle.cxx_reading.specs.Productions as production
 use Rattle.cxx_reading.specs.Reads.{Ahead, Got, Reads, ◌>>=◌, then_read, answered, ask, give, got, tokens, kind_ahead, behind}
 use Rattle.cxx_reading.specs.Seen.{Numbered, fact_numbers, numbered_at, set_in}
@@ -38,7 +38,7 @@ use Rattle.cxx_language_laws.specs.Told.{EndsIn, IsGrown}
 use Rattle.cxx_language_laws.proofs.Later.{IsLater, MayBeAdded, added_behind, added_tells, by_answer, by_then, calm_by, declare_tells, free_quiet, later_is_quiet, may_be_added}
 use Rattle.cxx_language_laws.proofs.Outward.{OfNumber}
 use Rattle.cxx_language_laws.proofs.Reached.{Told, later_is_told}
-use Rattle.cxx_language_laws.proofs.Regions.{ClearOr, IsOfSpace, IsSpaceOf, clear_or, is_clear, is_twain, last_ahead, nothing_ahead, region_inside, region_told, set_space, space_region_there, space_region_told, space_twofold_ahead, space_unknown_ahead, two_found, twofold_ahead}
+use Rattle.cxx_language_laws.proofs.Regions.{ClearOr, IsLastIn, IsOfSpace, IsSpaceOf, by_space_region, by_using_region, clear_or, is_clear, is_twain, last_ahead, last_there, nothing_last, set_space, space_region_told, two_found, twofold_in, unknown_in, using_region_inside, using_region_told}
 use Rattle.cxx_language_laws.proofs.Scopes.{InScopes, MayStand, may_stand, opened_within}
 use Rattle.cxx_language_laws.proofs.Sought.{IsThere, brought_there, no_member_inside, fitting, no_space_sought}
 use Rattle.cxx_language_laws.proofs.Stopping.{Inside, Stops, calm, innermost_stops, leads_in, later_here, which_in}
@@ -54,14 +54,17 @@ data SpaceAnswered (state : CxxState) (ahead : Ahead) : Answer (ℕ × CxxState)
 space_unknown : (state : CxxState) (ahead : Ahead) → begins_name ahead ≡ true → is_whole_name ahead ≡ true → (where_ : Region) → space_region_of state.graph state.here.scope (path_ahead ahead) ≡ Ok where_ → (x : Found) → sought_in state.graph namespaces_only where_ (name_in (path_ahead ahead)) ≡ x → IsClear x → (o : Option ℕ) → first_space (set_in state.graph x) ≡ o
     → SpaceAnswered state ahead (space_by (last_ahead ahead) o state)
 space_unknown state ahead begins whole where_ means x is clear (Some inner) e = space_answered inner (set_space state.graph x inner e)
-space_unknown state ahead begins whole where_ means x is clear None e = space_refused _ (space_unknown_ahead state ahead begins whole where_ means (λ scopes. no_space_sought state.graph where_ (name_in (path_ahead ahead)) (fitting state scopes) (space_region_there state (path_ahead ahead) where_ scopes means) x is clear e))
+space_unknown state ahead begins whole where_ means x is clear None e = space_refused _ (unknown_in namespaces_only tt state ahead begins whole where_ last (λ scopes. no_space_sought state.graph where_ (name_in (path_ahead ahead)) (fitting state scopes) (last_there state (path_ahead ahead) where_ scopes last) x is clear e))
+  where
+    last : IsLastIn state.graph state.here.scope (path_ahead ahead) where_
+    last = by_space_region state.graph state.here.scope (path_ahead ahead) where_ means
 
 space_found_so : (state : CxxState) (ahead : Ahead) → begins_name ahead ≡ true → is_whole_name ahead ≡ true → (where_ : Region) → space_region_of state.graph state.here.scope (path_ahead ahead) ≡ Ok where_ → (x : Found) → sought_in state.graph namespaces_only where_ (name_in (path_ahead ahead)) ≡ x → SpaceAnswered state ahead (space_found (last_ahead ahead) x state)
 space_found_so state ahead begins whole where_ means x is = by (clear_or state.graph (last_ahead ahead) x)
   where
     by : {r : Answer (Unit {0})} → ClearOr state.graph (last_ahead ahead) x r → SpaceAnswered state ahead (then_answer r (λ clear. space_by (last_ahead ahead) (first_space (set_in state.graph x)) state))
     by (is_clear clear) = space_unknown state ahead begins whole where_ means x is clear (first_space (set_in state.graph x)) refl
-    by (is_twain why two) = space_refused why (space_twofold_ahead state ahead begins whole where_ means x why two is)
+    by (is_twain why two) = space_refused why (twofold_in namespaces_only tt state ahead begins whole where_ (by_space_region state.graph state.here.scope (path_ahead ahead) where_ means) x why two is)
 
 space_here_so : (state : CxxState) (ahead : Ahead) → begins_name ahead ≡ true → is_whole_name ahead ≡ true → SpaceAnswered state ahead (space_here (path_ahead ahead) state)
 unfolding space_here
@@ -169,31 +172,35 @@ bring_all_tells state ahead part targets there (Some one) = tells_refusal _ refl
 bring_all_tells state ahead part targets there None = bring_each_tells state state ahead part targets (later_here state) there
 
 -- in a namespace
-brought_tells : (state : CxxState) (ahead : Ahead) → begins_name ahead ≡ true → is_whole_name ahead ≡ true → (space : ScopeId) → region_of state.graph state.here.scope (path_ahead ahead) ≡ Ok (region.Inside space)
+brought_tells : (state : CxxState) (ahead : Ahead) → begins_name ahead ≡ true → is_whole_name ahead ≡ true → (space : ScopeId) → using_region_of state.graph state.here.scope (path_ahead ahead) ≡ Ok (region.Inside space)
     → ToldBy IsLater Told state ahead (bring_found (last_ahead ahead) (brought_in state.graph (region.Inside space) (name_in (path_ahead ahead))) state)
 unfolding brought_in sought_in
 brought_tells state ahead begins whole space means = by (sought_in state.graph any_name (region.Inside space) (name_in (path_ahead ahead))) refl
   where
+    last : IsLastIn state.graph state.here.scope (path_ahead ahead) (region.Inside space)
+    last = by_using_region state.graph state.here.scope (path_ahead ahead) (region.Inside space) means
+
     sightings : List Sighting
     sightings = sightings_of state.graph (length state.graph.facts) any_name (name_in (path_ahead ahead)) space
 
     by : (x : Found) → sought_in state.graph any_name (region.Inside space) (name_in (path_ahead ahead)) ≡ x → ToldBy IsLater Told state ahead (bring_found (last_ahead ahead) (brought_by x sightings) state)
-    by (sought.Ambiguous one two) is = tells_refusal _ (twofold_ahead any_name tt state ahead begins whole (region.Inside space) means (sought.Ambiguous one two) _ (two_found one two) is)
+    by (sought.Ambiguous one two) is = tells_refusal _ (twofold_in any_name tt state ahead begins whole (region.Inside space) last (sought.Ambiguous one two) _ (two_found one two) is)
     by (sought.Set all) is = calm_by later_is_told (bring_all_tells state ahead (last_ahead ahead) (entities sightings) (λ scopes. brought_there state.graph space (name_in (path_ahead ahead)) (fitting state scopes)) (space_among (numbered_at state.graph (fact_numbers (entities sightings)))))
     by (sought.Member class found) is = absurd (no_member_inside state.graph any_name space (name_in (path_ahead ahead)) class found is)
-    by sought.Empty is = tells_refusal _ (nothing_ahead any_name tt state ahead begins whole (region.Inside space) means sought.Empty is tt refl)
+    by sought.Empty is = tells_refusal _ (nothing_last any_name tt state ahead begins whole (region.Inside space) last sought.Empty is tt refl)
 
 bring_tells : (state : CxxState) (ahead : Ahead) → begins_name ahead ≡ true → is_whole_name ahead ≡ true → is_plain_name ahead ≡ false → ToldBy IsLater Told state ahead (bring_here (path_ahead ahead) state)
 unfolding bring_here
-bring_tells state ahead begins whole plain = by (region_of state.graph state.here.scope (path_ahead ahead)) refl
+bring_tells state ahead begins whole plain = by (using_region_of state.graph state.here.scope (path_ahead ahead)) refl
   where
-    inside : (where_ : Region) → IsOfSpace where_ → region_of state.graph state.here.scope (path_ahead ahead) ≡ Ok where_ → ToldBy IsLater Told state ahead (bring_found (last_ahead ahead) (brought_in state.graph where_ (name_in (path_ahead ahead))) state)
+    inside : (where_ : Region) → IsOfSpace where_ → using_region_of state.graph state.here.scope (path_ahead ahead) ≡ Ok where_ → ToldBy IsLater Told state ahead (bring_found (last_ahead ahead) (brought_in state.graph where_ (name_in (path_ahead ahead))) state)
     inside (region.Inside space) is means = brought_tells state ahead begins whole space means
     inside (region.Outward scope) is means = absurd is
+    inside (region.Class class) is means = absurd is
 
-    by : (o : Answer Region) → region_of state.graph state.here.scope (path_ahead ahead) ≡ o → ToldBy IsLater Told state ahead (then_answer o (λ where_. bring_found (last_ahead ahead) (brought_in state.graph where_ (name_in (path_ahead ahead))) state))
-    by (Ok where_) means = inside where_ (region_inside state.graph state.here.scope ahead where_ begins whole plain means) means
-    by (Err why) e = tells_refusal why (region_told state ahead begins whole why e)
+    by : (o : Answer Region) → using_region_of state.graph state.here.scope (path_ahead ahead) ≡ o → ToldBy IsLater Told state ahead (then_answer o (λ where_. bring_found (last_ahead ahead) (brought_in state.graph where_ (name_in (path_ahead ahead))) state))
+    by (Ok where_) means = inside where_ (using_region_inside state.graph state.here.scope ahead where_ begins whole plain means) means
+    by (Err why) e = tells_refusal why (using_region_told state ahead begins whole why e)
 
 -- what follows its name
 brought_then : {B : Type 0} (go : CxxPath → Reads CxxState B) (state : CxxState) (ahead : Ahead) → (begins_name ahead ≡ true → is_whole_name ahead ≡ true → is_plain_name ahead ≡ false → ToldIn IsLater Told state ahead (go (path_ahead ahead) state (behind_name ahead)))

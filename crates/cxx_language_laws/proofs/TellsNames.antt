@@ -15,7 +15,7 @@ use Rattle.cxx_reading.specs.Seen.{Numbered}
 use Rattle.cxx_reading.specs.State.{CxxState}
 use Rattle.cxx_reading.specs.Trees.{CxxPath, CxxPathPart, CxxTree, Label}
 use Rattle.cxx_expr.specs.Calls.{fallback_more, fallbacks, chosen_tree, chosen_call, is_bare, question, function_call, Signature, fits_count, through_tree, through_signature, through_counted, no_callee, through_by, signature_by, through, called_label, without_name, value_call, is_asked_for, called_first, called, name_call}
-use Rattle.cxx_expr.specs.Names.{Means, are_one_function, is_nonstatic, means_enumerator, means_first, means_function, means_object, means_object_by, means_value, meant_by, named, named_tree, path_in, values_among, word_in}
+use Rattle.cxx_expr.specs.Names.{Means, are_one_function, is_nonstatic, means_enumerator, means_first, means_function, means_object, means_object_by, means_value, meant_by, named, named_tree, path_in, static_class, values_among, word_in}
 use Rattle.cxx_expr.specs.Operands.{is_of_class}
 use Rattle.cxx_expr.specs.Questions.{CxxChosen, Questions}
 use Rattle.cxx_reading.specs.Initializers.{operand_of}
@@ -47,7 +47,7 @@ means_value_tells is part place all (one ∷ others) state ahead unknown = means
 
 pub named_tells : {kept : CxxState → CxxState → Type 0} {told : CxxState → Ahead → Stopped → Type 0} → IsTold kept told → {q : Questions} → QuestionsTell kept told q → (label : Label) (all : List Numbered) (state : CxxState) (ahead : Ahead) → (all ≡ [] → told state ahead (undeclared_at (word_in label).place (word_in label).word)) → ToldBy kept told state ahead (named q label all state)
 unfolding named meant_by
-named_tells is asks label all state ahead unknown = then_by is (means_value_tells is (word_in label) label.place all (values_among state.graph all) state ahead unknown) (λ means state ahead. then_by is (asks.bound label.place means.target state ahead) (λ noted. give_by is (named_tree label means)))
+named_tells is asks label all state ahead unknown = then_by is (means_value_tells is (word_in label) label.place all (values_among state.graph all) state ahead unknown) (λ means state ahead. then_by is (asks.bound label.place means.target state ahead) (λ noted state ahead. same_by is (named_tree label means (static_class state.graph means.target)) state ahead))
 
 -- ---- what is called by an expression
 

@@ -24,7 +24,7 @@ use Rattle.cxx_overload.specs.Viability.{Rated, rated, viable}
 use Rattle.cxx_overload.specs.Words.{IsOutcome}
 use Rattle.cxx_answers.specs.Answers.{associated_functions, fresh_among, meant_in}
 
--- 3.3.7, 3.4.1, 3.4.3.2, 7.3.4: what a name means that is looked up in a region, but for the types that are hidden there,
+-- 3.3.7, 3.4.1, 3.4.3, 7.3.4: what a name means that is looked up in a region, but for the types that are hidden there,
 -- and behind it the other declarations of its functions that tell their default arguments there (8.3.6)
 abbrev pub values_of : CxxGraph → Region → CxxName → List Numbered
 values_of graph where_ name = values_among graph (meant_in graph where_ name)

@@ -29,6 +29,7 @@ use Rattle.cxx_meaning.specs.Lookups.Sightings.{Sighting, both_functions, standi
 use Rattle.cxx_meaning.specs.Lookups.Wanted.{Wanted, any_name, before_colons, namespaces_only}
 use Rattle.cxx_reading.specs.declared.region.Region.{Region}
 use Rattle.cxx_reading.specs.declared.region.Region.TheVariants as region
+use Rattle.cxx_declare.specs.Outside.{scope_of_class}
 use Rattle.cxx_reading.specs.Declaring.{scope_count}
 use Rattle.cxx_reading.specs.Linked.{scope_id}
 use Rattle.cxx_reading.specs.Paths.{by_bases, first_region, name_in, place_of_fact, region_by, region_of, sought_in}
@@ -103,7 +104,7 @@ place_of_call call = (last_part (called call).parts).place
 abbrev pub operands : {room : ℕ} {before : CxxState} {ahead : Ahead} → IsUnitCall room before ahead → List CxxOperand
 operands call = judged_each answers call.arguments call.at
 
--- 3.4.1, 3.4.3.2, 7.3.4: where its last part is looked up once its arguments are read, and what is found of it there is clear
+-- 3.4.1, 3.4.3, 7.3.4: where its last part is looked up once its arguments are read, and what is found of it there is clear
 pub record IsFoundClear {room : ℕ} {before : CxxState} {ahead : Ahead} (call : IsUnitCall room before ahead) : Type 0 where
   pub where_ : Region
   pub qualifies : region_of call.at.graph call.at.here.scope (called call) ≡ Ok where_
@@ -172,12 +173,12 @@ pub record IsSoughtMember (before : CxxState) (ahead : Ahead) (finds : MemberFou
 
 -- ---- the fault of one name
 
--- 3.4.3, 3.4.6: for what the parts of a name before `::` are looked up: for what may stand there, and in a using-directive or
--- an alias for namespaces
-abbrev pub MayStandBefore : Wanted → Type 0
-MayStandBefore before_colons = Unit {0}
-MayStandBefore namespaces_only = Unit {0}
-MayStandBefore _ = ⊥
+-- 3.4.3, 3.4.6: for what the parts of a name before `::` are looked up: for what may stand there, which is a class too but in
+-- a using-declaration (7.3.3), and in a using-directive or an alias for namespaces
+abbrev pub MayStandBefore : Wanted → Bool → Type 0
+MayStandBefore before_colons classes = Unit {0}
+MayStandBefore namespaces_only false = Unit {0}
+MayStandBefore _ _ = ⊥
 
 -- for what its last part may be looked up
 abbrev pub IsWantedLast : Wanted → Type 0
@@ -197,12 +198,13 @@ pub record IsSought (graph : CxxGraph) (scope : ℕ) (path : CxxPath) (wanted : 
   pub others : List CxxPathPart
   pub parts : path.parts ≡ before ++ part ∷ others
   pub wants : Wanted
-  pub may_stand : MayStandBefore wants
+  pub classes : Bool
+  pub may_stand : MayStandBefore wants classes
   pub is_wanted_so : IsWantedBefore wants wanted others
   pub spelled_so : part.word ≡ word
   pub is_at : part.place ≡ fault.place
   pub where_ : Region
-  pub qualifies : region_by graph wants (first_region scope path.global) (before ++ part ∷ []) ≡ Ok where_
+  pub qualifies : region_by graph wants classes (first_region scope path.global) (before ++ part ∷ []) ≡ Ok where_
   pub finds_so : sought_in graph wanted where_ (spelled word) ≡ finds
 
 -- a name stands ahead, and a part of it is looked up where the reader stands
@@ -211,28 +213,40 @@ pub record IsNamed (wanted : Wanted) (finds : Found) (at : CxxState) (ahead : Ah
   pub whole : is_whole_name ahead ≡ true
   pub is_sought : IsSought at.graph at.here.scope (path_ahead ahead) wanted finds fault word
 
+-- 3.4: a lookup that finds nothing: among the members of a class it is of that class (3.4.3.1)
+abbrev pub nothing_in : Region → Found
+nothing_in (region.Outward scope) = sought.Empty
+nothing_in (region.Inside space) = sought.Empty
+nothing_in (region.Class class) = sought.Member class member_found.Empty
+
 -- 3.4.1, 3.4.2: a call stands ahead, and where its arguments are read nothing is found of a part of its name; nor do their
 -- types find anything
 pub record IsUnknownCall (before : CxxState) (ahead : Ahead) (wanted : Wanted) (fault : Fault) (word : List ℕ) : Type 0 where
   pub room : ℕ
   pub call : IsUnitCall room before ahead
-  pub is_sought : IsSought call.at.graph call.at.here.scope (called call) wanted sought.Empty fault word
+  pub finds : Found
+  pub is_sought : IsSought call.at.graph call.at.here.scope (called call) wanted finds fault word
+  pub nothing : finds ≡ nothing_in is_sought.where_
   pub by_types : called_by_types call ≡ []
 
 -- 3.4: a part of a name that is not declared: of a name in an expression or a using-declaration, of a type behind `enum`
 -- (3.4.4), of a namespace in an alias or a directive (3.4.6), or of a called name; any of them may stand before `::` (3.4.3);
 -- or a name that is no member of an object's class (5.2.5)
 pub data IsUnknown (at : CxxState) (ahead : Ahead) (fault : Fault) (word : List ℕ) : Type 0 where
-  unknown_name : (wanted : Wanted) → IsNamed wanted sought.Empty at ahead fault word → IsUnknown at ahead fault word
+  unknown_name : (wanted : Wanted) (finds : Found) (is : IsNamed wanted finds at ahead fault word) → finds ≡ nothing_in is.is_sought.where_ → IsUnknown at ahead fault word
   unknown_call : (wanted : Wanted) → IsUnknownCall at ahead wanted fault word → IsUnknown at ahead fault word
   unknown_member : IsSoughtMember at ahead member_found.Empty fault word → IsUnknown at ahead fault word
+
+-- 10.2: no member of a class is found, of its own or of its bases
+abbrev pub IsNoMember : CxxGraph → Wanted → ClassId → CxxName → Type 0
+IsNoMember graph wanted class name = member graph wanted class name ≡ Ok member_found.Empty
 
 -- 3.4.1: No scope from one outward declares a name as it is wanted, so the scope of the unit does not (3.3.5), nor does a
 -- namespace that directives of one of them reach (7.3.4). A using-declaration declares what it brings (7.3.3).
 pub record IsNotAround (graph : CxxGraph) (wanted : Wanted) (scope : ScopeId) (name : CxxName) : Type 0 where
   pub outward : (one : ScopeId) → Contains (chain graph.facts scope) one → standing graph (length graph.facts) wanted name one ≡ []
   -- 3.4.1, 10.2: nor is a member of a class found whose scope is one of them
-  pub in_classes : (one : ScopeId) (class : ClassId) → Contains (chain graph.facts scope) one → class_of_scope graph.facts one ≡ Some class → member graph wanted class name ≡ Ok member_found.Empty
+  pub in_classes : (one : ScopeId) (class : ClassId) → Contains (chain graph.facts scope) one → class_of_scope graph.facts one ≡ Some class → IsNoMember graph wanted class name
   pub by_directives : (one space : ScopeId) → Contains (chain graph.facts scope) one → Contains (reached graph.facts (length graph.facts) one) space → standing graph (length graph.facts) wanted name space ≡ []
   pub in_unit : standing graph (length graph.facts) wanted name (scope_id unit_scope.scope) ≡ []
 
@@ -241,12 +255,15 @@ pub record IsNotInside (graph : CxxGraph) (wanted : Wanted) (space : ScopeId) (n
   pub itself : standing graph (length graph.facts) wanted name space ≡ []
   pub by_directives : (one : ScopeId) → Contains (searched graph (length graph.facts) wanted name space) one → standing graph (length graph.facts) wanted name one ≡ []
 
+-- where a part of a name is looked up: outward from a scope, or, behind qualifiers, in a namespace (3.4.3.2) or in a class
+-- (3.4.3.1)
 abbrev pub IsNotThere : CxxGraph → Wanted → Region → CxxName → Type 0
 IsNotThere graph wanted (region.Outward scope) name = IsNotAround graph wanted scope name
 IsNotThere graph wanted (region.Inside space) name = IsNotInside graph wanted space name
+IsNotThere graph wanted (region.Class class) name = IsNoMember graph wanted class name
 
 abbrev pub IsNowhere : {at : CxxState} {ahead : Ahead} {fault : Fault} {word : List ℕ} → IsUnknown at ahead fault word → Type 0
-IsNowhere {at = at} {word = word} (unknown_name wanted is) = IsNotThere at.graph wanted is.is_sought.where_ (spelled word)
+IsNowhere {at = at} {word = word} (unknown_name wanted finds is nothing) = IsNotThere at.graph wanted is.is_sought.where_ (spelled word)
 IsNowhere {word = word} (unknown_call wanted is) = IsNotThere is.call.at.graph wanted is.is_sought.where_ (spelled word)
 IsNowhere (unknown_member is) = Unit {0}
 
@@ -281,7 +298,7 @@ AreShown graph one two fault = fault.evidence ≡ by_bases graph one ∷ by_base
 -- overloads
 pub data IsTwofold (at : CxxState) (ahead : Ahead) (fault : Fault) (word : List ℕ) : Type 0 where
   twofold_name : (wanted : Wanted) (one two : FactId) → IsNamed wanted (sought.Ambiguous one two) at ahead fault word → AreTwo at.graph one two fault → IsTwofold at ahead fault word
-  -- 3.4.1, 10.2: two members of a class whose scope is one of those round the name
+  -- 3.4.1, 3.4.3.1, 10.2: two members of a class whose scope is one of those round the name, or that its qualifiers mean
   twofold_inherited : (wanted : Wanted) (class : ClassId) (one two : Hit) → IsNamed wanted (sought.Member class (member_found.Ambiguous one two)) at ahead fault word → AreApart at.graph wanted (spelled word) class one two → AreShown at.graph one two fault → IsTwofold at ahead fault word
   -- 5.2.5, 10.2: two members of an object's class
   twofold_member : (one two : Hit) (is : IsSoughtMember at ahead (member_found.Ambiguous one two) fault word) → AreApart is.at.graph any_name (spelled word) (record { 0 = is.class }) one two → AreShown is.at.graph one two fault → IsTwofold at ahead fault word
@@ -316,17 +333,29 @@ pub record IsGrown (before at : CxxState) : Type 0 where
   pub classes : at.graph.classes ≡ before.graph.classes ++ reserved
   pub patterns : at.graph.patterns ≡ before.graph.patterns
 
--- 3.4.1, 8.3: a state stands in the namespace that the qualifiers of a name ahead of another state mean
+-- what qualifies a name is no scope that is looked up outward from
+abbrev pub IsQualifying : Region → Type 0
+IsQualifying (region.Outward scope) = ⊥
+IsQualifying _ = Unit {0}
+
+-- the scope of what qualifies a name
+abbrev pub scope_there : CxxGraph → Region → ℕ
+scope_there graph (region.Outward scope) = scope.0
+scope_there graph (region.Inside space) = space.0
+scope_there graph (region.Class class) = scope_of_class graph class
+
+-- 3.4.1, 8.3, 9.4.2: a state stands in the namespace or in the class that the qualifiers of a name ahead of another state mean
 pub record IsInside (before : CxxState) (from : Ahead) (at : CxxState) : Type 0 where
   pub named : Ahead
   pub stands : EndsIn from.tokens named.tokens
   pub begins : begins_name named ≡ true
-  pub space : ScopeId
-  pub means : region_of before.graph before.here.scope (path_ahead named) ≡ Ok (region.Inside space)
-  pub inside : at.here.scope ≡ space.0
+  pub where_ : Region
+  pub qualifies : IsQualifying where_
+  pub means : region_of before.graph before.here.scope (path_ahead named) ≡ Ok where_
+  pub inside : at.here.scope ≡ scope_there before.graph where_
 
--- 3.3.2: a state stands in the same scope as another, or in one of parameters that begins later, or in a namespace whose
--- member is declared outside of it
+-- 3.3.2: a state stands in the same scope as another, or in one of parameters that begins later, or in a namespace or a
+-- class whose member is declared outside of it
 abbrev pub IsScopeSince : CxxState → Ahead → CxxState → Type 0
 IsScopeSince before from at = (at.here.scope ≡ before.here.scope) ⊎ ((scope_count before.graph ≤ at.here.scope) ⊎ IsInside before from at)
 

@@ -14,7 +14,7 @@ ghost use Rattle.cxx_language_laws.specs.Told.{IsAmbiguousFault, IsChoiceText, I
 
 /// Each call of a whole reading means the viable function of its name, declared before it, that is better than every other
 /// viable one (13.3.3). Its candidates are all functions that its name means where it stands (3.4.1, 7.3.4), or in the
-/// namespace that its qualifiers mean (3.4.3.2), and, where it has no qualifiers and no brackets stand round it, those that
+/// namespace or the class that its qualifiers mean (3.4.3), and, where it has no qualifiers and no brackets stand round it, those that
 /// the types of its arguments find besides (3.4.2). Each is viable or not for the first reason that holds (13.3.2), and what
 /// the call keeps of them is so.
 pub fn each_call_is_best()
@@ -25,7 +25,7 @@ pub fn each_call_is_best()
 /// next stops, part in part: in a namespace or a linkage, in specifiers, in a member of a class that is defined among them
 /// (9.2), behind its bases where it has some (clause 10), in a declarator, an initializer or an expression of a statement.
 /// From there on a state is reached that keeps what was declared, in the same scope, in one of parameters that begins later,
-/// or in the namespace of a member that is declared outside of it (8.3), and a call stands there with the last part of its
+/// or in the namespace or the class of a member that is declared outside of it (8.3, 9.4.2), and a call stands there with the last part of its
 /// name where the fault is. Once its arguments are read, none of the functions that it may mean is viable for them, or none
 /// is the best. The evidence has exactly a line for each candidate with its reason, or for each viable function with the
 /// first other one that it is not better than.
@@ -37,13 +37,14 @@ pub fn choice_faults_are_told()
 /// stops, part in part: in a namespace or a linkage, in another name of a namespace, a using-declaration or a directive, in
 /// specifiers, in the bases of a class that is defined among them (clause 10) or in a member of it (9.2), in a declarator, an
 /// initializer or an expression of a statement. From there on a state is reached that keeps what was declared, in the same
-/// scope, in one of parameters that begins later, or in the namespace of a member that is declared outside of it (8.3), and a
-/// name stands there of which a part stands where the fault is: the last one, or one before `::` (3.4.3). Its lookup finds
+/// scope, in one of parameters that begins later, or in the namespace or the class of a member that is declared outside of it
+/// (8.3, 9.4.2), and a name stands there of which a part stands where the fault is: the last one, or one before `::` (3.4.3). Its lookup finds
 /// nothing: of a called name once its arguments are read, whose types find nothing either (3.4.2); behind `enum` (3.4.4) and
 /// of a base, of types alone, and in an alias or a directive, of namespaces (3.4.6). So no scope from there outward to that
 /// of the unit (3.3.5) declares the name, nor has a class whose scope is one of them a member with it, itself or by its bases
 /// (10.2), nor does a namespace that a directive of one of them reaches declare it (7.3.4); behind qualifiers, neither their
-/// namespace nor one that is searched by its directives (3.4.3.2). The name of a base is looked up where its class is
+/// namespace nor one that is searched by its directives (3.4.3.2), or, where they mean a class, that has no member with it, itself or
+/// by its bases (3.4.3.1, 10.2). The name of a base is looked up where its class is
 /// declared.
 /// Or an object was read, `.` or `->` stands there, and behind it a name without qualifiers where the fault is: its lookup in
 /// the class of the object, or in that of what the pointer points to, finds nothing (5.2.5, 10.2).
@@ -56,7 +57,8 @@ pub fn undeclared_names_are_told()
 /// its lookup finds two entities that are no overloads: in an expression, behind `enum`, of a base, in an alias, a
 /// using-declaration or a directive, before `::`, or of a called name once its arguments are read. The evidence has the places
 /// of the two, and nothing else.
-/// Or its lookup finds two members of a class round the name that do not go together (3.4.1, 10.2): each is declared in a
+/// Or its lookup finds two members of a class round the name, or of one that its qualifiers mean (3.4.3.1), that do not go
+/// together (3.4.1, 10.2): each is declared in a
 /// subobject to which bases lead, nothing in between declares the name, and the two are of different classes, or one of the
 /// name is nonstatic. The evidence has the places of the two with the bases that lead to each.
 /// Or an object was read, and the name behind `.` or `->` is looked up in its class (5.2.5): two such members are found, and

@@ -16,7 +16,6 @@ use Rattle.cxx_model.specs.Stops.{Answer, Stops, ◌>>=◌}
 use Rattle.cxx_model.specs.Types.Trees.{CxxType}
 use Rattle.cxx_reading.specs.declared.region.Region.{Region}
 use Rattle.cxx_reading.specs.declared.region.Region.TheVariants.{Inside}
-use Rattle.cxx_reading.specs.Linked.{scope_id}
 use Rattle.cxx_reading.specs.Paths.{holder, region_by, sought_in}
 use Rattle.cxx_reading.specs.Seen.{found_or_none}
 use Rattle.cxx_tree.specs.Arena.{path_part_at, path_parts_at}
@@ -35,27 +34,27 @@ inside_found held graph types wanted space word (Ok one) same are is =
 
 -- ---- one part after another
 
-pub region_alone : (graph : CxxGraph) (wanted : Wanted) (where_ : Region) (part : PathPart) (others : List PathPart) → others ≡ [] → region_by graph wanted where_ (path_parts_at (part ∷ others)) ≡ Ok where_
+pub region_alone : (graph : CxxGraph) (wanted : Wanted) (classes : Bool) (where_ : Region) (part : PathPart) (others : List PathPart) → others ≡ [] → region_by graph wanted classes where_ (path_parts_at (part ∷ others)) ≡ Ok where_
 unfolding region_by
-region_alone graph wanted where_ part [] none = refl
-region_alone graph wanted where_ part (one ∷ others) none = absurd (cc)
+region_alone graph wanted classes where_ part [] none = refl
+region_alone graph wanted classes where_ part (one ∷ others) none = absurd (cc)
 
-pub region_none : (graph : CxxGraph) (wanted : Wanted) (where_ : Region) (parts : List PathPart) → length parts < 1 → region_by graph wanted where_ (path_parts_at parts) ≡ Ok where_
+pub region_none : (graph : CxxGraph) (wanted : Wanted) (classes : Bool) (where_ : Region) (parts : List PathPart) → length parts < 1 → region_by graph wanted classes where_ (path_parts_at parts) ≡ Ok where_
 unfolding region_by
-region_none graph wanted where_ [] none = refl
-region_none graph wanted where_ (one ∷ others) none = absurd (omega (arith, none))
+region_none graph wanted classes where_ [] none = refl
+region_none graph wanted classes where_ (one ∷ others) none = absurd (omega (arith, none))
 
 -- the parts behind the first are some
-region_more : (graph : CxxGraph) (wanted : Wanted) (where_ : Region) (part : PathPart) (others : List PathPart) → 0 < length others → region_by graph wanted where_ (path_parts_at (part ∷ others)) ≡ (holder graph wanted where_ (path_part_at part) >>= λ inner. region_by graph wanted (Inside (scope_id inner)) (path_parts_at others))
+region_more : (graph : CxxGraph) (wanted : Wanted) (classes : Bool) (where_ : Region) (part : PathPart) (others : List PathPart) → 0 < length others → region_by graph wanted classes where_ (path_parts_at (part ∷ others)) ≡ (holder graph wanted classes where_ (path_part_at part) >>= λ inner. region_by graph wanted classes inner (path_parts_at others))
 unfolding region_by
-region_more graph wanted where_ part [] some = absurd (omega (arith, some))
-region_more graph wanted where_ part (one ∷ others) some = refl
+region_more graph wanted classes where_ part [] some = absurd (omega (arith, some))
+region_more graph wanted classes where_ part (one ∷ others) some = refl
 
-pub region_next : (graph : CxxGraph) (wanted : Wanted) (where_ : Region) (part : PathPart) (others : List PathPart) (inner : ScopeId) → 0 < length others → holder graph wanted where_ (path_part_at part) ≡ Ok inner.0 → region_by graph wanted where_ (path_parts_at (part ∷ others)) ≡ region_by graph wanted (Inside inner) (path_parts_at others)
-region_next graph wanted where_ part others inner some is = region_more graph wanted where_ part others some ∙ ap (λ (a : Answer ℕ). a >>= λ n. region_by graph wanted (Inside (scope_id n)) (path_parts_at others)) is
+pub region_next : (graph : CxxGraph) (wanted : Wanted) (classes : Bool) (where_ : Region) (part : PathPart) (others : List PathPart) (inner : Region) → 0 < length others → holder graph wanted classes where_ (path_part_at part) ≡ Ok inner → region_by graph wanted classes where_ (path_parts_at (part ∷ others)) ≡ region_by graph wanted classes inner (path_parts_at others)
+region_next graph wanted classes where_ part others inner some is = region_more graph wanted classes where_ part others some ∙ ap (λ (a : Answer Region). a >>= λ n. region_by graph wanted classes n (path_parts_at others)) is
 
-pub region_stops : (graph : CxxGraph) (wanted : Wanted) (where_ : Region) (part : PathPart) (others : List PathPart) (why : Stop) → 0 < length others → Stops why (holder graph wanted where_ (path_part_at part)) → Stops why (region_by graph wanted where_ (path_parts_at (part ∷ others)))
-region_stops graph wanted where_ part others why some stops = subst (λ a. Stops why a) (sym (region_more graph wanted where_ part others some)) (stopped_on why (holder graph wanted where_ (path_part_at part)) (λ n. region_by graph wanted (Inside (scope_id n)) (path_parts_at others)) stops)
+pub region_stops : (graph : CxxGraph) (wanted : Wanted) (classes : Bool) (where_ : Region) (part : PathPart) (others : List PathPart) (why : Stop) → 0 < length others → Stops why (holder graph wanted classes where_ (path_part_at part)) → Stops why (region_by graph wanted classes where_ (path_parts_at (part ∷ others)))
+region_stops graph wanted classes where_ part others why some stops = subst (λ a. Stops why a) (sym (region_more graph wanted classes where_ part others some)) (stopped_on why (holder graph wanted classes where_ (path_part_at part)) (λ n. region_by graph wanted classes n (path_parts_at others)) stops)
 
 -- ---- the same of a list that is split
 
@@ -70,13 +69,18 @@ some_behind : (others : List PathPart) → eqb (length others) 0 ≡ false → 0
 some_behind [] is = absurd (cc)
 some_behind (one ∷ others) is = omega arith
 
-pub region_whole : (graph : CxxGraph) (wanted : Wanted) (where_ : Region) (rest : List PathPart) (b : Bool) → 1 ≤ length rest → b ≡ eqb (length (take (length rest - 1) (drop 1 rest))) 0 → b ≡ true → region_by graph wanted where_ (path_parts_at rest) ≡ Ok where_
-region_whole graph wanted where_ [] b some is last = absurd (omega (arith, some))
-region_whole graph wanted where_ (part ∷ others) b some is last =
-    region_alone graph wanted where_ part others (none_behind others (ap (λ (xs : List PathPart). eqb (length xs) 0) (sym (rest_is part others)) ∙ sym is ∙ last))
+pub region_whole : (graph : CxxGraph) (wanted : Wanted) (classes : Bool) (where_ : Region) (rest : List PathPart) (b : Bool) → 1 ≤ length rest → b ≡ eqb (length (take (length rest - 1) (drop 1 rest))) 0 → b ≡ true → region_by graph wanted classes where_ (path_parts_at rest) ≡ Ok where_
+region_whole graph wanted classes where_ [] b some is last = absurd (omega (arith, some))
+region_whole graph wanted classes where_ (part ∷ others) b some is last =
+    region_alone graph wanted classes where_ part others (none_behind others (ap (λ (xs : List PathPart). eqb (length xs) 0) (sym (rest_is part others)) ∙ sym is ∙ last))
 
-pub region_goes : (graph : CxxGraph) (wanted : Wanted) (where_ : Region) (rest : List PathPart) (part d : PathPart) (b : Bool) (inner : ScopeId) → 1 ≤ length rest → part ≡ get_or rest 0 d → b ≡ eqb (length (take (length rest - 1) (drop 1 rest))) 0 → b ≡ false → holder graph wanted where_ (path_part_at part) ≡ Ok inner.0 → region_by graph wanted (Inside inner) (path_parts_at (take (length rest - 1) (drop 1 rest))) ≡ region_by graph wanted where_ (path_parts_at rest)
-region_goes graph wanted where_ [] part d b inner some at is more held = absurd (omega (arith, some))
-region_goes graph wanted where_ (one ∷ others) part d b inner some at is more held =
-    ap (λ (xs : List PathPart). region_by graph wanted (Inside inner) (path_parts_at xs)) (rest_is one others)
-    ∙ sym (region_next graph wanted where_ one others inner (some_behind others (ap (λ (xs : List PathPart). eqb (length xs) 0) (sym (rest_is one others)) ∙ sym is ∙ more)) (subst (λ (p : PathPart). holder graph wanted where_ (path_part_at p) ≡ Ok inner.0) at held))
+pub region_ends : (graph : CxxGraph) (wanted : Wanted) (classes : Bool) (where_ : Region) (rest : List PathPart) (part d : PathPart) (b : Bool) (why : Stop) → 1 ≤ length rest → part ≡ get_or rest 0 d → b ≡ eqb (length (take (length rest - 1) (drop 1 rest))) 0 → b ≡ false → Stops why (holder graph wanted classes where_ (path_part_at part)) → Stops why (region_by graph wanted classes where_ (path_parts_at rest))
+region_ends graph wanted classes where_ [] part d b why some at is more stops = absurd (omega (arith, some))
+region_ends graph wanted classes where_ (one ∷ others) part d b why some at is more stops =
+    region_stops graph wanted classes where_ one others why (some_behind others (ap (λ (xs : List PathPart). eqb (length xs) 0) (sym (rest_is one others)) ∙ sym is ∙ more)) (subst (λ (p : PathPart). Stops why (holder graph wanted classes where_ (path_part_at p))) at stops)
+
+pub region_goes : (graph : CxxGraph) (wanted : Wanted) (classes : Bool) (where_ : Region) (rest : List PathPart) (part d : PathPart) (b : Bool) (inner : Region) → 1 ≤ length rest → part ≡ get_or rest 0 d → b ≡ eqb (length (take (length rest - 1) (drop 1 rest))) 0 → b ≡ false → holder graph wanted classes where_ (path_part_at part) ≡ Ok inner → region_by graph wanted classes inner (path_parts_at (take (length rest - 1) (drop 1 rest))) ≡ region_by graph wanted classes where_ (path_parts_at rest)
+region_goes graph wanted classes where_ [] part d b inner some at is more held = absurd (omega (arith, some))
+region_goes graph wanted classes where_ (one ∷ others) part d b inner some at is more held =
+    ap (λ (xs : List PathPart). region_by graph wanted classes inner (path_parts_at xs)) (rest_is one others)
+    ∙ sym (region_next graph wanted classes where_ one others inner (some_behind others (ap (λ (xs : List PathPart). eqb (length xs) 0) (sym (rest_is one others)) ∙ sym is ∙ more)) (subst (λ (p : PathPart). holder graph wanted classes where_ (path_part_at p) ≡ Ok inner) at held))

@@ -1,16 +1,15 @@
 -- Where declarations stand.
-use Rattle.std.specs.Prelude.{ℕ, zero, suc, ◌≡◌, true, false, List, [], ◌∷◌, Option, Some, None, refl}
+use Rattle.std.specs.Prelude.{ℕ, zero, suc, ◌≡◌, List, [], ◌∷◌, Option, Some, None, refl}
 use Rattle.std.specs.List.{slice_get}
 use Rattle.std.specs.Option.{option_map}
 use Rattle.std.proofs.Common.{ap, sym, ◌∙◌}
 use Rattle.cxx_model.specs.declared.facts.Fact.{Fact}
 use Rattle.cxx_model.specs.Facts.Declarations.{CxxFact, declares_at, fact_at, facts_at, graph_at}
 use Rattle.cxx_model.specs.Facts.Graph.{Graph}
-use Rattle.cxx_model.specs.Stops.{not_built_at}
 use Rattle.cxx_model.specs.Text.Lexemes.{nowhere}
 use Rattle.cxx_model.specs.Types.Trees.{CxxType}
-use Rattle.cxx_paths.specs.Asked.{first_names_class, not_wanted_at, part_of}
-use Rattle.cxx_reading.specs.Paths.{names_class, not_held, not_held_at, place_in, place_of_fact}
+use Rattle.cxx_paths.specs.Asked.{not_wanted_at, part_of}
+use Rattle.cxx_reading.specs.Paths.{class_meant, first_meant, not_held as not_held_so, place_in, place_of_fact}
 use Rattle.cxx_reading.specs.Seen.{Numbered, numbered_at, numbered_by, place_of_first}
 use Rattle.cxx_reading.specs.Trees.{CxxPathPart}
 
@@ -32,18 +31,14 @@ place_more types graph n others e = ap (λ (o : Option CxxFact). place_of_first 
 pub place_first : (types : List CxxType) (graph : Graph) (n : ℕ) (others : List ℕ) (fact : Fact) → slice_get graph.facts n ≡ Some fact → place_of_first (numbered_at (graph_at types graph) (n ∷ others)) ≡ Some fact.place
 place_first types graph n others fact e = ap (λ (o : Option CxxFact). place_of_first (numbered_by n o (numbered_at (graph_at types graph) others))) (fact_seen types graph.facts n ∙ ap (option_map (fact_at types)) e)
 
--- whether the first of some declarations names a class
-pub class_more : (types : List CxxType) (graph : Graph) (n : ℕ) (others : List ℕ) → slice_get graph.facts n ≡ None → first_names_class (numbered_at (graph_at types graph) (n ∷ others)) ≡ first_names_class (numbered_at (graph_at types graph) others)
-class_more types graph n others e = ap (λ (o : Option CxxFact). first_names_class (numbered_by n o (numbered_at (graph_at types graph) others))) (fact_seen types graph.facts n ∙ ap (option_map (fact_at types)) e)
+-- the class that the first of some declarations names
+pub class_more : (types : List CxxType) (graph : Graph) (n : ℕ) (others : List ℕ) → slice_get graph.facts n ≡ None → first_meant (numbered_at (graph_at types graph) (n ∷ others)) ≡ first_meant (numbered_at (graph_at types graph) others)
+class_more types graph n others e = ap (λ (o : Option CxxFact). first_meant (numbered_by n o (numbered_at (graph_at types graph) others))) (fact_seen types graph.facts n ∙ ap (option_map (fact_at types)) e)
 
-pub class_here : (types : List CxxType) (graph : Graph) (n : ℕ) (others : List ℕ) (fact : Fact) → slice_get graph.facts n ≡ Some fact → first_names_class (numbered_at (graph_at types graph) (n ∷ others)) ≡ names_class (declares_at types fact.what)
-class_here types graph n others fact e = ap (λ (o : Option CxxFact). first_names_class (numbered_by n o (numbered_at (graph_at types graph) others))) (fact_seen types graph.facts n ∙ ap (option_map (fact_at types)) e)
+pub class_here : (types : List CxxType) (graph : Graph) (n : ℕ) (others : List ℕ) (fact : Fact) → slice_get graph.facts n ≡ Some fact → first_meant (numbered_at (graph_at types graph) (n ∷ others)) ≡ class_meant (declares_at types fact.what)
+class_here types graph n others fact e = ap (λ (o : Option CxxFact). first_meant (numbered_by n o (numbered_at (graph_at types graph) others))) (fact_seen types graph.facts n ∙ ap (option_map (fact_at types)) e)
 
--- why a part before `::` means no namespace
-pub held_class : (part : CxxPathPart) (all : List Numbered) → first_names_class all ≡ true → not_built_at part.place ≡ not_held part all
-held_class part [] is = absurd cc
-held_class part (one ∷ others) is = sym (ap (λ b. not_held_at part b one.fact.place) is)
-
-pub held_other : (part : CxxPathPart) (all : List Numbered) → first_names_class all ≡ false → not_wanted_at (part_of part.place part.word) (place_of_first all) ≡ not_held part all
-held_other part [] is = refl
-held_other part (one ∷ others) is = sym (ap (λ b. not_held_at part b one.fact.place) is)
+-- why a part before `::` means nothing that may stand there
+pub not_held : (part : CxxPathPart) (all : List Numbered) → not_wanted_at (part_of part.place part.word) (place_of_first all) ≡ not_held_so part all
+not_held part [] = refl
+not_held part (one ∷ others) = refl

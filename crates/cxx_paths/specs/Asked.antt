@@ -1,14 +1,14 @@
 -- What is answered of names that are looked up.
-use Rattle.std.specs.Prelude.{ℕ, ◌≡◌, ◌<◌, Bool, false, List, [], ◌∷◌, Option, Some, None}
+use Rattle.std.specs.Prelude.{ℕ, ◌≡◌, ◌<◌, List, Option, Some, None}
 use Rattle.cxx_model.specs.declared.place.Place.{Place}
 use Rattle.cxx_model.specs.declared.stop.Stop.{Stop}
 use Rattle.cxx_model.specs.declared.stop.Stop.TheVariants as stop
+use Rattle.cxx_model.specs.declared.types.ClassId.{ClassId}
 use Rattle.cxx_model.specs.declared.types.ScopeId.{ScopeId}
 use Rattle.cxx_model.specs.Facts.Graph.{scopes}
 use Rattle.cxx_model.specs.Stops.{Faulty, Limited, Stopped, undeclared_at}
 use Rattle.cxx_reading.specs.declared.region.Region.{Region}
-use Rattle.cxx_reading.specs.Paths.{names_class, scope_of_region, wrong_kind_at}
-use Rattle.cxx_reading.specs.Seen.{Numbered}
+use Rattle.cxx_reading.specs.Paths.{scope_of_region, wrong_kind_at}
 use Rattle.cxx_reading.specs.Trees.{CxxPathPart}
 use Rattle.cxx_tree.specs.Held.{Held}
 
@@ -21,11 +21,6 @@ abbrev pub not_wanted_at : CxxPathPart → Option Place → Stopped
 not_wanted_at part None = undeclared_at part.place part.word
 not_wanted_at part (Some other) = wrong_kind_at part other
 
--- whether the first of some declarations names a class
-abbrev pub first_names_class : List Numbered → Bool
-first_names_class [] = false
-first_names_class (one ∷ others) = names_class one.fact.what
-
 -- Unless memory ran out, the stop is this one.
 abbrev pub IsStop : Stopped → Stop → Type 0
 IsStop what stop.OutOfMemory = Unit {0}
@@ -35,6 +30,9 @@ IsStop what (stop.Limit k) = Limited k ≡ what
 -- what is answered as it is
 abbrev pub same : {A : Type 0} → A → A
 same x = x
+
+abbrev pub class_number : ClassId → ℕ
+class_number class = class.0
 
 abbrev pub scope_number : ScopeId → ℕ
 scope_number scope = scope.0

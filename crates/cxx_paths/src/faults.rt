@@ -1,16 +1,14 @@
 //! How the reading stops at a name.
 
-ghost use Rattle.std.specs.Prelude.{◌≡◌, ◌<◌, ◌∷◌, [], List, IfOk, length};
+ghost use Rattle.std.specs.Prelude.{◌≡◌, ◌∷◌, [], List, IfOk};
 ghost use Rattle.std.specs.List.{slice_get};
 ghost use Rattle.std.specs.Option.{option_copied};
 ghost use Rattle.cxx_model.specs.declared.evidence.Evidence.TheVariants as evidence_of;
 ghost use Rattle.cxx_model.specs.declared.fault.FaultText.TheVariants as says;
-ghost use Rattle.cxx_model.specs.Facts.Declarations.{declares_at, graph_at};
-ghost use Rattle.cxx_model.specs.Facts.Fitted.{Fitted, IsEntityBelow};
-ghost use Rattle.cxx_model.specs.Stops.{Faulty, Gives, not_built_at, undeclared_at};
-ghost use Rattle.cxx_model.specs.Types.Numbers.{type_at};
+ghost use Rattle.cxx_model.specs.Facts.Declarations.{graph_at};
+ghost use Rattle.cxx_model.specs.Stops.{Faulty, Gives, undeclared_at};
 ghost use Rattle.cxx_model.specs.Types.Trees.{CxxType};
-ghost use Rattle.cxx_paths.specs.Asked.{IsStop, first_names_class, not_wanted_at, part_of, same};
+ghost use Rattle.cxx_paths.specs.Asked.{IsStop, not_wanted_at, part_of, same};
 ghost use Rattle.cxx_reading.specs.Paths as definition;
 ghost use Rattle.cxx_reading.specs.Paths.{ambiguous_at, place_of_fact, wrong_kind_at};
 ghost use Rattle.cxx_reading.specs.Seen.{fact_numbers, numbered_at, place_of_first};
@@ -22,14 +20,14 @@ use crate::last::{last_place, last_word};
 use cxx_found::Found;
 use cxx_graph::Graph;
 use cxx_model::{
-    Entity, Evidence, EvidenceList, Fact, FactId, Fault, FaultText, Hit, Listed, MemberFound, Path,
-    PathPart, Place, Stop, TypeId, TypeNode, Word,
+    Evidence, EvidenceList, Fact, FactId, Fault, FaultText, Hit, Listed, MemberFound, Path,
+    PathPart, Place, Stop, Word,
 };
 use cxx_tree::State;
-use cxx_types::TypeTable;
 use std::alloc::{AllocError, Global};
 
-fn fact_of(graph: &Graph, number: FactId) -> Option<&Fact>
+// A declaration by its number.
+pub(crate) fn fact_of(graph: &Graph, number: FactId) -> Option<&Fact>
     ensures { option_copied result ≡ slice_get graph.now.facts number.0 }
 {
     graph.facts().get(number.0 as usize)
@@ -212,85 +210,11 @@ pub fn not_wanted(state: &State, place: Place, word: &[u8], first: Option<Place>
     }
 }
 
-fn not_built_fault(alloc: Global, place: Place) -> Result<Box<Fault>, AllocError>
-    ensures { IfOk result (λ fault. Faulty fault.value ≡ not_built_at place) }
-{
-    fault_with(alloc, place, FaultText::NotBuilt, EvidenceList::new(alloc))
-}
-
-// At a form that is not read yet.
-fn not_built(state: &State, place: Place) -> Stop
-    ensures { IsStop (not_built_at place) result }
-{
-    match not_built_fault(state.alloc(), place) {
-        Ok(fault) => Stop::Fault(fault),
-        Err(_) => Stop::OutOfMemory,
-    }
-}
-
-fn is_plain_class(types: &TypeTable, of: TypeId) -> bool
-    requires { of.0 < length types.now }
-    ensures { result ≡ definition.is_plain_class (type_at types.now of.0) }
-{
-    match types.node(of) {
-        TypeNode::Class(_) => true,
-        _ => false,
-    }
-}
-
-// Whether a type is a class, cv words aside.
-fn is_class(types: &TypeTable, of: TypeId) -> bool
-    requires { of.0 < length types.now }
-    ensures { result ≡ definition.is_class (type_at types.now of.0) }
-{
-    match types.node(of) {
-        TypeNode::Class(_) => true,
-        TypeNode::Qualified(_, of) => is_plain_class(types, *of),
-        _ => false,
-    }
-}
-
-fn names_class(types: &TypeTable, what: Entity) -> bool
-    requires { IsEntityBelow (length types.now) what }
-    ensures { result ≡ definition.names_class (declares_at types.now what) }
-{
-    match what {
-        Entity::Injected { .. } => true,
-        Entity::Class { .. } => true,
-        Entity::Synonym { of } => is_class(types, of),
-        _ => false,
-    }
-}
-
-// Whether the first of some declarations names a class.
-#[tactic(auto, using(cxx_names::proofs::Clashing::fact_below))]
-fn class_first(graph: &Graph, types: &TypeTable, numbers: &[FactId]) -> bool
-    requires { Fitted graph.now types.now }
-    ensures { result ≡ first_names_class (numbered_at (graph_at types.now graph.now) (fact_numbers numbers.now)) }
-{
-    for number in numbers {
-        if let Some(fact) = fact_of(graph, *number) {
-            return names_class(types, fact.what);
-        }
-    }
-    false
-}
-
-#[tactic(auto, unfolding(cxx_tree::specs::Held::meaning))]
-fn is_class_first(state: &State, numbers: &[FactId]) -> bool
-    ensures { result ≡ first_names_class (numbered_at (meaning state.now).graph (fact_numbers numbers.now)) }
-{
-    class_first(state.graph(), state.types(), numbers)
-}
-
-/// At a part before `::` that means no namespace (3.4.3).
-#[tactic(auto, using(crate::proofs::Places::held_class, crate::proofs::Places::held_other))]
+/// At a part before `::` that means nothing which may stand there (3.4.3).
+#[tactic(auto, using(crate::proofs::Places::not_held))]
 pub(crate) fn not_held(state: &State, part: &PathPart, numbers: &[FactId]) -> Stop
     ensures { IsStop (definition.not_held (path_part_at part.now) (numbered_at (meaning state.now).graph (fact_numbers numbers.now))) result }
 {
-    if is_class_first(state, numbers) {
-        return not_built(state, part.place);
-    }
     not_wanted(
         state,
         part.place,

@@ -1,11 +1,14 @@
-//! What a name means in a region (3.4.1, 3.4.3.2, 7.3.4).
+//! What a name means in a region (3.4.1, 3.4.3.1, 3.4.3.2, 7.3.4).
 
 ghost use Rattle.std.specs.Prelude.{◌≡◌, IfOk};
+ghost use Rattle.cxx_meaning.specs.Lookups.Pending.{Asked};
+ghost use Rattle.cxx_members.specs.Answers.{Answers};
 ghost use Rattle.cxx_members.specs.Views.{wanted_at};
+ghost use Rattle.cxx_model.specs.declared.lookup.MemberFound.{MemberFound as OneMember};
 ghost use Rattle.cxx_model.specs.Facts.Declarations.{CxxGraph, spelled};
 ghost use Rattle.cxx_reading.specs.Paths as definition;
 ghost use Rattle.cxx_reading.specs.Paths.{name_in};
-ghost use Rattle.cxx_reading.specs.declared.region.Region.TheVariants.{Inside};
+ghost use Rattle.cxx_reading.specs.declared.region.Region.TheVariants.{Class as InClass, Inside};
 ghost use Rattle.cxx_reading.specs.Seen.{fact_numbers, members_of, numbered_at, set_in as set_in_of, sought_from};
 ghost use Rattle.cxx_tree.specs.Arena.{path_at};
 ghost use Rattle.cxx_tree.specs.Held.{meaning};
@@ -13,7 +16,8 @@ ghost use Rattle.cxx_tree.specs.Held.{meaning};
 use crate::last::last_word;
 use crate::regions::region_here;
 use cxx_found::{Found, Wanted, qualified_in, sought};
-use cxx_model::{FactId, FactList, MemberFound, OutOfMemory, Path, ScopeId, Stop};
+use cxx_inherited::member;
+use cxx_model::{ClassId, FactId, FactList, MemberFound, OutOfMemory, Path, ScopeId, Stop, Wait};
 use cxx_reading::Region;
 use cxx_tree::State;
 
@@ -59,6 +63,39 @@ fn sought_inside(
     )
 }
 
+// What was found of a member of a class.
+fn found_of_member(class: ClassId, of: Result<MemberFound, Wait>) -> Result<Found, OutOfMemory>
+    ensures { (asked : Asked OneMember) → Answers of asked → IfOk result (λ found. found ≡ definition.member_or_none class asked) }
+{
+    match of {
+        Ok(of) => Ok(Found::Member(class, of)),
+        Err(Wait::Needs(_)) => Ok(Found::Empty),
+        Err(Wait::OutOfMemory) => Err(OutOfMemory),
+    }
+}
+
+// Behind `::` in a class.
+#[tactic(auto, unfolding(cxx_reading::specs::Paths::sought_in, cxx_tree::specs::Held::meaning))]
+fn sought_in_class(
+    state: &State,
+    wanted: Wanted,
+    class: ClassId,
+    word: &[u8],
+) -> Result<Found, OutOfMemory>
+    ensures { IfOk result (λ found. found ≡ definition.sought_in (meaning state.now).graph (wanted_at wanted) (InClass class) (spelled word.now)) }
+{
+    let of = member(
+        state.alloc(),
+        state.names(),
+        state.graph(),
+        state.types(),
+        wanted,
+        class,
+        word,
+    );
+    found_of_member(class, of)
+}
+
 /// What a word means in a region, of what is wanted, among all that is declared so far.
 #[tactic(auto, unfolding(cxx_reading::specs::Paths::sought_in))]
 pub fn sought_in(
@@ -72,6 +109,7 @@ pub fn sought_in(
     match region {
         Region::Outward(scope) => sought_outward(state, wanted, scope, word),
         Region::Inside(space) => sought_inside(state, wanted, space, word),
+        Region::Class(class) => sought_in_class(state, wanted, class, word),
     }
 }
 

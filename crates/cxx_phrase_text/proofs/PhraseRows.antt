@@ -3,7 +3,7 @@ use Rattle.std.specs.Prelude.{ℕ, ◌≡◌, refl, true, false, List, [], ◌�
 use Rattle.cxx_model.specs.declared.base.Base.TheVariants as base
 use Rattle.cxx_model.specs.declared.sequence.ConstantKind.TheVariants as constant
 use Rattle.cxx_model.specs.Text.Lexemes.{nowhere}
-use Rattle.cxx_model.specs.Types.Trees.{CxxType, fundamental, enumeration, pointer_to, reference_to, array_of, function_of, qualified, no_types, type_then, number_bound}
+use Rattle.cxx_model.specs.Types.Trees.{CxxType, fundamental, class_type, enumeration, pointer_to, reference_to, array_of, function_of, qualified, no_types, type_then, number_bound}
 use Rattle.cxx_reading.specs.Declarators.{no_cv}
 use Rattle.cxx_reading.specs.Trees.{CxxTree, Label, tree_of}
 use Rattle.cxx_reading.specs.Words.{Tags, line_text}
@@ -36,6 +36,10 @@ string spelling = tree_of (record (label 34 spelling) { operand = Some (record {
 
 abbrev named : ℕ → CxxTree
 named n = tree_of (record (label 36 []) { target = Some n }) []
+
+-- 9.4
+abbrev static_of : CxxType → ℕ → CxxTree
+static_of class n = tree_of (of_type class (record (label 36 []) { target = Some n })) []
 
 abbrev a : CxxTree
 a = named 0
@@ -110,6 +114,10 @@ text tree = line_text (phrase_words tags name tree)
 
 abbrev initialized : CxxTree → List ℕ
 initialized tree = line_text (initializer_words tags name tree)
+
+-- 9.4
+static_member_behind_its_class : text (infix_ (codes "-") (static_of (class_type 0) 0) (prefix (codes "-") (static_of (class_type 0) 1))) ≡ codes "C::a__1 - (-C::b__2)\n"
+static_member_behind_its_class = refl
 
 operands_of_operators : text ((infix_ (codes "&&") (prefix (codes "!") (literal (codes "true"))) (literal (codes "false")))) ≡ codes "(!true) && false\n"
 operands_of_operators = refl

@@ -1,7 +1,7 @@
 -- Operands begin with no prefix operator and end with no postfix operator.
 use Rattle.std.proofs.Common.{◌≡◌, ℕ, zero, suc, Bool, true, false, not, List, [], ◌∷◌, ◌++◌, Option, Some, None, refl}
 use Rattle.std.specs.Prelude.{codes}
-use Rattle.cxx_model.specs.Types.Trees.{CxxType}
+use Rattle.cxx_model.specs.Types.Trees.{CxxType, class_type}
 use Rattle.cxx_reading.specs.Declarators.{no_cv}
 use Rattle.cxx_reading.specs.Plain.{target_or, type_or_void}
 use Rattle.cxx_reading.specs.Trees.{no_trees, tree_then, CxxTree, CxxTrees, Label}
@@ -10,7 +10,7 @@ use Rattle.cxx_phrase_text.specs.declared.form.Form.{Form}
 use Rattle.cxx_phrase_text.specs.declared.form.Form.TheVariants as form
 use Rattle.cxx_phrase_text.specs.Apart.{BeginsApart, EndsApart, StandsApart}
 use Rattle.cxx_phrase_text.specs.Forms.{form_of}
-use Rattle.cxx_phrase_text.specs.Phrases.{arguments, braced, call_words, callee_words, cast_keyword, cast_words, dot_word, elements, infix_standing, infix_word, is_braced, is_one_string, is_primary, last_part, member_words, operand, part, phrase_as, phrase_of, phrases, Phrase, pointed_words, prefix_word, spells_comma, subscript_words}
+use Rattle.cxx_phrase_text.specs.Phrases.{arguments, braced, call_words, callee_words, cast_keyword, cast_words, dot_word, elements, infix_standing, infix_word, is_braced, is_class, is_one_string, is_primary, last_part, member_words, named_words, operand, part, phrase_as, phrase_of, phrases, Phrase, pointed_words, prefix_word, scope_words, spells_comma, subscript_words}
 
 -- ---- runs of words
 
@@ -52,6 +52,19 @@ unfolding IsApart AreApart
 part_apart [] n all = λ is. nothing_apart
 part_apart (phrase ∷ parts) zero all = all.0
 part_apart (phrase ∷ parts) (suc n) all = part_apart parts n all.1
+
+scope_begins : (tags : Tags) (of : CxxType) → BeginsApart (scope_words tags of (is_class of))
+scope_begins tags (class_type n) = refl
+scope_begins tags _ = tt
+
+named_apart : (tags : Tags) (name : ℕ → List ℕ) (of : Option CxxType) (number : ℕ) → StandsApart (named_words tags name of number)
+named_apart tags name None number = record { begins = refl; ends = refl }
+named_apart tags name (Some of) number =
+    let scope : List Word = scope_words tags of (is_class of) in
+    record {
+      begins = begins_append scope (name_word (name number) ∷ []) (scope_begins tags of) refl;
+      ends = ends_append scope (name_word (name number)) [] refl;
+    }
 
 callee_apart : (name : ℕ → List ℕ) (target : Option ℕ) (parts : List Phrase) → AreApart parts → StandsApart (callee_words name target parts)
 callee_apart name (Some number) parts all = record { begins = refl; ends = refl }
@@ -106,7 +119,7 @@ infix_apart words spelling = by (spells_comma spelling) refl
 form_apart : (f : Form) (tags : Tags) (name : ℕ → List ℕ) (label : Label) (is_text : Bool) (parts : List Phrase) → AreApart parts → IsApart (phrase_as f tags name label is_text parts)
 unfolding IsApart
 form_apart form.Spelled tags name label is_text parts all = λ is. record { begins = refl; ends = refl }
-form_apart form.Name tags name label is_text parts all = λ is. record { begins = refl; ends = refl }
+form_apart form.Name tags name label is_text parts all = λ is. named_apart tags name label.of (target_or label.target)
 form_apart form.Parenthesis tags name label is_text parts all = part_apart parts 0 all
 form_apart form.Call tags name label is_text parts all = λ is. call_apart name label.target parts all
 form_apart form.Zero tags name label is_text parts all = λ is. cast_apart tags (codes "static_cast") (type_or_void label.of) (keyword_word (codes "0") ∷ [])

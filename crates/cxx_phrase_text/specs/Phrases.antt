@@ -5,7 +5,7 @@ use Rattle.cxx_model.specs.declared.base.Base.{Base}
 use Rattle.cxx_model.specs.declared.base.Base.TheVariants as base
 use Rattle.cxx_model.specs.declared.sequence.ConstantKind.{ConstantKind}
 use Rattle.cxx_model.specs.declared.sequence.ConstantKind.TheVariants as constant
-use Rattle.cxx_model.specs.Types.Trees.{CxxType, fundamental, array_of, qualified}
+use Rattle.cxx_model.specs.Types.Trees.{CxxType, fundamental, class_type, array_of, qualified}
 use Rattle.cxx_meaning.specs.Conversions.Kinds.{is_array}
 use Rattle.cxx_meaning.specs.Conversions.Standard.{CxxOperand}
 use Rattle.cxx_reading.specs.declared.role.Role.TheVariants as role
@@ -64,6 +64,29 @@ element phrase = within (is_comma phrase.standing) phrase.words
 
 abbrev pub elements : List Phrase → List Word
 elements parts = separated (map element parts)
+
+-- ---- names (5.1)
+
+-- 3.4.3.1
+abbrev pub scope_word : Word
+scope_word = record { role = role.Joins; spelling = codes "::" }
+
+-- 9
+abbrev pub is_class : CxxType → Bool
+is_class (class_type n) = true
+is_class _ = false
+
+abbrev pub has_class : Option CxxType → Bool
+has_class None = false
+has_class (Some of) = is_class of
+
+abbrev pub scope_words : Tags → CxxType → Bool → List Word
+scope_words tags of true = declared tags no_cv of [] ++ scope_word ∷ []
+scope_words tags of false = []
+
+-- 9.4: a static member stands behind its class
+abbrev pub named_words : Tags → (ℕ → List ℕ) → Option CxxType → ℕ → List Word
+named_words tags name of number = scope_words tags (type_or_void of) (has_class of) ++ name_word (name number) ∷ []
 
 -- ---- calls (5.2.2)
 
@@ -191,7 +214,7 @@ braced false parts = part parts 0
 -- An expression of a form, given its parts. A parenthesis that was read writes nothing.
 abbrev pub phrase_as : Form → Tags → (ℕ → List ℕ) → Label → Bool → List Phrase → Phrase
 phrase_as form.Spelled tags name label is_one_string parts = primary (keyword_word label.spelling ∷ [])
-phrase_as form.Name tags name label is_one_string parts = primary (name_word (name (target_or label.target)) ∷ [])
+phrase_as form.Name tags name label is_one_string parts = primary (named_words tags name label.of (target_or label.target))
 phrase_as form.Parenthesis tags name label is_one_string parts = part parts 0
 phrase_as form.Call tags name label is_one_string parts = primary (call_words name label.target parts)
 phrase_as form.Zero tags name label is_one_string parts = primary (zero_words tags (type_or_void label.of))

@@ -9,12 +9,12 @@ ghost use Rattle.cxx_phrase_text.specs.Written.{phrase_at, phrase_in};
 use crate::form::{Form, form_of};
 use crate::lists::{write_braces, write_call};
 use crate::members::{write_arrow, write_member};
-use crate::names::Names;
+use crate::names::{Names, write_named};
 use crate::operands::write_part;
 use crate::operators::{
     write_cast, write_conditional, write_infix, write_postfix, write_prefix, write_subscript,
 };
-use crate::standing::{is_braced, target_or};
+use crate::standing::is_braced;
 use crate::words::write_zero;
 use cxx_model::{Node, TreeId};
 use cxx_page::{Page, PlainFault};
@@ -60,7 +60,7 @@ fn write_form<N: Names>(
     let parts = node.children.as_slice();
     match form {
         Form::Spelled => page.word(Role::Alone, spelling),
-        Form::Name => names.write_name(page, target_or(node.target)),
+        Form::Name => write_named(names, page, node.of, node.target),
         Form::Parenthesis => write_part(names, page, parts, 0, number),
         Form::Call => write_call(names, page, node.target, parts, number),
         Form::Zero => write_zero(names, page, node.of),

@@ -4,17 +4,15 @@ use Rattle.std.specs.List.{slice_get}
 use Rattle.cxx_model.specs.declared.evidence.Evidence.TheVariants.{Found}
 use Rattle.cxx_model.specs.declared.facts.Access.TheVariants.{Public}
 use Rattle.cxx_model.specs.declared.facts.FunctionFlags.{FunctionFlags}
+use Rattle.cxx_model.specs.declared.facts.MemberKind.{MemberKind}
 use Rattle.cxx_model.specs.declared.facts.MemberKind.TheVariants as member
 use Rattle.cxx_model.specs.declared.facts.ScopeKind.TheVariants as scope_kind
-use Rattle.cxx_model.specs.declared.fault.FaultText.{FaultText}
 use Rattle.cxx_model.specs.declared.fault.FaultText.TheVariants as says
 use Rattle.cxx_model.specs.declared.lookup.Found.{Found as Sought}
-use Rattle.cxx_model.specs.declared.lookup.Found.TheVariants as sought
 use Rattle.cxx_model.specs.declared.place.Place.{Place}
-use Rattle.cxx_model.specs.declared.stop.Fault.{Fault}
 use Rattle.cxx_model.specs.declared.stop.LimitKind.TheVariants.{Facts}
 use Rattle.cxx_model.specs.declared.tree.Kind.{Kind}
-use Rattle.cxx_model.specs.declared.tree.Kind.TheVariants as kind
+use Rattle.cxx_model.specs.declared.types.ClassId.{ClassId}
 use Rattle.cxx_model.specs.declared.types.FactId.{FactId}
 use Rattle.cxx_model.specs.Facts.Conflicts.{same_parameters, scope_facts, defined_before}
 use Rattle.cxx_model.specs.Facts.Declarations as facts
@@ -25,10 +23,10 @@ use Rattle.cxx_model.specs.Text.Lexemes.{Lexeme}
 use Rattle.cxx_model.specs.Types.Integral.{one_holds}
 use Rattle.cxx_model.specs.Types.Trees.{CxxType, enumeration}
 use Rattle.cxx_meaning.specs.Conversions.Enumerations.{values_in}
+use Rattle.cxx_meaning.specs.Lookups.Member.{class_of_scope}
 use Rattle.cxx_meaning.specs.Lookups.Wanted.{types_only}
-use Rattle.cxx_reading.specs.declared.region.Region.{Region}
-use Rattle.cxx_reading.specs.Linked.{first_clash, home_of, is_space_at, linked_in, sooner_fact}
-use Rattle.cxx_reading.specs.Paths.{found_in, found_of, name_in, place_in, place_of_fact, region_of, sought_in, unambiguous, wrong_kind_at}
+use Rattle.cxx_reading.specs.Linked.{first_clash, home_of, is_space_at, linked_in, scope_id, sooner_fact}
+use Rattle.cxx_reading.specs.Paths.{found_of, name_in, place_in, place_of_fact, region_of, sought_in, unambiguous, wrong_kind_at}
 use Rattle.cxx_reading.specs.Reads.{Asks}
 use Rattle.cxx_reading.specs.Seen.{Numbered, declared_in, kind_of_found, parent_of, set_in, type_in}
 use Rattle.cxx_reading.specs.State.{CxxState}
@@ -131,8 +129,25 @@ declare_synonym name of state = declare (fact_here state (spelled name.spelling)
 abbrev pub first_object_here : CxxState → CxxName → Option FactId
 first_object_here state name = if is_space_at state.graph state.here.scope then first_member_object state state.here.scope name else first_object (declared_here state name)
 
+-- 9.4.2: a member of a class that is declared outside of it is a static one
+abbrev pub kind_in_class : Option ClassId → MemberKind
+kind_in_class None = member.Free
+kind_in_class (Some class) = member.Static
+
+-- 9.2: the class in whose scope the reader stands
+abbrev pub class_of_here : CxxState → Option ClassId
+class_of_here state = class_of_scope state.graph.facts (scope_id state.here.scope)
+
 abbrev pub object_here : CxxState → CxxName → CxxType → Declares
-object_here state name of = facts.object of member.Free false None (first_object_here state name)
+object_here state name of = facts.object of (kind_in_class (class_of_here state)) false None (first_object_here state name)
+
+abbrev pub free_in_class : CxxState → CxxFact → List ℕ → Option ClassId → Answer (Unit {0})
+free_in_class state fact word None = free state fact word
+free_in_class state fact word (Some class) = Ok tt
+
+-- 3.3, 9.4.2: nothing that a class declares stands in the way of its member, which it has declared before
+unfoldable pub free_object : CxxState → CxxFact → List ℕ → Answer (Unit {0})
+free_object state fact word = free_in_class state fact word (class_of_here state)
 
 -- 3.5: an object that a block declares with `extern`
 abbrev pub linked_object_here : CxxState → CxxName → CxxType → Declares
@@ -157,7 +172,9 @@ with_definition number state = record state { defined = state.defined ++ number 
 
 -- 3.1, 3.2: an object is declared, and not defined
 unfoldable pub declare_object : Lexeme → CxxType → Asks CxxState ℕ
-declare_object name of state = declare (fact_here state (spelled name.spelling) name.place (object_here state (spelled name.spelling) of)) name.spelling state
+declare_object name of state = do
+  is_free ← free_object state (fact_here state (spelled name.spelling) name.place (object_here state (spelled name.spelling) of)) name.spelling
+  added (fact_here state (spelled name.spelling) name.place (object_here state (spelled name.spelling) of)) state
 
 -- 3.5: the same in a block, with `extern`
 unfoldable pub declare_linked_object : Lexeme → CxxType → Asks CxxState ℕ
@@ -172,7 +189,7 @@ defined_as answer = (answer.0, with_definition answer.0 answer.1)
 -- 3.2: an object is defined, once
 unfoldable pub define_object : Lexeme → CxxType → Asks CxxState ℕ
 define_object name of state = do
-  is_free ← free state (fact_here state (spelled name.spelling) name.place (object_here state (spelled name.spelling) of)) name.spelling
+  is_free ← free_object state (fact_here state (spelled name.spelling) name.place (object_here state (spelled name.spelling) of)) name.spelling
   is_first ← undefined state name.place name.spelling (length state.graph.facts) (object_here state (spelled name.spelling) of)
   answer ← added (fact_here state (spelled name.spelling) name.place (object_here state (spelled name.spelling) of)) state
   Ok (defined_as answer)
@@ -334,18 +351,8 @@ end_enumeration number state = Ok (tt, in_enumeration None state)
 -- ---- names that are read
 
 -- 3.4
-abbrev pub kind_stopped : CxxState → Fault → FaultText → Answer (Kind × CxxState)
-kind_stopped state fault says.NotBuilt = Err (Faulty fault)
-kind_stopped state fault _ = Ok (kind.Value, state)
-
--- what a name with a part that means nothing which may stand there is, is told where it is read
-abbrev pub kind_in : CxxState → CxxPath → Answer Region → Answer (Kind × CxxState)
-kind_in state path (Ok where_) = Ok (kind_of_found state.graph (found_in state.graph where_ (name_in path)), state)
-kind_in state path (Err (Faulty fault)) = kind_stopped state fault fault.text
-kind_in state path (Err (Limited limit)) = Ok (kind.Value, state)
-
 unfoldable pub kind_here : CxxPath → Asks CxxState Kind
-kind_here path state = kind_in state path (region_of state.graph state.here.scope path)
+kind_here path state = Ok (kind_of_found state.graph (found_of state.graph state.here.scope path), state)
 
 unfoldable pub type_here : CxxPath → Asks CxxState CxxType
 type_here path state = Ok (type_in (found_of state.graph state.here.scope path), state)

@@ -17,7 +17,6 @@ pub mod Paths
 pub mod Declaring
 pub mod Spaces
 pub mod Usings
-pub mod Members
 pub mod Classes
 pub mod Givers
 pub mod Choosing

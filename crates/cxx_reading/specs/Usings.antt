@@ -11,17 +11,18 @@ use Rattle.cxx_meaning.specs.Lookups.Wanted.{names_space}
 use Rattle.cxx_reading.specs.declared.region.Region.{Region}
 use Rattle.cxx_reading.specs.declared.region.Region.TheVariants as region
 use Rattle.cxx_reading.specs.Declaring.{declare, fact_here}
-use Rattle.cxx_reading.specs.Paths.{ambiguous_at, name_in, region_of, wrong_kind_at}
+use Rattle.cxx_reading.specs.Paths.{ambiguous_at, name_in, using_region_of, wrong_kind_at}
 use Rattle.cxx_reading.specs.Reads.{Asks}
 use Rattle.cxx_reading.specs.Seen.{Numbered, fact_numbers, found_or_none, numbered_at}
 use Rattle.cxx_reading.specs.State.{CxxState}
 use Rattle.cxx_reading.specs.Trees.{CxxPath, CxxPathPart, last_part}
 
 -- What is brought from a region: all entities with the name, also those that another one hides there. The name has a
--- qualifier.
+-- qualifier, which is one of a namespace (7.3.3 p4).
 unfoldable pub brought_in : CxxGraph → Region → CxxName → Sought
 brought_in graph (region.Outward scope) name = sought.Empty
 brought_in graph (region.Inside space) name = found_or_none (brought graph space name (length graph.facts))
+brought_in graph (region.Class class) name = sought.Empty
 
 abbrev pub using_fact : CxxState → CxxPathPart → FactId → CxxFact
 using_fact state part target = fact_here state (spelled part.word) part.place (facts.using target)
@@ -50,4 +51,4 @@ bring_found part _ state = Err (undeclared_at part.place part.word)
 
 -- what the name means in its namespace is declared where the reader stands
 unfoldable pub bring_here : CxxPath → Asks CxxState (Unit {0})
-bring_here path state = region_of state.graph state.here.scope path >>= λ where_. bring_found (last_part path.parts) (brought_in state.graph where_ (name_in path)) state
+bring_here path state = using_region_of state.graph state.here.scope path >>= λ where_. bring_found (last_part path.parts) (brought_in state.graph where_ (name_in path)) state

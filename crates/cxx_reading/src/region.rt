@@ -1,4 +1,4 @@
-use cxx_model::ScopeId;
+use cxx_model::{ClassId, ScopeId};
 
 /// Where a name is looked up.
 #[derive(Clone, Copy)]
@@ -7,4 +7,6 @@ pub enum Region {
     Outward(ScopeId),
     /// In a namespace that qualifies it, and those that its directives reach (3.4.3.2).
     Inside(ScopeId),
+    /// Among the members of a class that qualifies it, and of its bases (3.4.3.1).
+    Class(ClassId),
 }

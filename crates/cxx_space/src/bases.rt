@@ -1,6 +1,6 @@
 //! The bases of a class (clause 10).
 
-ghost use Rattle.std.specs.Prelude.{◌≡◌, ◌++◌, ◌∷◌, [], length, suc, IfSome};
+ghost use Rattle.std.specs.Prelude.{◌≡◌, ◌++◌, ◌∷◌, [], length, suc, IfSome, ◌^◌, ◌≤◌, IfNone};
 ghost use Rattle.cxx_declare.specs.Based.{base_of};
 ghost use Rattle.cxx_language.specs.Classes as definition;
 ghost use Rattle.cxx_space.specs.Bases.{AreBasesTurn, bases_turn, list_of};
@@ -97,7 +97,8 @@ fn base_tree(
 
 // The position behind some bases, where there is a number for it.
 fn position_behind(count: usize) -> Option<u32>
-    ensures { IfSome result (λ position. position ≡ suc count) }
+    ensures is { IfSome result (λ position. position ≡ suc count) }
+    ensures none { IfNone result (2 ^ 32 ≤ suc count) }
 {
     let count = u32::try_from(count).ok()?;
     count.checked_add(1)
@@ -105,7 +106,8 @@ fn position_behind(count: usize) -> Option<u32>
 
 // Where the base behind some others is declared.
 fn one_of(of: BaseList, count: usize, label: Access) -> Option<BaseOf>
-    ensures { IfSome result (λ one. base_of one ≡ record { scope = of.scope.0; class = of.class.0; position = suc count; access = label }) }
+    ensures is { IfSome result (λ one. base_of one ≡ record { scope = of.scope.0; class = of.class.0; position = suc count; access = label }) }
+    ensures none { IfNone result (2 ^ 32 ≤ suc count) }
 {
     let position = position_behind(count)?;
     Some(BaseOf {

@@ -1,5 +1,5 @@
 use Rattle.std.proofs.Common.{◌≡◌, drop}
-use Rattle.cxx_reading.specs.Members.{any_agrees}
+use Rattle.cxx_declare.specs.Outside.{any_agrees}
 use Rattle.cxx_reading.specs.Seen.{fact_numbers, numbered_at}
 use Rattle.cxx_tree.specs.Held.{meaning, type_of}
 use Rattle.cxx_declare.proofs.outside.any_agrees.Given as goal

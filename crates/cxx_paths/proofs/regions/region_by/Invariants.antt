@@ -7,7 +7,7 @@ use Rattle.cxx_tree.specs.Held.{meaning}
 use Rattle.cxx_paths.proofs.regions.region_by.Given as goal
 
 abbrev pub invariant-loop-rest : goal.invariant-loop-rest
-invariant-loop-rest l = record { rest : region_by (meaning l.state).graph (wanted_at l.wanted) l.region (path_parts_at l.rest) ≡ region_by (meaning l.state).graph (wanted_at l.wanted) l.fn.first (path_parts_at l.parts); there : IsRegionThere l.state l.region }
+invariant-loop-rest l = record { rest : region_by (meaning l.state).graph (wanted_at l.wanted) l.classes l.region (path_parts_at l.rest) ≡ region_by (meaning l.state).graph (wanted_at l.wanted) l.classes l.fn.first (path_parts_at l.parts); there : IsRegionThere l.state l.region }
 
 abbrev pub decreases-loop-rest : goal.decreases-loop-rest
 decreases-loop-rest l = length l.rest

@@ -1,4 +1,4 @@
-use Rattle.cxx_reading.specs.Members as definition
+use Rattle.cxx_declare.specs.Outside as definition
 use Rattle.cxx_cursor.specs.Views.{name_at}
 use Rattle.cxx_tree.specs.Answered.{AnyKnown, itself}
 use Rattle.cxx_tree.specs.Held.{meaning, type_of}
