@@ -12,6 +12,7 @@ use Rattle.cxx_model.specs.Facts.Declarations.{CxxFact, CxxName, Declares, spell
 use Rattle.cxx_model.specs.Printing.Names.{printed_name, stem}
 use Rattle.cxx_model.specs.Text.Lexemes.{nowhere}
 use Rattle.cxx_model.specs.Types.Trees.{CxxType, CxxTypes, class_type, fundamental, function_of, pointer_to, no_types, type_then}
+use Rattle.cxx_expr.specs.Names.{static_class}
 use Rattle.cxx_reading.specs.Declarators.{no_cv}
 use Rattle.cxx_reading.specs.State.{CxxPart, CxxState, first_state, unit_scope}
 use Rattle.cxx_reading.specs.TextOrder.{text_name}
@@ -152,7 +153,7 @@ in_order =
     (simple (declarator 2 p [] ∷ []) ∷ defined_as 4 q 5 [] ∷ simple (object 6 literal ∷ []) ∷ defined_as 8 p 9 (expression (call 0 4 []) ∷ []) ∷ [])
 
 definitions_in_order : text in_order ≡ codes "void p__1(...);\nvoid q__2();\nint x__3 = 0;\nvoid q__2() {\n}\nvoid p__1(...) {\n  q__2();\n}\n"
-unfolding names_of_text text_order lines text_name printed_name stem definition_words body_lines digits
+unfolding static_class names_of_text text_order lines text_name printed_name stem definition_words body_lines digits
 definitions_in_order = refl
 
 -- int (*r(int a))(char) { return 0; }
@@ -188,7 +189,7 @@ with_class =
     record read { graph = record { facts = read.graph.facts; classes = None ∷ []; patterns = [] } }
 
 definition_of_a_class : text with_class ≡ codes "struct S__1;\nstruct S__1 {\n  int a__2;\n  char *b__3;\n};\nvoid g__4();\nS__1 *p__5;\n"
-unfolding names_of_text text_order lines text_name printed_name stem definition_words body_lines digits
+unfolding static_class names_of_text text_order lines text_name printed_name stem definition_words body_lines digits
 definition_of_a_class = refl
 
 -- struct A { }; struct B { }; struct D : A, B { int a; mutable int m; };

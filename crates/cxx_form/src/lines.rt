@@ -229,7 +229,6 @@ fn is_outside_by(what: Entity) -> bool
     }
 }
 
-#[tactic(auto, using(crate::proofs::Lined::outside_there, crate::proofs::Lined::outside_nowhere))]
 fn is_outside_at(state: &State, number: FactId) -> bool
     ensures { result ≡ is_outside_in (slice_get (facts_in state.now) number.0) }
 {
