@@ -71,13 +71,23 @@ abbrev pub names_tested : Option ℕ → ℕ → List Numbered → Bool
 names_tested tested scope [] = false
 names_tested tested scope (one ∷ others) = is_tested tested scope one || names_tested tested scope others
 
+-- 9.3: whether a declaration is that of a function of a class; what names one is not read yet
+abbrev pub is_member_function : Declares → Bool
+is_member_function (facts.function of kind flags defaults first) = not (is_free kind)
+is_member_function _ = false
+
+abbrev pub names_member_function : List Numbered → Bool
+names_member_function [] = false
+names_member_function (one ∷ others) = is_member_function one.fact.what || names_member_function others
+
 -- 8.3.6: a default argument means no local object. 6.5.3: What a `for` does behind each turn does not name the object that its
 -- condition declares, which stands in the scope of the `for` itself.
 abbrev pub name_meant : CxxPathPart → List Numbered → Asks CxxState (List Numbered)
 name_meant part all state =
     if state.in_default && names_local state.graph all then Err (fault part.place says.OperandsDoNotFit) else (
-    if state.in_step && names_tested state.tested state.here.scope all then Err (fault part.place (says.LeftOut form.ConditionNameInStep)) else
-    Ok (all, state))
+    if state.in_step && names_tested state.tested state.here.scope all then Err (fault part.place (says.LeftOut form.ConditionNameInStep)) else (
+    if names_member_function all then Err (not_built_at part.place) else
+    Ok (all, state)))
 
 -- 3.4: what it may mean is told apart
 abbrev pub name_in_region : CxxPath → Region → Asks CxxState (List Numbered)

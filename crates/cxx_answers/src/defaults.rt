@@ -66,11 +66,27 @@ pub fn fallback_here(
     }
 }
 
-/// A default argument begins to be read: whether another one is being read round it.
-#[tactic(auto, unfolding(crate::specs::Defaults::begin_default, cxx_tree::specs::Held::meaning))]
-pub fn begin_default(state: &mut State) -> Result<bool, Stop>
-    ensures { IsAnswered itself AnyKnown state.old state.new result (defaults.begin_default (meaning state.old)) }
+// Whether the list of parameters in whose scope the reader stands is that of a function of a class (8.3.5).
+#[tactic(auto, unfolding(crate::specs::Defaults::is_list_of_class, cxx_tree::specs::Held::meaning))]
+fn is_list_of_class(state: &State) -> bool
+    ensures { result ≡ defaults.is_list_of_class (meaning state.now) }
 {
+    let around = state.names().parent(state.graph(), state.scope());
+    match state.names().class_of_scope(state.graph(), around) {
+        Some(_) => true,
+        None => false,
+    }
+}
+
+/// A default argument begins to be read, at its `=`: whether another one is being read round it. Those of functions of a
+/// class are not read yet.
+#[tactic(auto, using(cxx_expr::proofs::Kept::later_refl), unfolding(crate::specs::Defaults::begin_default, cxx_tree::specs::Held::meaning))]
+pub fn begin_default(state: &mut State, equals: Place) -> Result<bool, Stop>
+    ensures { IsAnswered itself AnyKnown state.old state.new result (defaults.begin_default equals (meaning state.old)) }
+{
+    if is_list_of_class(state) {
+        return Err(Stop::Fault(not_built_at(state.alloc(), equals)?));
+    }
     let was = state.in_default();
     state.set_in_default(true);
     Ok(was)

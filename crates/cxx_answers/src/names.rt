@@ -18,7 +18,7 @@ ghost use Rattle.cxx_tree.specs.Held.{fact_of_option, meaning};
 
 use crate::seen::with_givers;
 use crate::typed::fact_of;
-use cxx_expr::faults::fault;
+use cxx_expr::faults::{fault, not_built_at};
 use cxx_found::{Found, Wanted};
 use cxx_graph::Graph;
 use cxx_model::{
@@ -128,7 +128,45 @@ fn is_left_out(state: &State, numbers: &[FactId]) -> bool
     state.in_step() && means_tested(state, numbers)
 }
 
-// What a name means that has these declarations, where it may mean them.
+fn is_member_function(what: Entity) -> bool
+    ensures { (types : List CxxType) → result ≡ definition.is_member_function (declares_at types what) }
+{
+    match what {
+        Entity::Function { member, .. } => !is_free(member),
+        _ => false,
+    }
+}
+
+// Whether a declaration is that of a function of a class (9.3).
+fn is_of_class(graph: &Graph, number: FactId) -> bool
+    ensures { (types : List CxxType) → result ≡ definition.names_member_function (looked_up types graph.now.facts (number ∷ [])) }
+{
+    match fact_of(graph, number) {
+        Some(fact) => is_member_function(fact.what),
+        None => false,
+    }
+}
+
+// Whether one of some declarations is that of such a function.
+fn names_member_function(graph: &Graph, numbers: &[FactId]) -> bool
+    ensures { (types : List CxxType) → result ≡ definition.names_member_function (looked_up types graph.now.facts numbers.now) }
+{
+    for number in numbers {
+        if is_of_class(graph, *number) {
+            return true;
+        }
+    }
+    false
+}
+
+// The same of the state.
+fn means_member_function(state: &State, numbers: &[FactId]) -> bool
+    ensures { result ≡ definition.names_member_function (numbered state.now numbers.now) }
+{
+    names_member_function(state.graph(), numbers)
+}
+
+// What a name means that has these declarations, where it may mean them; functions of classes are not named yet.
 #[tactic(auto, using(cxx_expr::proofs::Kept::later_refl))]
 fn name_meant(
     alloc: Global,
@@ -147,6 +185,9 @@ fn name_meant(
         let place = last_place(parts);
         let text = FaultText::LeftOut(LeftOut::ConditionNameInStep);
         return Err(Stop::Fault(fault(alloc, place, text)?));
+    }
+    if means_member_function(state, all.as_slice()) {
+        return Err(Stop::Fault(not_built_at(alloc, last_place(parts))?));
     }
     Ok(all)
 }

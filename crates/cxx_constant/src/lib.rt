@@ -16,3 +16,4 @@ mod values;
 
 pub use expression::constant;
 pub use fault::ConstantFault;
+pub use names::value_of_name;

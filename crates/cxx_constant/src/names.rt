@@ -88,7 +88,7 @@ fn value_meant(graph: &Graph, number: FactId, what: Entity) -> Option<i128>
 /// initializes it was read (5.19). For an object it goes over the declarations from the first of the object to the one that
 /// gives the value.
 #[tactic(auto, using(crate::proofs::Scanned::fact_is))]
-pub(crate) fn value_of_name(graph: &Graph, target: Option<FactId>) -> Option<i128>
+pub fn value_of_name(graph: &Graph, target: Option<FactId>) -> Option<i128>
     ensures { (types : List CxxType) → result ≡ definition.value_of_name (facts_at types graph.now.facts) (number_of_option target) }
 {
     match target {

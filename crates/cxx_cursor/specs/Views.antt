@@ -85,7 +85,7 @@ AreLayersBelow count [] = Unit {0}
 AreLayersBelow count (one ∷ others) = IsLayerBelow count one × AreLayersBelow count others
 
 abbrev pub declarator_of : Held → Declarator → definition.Declarator
-declarator_of held d = record { name = name_of_option d.name; is_qualified = d.is_qualified; layers = layers_in held.types d.layers; parts = trees_in (trees held) d.parts }
+declarator_of held d = record { name = name_of_option d.name; is_qualified = d.is_qualified; layers = layers_in held.types d.layers; cv = d.cv; parts = trees_in (trees held) d.parts }
 
 pub record IsDeclarator (held : Held) (d : Declarator) : Type 0 where
   pub layers : AreLayersBelow (length held.types) d.layers

@@ -455,6 +455,26 @@ impl<'a> Cursor<'a> {
         Ok(path)
     }
 
+    /// Whether the name of a class, `::` and `*` stand ahead, which begin a pointer to a member (8.3.3).
+    pub fn points_to_member(&self) -> bool
+        ensures { result ≡ definition.points_to_member self.now }
+    {
+        self.begins_name()
+            && (!self.lacks_first_part()
+                && (!self.is_whole_name() && is_punct(punct::STAR, self.behind_name().kind())))
+    }
+
+    /// The name ahead may have no qualifiers (8.3): its first `::` is refused.
+    pub fn no_qualifier(&self) -> Result<Box<Fault>, AllocError>
+        ensures { IfOk result (λ at. Faulty at.value ≡ fault (if definition.is_name (kind_ahead self.now) then place_ahead (behind self.now) else place_ahead self.now) says.SyntaxError) }
+    {
+        let mut ahead = self.mark();
+        if is_name(self.kind()) {
+            ahead.advance();
+        }
+        ahead.refused()
+    }
+
     /// No declarator begins there (8): the name of an operator is not read yet.
     pub fn no_declarator(&self) -> Result<Box<Fault>, AllocError>
         ensures { IfOk result (λ at. Faulty at.value ≡ fault (place_ahead self.now) (if definition.is_keyword keyword.OPERATOR (kind_ahead self.now) then says.NotBuilt else says.SyntaxError)) }

@@ -26,6 +26,8 @@ pub struct Declarator {
     /// Whether the name has qualifiers; it is the last part of them then (8.3).
     pub is_qualified: bool,
     pub layers: LayerList,
+    /// The words behind the parameters of the function that it declares, which only those of a class heed (8.3.5).
+    pub cv: Cv,
     pub parts: TreeIdList,
 }
 

@@ -1,7 +1,10 @@
 -- Classes that begin and end, in the terms of the definitions (9.2).
-use Rattle.std.specs.Prelude.{ℕ, List, length, Ok}
+use Rattle.std.specs.Prelude.{ℕ, Bool, true, false, List, length, None, Ok}
+use Rattle.cxx_model.specs.declared.facts.Entity.{Entity}
+use Rattle.cxx_model.specs.declared.facts.Entity.TheVariants as entity
 use Rattle.cxx_model.specs.declared.facts.Fact.{Fact}
 use Rattle.cxx_model.specs.declared.place.Place.{Place}
+use Rattle.cxx_model.specs.declared.types.TypeId.{TypeId}
 use Rattle.cxx_model.specs.Facts.Declarations.{CxxFact}
 use Rattle.cxx_model.specs.Facts.Fitted.{IsFactBelow}
 use Rattle.cxx_model.specs.Facts.Graph.{MayFollow}
@@ -9,9 +12,9 @@ use Rattle.cxx_model.specs.Stops.{Answer, ◌>>=◌}
 use Rattle.cxx_model.specs.Text.Lexemes.{Lexeme}
 use Rattle.cxx_names.specs.Plain.{IsPlainFact}
 use Rattle.cxx_reading.specs.Classes.{reserved}
-use Rattle.cxx_reading.specs.Declaring.{added, free}
+use Rattle.cxx_reading.specs.Declaring.{added, free, no_flags}
 use Rattle.cxx_reading.specs.State.{CxxState}
-use Rattle.cxx_declare.specs.ClassDefinitions.{added_each, begun_as, class_end, ended_as, enter_class, enter_unnamed}
+use Rattle.cxx_declare.specs.ClassDefinitions.{added_each, begun_as, class_end, ended_as, enter_class, enter_unnamed, member_kind}
 use Rattle.cxx_declare.specs.Made.{added_defined, definable_by}
 use Rattle.cxx_tree.specs.Held.{Held}
 
@@ -55,3 +58,10 @@ class_completed n place state = added (class_end state place n) state >>= λ ans
 -- facts are added before
 abbrev pub ended_with : List CxxFact → ℕ → Place → CxxState → Answer (Unit {0} × CxxState)
 ended_with all n place state = added_each all state >>= λ implied. class_completed n place implied.1
+
+-- ---- its members
+
+-- 9.2, 9.3: a function, where it is one, or else a data member
+abbrev pub member_entity : Bool → Bool → Bool → TypeId → Entity
+member_entity true is_static is_mutable of = entity.Function of (member_kind is_static) no_flags 0 None
+member_entity false is_static is_mutable of = entity.Object of (member_kind is_static) is_mutable None None

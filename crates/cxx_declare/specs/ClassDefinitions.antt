@@ -1,5 +1,5 @@
 -- How a class is defined (clause 9): it begins, its members are declared one after another, and it ends.
-use Rattle.std.specs.Prelude.{ℕ, Bool, true, false, List, [], ◌∷◌, length, Option, Some, None, Ok}
+use Rattle.std.specs.Prelude.{ℕ, zero, Bool, true, false, List, [], ◌∷◌, length, Option, Some, None, Ok}
 use Rattle.cxx_model.specs.declared.facts.Access.{Access}
 use Rattle.cxx_model.specs.declared.facts.Access.TheVariants.{Public}
 use Rattle.cxx_model.specs.declared.facts.MemberKind.{MemberKind}
@@ -7,13 +7,14 @@ use Rattle.cxx_model.specs.declared.facts.MemberKind.TheVariants as member
 use Rattle.cxx_model.specs.declared.facts.ScopeKind.TheVariants as scope_kind
 use Rattle.cxx_model.specs.declared.place.Place.{Place}
 use Rattle.cxx_model.specs.Facts.Declarations as facts
-use Rattle.cxx_model.specs.Facts.Declarations.{CxxFact, spelled, unnamed}
+use Rattle.cxx_model.specs.Facts.Declarations.{CxxFact, Declares, spelled, unnamed}
 use Rattle.cxx_model.specs.Stops.{◌>>=◌}
 use Rattle.cxx_model.specs.Text.Lexemes.{Lexeme}
 use Rattle.cxx_model.specs.Types.Trees.{CxxType}
 use Rattle.cxx_implicit.specs.Members.{implicit_members}
 use Rattle.cxx_reading.specs.Classes.{ClassNamed, class_count, class_fact, class_id, first_class, reserved}
-use Rattle.cxx_reading.specs.Declaring.{added, at_scope, declare, free, scope_count, undefined, with_definition}
+use Rattle.cxx_reading.specs.Declarators.{is_function_type}
+use Rattle.cxx_reading.specs.Declaring.{added, at_scope, declare, free, no_flags, scope_count, undefined, with_definition}
 use Rattle.cxx_reading.specs.Linked.{scope_id}
 use Rattle.cxx_reading.specs.Reads.{Asks}
 use Rattle.cxx_reading.specs.Seen.{declared_in, parent_of}
@@ -99,10 +100,17 @@ abbrev pub member_kind : Bool → MemberKind
 member_kind true = member.Static
 member_kind false = member.Nonstatic
 
--- 9.2, 9.4.2: a data member, with the access of the label before it (11.1), whether it is static, and whether it is mutable
--- (7.1.1)
+-- 9.2, 9.3: a function, where it is one, or else a data member
+abbrev pub member_by : Bool → Bool → Bool → CxxType → Declares
+member_by true is_static is_mutable of = facts.function of (member_kind is_static) no_flags zero None
+member_by false is_static is_mutable of = facts.object of (member_kind is_static) is_mutable None None
+
+abbrev pub member_what : Bool → Bool → CxxType → Declares
+member_what is_static is_mutable of = member_by (is_function_type of) is_static is_mutable of
+
+-- 9.2, 9.4: a member, with the access of the label before it (11.1), whether it is static, and whether it is mutable (7.1.1)
 abbrev pub member_here : CxxState → Access → Bool → Bool → Lexeme → CxxType → CxxFact
-member_here state access is_static is_mutable name of = record { place = name.place; scope = state.here.scope; name = spelled name.spelling; access = access; what = facts.object of (member_kind is_static) is_mutable None None }
+member_here state access is_static is_mutable name of = record { place = name.place; scope = state.here.scope; name = spelled name.spelling; access = access; what = member_what is_static is_mutable of }
 
 unfoldable pub declare_member : Access → Bool → Bool → Lexeme → CxxType → Asks CxxState ℕ
 declare_member access is_static is_mutable name of state = declare (member_here state access is_static is_mutable name of) name.spelling state

@@ -6,13 +6,16 @@ ghost use Rattle.cxx_model.specs.declared.facts.Name.TheVariants.{Spelled};
 ghost use Rattle.cxx_model.specs.declared.token.TokenKind.{TokenKind};
 ghost use Rattle.cxx_model.specs.Facts.Declarations.{fact_at, facts_at};
 ghost use Rattle.cxx_model.specs.Facts.Fitted.{AreFactsBelow};
+ghost use Rattle.cxx_model.specs.Types.Numbers.{type_at};
 ghost use Rattle.cxx_model.specs.Facts.Graph.{EachMayFollow, scopes};
 ghost use Rattle.cxx_defined.specs.Defined.{IsOwnEntity};
 ghost use Rattle.cxx_names.specs.Plain.{ArePlain};
-ghost use Rattle.cxx_declare.specs.Begun.{IsAddable, class_added, class_completed, class_known, class_reserved, ended_with, named_within, next_class_defined, unnamed_added, unnamed_reserved};
+ghost use Rattle.cxx_declare.specs.Begun.{IsAddable, class_added, class_completed, class_known, class_reserved, ended_with, member_entity, named_within, next_class_defined, unnamed_added, unnamed_reserved};
 ghost use Rattle.cxx_declare.specs.ClassDefinitions as definition;
 ghost use Rattle.cxx_declare.specs.Classes.{IsNextClass};
 ghost use Rattle.cxx_declare.specs.Made.{IsReady, token, word_in};
+ghost use Rattle.cxx_reading.specs.Declarators.{is_function_type};
+ghost use Rattle.cxx_reading.specs.Declaring.{no_flags as without_flags};
 ghost use Rattle.cxx_tree.specs.Answered.{AnyKnown, IsAnswered, IsClassKnown, IsFactKnown, class_number, fact_number, itself};
 ghost use Rattle.cxx_tree.specs.Held.{meaning, type_of};
 
@@ -22,9 +25,11 @@ use crate::facts::{declare, fact_in, word_fact};
 use crate::objects::add_defined;
 use crate::parts::spelled;
 use cxx_model::{
-    Access, ClassId, Entity, Fact, FactId, MemberKind, Name, Place, ScopeId, Stop, TypeId,
+    Access, ClassId, Entity, Fact, FactId, FunctionFlags, MemberKind, Name, Place, ScopeId, Stop,
+    TypeId, TypeNode,
 };
 use cxx_tree::State;
+use cxx_types::TypeTable;
 use std::alloc::AllocError;
 
 // ---- it begins
@@ -262,7 +267,60 @@ fn member_kind(is_static: bool) -> MemberKind
     }
 }
 
-// The declaration of a data member (9.2, 9.4.2).
+// None of what may stand before a function of a class is read yet (7.1.2).
+fn no_flags() -> FunctionFlags
+    ensures { result ≡ without_flags }
+{
+    FunctionFlags {
+        is_virtual: false,
+        is_pure: false,
+        is_explicit: false,
+        is_implicit: false,
+    }
+}
+
+fn is_function(types: &TypeTable, of: TypeId) -> bool
+    requires { of.0 < length types.now }
+    ensures { result ≡ is_function_type (type_at types.now of.0) }
+{
+    match types.node(of) {
+        TypeNode::Function { .. } => true,
+        _ => false,
+    }
+}
+
+// A function, where it is one, or else a data member (9.2, 9.3).
+fn member_entity(is_function: bool, is_static: bool, is_mutable: bool, of: TypeId) -> Entity
+    ensures { result ≡ member_entity is_function is_static is_mutable of }
+{
+    if is_function {
+        Entity::Function {
+            of,
+            member: member_kind(is_static),
+            flags: no_flags(),
+            defaults: 0,
+            first: None,
+        }
+    } else {
+        Entity::Object {
+            of,
+            member: member_kind(is_static),
+            is_mutable,
+            value: None,
+            first: None,
+        }
+    }
+}
+
+// What a member with a type is.
+fn member_what(types: &TypeTable, is_static: bool, is_mutable: bool, of: TypeId) -> Entity
+    requires { of.0 < length types.now }
+    ensures { result ≡ member_entity (is_function_type (type_at types.now of.0)) is_static is_mutable of }
+{
+    member_entity(is_function(types, of), is_static, is_mutable, of)
+}
+
+// The declaration of a member (9.2, 9.4).
 fn member_fact(
     state: &State,
     access: Access,
@@ -277,24 +335,19 @@ fn member_fact(
     ensures ready { IfOk result (IsReady state.now) }
     ensures named { IfOk result (λ fact. fact.name ≡ Spelled word.now) }
 {
+    let what = member_what(state.types(), is_static, is_mutable, of);
     let name = spelled(state.alloc(), word)?;
     Ok(Fact {
         place,
         scope: state.scope(),
         name,
         access,
-        what: Entity::Object {
-            of,
-            member: member_kind(is_static),
-            is_mutable,
-            value: None,
-            first: None,
-        },
+        what,
     })
 }
 
-/// A data member is declared (9.2), with the access of the label before it (11.1), whether it is static (9.4.2), and whether
-/// it is mutable (7.1.1).
+/// A member is declared (9.2), with the access of the label before it (11.1), whether it is static (9.4), and, where it is an
+/// object, whether it is mutable (7.1.1).
 pub fn declare_member(
     state: &mut State,
     access: Access,

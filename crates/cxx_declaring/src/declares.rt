@@ -3,8 +3,8 @@ ghost use Rattle.std.specs.List.{slice_get};
 ghost use Rattle.cxx_defined.specs.Defined.{IsOwn};
 
 use crate::declaring::Declaring;
-use crate::phrases::condition_value;
-use cxx_answers::Answering;
+use crate::phrases::{condition_value, member_value};
+use cxx_answers::{Answering, constant_here};
 use cxx_cursor::{Cursor, Declarator, NameToken, Specifiers, Spelled};
 use cxx_declare as declare;
 use cxx_graph::Graph;
@@ -70,6 +70,20 @@ impl Declares for Declaring {
         room: u32,
     ) -> Result<Initializer, Stop> {
         condition_value(self, state, cursor, room)
+    }
+
+    fn member_value(
+        &self,
+        state: &mut State,
+        cursor: &mut Cursor<'_>,
+        room: u32,
+    ) -> Result<Initializer, Stop> {
+        member_value(self, state, cursor, room)
+    }
+
+    fn constant(&self, state: &mut State, number: TreeId) -> Result<(), Stop> {
+        constant_here(state.alloc(), state, number)?;
+        Ok(())
     }
 
     #[tactic(auto, using(crate::proofs::Answering::asked))]

@@ -212,8 +212,8 @@ impl Asking for Declaring {
     }
 
     #[tactic(auto, using(crate::proofs::Answering::asked), unfolding(cxx_language::specs::Answers::asking))]
-    fn begun(&self, state: &mut State) -> Result<bool, Stop> {
-        begin_default(state)
+    fn begun(&self, state: &mut State, equals: Place) -> Result<bool, Stop> {
+        begin_default(state, equals)
     }
 
     #[tactic(auto, using(crate::proofs::Answering::asked), unfolding(cxx_language::specs::Answers::asking))]

@@ -2,6 +2,7 @@
 
 ghost use Rattle.cxx_language.specs.Asked.{inner_at, phrases_at};
 ghost use Rattle.cxx_language.specs.Blocks as blocks;
+ghost use Rattle.cxx_language.specs.Values.{constant_read};
 ghost use Rattle.cxx_phrases.specs.Initializers.{copy_at, expression_at};
 ghost use Rattle.cxx_phrases.specs.Views.{IsInitializer, initializer_of};
 ghost use Rattle.cxx_cursor.specs.Asking.{IsTreeKnown};
@@ -69,6 +70,26 @@ pub(crate) fn condition_value(
         return value_behind(declaring, state, cursor, room);
     }
     Err(Stop::Fault(cursor.refused()?))
+}
+
+/// The value of a static constant in its class, from its `=` on (9.2).
+#[tactic(auto, using(cxx_cursor::proofs::Kept::later_refl))]
+pub(crate) fn member_value(
+    declaring: &Declaring,
+    state: &mut State,
+    cursor: &mut Cursor<'_>,
+    room: u32,
+) -> Result<Initializer, Stop>
+    ensures { IsRead initializer_of IsInitializer state.old state.new cursor.new result (constant_read (phrases_at room) (inner_at room).phrases (meaning state.old) cursor.old) }
+{
+    cursor.advance();
+    let number = phrase(declaring, state, cursor, Level::Constant, room)?;
+    let mut parts = Listed::new(cursor.alloc());
+    parts.push(number)?;
+    Ok(Initializer {
+        form: Form::Copy,
+        parts,
+    })
 }
 
 impl Phrasing for Declaring {

@@ -15,7 +15,7 @@ use Rattle.cxx_statement_text.specs.Objects.{first_by, first_of_fact, if_printed
 use Rattle.cxx_tree.specs.Arena.{number_of_option, tree_over, trees_in}
 use Rattle.cxx_tree.specs.Held.{Held, tree, trees}
 use Rattle.cxx_form.specs.Lines.{numbers_in}
-use Rattle.cxx_form.specs.Order.{declared_by, found_in, if_named, is_named, list_by, list_of_body, locals_in, named_among, objects_in, scope_of_fact}
+use Rattle.cxx_form.specs.Order.{declared_by, found_in, if_named, is_named, list_by, list_of_body, locals_in, named_among, parts_in, scope_of_fact}
 use Rattle.cxx_form.specs.Views.{facts_in}
 use Rattle.cxx_form.proofs.Gathering.{fact_is}
 
@@ -112,4 +112,4 @@ all_locals held body number numbers old new some are more =
 -- ---- all of it
 
 abbrev pub parameters_of_list : Held → Option CxxTree → List ℕ
-parameters_of_list held body = objects_in (list_of_body (facts_in held) body) 0 (facts_in held)
+parameters_of_list held body = parts_in (list_of_body (facts_in held) body) 0 (facts_in held)

@@ -5,6 +5,7 @@ pub mod Derived
 pub mod InTrees
 pub mod Enumerated
 pub mod Gathering
+pub mod Handed
 pub mod Heading
 pub mod Holding
 pub mod Initial

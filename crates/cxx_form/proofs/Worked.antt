@@ -1,5 +1,5 @@
 -- Worked readings with definitions of functions: their texts.
-use Rattle.std.specs.Prelude.{ℕ, ◌≡◌, refl, true, false, List, [], ◌∷◌, ◌++◌, Some, None, codes}
+use Rattle.std.specs.Prelude.{ℕ, pos, ◌≡◌, refl, true, false, List, [], ◌∷◌, ◌++◌, Some, None, codes}
 use Rattle.std.specs.Fmt.{digits}
 use Rattle.cxx_model.specs.declared.base.Base.TheVariants as base
 use Rattle.cxx_model.specs.declared.facts.Access.TheVariants as access
@@ -7,11 +7,12 @@ use Rattle.cxx_model.specs.declared.facts.FunctionFlags.{FunctionFlags}
 use Rattle.cxx_model.specs.declared.facts.MemberKind.TheVariants as member
 use Rattle.cxx_model.specs.declared.facts.ScopeKind.TheVariants as kind
 use Rattle.cxx_model.specs.declared.types.ClassId.{ClassId}
+use Rattle.cxx_model.specs.declared.types.Cv.{Cv}
 use Rattle.cxx_model.specs.Facts.Declarations as facts
 use Rattle.cxx_model.specs.Facts.Declarations.{CxxFact, CxxName, Declares, spelled, unnamed}
 use Rattle.cxx_model.specs.Printing.Names.{printed_name, stem}
 use Rattle.cxx_model.specs.Text.Lexemes.{nowhere}
-use Rattle.cxx_model.specs.Types.Trees.{CxxType, CxxTypes, class_type, fundamental, function_of, pointer_to, no_types, type_then}
+use Rattle.cxx_model.specs.Types.Trees.{CxxType, CxxTypes, class_type, enumeration, fundamental, function_of, pointer_to, qualified, no_types, type_then}
 use Rattle.cxx_expr.specs.Names.{static_class}
 use Rattle.cxx_reading.specs.Declarators.{no_cv}
 use Rattle.cxx_reading.specs.State.{CxxPart, CxxState, first_state, unit_scope}
@@ -215,3 +216,30 @@ with_bases =
 definition_with_bases : text with_bases ≡ codes "struct A__1;\nstruct B__2;\nstruct D__3;\nstruct A__1 {\n};\nstruct B__2 {\n};\nstruct D__3 : A__1, B__2 {\n  int a__4;\n  mutable int m__5;\n};\n"
 unfolding names_of_text text_order lines text_name printed_name stem definition_words body_lines digits
 definition_with_bases = refl
+
+-- enum E { a = 1 }; struct S { int n; int f(int) const; static void g(); static const int k = 3; static const E e = a; };
+abbrev const : Cv
+const = record no_cv { is_const = true }
+
+abbrev member_here : List ℕ → Declares → CxxFact
+member_here name what = fact 1 (spelled name) what
+
+abbrev with_functions : CxxState
+with_functions =
+    let struct : ClassId = record { 0 = 0 } in
+    let f : CxxType = function_of int (type_then int no_types) false const in
+    let g : CxxType = function_type (fundamental base.Void) no_types in
+    let e : CxxType = qualified const (enumeration 0) in
+    let all : List CxxFact =
+    fact 0 (spelled (codes "E")) (facts.enumeration 0) ∷ fact 0 (spelled (codes "a")) (facts.enumerator 0 (pos 1)) ∷ class_begun struct (codes "S") 1
+    ++ member_here (codes "n") (facts.object int member.Nonstatic false None None)
+    ∷ list_in 1 ∷ object_in 2 unnamed int ∷ member_here (codes "f") (facts.function f member.Nonstatic flags 0 None) ∷ list_in 1 ∷ member_here (codes "g") (facts.function g member.Static flags 0 None)
+    ∷ member_here (codes "k") (facts.object (qualified const int) member.Static false None None) ∷ member_here (codes "k") (facts.object (qualified const int) member.Free false (Some (pos 3)) (Some (record { 0 = 12 })))
+    ∷ member_here (codes "e") (facts.object e member.Static false None None) ∷ member_here (codes "e") (facts.object e member.Free false (Some (pos 1)) (Some (record { 0 = 14 })))
+    ∷ fact 1 unnamed (facts.function g member.Constructor implicit_flags 0 None) ∷ class_ended struct 1 ∷ [] in
+    let read : CxxState = reading all (tree_of (label 8 []) (class_tree (simple (declarator 6 int [] ∷ []) ∷ simple (declarator 9 f [] ∷ []) ∷ simple (declarator 11 g [] ∷ []) ∷ []) ∷ []) ∷ []) in
+    record read { graph = record { facts = read.graph.facts; classes = None ∷ []; patterns = [] } }
+
+functions_and_constants_of_a_class : text with_functions ≡ codes "struct S__1;\nenum E__2 { a__3 = 1 };\nstruct S__1 {\n  int n__4;\n  int f__5(int) const;\n  static void g__6();\n  static const int k__7 = 3;\n  static const E__2 e__8 = static_cast<E__2>(1);\n};\n"
+unfolding names_of_text text_order lines text_name printed_name stem definition_words body_lines digits
+functions_and_constants_of_a_class = refl

@@ -1,5 +1,5 @@
 -- From what a plain form is written: a state, and the tables that were made of it.
-use Rattle.std.specs.Prelude.{◌≡◌, ℤ, List, Option}
+use Rattle.std.specs.Prelude.{ℤ, List, Option}
 use Rattle.cxx_model.specs.declared.types.TypeId.{TypeId}
 use Rattle.cxx_model.specs.Facts.Declarations.{graph_at, type_of_option, CxxFact, CxxGraph}
 use Rattle.cxx_model.specs.Facts.Fitted.{Fitted}
@@ -12,7 +12,7 @@ use Rattle.cxx_form.specs.Order.{text_order}
 use Rattle.cxx_reading.specs.Trees.{CxxTree}
 use Rattle.cxx_tree.specs.Held.{meaning, trees}
 use Rattle.cxx_form.specs.declared.book.Book.{Book}
-use Rattle.cxx_form.specs.Giving.{AreEnumerators, AreObjects}
+use Rattle.cxx_form.specs.Giving.{AreEnumerators, AreParts}
 use Rattle.cxx_form.specs.Names.{names_in, AreClassTags, AreTags}
 use Rattle.cxx_form.specs.Numbered.{IsNumbering}
 use Rattle.cxx_form.specs.Views.{facts_in}
@@ -48,4 +48,4 @@ pub record IsBook (book : Book) : Type 0 where
   pub classes : AreClassTags book.state.now book.tags.now.classes
   pub tagged : AreTags book.state.now book.tags.now.enumerations
   pub held : AreEnumerators (facts_in book.state.now) book.enumerators.now
-  pub objects : AreObjects (facts_in book.state.now) book.objects.now
+  pub parts : AreParts (facts_in book.state.now) book.parts.now

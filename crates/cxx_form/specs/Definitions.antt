@@ -19,8 +19,10 @@ use Rattle.cxx_form.specs.Order.{body_of, declarator_of, is_named, parameters_of
 
 -- ---- the head
 
+-- the type of a parameter or a member
 abbrev pub object_type_by : Declares → CxxType
 object_type_by (facts.object of member is_mutable value first) = of
+object_type_by (facts.function of member flags defaults first) = of
 object_type_by _ = fundamental Void
 
 abbrev pub object_type : Option CxxFact → CxxType

@@ -5,9 +5,8 @@ use Rattle.cxx_model.specs.declared.types.FactId.{FactId}
 use Rattle.cxx_model.specs.Facts.Declarations as facts
 use Rattle.cxx_model.specs.Facts.Declarations.{CxxFact, Declares}
 use Rattle.cxx_meaning.specs.Lookups.Gathered.{before, gathered}
-use Rattle.cxx_reading.specs.Declaring.{is_object}
 use Rattle.cxx_reading.specs.Plain.{number_of_enumeration}
-use Rattle.cxx_form.specs.Order.{Line, class_definition, ended_class, enumeration_line, function_line, named_or, number_of_class}
+use Rattle.cxx_form.specs.Order.{Line, class_definition, ended_class, enumeration_line, function_line, is_part, named_or, number_of_class}
 use Rattle.cxx_form.specs.Rows.{row_at}
 use Rattle.cxx_form.specs.Slots.{slot_at}
 
@@ -83,16 +82,16 @@ AreEnumerators all rows = AreHeld enumeration_of_fact all rows
 abbrev pub enumerator_given : ℕ → ℕ → CxxFact → Option FactId
 enumerator_given n number fact = held_given enumeration_of_fact n number fact
 
--- an object is held under its scope
+-- an object and a function of a class are held under their scope
 abbrev pub scope_if : ℕ → Bool → Option ℕ
 scope_if scope true = Some scope
 scope_if scope false = None
 
-abbrev pub scope_of_object : CxxFact → Option ℕ
-scope_of_object fact = scope_if fact.scope (is_object fact.what)
+abbrev pub scope_of_part : CxxFact → Option ℕ
+scope_of_part fact = scope_if fact.scope (is_part fact.what)
 
-abbrev pub AreObjects : List CxxFact → List (List FactId) → Type 0
-AreObjects all rows = AreHeld scope_of_object all rows
+abbrev pub AreParts : List CxxFact → List (List FactId) → Type 0
+AreParts all rows = AreHeld scope_of_part all rows
 
 -- ---- where enumerations are declared
 

@@ -6,6 +6,7 @@
 -- stands first in the text.
 use Rattle.std.specs.Prelude.{ℕ, zero, suc, Bool, true, false, not, ◌&&◌, ◌||◌, nat_eq, if◌then◌else◌, List, [], ◌∷◌, ◌++◌, length, flat_map, map, Option, Some, None}
 use Rattle.std.specs.List.{slice_get}
+use Rattle.cxx_model.specs.declared.facts.FunctionFlags.{FunctionFlags}
 use Rattle.cxx_model.specs.declared.facts.MemberKind.{MemberKind}
 use Rattle.cxx_model.specs.declared.facts.MemberKind.TheVariants.{Free, Static}
 use Rattle.cxx_model.specs.declared.types.FactId.{FactId}
@@ -13,7 +14,6 @@ use Rattle.cxx_model.specs.Facts.Conflicts.{has_name}
 use Rattle.cxx_model.specs.Facts.Declarations as facts
 use Rattle.cxx_model.specs.Facts.Declarations.{CxxFact, Declares}
 use Rattle.cxx_model.specs.Facts.Entities.{first_or, is_space, scope_kinds}
-use Rattle.cxx_reading.specs.Declaring.{is_object}
 use Rattle.cxx_reading.specs.Plain.{NamesOfText, is_empty, name_by, number_of_enumeration}
 use Rattle.cxx_reading.specs.Productions as production
 use Rattle.cxx_reading.specs.State.{CxxState}
@@ -185,13 +185,24 @@ body_of tree = first_tree (parts_of_production statement.block tree.children)
 
 -- ---- parameters of a definition, and members of a class
 
--- the declarations of the objects in a scope, in order
-abbrev pub is_object_in : ℕ → CxxFact → Bool
-is_object_in scope fact = nat_eq fact.scope scope && is_object fact.what
+-- 9.3: whether a function is one that its class declares, and not one that it has by itself (12.1)
+abbrev pub is_own_function : MemberKind → FunctionFlags → Bool
+is_own_function Free flags = false
+is_own_function kind flags = not flags.is_implicit
 
-abbrev pub objects_in : ℕ → ℕ → List CxxFact → List ℕ
-objects_in scope number [] = []
-objects_in scope number (fact ∷ others) = if is_object_in scope fact then number ∷ objects_in scope (suc number) others else objects_in scope (suc number) others
+-- an object, or such a function
+abbrev pub is_part : Declares → Bool
+is_part (facts.object of kind is_mutable value first) = true
+is_part (facts.function of kind flags defaults first) = is_own_function kind flags
+is_part _ = false
+
+abbrev pub is_part_in : ℕ → CxxFact → Bool
+is_part_in scope fact = nat_eq fact.scope scope && is_part fact.what
+
+-- the declarations of the objects and of the functions of a class in a scope, in order
+abbrev pub parts_in : ℕ → ℕ → List CxxFact → List ℕ
+parts_in scope number [] = []
+parts_in scope number (fact ∷ others) = if is_part_in scope fact then number ∷ parts_in scope (suc number) others else parts_in scope (suc number) others
 
 abbrev pub list_by : List CxxFact → Option ℕ → ℕ
 list_by all None = zero
@@ -204,15 +215,17 @@ list_of_body all (Some body) = list_by all body.label.target
 
 -- the parameters of a definition, by their declarations
 abbrev pub parameters_of : List CxxFact → CxxTree → List ℕ
-parameters_of all tree = objects_in (list_of_body all (body_of tree)) zero all
+parameters_of all tree = parts_in (list_of_body all (body_of tree)) zero all
 
-abbrev pub is_first_object : Declares → Bool
-is_first_object (facts.object of member is_mutable value None) = true
-is_first_object _ = false
+-- the first declaration of an object or of a function
+abbrev pub is_first_part : Declares → Bool
+is_first_part (facts.object of member is_mutable value None) = true
+is_first_part (facts.function of member flags defaults None) = true
+is_first_part _ = false
 
 abbrev pub is_first : Option CxxFact → Bool
 is_first None = false
-is_first (Some fact) = is_first_object fact.what
+is_first (Some fact) = is_first_part fact.what
 
 abbrev pub if_first : List CxxFact → ℕ → List ℕ
 if_first all number = if is_first (slice_get all number) then number ∷ [] else []
@@ -220,9 +233,9 @@ if_first all number = if is_first (slice_get all number) then number ∷ [] else
 abbrev pub firsts_among : List CxxFact → List ℕ → List ℕ
 firsts_among all numbers = flat_map (if_first all) numbers
 
--- 9.2: the data members of the class with a scope, by their first declarations
+-- 9.2, 9.3: the data members and the functions of the class with a scope, by their first declarations
 abbrev pub members_of : List CxxFact → ℕ → List ℕ
-members_of all scope = firsts_among all (objects_in scope zero all)
+members_of all scope = firsts_among all (parts_in scope zero all)
 
 -- ---- bases of a class (10)
 

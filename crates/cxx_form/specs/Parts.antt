@@ -1,5 +1,5 @@
 -- The lines of a plain form, part by part, as they are written.
-use Rattle.std.specs.Prelude.{ℕ, zero, ℤ, pos, Bool, true, false, if◌then◌else◌, ◌<◌, List, [], ◌∷◌, ◌++◌, length, flat_map, map, codes, Option, Some, None}
+use Rattle.std.specs.Prelude.{ℕ, zero, ℤ, pos, Bool, true, false, if◌then◌else◌, ◌<◌, List, [], ◌∷◌, ◌++◌, length, map, codes, Option, Some, None}
 use Rattle.std.specs.List.{slice_get}
 use Rattle.cxx_model.specs.declared.facts.Entity.{Entity}
 use Rattle.cxx_model.specs.declared.facts.Entity.TheVariants as entity
@@ -26,8 +26,7 @@ use Rattle.cxx_form.specs.Books.{facts_of, graph_of, names_of, trees_of, type_fo
 use Rattle.cxx_form.specs.declared.lines.Line.{Line}
 use Rattle.cxx_form.specs.Lines.{line_at}
 use Rattle.cxx_form.specs.Definitions.{ellipsis_words, first_of_declarator, has_ellipsis, inner_lines, parameter_words, result_of, type_of_declarator}
-use Rattle.cxx_form.specs.Order.{if_first}
-use Rattle.cxx_form.specs.Text.{base_words, class_end, class_front, class_key_of, initializer_words, initializers_in, member_lines, words_on}
+use Rattle.cxx_form.specs.Text.{base_words, class_end, class_front, class_key_of, initializer_words, initializers_in, member_if_first, member_lines, value_of_again, words_on}
 
 abbrev pub is_none : {A : Type 0} → List A → Bool
 is_none [] = true
@@ -108,16 +107,22 @@ base_row all (Some n) = numbers_of (is_ancestor_of n) all
 unfoldable pub front_parts : Book → List FactId → ℕ → List Word
 front_parts book row number = keyword_word (class_key_of (slice_get (facts_of book) number)) ∷ name_word ((names_of book).name_of number) ∷ (bases_unless book row (is_none row) ++ open_brace ∷ [])
 
--- a declaration in the scope of a class, where it is the first one of a data member
-unfoldable pub member_at : Book → FactId → Lines
-member_at book number = flat_map (member_lines (names_of book) (facts_of book)) (if_first (facts_of book) number.0)
+-- a declaration in the scope of a class, where it is the first one of a member, which has a value in the class or none
+unfoldable pub member_at : Book → FactId → Option ℤ → Lines
+member_at book number value = member_if_first (names_of book) (facts_of book) number.0 value
 
-abbrev pub member_if : Book → FactId → Bool → Lines
-member_if book number true = member_lines (names_of book) (facts_of book) number.0
-member_if book number false = []
+abbrev pub member_if : Book → FactId → Option ℤ → Bool → Lines
+member_if book number value true = member_lines (names_of book) (facts_of book) number.0 value
+member_if book number value false = []
+
+-- the value of a member, given the declarations behind it
+abbrev pub value_next : Book → FactId → List FactId → Option ℤ
+value_next book number [] = None
+value_next book number (next ∷ others) = value_of_again number.0 (slice_get (facts_of book) next.0)
 
 abbrev pub members_at : Book → List FactId → Lines
-members_at book row = flat_map (member_at book) row
+members_at book [] = []
+members_at book (number ∷ others) = member_at book number (value_next book number others) ++ members_at book others
 
 unfoldable pub class_parts : Book → List FactId → ℕ → Lines
 class_parts book row number = class_front (names_of book) (facts_of book) number ∷ (members_at book row ++ class_end ∷ [])

@@ -1,10 +1,12 @@
 -- The plain form of a reading with expressions.
-use Rattle.std.specs.Prelude.{ℕ, Bool, true, false, if◌then◌else◌, List, [], ◌∷◌, ◌++◌, flat_map, map, codes, Option, Some, None}
+use Rattle.std.specs.Prelude.{ℕ, zero, ℤ, Bool, true, false, nat_eq, if◌then◌else◌, List, [], ◌∷◌, ◌++◌, flat_map, map, codes, Option, Some, None}
 use Rattle.std.specs.List.{slice_get}
 use Rattle.cxx_model.specs.declared.facts.MemberKind.{MemberKind}
 use Rattle.cxx_model.specs.declared.facts.MemberKind.TheVariants as member
+use Rattle.cxx_model.specs.declared.types.FactId.{FactId}
 use Rattle.cxx_model.specs.Facts.Declarations as facts
 use Rattle.cxx_model.specs.Facts.Declarations.{CxxFact, CxxGraph, Declares}
+use Rattle.cxx_model.specs.Types.Trees.{CxxType, enumeration, unqualified}
 use Rattle.cxx_reading.specs.Declarators.{no_cv}
 use Rattle.cxx_reading.specs.Plain.{NamesOfText, NamedFunction, named_function, type_or_void, is_empty, enumeration_words, function_words}
 use Rattle.cxx_reading.specs.Productions as production
@@ -12,13 +14,13 @@ use Rattle.cxx_reading.specs.Specifiers.{class_key}
 use Rattle.cxx_reading.specs.State.{CxxState}
 use Rattle.cxx_reading.specs.Trees.{CxxTree, CxxTrees}
 use Rattle.cxx_reading.specs.Units.{CxxReading}
-use Rattle.cxx_reading.specs.Words.{Word, keyword_word, name_word, type_name_word, semicolon_word, separated, declared, line_text}
+use Rattle.cxx_reading.specs.Words.{Word, keyword_word, name_word, type_name_word, semicolon_word, separated, declared, line_text, value_words}
 use Rattle.cxx_expr.specs.Names.{static_class}
 use Rattle.cxx_phrase_text.specs.Calls.{CallOfText, calls_of}
 use Rattle.cxx_phrase_text.specs.Phrases as phrases
 use Rattle.cxx_statement_text.specs.Statements.{Lines, close_brace, line, open_brace}
 use Rattle.cxx_form.specs.Definitions.{definition_calls, definition_words, object_type}
-use Rattle.cxx_form.specs.Order.{Line, class_line, enumeration_line, class_definition, function_line, object_line, definition_lines, bases_at, lines, members_of, names_of_text, parts_of_production}
+use Rattle.cxx_form.specs.Order.{Line, class_line, enumeration_line, class_definition, function_line, object_line, definition_lines, bases_at, is_first, lines, names_of_text, parts_in, parts_of_production}
 
 -- the initializers among the parts of a declarator
 abbrev pub initializers_in : CxxTrees → List CxxTree
@@ -82,6 +84,7 @@ is_static_kind _ = false
 
 abbrev pub is_static_by : Declares → Bool
 is_static_by (facts.object of kind is_mutable value first) = is_static_kind kind
+is_static_by (facts.function of kind flags defaults first) = is_static_kind kind
 is_static_by _ = false
 
 abbrev pub is_static_of : Option CxxFact → Bool
@@ -93,23 +96,68 @@ abbrev pub static_words : Bool → List Word
 static_words true = keyword_word (codes "static") ∷ []
 static_words false = []
 
+-- 7.2: a type, where it is an enumeration
+abbrev pub as_enumeration : CxxType → Option CxxType
+as_enumeration (enumeration n) = Some (enumeration n)
+as_enumeration _ = None
+
+abbrev pub constant_as : NamesOfText → Option CxxType → ℤ → List Word
+constant_as names None value = value_words value
+constant_as names (Some of) value = phrases.cast_words names.tags (codes "static_cast") of (value_words value)
+
+-- a constant of a type: its value, which is cast to an enumeration
+abbrev pub constant_words : NamesOfText → CxxType → ℤ → List Word
+constant_words names of value = constant_as names (as_enumeration (unqualified of)) value
+
+-- 9.4.2: the value of a static constant, where its class gives it
+abbrev pub value_behind : NamesOfText → CxxType → Option ℤ → List Word
+value_behind names of None = []
+value_behind names of (Some value) = keyword_word (codes "=") ∷ constant_words names of value
+
 -- a declaration of a name with a type
-abbrev pub typed_words : NamesOfText → List CxxFact → ℕ → List Word
-typed_words names all number = declared names.tags no_cv (object_type (slice_get all number)) (name_word (names.name_of number) ∷ []) ++ semicolon_word ∷ []
+abbrev pub typed_words : NamesOfText → List CxxFact → ℕ → Option ℤ → List Word
+typed_words names all number value =
+    declared names.tags no_cv (object_type (slice_get all number)) (name_word (names.name_of number) ∷ []) ++ (value_behind names (object_type (slice_get all number)) value ++ semicolon_word ∷ [])
 
 -- what stands behind `static`
-abbrev pub nonstatic_words : NamesOfText → List CxxFact → ℕ → List Word
-nonstatic_words names all number = mutable_words (is_mutable_of (slice_get all number)) ++ typed_words names all number
+abbrev pub nonstatic_words : NamesOfText → List CxxFact → ℕ → Option ℤ → List Word
+nonstatic_words names all number value = mutable_words (is_mutable_of (slice_get all number)) ++ typed_words names all number value
 
-abbrev pub member_words : NamesOfText → List CxxFact → ℕ → List Word
-member_words names all number = static_words (is_static_of (slice_get all number)) ++ nonstatic_words names all number
+abbrev pub member_words : NamesOfText → List CxxFact → ℕ → Option ℤ → List Word
+member_words names all number value = static_words (is_static_of (slice_get all number)) ++ nonstatic_words names all number value
 
--- a data member, on a line
-abbrev pub member_lines : NamesOfText → List CxxFact → ℕ → Lines
-member_lines names all number = line 1 (member_words names all number)
+-- a data member or a function, on a line
+abbrev pub member_lines : NamesOfText → List CxxFact → ℕ → Option ℤ → Lines
+member_lines names all number value = line 1 (member_words names all number value)
+
+-- the value of a further declaration of the object with a declaration
+abbrev pub value_if : ℕ → Option FactId → Option ℤ → Option ℤ
+value_if number None value = None
+value_if number (Some first) value = if nat_eq first.0 number then value else None
+
+abbrev pub value_of_again_by : ℕ → Declares → Option ℤ
+value_of_again_by number (facts.object of kind is_mutable value first) = value_if number first value
+value_of_again_by number _ = None
+
+abbrev pub value_of_again : ℕ → Option CxxFact → Option ℤ
+value_of_again number None = None
+value_of_again number (Some fact) = value_of_again_by number fact.what
+
+-- The value that a class gives to a member: that of the declaration next to it, if that is a further one of it.
+abbrev pub value_after : List CxxFact → ℕ → List ℕ → Option ℤ
+value_after all number [] = None
+value_after all number (next ∷ others) = value_of_again number (slice_get all next)
+
+abbrev pub member_if_first : NamesOfText → List CxxFact → ℕ → Option ℤ → Lines
+member_if_first names all number value = if is_first (slice_get all number) then member_lines names all number value else []
+
+-- the members among declarations, by their first ones
+abbrev pub members_lines : NamesOfText → List CxxFact → List ℕ → Lines
+members_lines names all [] = []
+members_lines names all (number ∷ others) = member_if_first names all number (value_after all number others) ++ members_lines names all others
 
 abbrev pub class_definition_words : NamesOfText → List CxxFact → ℕ → ℕ → Lines
-class_definition_words names all number scope = class_front names all number ∷ (flat_map (member_lines names all) (members_of all scope) ++ class_end ∷ [])
+class_definition_words names all number scope = class_front names all number ∷ (members_lines names all (parts_in scope zero all) ++ class_end ∷ [])
 
 -- ---- lines
 

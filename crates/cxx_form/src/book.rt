@@ -6,12 +6,12 @@ use cxx_page::Tags;
 use cxx_tree::State;
 
 /// A state, and the tables that were made of it: the numbers of names, the printed names of enumerations, their
-/// enumerators, and the objects of scopes.
+/// enumerators, and the objects and the functions of classes in scopes.
 #[derive(Clone, Copy)]
 pub(crate) struct Book<'a> {
     pub state: &'a State,
     pub numbering: &'a Numbering,
     pub tags: &'a Tags,
     pub enumerators: &'a Rows,
-    pub objects: &'a Rows,
+    pub parts: &'a Rows,
 }

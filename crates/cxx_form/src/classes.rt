@@ -1,5 +1,5 @@
 //! The lines of classes (clause 9).
-ghost use Rattle.std.specs.Prelude.{◌≡◌, [], ◌∷◌, ◌++◌, flat_map, length, List, Some, ℕ};
+ghost use Rattle.std.specs.Prelude.{◌≡◌, [], ◌∷◌, ◌++◌, length, List, Some, ℕ};
 ghost use Rattle.std.specs.List.{slice_get};
 ghost use Rattle.cxx_model.specs.declared.facts.Access.{Access};
 ghost use Rattle.cxx_model.specs.declared.place.Place.{Place};
@@ -22,6 +22,7 @@ use crate::book::Book;
 use crate::facts::find;
 use crate::heads::object_type;
 use crate::members::is_first;
+use crate::values::{value_next, write_value_end};
 use crate::words::{write_declared, write_name};
 use cxx_model::{Entity, FactId, MemberKind, ScopeId, TypeId};
 use cxx_page::{Page, PlainFault};
@@ -78,14 +79,15 @@ fn write_typed(
     page: &mut Page,
     of: Option<TypeId>,
     number: FactId,
+    value: Option<i128>,
 ) -> Result<(), PlainFault>
     requires book { IsBook book.now }
     requires below { IsTypeNumberBelow (length (book.now.state.now).types) of }
     requires is { type_or_void (type_of_option (book.now.state.now).types of) ≡ object_type_of (slice_get (facts_of book.now) number.0) }
-    ensures { Writes result page.new (put (typed_words (names_of book.now) (facts_of book.now) number.0) page.old) }
+    ensures { Writes result page.new (put (typed_words (names_of book.now) (facts_of book.now) number.0 value) page.old) }
 {
     write_declared(book, page, of, number)?;
-    page.word(Role::Follows, b";")
+    write_value_end(book, page, of, value)
 }
 
 fn is_mutable_in(what: Entity) -> bool
@@ -119,21 +121,31 @@ fn write_mutable(page: &mut Page, is_mutable: bool) -> Result<(), PlainFault>
 }
 
 // Writes what stands behind that word.
-fn write_type_and_name(book: &Book<'_>, page: &mut Page, number: FactId) -> Result<(), PlainFault>
+fn write_type_and_name(
+    book: &Book<'_>,
+    page: &mut Page,
+    number: FactId,
+    value: Option<i128>,
+) -> Result<(), PlainFault>
     requires { IsBook book.now }
-    ensures { Writes result page.new (put (typed_words (names_of book.now) (facts_of book.now) number.0) page.old) }
+    ensures { Writes result page.new (put (typed_words (names_of book.now) (facts_of book.now) number.0 value) page.old) }
 {
-    write_typed(book, page, object_type(book.state, number), number)
+    write_typed(book, page, object_type(book.state, number), number, value)
 }
 
 // Writes what stands behind `static`.
 #[tactic(auto, using(cxx_page::proofs::Put::put_append))]
-fn write_nonstatic(book: &Book<'_>, page: &mut Page, number: FactId) -> Result<(), PlainFault>
+fn write_nonstatic(
+    book: &Book<'_>,
+    page: &mut Page,
+    number: FactId,
+    value: Option<i128>,
+) -> Result<(), PlainFault>
     requires { IsBook book.now }
-    ensures { Writes result page.new (put (nonstatic_words (names_of book.now) (facts_of book.now) number.0) page.old) }
+    ensures { Writes result page.new (put (nonstatic_words (names_of book.now) (facts_of book.now) number.0 value) page.old) }
 {
     write_mutable(page, is_mutable(book.state, number))?;
-    write_type_and_name(book, page, number)
+    write_type_and_name(book, page, number, value)
 }
 
 fn is_static_kind(member: MemberKind) -> bool
@@ -149,12 +161,12 @@ fn is_static_in(what: Entity) -> bool
     ensures { (types : List CxxType) → result ≡ is_static_by (declares_at types what) }
 {
     match what {
-        Entity::Object { member, .. } => is_static_kind(member),
+        Entity::Object { member, .. } | Entity::Function { member, .. } => is_static_kind(member),
         _ => false,
     }
 }
 
-// Whether an object is a static member (9.4).
+// Whether an object or a function is a static member (9.4).
 fn is_static(state: &State, number: FactId) -> bool
     ensures { result ≡ is_static_of (slice_get (facts_in state.now) number.0) }
 {
@@ -176,31 +188,46 @@ fn write_static(page: &mut Page, is_static: bool) -> Result<(), PlainFault>
 }
 
 #[tactic(auto, using(cxx_page::proofs::Put::put_append))]
-fn write_declaration(book: &Book<'_>, page: &mut Page, number: FactId) -> Result<(), PlainFault>
+fn write_declaration(
+    book: &Book<'_>,
+    page: &mut Page,
+    number: FactId,
+    value: Option<i128>,
+) -> Result<(), PlainFault>
     requires { IsBook book.now }
-    ensures { Writes result page.new (put (member_words (names_of book.now) (facts_of book.now) number.0) page.old) }
+    ensures { Writes result page.new (put (member_words (names_of book.now) (facts_of book.now) number.0 value) page.old) }
 {
     write_static(page, is_static(book.state, number))?;
-    write_nonstatic(book, page, number)
+    write_nonstatic(book, page, number, value)
 }
 
 // Writes it behind two spaces.
 #[tactic(auto, using(cxx_page::proofs::Put::put_more))]
-fn write_indented(book: &Book<'_>, page: &mut Page, number: FactId) -> Result<(), PlainFault>
+fn write_indented(
+    book: &Book<'_>,
+    page: &mut Page,
+    number: FactId,
+    value: Option<i128>,
+) -> Result<(), PlainFault>
     requires { IsBook book.now }
-    ensures { Writes result page.new (put (indent 1 ++ member_words (names_of book.now) (facts_of book.now) number.0) page.old) }
+    ensures { Writes result page.new (put (indent 1 ++ member_words (names_of book.now) (facts_of book.now) number.0 value) page.old) }
 {
     page.word(Role::Leads, b"  ")?;
-    write_declaration(book, page, number)
+    write_declaration(book, page, number, value)
 }
 
 // Writes the line of a member.
 #[tactic(auto, using(crate::proofs::Listing::one_line), unfolding(cxx_page::specs::Sheets::put_line))]
-fn write_member(book: &Book<'_>, page: &mut Page, number: FactId) -> Result<(), PlainFault>
+fn write_member(
+    book: &Book<'_>,
+    page: &mut Page,
+    number: FactId,
+    value: Option<i128>,
+) -> Result<(), PlainFault>
     requires { IsBook book.now }
-    ensures { Writes result page.new (put_lines (member_lines (names_of book.now) (facts_of book.now) number.0) page.old) }
+    ensures { Writes result page.new (put_lines (member_lines (names_of book.now) (facts_of book.now) number.0 value) page.old) }
 {
-    write_indented(book, page, number)?;
+    write_indented(book, page, number, value)?;
     page.end_line()
 }
 
@@ -209,32 +236,40 @@ fn write_if(
     book: &Book<'_>,
     page: &mut Page,
     number: FactId,
+    value: Option<i128>,
     is_member: bool,
 ) -> Result<(), PlainFault>
     requires { IsBook book.now }
-    ensures { Writes result page.new (put_lines (member_if book.now number is_member) page.old) }
+    ensures { Writes result page.new (put_lines (member_if book.now number value is_member) page.old) }
 {
     if !is_member {
         return Ok(());
     }
-    write_member(book, page, number)
+    write_member(book, page, number, value)
 }
 
 // Writes the line of a member where it is declared first.
-fn write_first(book: &Book<'_>, page: &mut Page, number: FactId) -> Result<(), PlainFault>
+fn write_first(
+    book: &Book<'_>,
+    page: &mut Page,
+    number: FactId,
+    value: Option<i128>,
+) -> Result<(), PlainFault>
     requires { IsBook book.now }
-    ensures { Writes result page.new (put_lines (member_at book.now number) page.old) }
+    ensures { Writes result page.new (put_lines (member_at book.now number value) page.old) }
 {
-    write_if(book, page, number, is_first(book.state, number))
+    write_if(book, page, number, value, is_first(book.state, number))
 }
 
-// Writes the lines of members.
+// Writes the lines of members. The declaration next to one says whether the class gives it a value.
 fn write_members(book: &Book<'_>, page: &mut Page, numbers: &[FactId]) -> Result<(), PlainFault>
     requires { IsBook book.now }
-    ensures { Writes result page.new (put_lines (flat_map (member_at book.now) numbers.now) page.old) }
+    ensures { Writes result page.new (put_lines (members_at book.now numbers.now) page.old) }
 {
-    for number in numbers {
-        write_first(book, page, *number)?;
+    let mut left = numbers;
+    while let [number, others @ ..] = left {
+        write_first(book, page, *number, value_next(book, *number, others))?;
+        left = others;
     }
     Ok(())
 }
@@ -316,5 +351,5 @@ pub(crate) fn write_class_definition(
     requires { IsBook book.now }
     ensures { Writes result page.new (put_lines (class_definition_words (names_of book.now) (facts_of book.now) number.0 scope.0) page.old) }
 {
-    write_parts(book, page, book.objects.row(scope.0), number)
+    write_parts(book, page, book.parts.row(scope.0), number)
 }

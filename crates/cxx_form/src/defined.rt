@@ -3,10 +3,10 @@ ghost use Rattle.std.specs.Prelude.{◌≡◌, ◌<◌, ◌++◌, List, flat_map
 ghost use Rattle.std.specs.List.{slice_get};
 ghost use Rattle.cxx_model.specs.Facts.Declarations.{declares_at};
 ghost use Rattle.cxx_model.specs.Types.Trees.{CxxType};
-ghost use Rattle.cxx_form.specs.Giving.{AreObjects};
+ghost use Rattle.cxx_form.specs.Giving.{AreParts};
 ghost use Rattle.cxx_form.specs.Lines.{number_in, numbers_in};
 ghost use Rattle.cxx_form.specs.Order as text;
-ghost use Rattle.cxx_form.specs.Order.{declared_by, declared_on, definition_lines, if_named, locals_in, named_among, objects_in};
+ghost use Rattle.cxx_form.specs.Order.{declared_by, declared_on, definition_lines, if_named, locals_in, named_among, parts_in};
 ghost use Rattle.cxx_form.specs.Views.{facts_in};
 ghost use Rattle.cxx_reading.specs.Plain.{is_empty};
 ghost use Rattle.cxx_statement_text.specs.Objects as objects;
@@ -42,12 +42,12 @@ fn list_of_body(state: &State, body: Option<TreeId>) -> u32
 }
 
 /// The parameters of a definition with a body, by their declarations.
-pub(crate) fn parameters<'a>(state: &State, objects: &'a Rows, body: Option<TreeId>) -> &'a [FactId]
-    requires objects { AreObjects (facts_in state.now) objects.now }
+pub(crate) fn parameters<'a>(state: &State, parts: &'a Rows, body: Option<TreeId>) -> &'a [FactId]
+    requires parts { AreParts (facts_in state.now) parts.now }
     requires below { IfSome body (λ number. number.0 < length (trees state.now)) }
-    ensures { numbers_in result.now ≡ objects_in (text.list_of_body (facts_in state.now) (option_map (tree state.now) body)) 0 (facts_in state.now) }
+    ensures { numbers_in result.now ≡ parts_in (text.list_of_body (facts_in state.now) (option_map (tree state.now) body)) 0 (facts_in state.now) }
 {
-    objects.row(list_of_body(state, body))
+    parts.row(list_of_body(state, body))
 }
 
 // Adds a declaration that has a name.
@@ -172,16 +172,16 @@ fn add_locals(
 pub(crate) fn add_defined(
     state: &State,
     alloc: Global,
-    objects: &Rows,
+    parts: &Rows,
     number: TreeId,
     found: &mut Vec<FactId>,
 ) -> Result<(), AllocError>
-    requires objects { AreObjects (facts_in state.now) objects.now }
+    requires parts { AreParts (facts_in state.now) parts.now }
     requires known { number.0 < length (trees state.now) }
     ensures { OnOk result (numbers_in found.new.items ≡ numbers_in found.old.items ++ declared_on (facts_in state.now) (definition_lines (tree state.now number))) }
 {
     let body = body_of(state, number);
-    add_named(state, parameters(state, objects, body), found)?;
+    add_named(state, parameters(state, parts, body), found)?;
     add_locals(state, alloc, body, found)?;
     Ok(())
 }

@@ -90,6 +90,6 @@ pub(crate) fn write_definition(
 {
     let declarator = declarator_of(book.state, number);
     let body = body_of(book.state, number);
-    let numbers = parameters(book.state, book.objects, body);
+    let numbers = parameters(book.state, book.parts, body);
     write_parts(alloc, book, page, declarator, numbers, body)
 }

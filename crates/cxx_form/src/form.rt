@@ -18,7 +18,7 @@ use crate::enumerations::{classes, declared, enumerators};
 use crate::lines::{Line, lines_by};
 use crate::names::{class_tags, tags};
 use crate::order::numbering;
-use crate::scoped::objects;
+use crate::scoped::parts;
 use crate::text::write_lines;
 use cxx_page::{Page, PlainFault, Tags};
 use cxx_tree::State;
@@ -80,7 +80,7 @@ pub fn print_reading(alloc: Global, state: &State) -> Result<Printed, PlainFault
     let found = lines_by(state, &firsts, alloc)?;
     let rows = enumerators(state, alloc)?;
     let places = declared(state, alloc)?;
-    let scoped = objects(state, alloc)?;
+    let scoped = parts(state, alloc)?;
     let numbers = numbering(state, &rows, &scoped, found.as_slice(), alloc)?;
     let names = Tags {
         classes: class_tags(state, &firsts, &numbers, alloc)?,
@@ -91,7 +91,7 @@ pub fn print_reading(alloc: Global, state: &State) -> Result<Printed, PlainFault
         numbering: &numbers,
         tags: &names,
         enumerators: &rows,
-        objects: &scoped,
+        parts: &scoped,
     };
     fitted(state);
     printed_by(alloc, &book, found.as_slice())

@@ -38,12 +38,12 @@ fn object_type_in(what: Entity) -> Option<TypeId>
     ensures below { (count : ℕ) → IsEntityBelow count what → IsTypeNumberBelow count result }
 {
     match what {
-        Entity::Object { of, .. } => Some(of),
+        Entity::Object { of, .. } | Entity::Function { of, .. } => Some(of),
         _ => None,
     }
 }
 
-/// The type of an object, by its declaration.
+/// The type of a parameter or a member, by its declaration.
 pub(crate) fn object_type(state: &State, number: FactId) -> Option<TypeId>
     ensures is { type_or_void (type_of_option (state.now).types result) ≡ definitions.object_type (slice_get (facts_in state.now) number.0) }
     ensures below { IsTypeNumberBelow (length (state.now).types) result }

@@ -1,9 +1,11 @@
 //! The plain form of a reading, from the state that the reading leaves.
 //!
-//! Its lines are listed once: classes, enumerations, then definitions of classes, then functions, then objects, then
-//! definitions of functions. What they declare, in their order, gives each name its number. Tables hold the number of each declaration, where each enumeration
-//! is declared, its enumerators and its printed name, and the objects of each scope; each is made in one pass, and the graph
-//! keeps the bases of each class, so the time is that of the declarations, the trees and the text.
+//! Its lines are listed once: classes, enumerations, then definitions of classes, then functions,
+//! then objects, then definitions of functions. What they declare, in their order, gives each name
+//! its number. Tables hold the number of each declaration, where each enumeration is declared, its
+//! enumerators and its printed name, and the objects and the functions of a class in each scope;
+//! each is made in one pass, and the graph keeps the bases of each class, so the time is that of
+//! the declarations, the trees and the text.
 #![tactic(auto)]
 
 mod bases;
@@ -35,6 +37,7 @@ mod rows;
 mod scoped;
 mod slots;
 mod text;
+mod values;
 mod words;
 
 pub use calls::printed_calls;

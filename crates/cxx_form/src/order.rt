@@ -3,7 +3,7 @@ ghost use Rattle.std.specs.Prelude.{◌≡◌, ◌++◌, [], flat_map, length, I
 ghost use Rattle.cxx_reading.specs.TextOrder.{with_each_new};
 ghost use Rattle.cxx_form.specs.Order.{declared_on, lines as lines_of, text_order};
 ghost use Rattle.cxx_tree.specs.Held.{meaning, trees};
-ghost use Rattle.cxx_form.specs.Giving.{AreEnumerators, AreObjects};
+ghost use Rattle.cxx_form.specs.Giving.{AreEnumerators, AreParts};
 ghost use Rattle.cxx_form.specs.Lines.{line_at, lines_at, numbers_in, AreLinesBelow, IsLineBelow};
 ghost use Rattle.cxx_form.specs.Numbered.{IsNumbering};
 ghost use Rattle.cxx_form.specs.Views.{facts_in};
@@ -23,12 +23,12 @@ fn add_declared(
     state: &State,
     alloc: Global,
     rows: &Rows,
-    objects: &Rows,
+    parts: &Rows,
     line: Line,
     found: &mut Vec<FactId>,
 ) -> Result<(), AllocError>
     requires rows { AreEnumerators (facts_in state.now) rows.now }
-    requires objects { AreObjects (facts_in state.now) objects.now }
+    requires parts { AreParts (facts_in state.now) parts.now }
     requires below { IsLineBelow (length (trees state.now)) line }
     ensures { OnOk result (numbers_in found.new.items ≡ numbers_in found.old.items ++ declared_on (facts_in state.now) (line_at (trees state.now) line)) }
 {
@@ -42,8 +42,8 @@ fn add_declared(
             found.push(number)?;
             Ok(())
         }
-        Line::ClassDefinition(_, scope) => add_members(state, objects, scope, found),
-        Line::Definition(tree) => add_defined(state, alloc, objects, tree, found),
+        Line::ClassDefinition(_, scope) => add_members(state, parts, scope, found),
+        Line::Definition(tree) => add_defined(state, alloc, parts, tree, found),
     }
 }
 
@@ -52,18 +52,18 @@ fn add_declared(
 fn declared(
     state: &State,
     rows: &Rows,
-    objects: &Rows,
+    parts: &Rows,
     lines: &[Line],
     alloc: Global,
 ) -> Result<Vec<FactId>, AllocError>
     requires rows { AreEnumerators (facts_in state.now) rows.now }
-    requires objects { AreObjects (facts_in state.now) objects.now }
+    requires parts { AreParts (facts_in state.now) parts.now }
     requires below { AreLinesBelow (length (trees state.now)) lines.now }
     ensures { IfOk result (λ found. numbers_in found.items ≡ flat_map (declared_on (facts_in state.now)) (lines_at (trees state.now) lines.now)) }
 {
     let mut found = Vec::new(alloc);
     for line in lines {
-        add_declared(state, alloc, rows, objects, *line, &mut found)?;
+        add_declared(state, alloc, rows, parts, *line, &mut found)?;
     }
     Ok(found)
 }
@@ -83,17 +83,17 @@ fn numbered(numbers: &[FactId], alloc: Global) -> Result<Numbering, AllocError>
 pub(crate) fn numbering(
     state: &State,
     rows: &Rows,
-    objects: &Rows,
+    parts: &Rows,
     lines: &[Line],
     alloc: Global,
 ) -> Result<Numbering, AllocError>
     requires rows { AreEnumerators (facts_in state.now) rows.now }
-    requires objects { AreObjects (facts_in state.now) objects.now }
+    requires parts { AreParts (facts_in state.now) parts.now }
     requires below { AreLinesBelow (length (trees state.now)) lines.now }
     requires lines { lines_at (trees state.now) lines.now ≡ lines_of (meaning state.now) }
     ensures { IfOk result (λ numbering. IsNumbering (text_order (meaning state.now)) numbering.count numbering.slots) }
 {
-    let numbers = declared(state, rows, objects, lines, alloc)?;
+    let numbers = declared(state, rows, parts, lines, alloc)?;
     let numbering = numbered(numbers.as_slice(), alloc)?;
     Ok(numbering)
 }

@@ -131,7 +131,7 @@ user room = record {
   kinds = kinds;
   whole = handed;
   defaults = record {
-    begun = λ state. Ok (false, state);
+    begun = λ equals state. Ok (false, state);
     ended = λ equals was index of tree state. Ok (tree, state);
   };
 }

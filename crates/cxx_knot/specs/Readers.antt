@@ -17,10 +17,11 @@ use Rattle.cxx_phrases.specs.Levels.{assignment_at, conditional_at}
 use Rattle.cxx_phrases.specs.Phrases.{Phrases, Inner}
 use Rattle.cxx_phrases.specs.Phrases as expressions
 
--- What is asked of a default argument (8.3.6): where it begins, whether another one is being read round it; and behind it,
--- with the place of its `=`, that answer, the index of its parameter and the type, its tree as it is converted.
+-- What is asked of a default argument (8.3.6): where it begins, with the place of its `=`, whether another one is being read
+-- round it; and behind it, with that place, that answer, the index of its parameter and the type, its tree as it is
+-- converted.
 pub record Offering (S : Type 0) : Type 0 where
-  pub begun : Asks S Bool
+  pub begun : Place → Asks S Bool
   pub ended : Place → Bool → ℕ → CxxType → CxxTree → Asks S CxxTree
 
 -- What is asked while a unit is read: of names and declarations, what an expression means, and of default arguments.
@@ -95,7 +96,7 @@ enumerators_at asks at inner number state ahead =
 unfoldable pub fallback_at : {S : Type 0} → Asking S → Phrases S → Inner S → Fallback S
 fallback_at asks at inner index of = do
   equals ← taken
-  was ← ask asks.defaults.begun
+  was ← ask (asks.defaults.begun equals)
   tree ← assignment_at at inner
   converted ← ask (asks.defaults.ended equals was index of tree)
   give (converted ∷ [])

@@ -25,10 +25,10 @@ pub trait Asking: Kinds {
         requires children { AreTreesBelow (length (trees state.old)) node.children }
         ensures { IsAsked tree IsTreeKnown state.old state.new result (wholes self.now room (tree_over (state.old).types (trees state.old) node) (meaning state.old)) };
 
-    /// A default argument begins (8.3.6): whether another one is being read round it.
-    fn begun(&self, state: &mut State) -> Result<bool, Stop>
+    /// A default argument begins, at its `=` (8.3.6): whether another one is being read round it.
+    fn begun(&self, state: &mut State, equals: Place) -> Result<bool, Stop>
         requires { Self.is_ready self.now }
-        ensures { IsAsked itself AnyKnown state.old state.new result ((offers self.now).begun (meaning state.old)) };
+        ensures { IsAsked itself AnyKnown state.old state.new result ((offers self.now).begun equals (meaning state.old)) };
 
     /// A default argument of the parameter with an index and a type was read, and is added as it is converted at its `=`;
     /// `was` is what `begun` answered.

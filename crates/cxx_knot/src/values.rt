@@ -229,7 +229,7 @@ impl<K: Asking, P: Phrases> Values<'_, K, P> {
     {
         let equals = cursor.place();
         cursor.advance();
-        let was = self.kinds.begun(state)?;
+        let was = self.kinds.begun(state, equals)?;
         let number = read_expression(self.phrases, state, cursor, Level::Assignment)?;
         let converted = self.kinds.ended(state, equals, was, index, of, number)?;
         Ok(one_tree(cursor.alloc(), converted)?)

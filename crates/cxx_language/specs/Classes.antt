@@ -11,11 +11,12 @@ use Rattle.cxx_model.specs.declared.punct.TheConstants as punct
 use Rattle.cxx_model.specs.declared.stop.LimitKind.TheVariants.{Nesting}
 use Rattle.cxx_model.specs.declared.token.TokenKind.{TokenKind}
 use Rattle.cxx_model.specs.declared.token.TokenKind.TheVariants.{Keyword}
+use Rattle.cxx_model.specs.declared.types.Cv.{Cv}
 use Rattle.cxx_model.specs.Text.Lexemes.{Lexeme}
 use Rattle.cxx_model.specs.Types.Trees.{CxxType, class_type}
 use Rattle.cxx_reading.specs.declared.specifier.Naming.TheVariants as naming
 use Rattle.cxx_reading.specs.declared.specifier.SpecifierPlace.TheVariants as where_
-use Rattle.cxx_reading.specs.Declarators.{Specifiers, Declarator, declared_type, has_type, is_function_type, is_reference}
+use Rattle.cxx_reading.specs.Declarators.{Specifiers, Declarator, has_type, is_function_type, is_reference, member_type, no_cv}
 use Rattle.cxx_reading.specs.Labels.{label_from}
 use Rattle.cxx_reading.specs.Productions as production
 use Rattle.cxx_reading.specs.Reads.{Reads, Ahead, Asks, Turn, More, Done, ◌>>=◌, got, give, ask, fault_at, limited, looked, taken, tokens, kind_ahead, place_ahead, word_ahead, count_ahead, behind, repeat}
@@ -23,13 +24,14 @@ use Rattle.cxx_reading.specs.Specifiers.{class_key, path_of_option, place_or, sp
 use Rattle.cxx_reading.specs.State.{CxxState}
 use Rattle.cxx_reading.specs.Syntax.{declarator_at}
 use Rattle.cxx_declare.specs.Outside.{stand_in}
-use Rattle.cxx_reading.specs.Tokens.{begins_name, is_punct, is_keyword, is_name, not_built, path_taken, punct_taken, refused, token_in}
+use Rattle.cxx_reading.specs.Tokens.{begins_name, is_plain_name, is_punct, is_keyword, is_name, not_built, path_taken, punct_taken, refused, token_in}
 use Rattle.cxx_reading.specs.Trees.{CxxPath, CxxTree, last_part, tree_of}
 use Rattle.cxx_reading.specs.Units.{Said, Listed, declarator_ended, declarator_tree, declared_fits, declared_synonym, give_trees, is_const_type, is_incomplete, is_unbounded, name_in, no_declarators, nothing_declared, said_by, simple_tree, specifiers_tree}
 use Rattle.cxx_declare.specs.Bases.{BaseOf, declare_base}
 use Rattle.cxx_declare.specs.ClassDefinitions.{begin_class, begin_unnamed, declare_member, end_class}
 use Rattle.cxx_language.specs.Asked.{asked, inner_at}
 use Rattle.cxx_language.specs.Bodies.{standing}
+use Rattle.cxx_language.specs.Values.{member_value}
 
 -- ---- the head
 
@@ -53,6 +55,10 @@ behind_name ahead = if is_name (kind_ahead ahead) then behind ahead else ahead
 
 abbrev pub name_or_none : Reads CxxState (Option Lexeme)
 name_or_none state ahead = got (name_ahead ahead) state (behind_name ahead)
+
+-- 9: a class whose name has qualifiers is not defined yet
+abbrev pub no_member_class : Reads CxxState (Unit {0})
+no_member_class state ahead = if begins_name (behind ahead) && not (is_plain_name (behind ahead)) then not_built state ahead else got tt state ahead
 
 -- a key and a name, or a key alone, with the `:` of bases or the `{` ahead then
 unfoldable pub head_at : Reads CxxState Head
@@ -80,34 +86,44 @@ class_begins head = begins_by head.is_union head.place head.name
 unfoldable pub no_bit_field : Lexeme → Reads CxxState (Unit {0})
 no_bit_field name state ahead = if is_punct punct.COLON (kind_ahead ahead) then fault_at name.place (says.LeftOut form.BitField) state ahead else got tt state ahead
 
--- 9.3: functions of a class are not read yet
-unfoldable pub no_function : Lexeme → CxxType → Reads CxxState (Unit {0})
-no_function name of state ahead = if is_function_type of then fault_at name.place says.NotBuilt state ahead else got tt state ahead
-
 -- 9.2, 9.4.2: a member that is not static is of a complete type; that of its own class is none yet
 unfoldable pub whole_member : Bool → Lexeme → CxxType → Reads CxxState (Unit {0})
 whole_member is_static name of state ahead =
     if not is_static && (is_unbounded of || is_incomplete state.graph of) then fault_at name.place says.IncompleteClass state ahead else got tt state ahead
 
--- 9.4.2: the value of a static constant is not read in a class yet
-unfoldable pub no_constant_value : Bool → CxxType → Reads CxxState (Unit {0})
-no_constant_value is_static of state ahead = if is_static && (is_const_type of && is_punct punct.EQUALS (kind_ahead ahead)) then not_built state ahead else got tt state ahead
+-- 9.3: the body of a function of a class is not read yet; 15: exceptions are left out
+abbrev pub no_function_body : Reads CxxState (Unit {0})
+no_function_body state ahead =
+    if is_punct punct.LEFT_BRACE (kind_ahead ahead) then not_built state ahead else (
+    if is_keyword keyword.TRY (kind_ahead ahead) then fault_at (place_ahead ahead) (says.LeftOut form.Exception) state ahead else
+    got tt state ahead)
+
+abbrev pub no_body : CxxType → Reads CxxState (Unit {0})
+no_body of state ahead = if is_function_type of then no_function_body state ahead else got tt state ahead
+
+-- 9.3.1: a static function has no words behind its parameters
+abbrev pub words_of : Said → Declarator → Cv
+words_of said declarator = if said.is_static then no_cv else declarator.cv
+
+-- the type of a member that a declarator declares
+abbrev pub type_of_member : Said → Declarator → CxxType
+type_of_member said declarator = member_type (words_of said declarator) declarator.layers said.of
 
 -- 7.1.1 p8: a constant and a reference are not mutable
 abbrev pub is_mutable_member : Said → CxxType → Bool
 is_mutable_member said of = said.is_mutable && not (is_reference of || is_const_type of)
 
--- a data member, given its declarator
-unfoldable pub data_member : Access → Said → Declarator → Ahead → Reads CxxState CxxTree
-data_member label said declarator from = do
+-- a data member or a function, given its declarator
+unfoldable pub data_member : ℕ → Access → Said → Declarator → Ahead → Reads CxxState CxxTree
+data_member room label said declarator from = do
   narrow ← no_bit_field (name_in declarator)
   fits ← declared_fits said declarator
-  object ← no_function (name_in declarator) (declared_type declarator.layers said.of)
-  number ← ask (declare_member label said.is_static (is_mutable_member said (declared_type declarator.layers said.of)) (name_in declarator) (declared_type declarator.layers said.of))
-  whole ← whole_member said.is_static (name_in declarator) (declared_type declarator.layers said.of)
-  bare ← no_constant_value said.is_static (declared_type declarator.layers said.of)
+  number ← ask (declare_member label said.is_static (is_mutable_member said (type_of_member said declarator)) (name_in declarator) (type_of_member said declarator))
+  whole ← whole_member said.is_static (name_in declarator) (type_of_member said declarator)
+  value ← member_value room said.is_static (name_in declarator) (type_of_member said declarator) number
+  bare ← no_body (type_of_member said declarator)
   to ← looked
-  give (declarator_tree false (name_in declarator) (declared_type declarator.layers said.of) number declarator.parts from to)
+  give (declarator_tree false (name_in declarator) (type_of_member said declarator) number (declarator.parts ++ value) from to)
 
 -- 7.1.3: a name of a type, given its declarator
 unfoldable pub synonym_member : Said → Declarator → Ahead → Reads CxxState CxxTree
@@ -115,26 +131,20 @@ synonym_member said declarator from = do
   fits ← declared_fits said declarator
   declared_synonym said declarator from
 
-unfoldable pub declared_member : Access → Said → Declarator → Ahead → Reads CxxState CxxTree
-declared_member label said declarator from state ahead =
-    if said.is_typedef then synonym_member said declarator from state ahead else data_member label said declarator from state ahead
+unfoldable pub declared_member : ℕ → Access → Said → Declarator → Ahead → Reads CxxState CxxTree
+declared_member room label said declarator from state ahead =
+    if said.is_typedef then synonym_member said declarator from state ahead else data_member room label said declarator from state ahead
 
 unfoldable pub named_member_at : ℕ → Access → Said → Reads CxxState CxxTree
 named_member_at room label said = do
   from ← looked
   declarator ← declarator_at (asked room).kinds (inner_at room).types naming.Required
-  declared_member label said declarator from
+  declared_member room label said declarator from
 
--- 9.3: a name and a bracket, a function, whose default arguments are read behind the class (3.3.6)
-abbrev pub begins_function : Ahead → Bool
-begins_function ahead = is_name (kind_ahead ahead) && is_punct punct.LEFT_PARENTHESIS (kind_ahead (behind ahead))
-
--- 9.6: a bit-field may have no name; functions of a class are not read yet
+-- 9.6: a bit-field may have no name
 unfoldable pub member_at : ℕ → Access → Said → Reads CxxState CxxTree
 member_at room label said state ahead =
-    if is_punct punct.COLON (kind_ahead ahead) then fault_at (place_ahead ahead) (says.LeftOut form.BitField) state ahead else (
-    if not said.is_typedef && begins_function ahead then not_built state ahead else
-    named_member_at room label said state ahead)
+    if is_punct punct.COLON (kind_ahead ahead) then fault_at (place_ahead ahead) (says.LeftOut form.BitField) state ahead else named_member_at room label said state ahead
 
 unfoldable pub member_step : ℕ → Access → Said → Listed → Reads CxxState (Turn Listed (List CxxTree))
 member_step room label said so_far = member_at room label said >>= declarator_ended so_far
@@ -199,12 +209,16 @@ begins_constructor (Some name) ahead = is_name (kind_ahead ahead) && (bytes_eq (
 abbrev pub comes_later : Option Lexeme → Ahead → Bool
 comes_later name ahead = begins_other (kind_ahead ahead) || begins_constructor name ahead
 
+-- 7.1.2: behind `inline`, where that stands first
+abbrev pub behind_inline : Ahead → Ahead
+behind_inline ahead = if is_keyword keyword.INLINE (kind_ahead ahead) then behind ahead else ahead
+
 abbrev pub with_member : CxxTree → Members → Members
 with_member tree so_far = record so_far { trees = so_far.trees ++ tree ∷ [] }
 
 unfoldable pub declared_step : (Specifiers → Reads CxxState Specifiers) → ℕ → Option Lexeme → Members → Reads CxxState (Turn Members (List CxxTree))
 declared_step nested room name so_far state ahead =
-    if comes_later name ahead then not_built state ahead else
+    if comes_later name (behind_inline ahead) then not_built state (behind_inline ahead) else
     (member_declaration_by nested room so_far.access >>= λ tree. give (More (with_member tree so_far))) state ahead
 
 -- a member, a label, `;` alone, or the end of the list
@@ -315,6 +329,7 @@ unfoldable pub class_by : (Head → List CxxTree → Reads CxxState (List CxxTre
 class_by list so_far = do
   outside ← standing
   from ← looked
+  plain ← no_member_class
   head ← head_at
   number ← ask (class_begins head)
   bases ← bases_or_none outside number head.access

@@ -11,6 +11,7 @@ pub mod Spaces
 pub mod Blocks
 pub mod Statements
 pub mod Bodies
+pub mod Values
 pub mod Classes
 pub mod Units
 pub mod Views

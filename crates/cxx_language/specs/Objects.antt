@@ -1,5 +1,5 @@
 -- How an object is initialized (8.5).
-use Rattle.std.specs.Prelude.{ℕ, Bool, ◌||◌, false, if◌then◌else◌, nat_eq, List, [], ◌∷◌, codes}
+use Rattle.std.specs.Prelude.{ℕ, Bool, ◌&&◌, ◌||◌, false, if◌then◌else◌, nat_eq, List, [], ◌∷◌, Some, codes}
 use Rattle.cxx_model.specs.declared.fault.FaultText.TheVariants as says
 use Rattle.cxx_model.specs.declared.punct.TheConstants as punct
 use Rattle.cxx_model.specs.declared.tree.Form.{Form}
@@ -13,13 +13,14 @@ use Rattle.cxx_reading.specs.Reads.{Reads, Ahead, ◌>>=◌, got, give, ask, fau
 use Rattle.cxx_reading.specs.State.{CxxState}
 use Rattle.cxx_reading.specs.Tokens.{is_punct, refused}
 use Rattle.cxx_reading.specs.Trees.{CxxTree, tree_of}
-use Rattle.cxx_reading.specs.Units.{complete_object, ends_declarator, uninitialized}
+use Rattle.cxx_reading.specs.Units.{complete_object, ends_declarator, is_const_type, uninitialized}
 use Rattle.cxx_phrases.specs.Initializers.{Initializer, initializer_at}
 use Rattle.cxx_phrases.specs.Phrases.{Phrases, Inner}
 use Rattle.cxx_expr.specs.Initializing.{initialize}
 use Rattle.cxx_expr.specs.Questions.{Questions}
 use Rattle.cxx_answers.specs.Typed.{type_so_far}
-use Rattle.cxx_language.specs.Known.{note_known, type_known}
+use Rattle.cxx_constant.specs.Forms.{value_of_name}
+use Rattle.cxx_language.specs.Known.{is_some_value, note_known, type_known}
 
 -- ---- the tree of an initializer
 
@@ -64,8 +65,14 @@ initialized_part q at inner name of number = do
 abbrev pub begins_initializer : Ahead → Bool
 begins_initializer ahead = is_punct punct.EQUALS (kind_ahead ahead) || is_punct punct.LEFT_PARENTHESIS (kind_ahead ahead)
 
+-- 9.4.2 p4: whether the object with a declaration is a constant whose value is known already, as that of a member is which
+-- its class gives
+abbrev pub is_given : CxxState → ℕ → CxxType → Bool
+is_given state number of = is_const_type of && is_some_value (value_of_name state.graph.facts (Some number))
+
 unfoldable pub without_initializer : Lexeme → CxxType → ℕ → Reads CxxState (List CxxTree)
-without_initializer name of number state ahead = uninitialized name (type_so_far state number of) state ahead
+without_initializer name of number state ahead =
+    if is_given state number of then got [] state ahead else uninitialized name (type_so_far state number of) state ahead
 
 -- behind the name of an object that is defined
 unfoldable pub defined_part : Questions → Phrases CxxState → Inner CxxState → Lexeme → CxxType → ℕ → Reads CxxState (List CxxTree)

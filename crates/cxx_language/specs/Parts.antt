@@ -7,6 +7,7 @@ use Rattle.cxx_reading.specs.State.{CxxState}
 use Rattle.cxx_reading.specs.Trees.{CxxTree}
 use Rattle.cxx_language.specs.Known.{note_known, type_known}
 use Rattle.cxx_language.specs.Objects.{some_elements}
+use Rattle.cxx_language.specs.Values.{is_constant_given}
 
 -- 8.3.4
 abbrev pub is_zero_bound : CxxBound → Bool
@@ -16,3 +17,7 @@ is_zero_bound _ = false
 -- behind the initializer of the object with a declaration
 abbrev pub initialized_by : Lexeme → CxxType → ℕ → CxxTree → Reads CxxState (List CxxTree)
 initialized_by name of number tree = some_elements name (type_known of tree) >>= λ fits. ask (note_known name number of tree) >>= λ noted. give (tree ∷ [])
+
+-- behind the value of a member in its class
+abbrev pub constant_by : Lexeme → CxxType → ℕ → CxxTree → Reads CxxState (List CxxTree)
+constant_by name of number tree = ask (is_constant_given tree) >>= λ value. ask (note_known name number of tree) >>= λ noted. give (tree ∷ [])

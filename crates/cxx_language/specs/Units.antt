@@ -1,5 +1,5 @@
 -- The reading of a unit with expressions: its declarations in order (3.5, clause 7).
-use Rattle.std.specs.Prelude.{ℕ, zero, suc, nat_eq, Bool, true, false, ◌||◌, if◌then◌else◌, List, [], ◌∷◌, ◌++◌, Option, Some, None}
+use Rattle.std.specs.Prelude.{ℕ, zero, suc, nat_eq, Bool, true, false, ◌&&◌, ◌||◌, if◌then◌else◌, List, [], ◌∷◌, ◌++◌, Option, Some, None}
 use Rattle.cxx_model.specs.declared.fault.FaultText.TheVariants as says
 use Rattle.cxx_model.specs.declared.fault.LeftOut.TheVariants as form
 use Rattle.cxx_model.specs.declared.keyword.TheConstants as keyword
@@ -14,6 +14,8 @@ use Rattle.cxx_reading.specs.declared.specifier.Naming.TheVariants as naming
 use Rattle.cxx_reading.specs.Declarators.{Specifiers, Declarator, declared_type, is_function_type, own_parameters}
 use Rattle.cxx_reading.specs.Labels.{label_from}
 use Rattle.cxx_declare.specs.Outside.{agree_here, stand_in}
+use Rattle.cxx_answers.specs.Defaults.{is_some_class}
+use Rattle.cxx_reading.specs.Declaring.{class_of_here}
 use Rattle.cxx_reading.specs.Productions as production
 use Rattle.cxx_reading.specs.Reads.{Reads, Ahead, Turn, More, Done, ◌>>=◌, got, give, ask, fault_at, limited, looked, kind_ahead, place_ahead, count_ahead, behind, repeat}
 use Rattle.cxx_reading.specs.State.{CxxState, first_state}
@@ -71,10 +73,21 @@ declared_by room said is_first from declarator =
     if said.is_extern then extern_object room said declarator from >>= alone else
     defined_object room said declarator from >>= alone))
 
+-- 9.3: a function of the class in whose scope the reader stands is not declared outside of it yet
+abbrev pub stands_in_class : CxxState → Bool
+stands_in_class state = is_some_class (class_of_here state)
+
+abbrev pub is_function_outside : Said → Declarator → CxxState → Bool
+is_function_outside said declarator state = is_function_type (declared_type declarator.layers said.of) && stands_in_class state
+
+abbrev pub outside_agrees : Said → Declarator → Reads CxxState (Unit {0})
+outside_agrees said declarator state ahead =
+    if is_function_outside said declarator state then fault_at (name_in declarator).place says.NotBuilt state ahead else
+    ask (agree_here said.is_typedef (name_in declarator) (declared_type declarator.layers said.of)) state ahead
+
 -- 8.3: what has qualifiers was declared before
 abbrev pub member_agrees : Said → Declarator → Reads CxxState (Unit {0})
-member_agrees said declarator state ahead =
-    if declarator.is_qualified then ask (agree_here said.is_typedef (name_in declarator) (declared_type declarator.layers said.of)) state ahead else got tt state ahead
+member_agrees said declarator state ahead = if declarator.is_qualified then outside_agrees said declarator state ahead else got tt state ahead
 
 -- Behind it the reader stands where it stood before.
 unfoldable pub init_declarator_at : ℕ → Said → Bool → Reads CxxState Declares

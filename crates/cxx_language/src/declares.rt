@@ -8,7 +8,9 @@ ghost use Rattle.cxx_expr.specs.Nodes.{IsNodeHeld, node_tree};
 ghost use Rattle.cxx_language.specs.Known.{value_of};
 ghost use Rattle.cxx_model.specs.Facts.Graph.{scopes};
 ghost use Rattle.cxx_language.specs.Asked.{answers, asked, inner_at, phrases_at};
+ghost use Rattle.cxx_answers.specs.Answers.{constant_here};
 ghost use Rattle.cxx_language.specs.Blocks as blocks;
+ghost use Rattle.cxx_language.specs.Values as values;
 ghost use Rattle.cxx_phrases.specs.Initializers.{initializer_at};
 ghost use Rattle.cxx_phrases.specs.Views.{IsInitializer, initializer_of};
 ghost use Rattle.cxx_reading.specs.Declaring as definition;
@@ -72,6 +74,20 @@ pub trait Declares {
         room: u32,
     ) -> Result<Initializer, Stop>
         ensures { IsRead initializer_of IsInitializer state.old state.new cursor.new result (blocks.condition_value (phrases_at room) (inner_at room).phrases (meaning state.old) cursor.old) };
+
+    /// The value of a static constant in its class, from its `=` on (9.2).
+    fn member_value(
+        &self,
+        state: &mut State,
+        cursor: &mut Cursor<'_>,
+        room: u32,
+    ) -> Result<Initializer, Stop>
+        ensures { IsRead initializer_of IsInitializer state.old state.new cursor.new result (values.constant_read (phrases_at room) (inner_at room).phrases (meaning state.old) cursor.old) };
+
+    /// An expression has to be an integral constant expression (5.19).
+    fn constant(&self, state: &mut State, number: TreeId) -> Result<(), Stop>
+        requires { number.0 < length (trees state.old) }
+        ensures { IsAsked itself AnyKnown state.old state.new result (values.told_constant (constant_here (tree state.old number) (meaning state.old))) };
 
     /// How an object of a type is initialized, by the node of its initializer as it was read (8.5).
     fn initialize(&self, state: &mut State, of: TypeId, node: Node) -> Result<TreeId, Stop>

@@ -12,6 +12,7 @@ ghost use Rattle.cxx_expr.specs.Operands.{only as only_of};
 ghost use Rattle.cxx_language.specs.Earlier as earlier;
 ghost use Rattle.cxx_language.specs.Known as definition;
 ghost use Rattle.cxx_language.specs.Noting as noting;
+ghost use Rattle.cxx_language.specs.Values as values;
 ghost use Rattle.cxx_model.specs.Facts.Declarations.{fact_at, spelled};
 ghost use Rattle.cxx_model.specs.Types.Trees.{CxxType};
 ghost use Rattle.cxx_reading.specs.Declaring.{fact_here};
@@ -45,8 +46,8 @@ fn is_integral_kind(kind: TypeKind) -> bool
     }
 }
 
-// Whether objects of a type are constants (5.19, 7.1.5.1).
-fn is_constant_type(state: &State, of: TypeId) -> bool
+/// Whether objects of a type are constants (5.19, 7.1.5.1).
+pub(crate) fn is_constant_type(state: &State, of: TypeId) -> bool
     requires { of.0 < length (state.now).types }
     ensures { result ≡ definition.is_constant_type (type_of state.now of) }
 {
@@ -86,6 +87,36 @@ fn only(state: &State, numbers: &[TreeId]) -> Option<TreeId>
         [one] => Some(*one),
         _ => None,
     }
+}
+
+// What is there has to be a constant (5.19).
+#[tactic(auto, using(cxx_cursor::proofs::Kept::later_refl))]
+fn constant_one<D: Declares>(
+    declares: &D,
+    state: &mut State,
+    one: Option<TreeId>,
+) -> Result<(), Stop>
+    requires { IsOneKnown state.old one }
+    ensures { IsAsked itself AnyKnown state.old state.new result (values.constant_one (one_tree state.old one) (meaning state.old)) }
+{
+    match one {
+        Some(one) => declares.constant(state, one),
+        None => Ok(()),
+    }
+}
+
+/// What is converted to the type of an object has to be a constant (5.19), by the tree of its initializer.
+#[tactic(auto, using(crate::proofs::Parts::parts_known, cxx_expr::proofs::NodeKept::children_are))]
+pub(crate) fn constant_given<D: Declares>(
+    declares: &D,
+    state: &mut State,
+    given: TreeId,
+) -> Result<(), Stop>
+    requires { given.0 < length (trees state.old) }
+    ensures { IsAsked itself AnyKnown state.old state.new result (values.is_constant_given (tree_at state.old given) (meaning state.old)) }
+{
+    let one = only(state, state.node(given).children.as_slice());
+    constant_one(declares, state, one)
 }
 
 fn value_of_one<D: Declares>(

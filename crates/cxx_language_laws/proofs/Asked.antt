@@ -12,7 +12,7 @@ use Rattle.cxx_model.specs.declared.place.Place.{Place}
 use Rattle.cxx_model.specs.declared.stop.Fault.{Fault}
 use Rattle.cxx_model.specs.declared.types.FactId.{FactId}
 use Rattle.cxx_model.specs.Facts.Declarations.{CxxGraph}
-use Rattle.cxx_model.specs.Stops.{Answer, Stopped, ◌>>=◌, fault, undeclared_at}
+use Rattle.cxx_model.specs.Stops.{Answer, Stopped, ◌>>=◌, fault, undeclared_at, not_built_at}
 use Rattle.cxx_model.specs.Types.Trees.{CxxType}
 use Rattle.cxx_meaning.specs.Conversions.Standard.{CxxOperand}
 use Rattle.cxx_meaning.specs.Lookups.Member.{member}
@@ -36,8 +36,8 @@ use Rattle.cxx_expr.specs.Calls.{bare_word, is_bare, is_none_left}
 use Rattle.cxx_expr.specs.Names.{part_or, path_in, word_in}
 use Rattle.cxx_expr.specs.Elaborating.{elaborate}
 use Rattle.cxx_language.specs.Answers.{asking}
-use Rattle.cxx_answers.specs.Answers.{associated_functions, bound_here, call_here, constant_by, constant_here, fallback_by, fallback_here, fresh_among, is_held, meant_in, name_here, name_in_region, name_meant, names_local, names_tested, questions, scope_of_giver, size_here, word_or_none}
-use Rattle.cxx_answers.specs.Defaults.{begin_default, end_default, offered_as}
+use Rattle.cxx_answers.specs.Answers.{associated_functions, bound_here, call_here, constant_by, constant_here, fallback_by, fallback_here, fresh_among, is_held, meant_in, name_here, name_in_region, name_meant, names_local, names_member_function, names_tested, questions, scope_of_giver, size_here, word_or_none}
+use Rattle.cxx_answers.specs.Defaults.{begin_default, end_default, is_list_of_class, offered_as}
 use Rattle.cxx_answers.specs.Members.{has_begun, in_state, member_found as member_answered, member_here}
 use Rattle.cxx_language.specs.Asked.{answers, asked, inner_at, phrases_at}
 use Rattle.cxx_language_laws.specs.Best.{IsClear, asked_word, functions_by_types, values_besides, values_of}
@@ -157,7 +157,8 @@ if_named false one two = two
 meant_so : (path : CxxPath) (state : CxxState) (where_ : Region) → MeansRegion path state where_ → IsClear (sought_there path state where_) → NamedSo path state (name_meant (last_part path.parts) (meant_there path state where_) state)
 meant_so path state where_ means clear =
     if_named (state.in_default && names_local state.graph (meant_there path state where_)) (not_named (fault (last_part path.parts).place says.OperandsDoNotFit) refl) (
-    if_named (state.in_step && names_tested state.tested state.here.scope (meant_there path state where_)) (not_named (fault (last_part path.parts).place (says.LeftOut form.ConditionNameInStep)) refl) (named_so where_ means clear))
+    if_named (state.in_step && names_tested state.tested state.here.scope (meant_there path state where_)) (not_named (fault (last_part path.parts).place (says.LeftOut form.ConditionNameInStep)) refl) (
+    if_named (names_member_function (meant_there path state where_)) (not_named (not_built_at (last_part path.parts).place) refl) (named_so where_ means clear)))
 
 region_so : (path : CxxPath) (state : CxxState) (where_ : Region) → MeansRegion path state where_ → NamedSo path state (name_in_region path where_ state)
 region_so path state where_ means = by (sought_there path state where_) refl (clear_or state.graph (last_part path.parts) (sought_there path state where_))
@@ -477,9 +478,9 @@ member_ahead_tells room state ahead is = asked_later state ahead ahead state (la
 
 -- ---- default arguments (8.3.6)
 
-begin_tells : Answers IsLater Told begin_default
+begin_tells : (equals : Place) → Answers IsLater Told (begin_default equals)
 unfolding begin_default
-begin_tells state ahead = tells_answer (state.in_default, within_default true state) (later_same state (within_default true state) refl refl refl)
+begin_tells equals state ahead = if_by (is_list_of_class state) (quiet_by later_is_told refl) (tells_answer (state.in_default, within_default true state) (later_same state (within_default true state) refl refl refl))
 
 end_tells : (equals : Place) (was : Bool) (index : ℕ) (of : CxxType) (tree : CxxTree) → Answers IsLater Quietly (end_default equals was index of tree)
 unfolding end_default

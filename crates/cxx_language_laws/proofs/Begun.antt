@@ -1,7 +1,7 @@
 -- The scope of a list of parameters has begun where its declarator was read (3.3.2, 8.3.5).
 use Rattle.std.proofs.Common.{arith, ◌≡◌, ◌<◌, refl, subst}
 use Rattle.std.proofs.lemmas.Option.{same_Some}
-use Rattle.std.specs.Prelude.{ℕ, zero, suc, Bool, true, false, not, if◌then◌else◌, ◌&&◌, ◌||◌, length, List, [], ◌∷◌, ◌++◌, Some, Ok, Err}
+use Rattle.std.specs.Prelude.{ℕ, zero, suc, Bool, true, false, not, if◌then◌else◌, ◌||◌, length, List, [], ◌∷◌, ◌++◌, Some, Ok, Err}
 use Rattle.cxx_model.specs.declared.keyword.TheConstants as keyword
 use Rattle.cxx_model.specs.declared.limits.TheConstants as limits
 use Rattle.cxx_model.specs.declared.lookup.Found.{Found}
@@ -25,7 +25,7 @@ use Rattle.cxx_reading.specs.Shapes.{begins_type}
 use Rattle.cxx_reading.specs.Specifiers.{specifiers_at}
 use Rattle.cxx_reading.specs.State.{CxxState}
 use Rattle.cxx_reading.specs.Syntax.{Suffixed, is_required, is_never, may_qualify, member_read, qualified_part, bound_by, array_suffix, function_suffix, function_by, bracket_suffix, suffix_at, give_declarator, suffixes_at, name_read, name_part, grouped_part, grouped_by, bracket_part, star_part, ampersand_part, declarator_at, pointed_at, referred_at, grouped_at, specified_type, place_of_declarator, parameter_fits, parameter_tree, default_at, with_parameter, with_ellipsis, list_ended, comma_passed, parameter_ended, parameter_at, parameter_step, past_most, parameters_over, no_parameters, some_parameters, turn_result, is_void_list, list_at, parameters_at}
-use Rattle.cxx_reading.specs.Tokens.{begins_name, is_punct, is_keyword, is_plain_name, no_declarator, punct_taken}
+use Rattle.cxx_reading.specs.Tokens.{begins_name, is_punct, is_keyword, is_plain_name, no_declarator, punct_taken, is_name, points_to_member}
 use Rattle.cxx_reading.specs.Trees.{CxxPath, last_part}
 use Rattle.cxx_knot.specs.Readers.{both}
 use Rattle.cxx_language.specs.Answers.{asking}
@@ -202,7 +202,7 @@ unfolding name_part no_declarator
 name_begins asks inner naming state ahead =
     if_brings (is_never naming) (suffixes_begin inner no_declarator_yet state ahead tt) (
     if_brings (is_plain_name ahead) (brings_then (told_brings (token_told later_is_told state ahead)) (λ token t rest later none. suffixes_begin inner (name_read token) t rest tt)) (
-    if_brings (may_qualify naming && begins_name ahead) (qualified_begins asks inner state ahead) (
+    if_brings (begins_name ahead) (if_brings (may_qualify naming) (qualified_begins asks inner state ahead) (if_brings (is_name (kind_ahead ahead)) (brings_none _) (brings_none _))) (
     if_brings (is_required naming) (if_brings (is_keyword keyword.OPERATOR (kind_ahead ahead)) (brings_none _) (brings_none _)) (suffixes_begin inner no_declarator_yet state ahead tt))))
 
 grouped_part_begins : {inner : Readers CxxState} → ReadersBegin inner → (naming : Naming) → EachBrings Begun (grouped_part inner naming)
@@ -224,7 +224,8 @@ unfolding declarator_at star_part ampersand_part
 declarator_begins asks grows inner naming state ahead =
     if_brings (is_punct punct.STAR (kind_ahead ahead)) (inner.pointed naming state (behind ahead)) (
     if_brings (is_punct punct.AMPERSAND (kind_ahead ahead)) (inner.referred naming state (behind ahead)) (
-    if_brings (is_punct punct.LEFT_PARENTHESIS (kind_ahead ahead)) (bracket_part_begins asks inner naming state ahead) (name_begins grows inner naming state ahead)))
+    if_brings (is_punct punct.LEFT_PARENTHESIS (kind_ahead ahead)) (bracket_part_begins asks inner naming state ahead) (
+    if_brings (points_to_member ahead) (brings_none _) (name_begins grows inner naming state ahead))))
 
 pointed_begins : {asks : Kinds CxxState} → KindsTell IsLater Told asks → EachGrows asks → {inner : Readers CxxState} → ReadersBegin inner → (naming : Naming) → EachBrings Begun (pointed_at asks inner naming)
 unfolding pointed_at

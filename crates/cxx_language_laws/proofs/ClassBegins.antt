@@ -1,29 +1,30 @@
 -- How a class begins and ends (9.2): the reader stands in its scope, and behind it in the one that holds it.
 use Rattle.std.proofs.Common.{◌≡◌, refl, sym, subst}
-use Rattle.std.specs.Prelude.{ℕ, Bool, true, false, length, List, [], ◌∷◌, Option, Some, None}
+use Rattle.std.specs.Prelude.{ℕ, Bool, true, false, length, List, [], ◌∷◌, Option, Some, None, Ok, ◌<◌}
 use Rattle.std.specs.List.{AllByRecursion}
 use Rattle.std.specs.Option.{option_to_list}
 use Rattle.cxx_model.specs.declared.facts.Access.{Access}
 use Rattle.cxx_model.specs.declared.facts.ScopeKind.TheVariants as scope_kind
 use Rattle.cxx_model.specs.declared.place.Place.{Place}
 use Rattle.cxx_model.specs.declared.types.Cv.{Cv}
-use Rattle.cxx_model.specs.Facts.Declarations.{CxxFact, spelled}
+use Rattle.cxx_model.specs.Facts.Declarations.{CxxFact, spelled, Declares}
 use Rattle.cxx_model.specs.Text.Lexemes.{Lexeme}
 use Rattle.cxx_model.specs.Types.Trees.{CxxType}
 use Rattle.cxx_implicit.specs.Members.{copy_assignment, copy_constructor, default_constructor, implicit_members, implied}
 use Rattle.cxx_reading.specs.Classes.{ClassNamed, class_count, class_id, first_class}
-use Rattle.cxx_reading.specs.Declaring.{scope_count, with_definition}
+use Rattle.cxx_reading.specs.Declaring.{scope_count, with_definition, added, declare, free}
 use Rattle.cxx_reading.specs.Paths.{space_in}
 use Rattle.cxx_reading.specs.Reads.{Ahead}
 use Rattle.cxx_reading.specs.Seen.{declared_in}
 use Rattle.cxx_reading.specs.State.{CxxState}
-use Rattle.cxx_declare.specs.ClassDefinitions.{added_each, begin_class, begin_unnamed, begun_as, class_end, class_here, class_scope, declare_member, define_again, define_by, define_new, end_class, ended_as, enter_class, enter_unnamed, injected_name, member_here, unnamed_here}
+use Rattle.cxx_declare.specs.ClassDefinitions.{added_each, begin_class, begin_unnamed, begun_as, class_end, class_here, class_scope, declare_member, define_again, define_by, define_new, end_class, ended_as, enter_class, enter_unnamed, injected_name, member_here, unnamed_here, member_by}
 use Rattle.cxx_language_laws.proofs.Classed.{reserved_tells, still_within}
-use Rattle.cxx_language_laws.proofs.Later.{IsLater, added_behind, added_tells, declare_tells, free_quiet, later_is_kept, may_be_added, turned, undefined_quiet}
+use Rattle.cxx_language_laws.proofs.Later.{IsLater, added_behind, added_tells, declare_tells, free_quiet, later_is_kept, may_be_added, turned, undefined_quiet, added_there, behind_answer}
 use Rattle.cxx_language_laws.proofs.Opened.{InSpace, IsRound, added_is, quiet_then, round_grown, scope_round, space_closed, stands_in, then_answer}
 use Rattle.cxx_language_laws.proofs.Outward.{beside_all}
 use Rattle.cxx_language_laws.proofs.Scopes.{IsSound, may_stand}
 use Rattle.cxx_language_laws.proofs.Tells.{Quietly, ToldBy, tells_answer, tells_refusal}
+use Rattle.cxx_reading.specs.Declarators.{is_function_type}
 
 -- ---- it begins
 
@@ -89,9 +90,25 @@ unnamed_tells is_union place state ahead =
 
 -- ---- its members
 
+-- a function or a data member
+abbrev member_with : CxxState → Access → Lexeme → Declares → CxxFact
+member_with state access name what = record { place = name.place; scope = state.here.scope; name = spelled name.spelling; access = access; what = what }
+
+member_by_tells : (is_function : Bool) (access : Access) (is_static is_mutable : Bool) (name : Lexeme) (of : CxxType) (state : CxxState) (ahead : Ahead) → ToldBy IsLater Quietly state ahead (declare (member_with state access name (member_by is_function is_static is_mutable of)) name.spelling state)
+member_by_tells true access is_static is_mutable name of state ahead = let fact = member_with state access name (member_by true is_static is_mutable of) in declare_tells fact name.spelling state ahead refl (may_be_added state fact refl tt)
+member_by_tells false access is_static is_mutable name of state ahead = let fact = member_with state access name (member_by false is_static is_mutable of) in declare_tells fact name.spelling state ahead refl (may_be_added state fact refl tt)
+
 pub member_tells : (access : Access) (is_static is_mutable : Bool) (name : Lexeme) (of : CxxType) (state : CxxState) (ahead : Ahead) → ToldBy IsLater Quietly state ahead (declare_member access is_static is_mutable name of state)
 unfolding declare_member
-member_tells access is_static is_mutable name of state ahead = declare_tells (member_here state access is_static is_mutable name of) name.spelling state ahead refl (may_be_added state (member_here state access is_static is_mutable name of) refl tt)
+member_tells access is_static is_mutable name of state ahead = member_by_tells (is_function_type of) access is_static is_mutable name of state ahead
+
+-- it has a number then
+pub member_is_there : (access : Access) (is_static is_mutable : Bool) (name : Lexeme) (of : CxxType) (state : CxxState) (answer : ℕ × CxxState) → declare_member access is_static is_mutable name of state ≡ Ok answer → answer.0 < length answer.1.graph.facts
+unfolding declare_member free declare
+member_is_there access is_static is_mutable name of state answer e =
+    let fact = member_here state access is_static is_mutable name of in
+    let one = behind_answer (free state fact name.spelling) (λ is_free. added fact state) answer e in
+    added_there fact state answer one.1
 
 -- ---- it ends
 

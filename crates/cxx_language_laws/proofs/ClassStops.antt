@@ -1,11 +1,13 @@
 -- Where the reading of a class stops, and of the specifiers among which it is defined.
 use Rattle.std.proofs.Common.{arith, ◌≡◌, refl}
-use Rattle.std.specs.Prelude.{ℕ, zero, suc, Bool, true, false, not, ◌&&◌, ◌||◌, if◌then◌else◌, List, [], Option, Some, None, Ok, Err}
+use Rattle.std.specs.Prelude.{ℕ, zero, suc, Bool, true, false, not, ◌&&◌, ◌||◌, if◌then◌else◌, List, [], Option, Some, None, Ok, Err, ◌++◌}
 use Rattle.cxx_model.specs.declared.facts.Access.{Access}
+use Rattle.cxx_model.specs.declared.fault.FaultText.TheVariants as says
+use Rattle.cxx_model.specs.declared.fault.LeftOut.TheVariants as form
 use Rattle.cxx_model.specs.declared.keyword.TheConstants as keyword
 use Rattle.cxx_model.specs.declared.place.Place.{Place}
 use Rattle.cxx_model.specs.declared.punct.TheConstants as punct
-use Rattle.cxx_model.specs.Stops.{Answer, Stopped}
+use Rattle.cxx_model.specs.Stops.{Answer, Stopped, fault}
 use Rattle.cxx_model.specs.Text.Lexemes.{Lexeme}
 use Rattle.cxx_model.specs.Types.Trees.{CxxType}
 use Rattle.cxx_reading.specs.declared.specifier.SpecifierPlace.{SpecifierPlace}
@@ -13,29 +15,33 @@ use Rattle.cxx_reading.specs.declared.specifier.SpecifierPlace.TheVariants as wh
 use Rattle.cxx_reading.specs.Declarators.{Declarator, Specifiers, declared_type, has_type, is_function_type, is_void, refused_in, is_refused}
 use Rattle.cxx_reading.specs.Declaring.{at_scope}
 use Rattle.cxx_declare.specs.Outside.{stand_in}
-use Rattle.cxx_reading.specs.Reads.{Ahead, Got, Reads, More, Done, ◌>>=◌, then_read, answered, ask, taken, looked, give, count_ahead, kind_ahead, place_ahead, behind}
+use Rattle.cxx_reading.specs.Reads.{Ahead, Got, Reads, More, Done, ◌>>=◌, then_read, answered, ask, taken, looked, give, count_ahead, kind_ahead, place_ahead, behind, fault_at, got}
 use Rattle.cxx_reading.specs.State.{CxxState}
 use Rattle.cxx_reading.specs.Specifiers.{place_or}
-use Rattle.cxx_reading.specs.Tokens.{is_keyword, is_name, is_punct}
+use Rattle.cxx_reading.specs.Tokens.{is_keyword, is_name, is_punct, begins_name, is_plain_name}
 use Rattle.cxx_reading.specs.Trees.{CxxTree}
-use Rattle.cxx_reading.specs.Units.{Listed, Said, declared_fits, declarator_tree, give_trees, is_const_type, is_incomplete, is_unbounded, name_in, no_declarators, said_by, simple_tree, specifiers_tree}
-use Rattle.cxx_declare.specs.ClassDefinitions.{end_class}
-use Rattle.cxx_language.specs.Classes.{BaseList, Head, Members, access_by, access_step, access_word, bases_at, bases_in, bases_or_none, begins_by, begins_function, behind_bases, behind_name, class_at, class_begins, class_by, class_or_not, class_tree, comes_later, data_member, declaration_specifiers, declared_member, declared_step, give_members, head_at, is_mutable_member, is_none, key_access, list_at, list_step, list_step_by, member_at, member_declaration_at, member_declaration_by, member_step, member_specifiers, member_specifiers_by, members_by, name_ahead, named_member_at, nested_or_not, no_anonymous_union, no_bit_field, no_function, no_constant_value, synonym_member, whole_member, with_class, with_member}
-use Rattle.cxx_language_laws.specs.Stopping.{BeginsClass, Gives, NamesBases, a_class, a_member_declaration, a_simple_declaration, begins_class, behind_class, behind_member_class, further_specifiers_of, in_bases, in_class, in_member, in_member_declarator, in_member_specifiers, in_specifiers, names_bases, next_member, next_member_declarator, some_bases, some_further_specifiers, some_member_declarators, some_members, to_class, to_member_class, to_member_declarators}
+use Rattle.cxx_reading.specs.Units.{Listed, Said, declared_fits, declarator_tree, give_trees, is_incomplete, is_unbounded, name_in, no_declarators, said_by, simple_tree, specifiers_tree}
+use Rattle.cxx_declare.specs.ClassDefinitions.{end_class, declare_member}
+use Rattle.cxx_language.specs.Classes.{BaseList, Head, Members, access_by, access_step, access_word, bases_at, bases_in, bases_or_none, begins_by, behind_bases, behind_name, class_at, class_begins, class_by, class_or_not, class_tree, comes_later, data_member, declaration_specifiers, declared_member, declared_step, give_members, head_at, is_mutable_member, is_none, key_access, list_at, list_step, list_step_by, member_at, member_declaration_at, member_declaration_by, member_step, member_specifiers, member_specifiers_by, members_by, name_ahead, named_member_at, nested_or_not, no_anonymous_union, no_bit_field, synonym_member, whole_member, with_class, with_member, no_body, type_of_member, behind_inline}
+use Rattle.cxx_language_laws.specs.Stopping.{BeginsClass, Gives, NamesBases, a_class, a_member_declaration, a_simple_declaration, begins_class, behind_class, behind_member_class, further_specifiers_of, in_bases, in_class, in_member, in_member_declarator, in_member_specifiers, in_specifiers, names_bases, next_member, next_member_declarator, some_bases, some_further_specifiers, some_member_declarators, some_members, to_class, to_member_class, to_member_declarators, Leads, a_member_value, declarator_of, to_member_value, Part}
 use Rattle.cxx_language_laws.specs.Told.{EndsIn}
 use Rattle.cxx_language_laws.proofs.Asked.{kinds_tell}
 use Rattle.cxx_language_laws.proofs.Bases.{bases_stop}
 use Rattle.cxx_language_laws.proofs.Both.{both_tell}
-use Rattle.cxx_language_laws.proofs.ClassBegins.{begin_tells, end_tells, member_tells, unnamed_tells}
+use Rattle.cxx_language_laws.proofs.ClassBegins.{begin_tells, end_tells, member_tells, unnamed_tells, member_is_there}
 use Rattle.cxx_language_laws.proofs.Declared.{declared_synonym_tells, declarator_ended_tells, give_trees_tells, nothing_tells}
-use Rattle.cxx_language_laws.proofs.DeclaratorsStop.{declarator_stops, specifiers_stop}
+use Rattle.cxx_language_laws.proofs.DeclaratorsStop.{declarator_stops, specifiers_stop, fits_stops}
 use Rattle.cxx_language_laws.proofs.Later.{IsLater, grown_later, grown_same, later_is_kept, later_is_quiet, same_calls}
 use Rattle.cxx_language_laws.proofs.Opened.{InSpace, round_grown, stands_in}
 use Rattle.cxx_language_laws.proofs.Reached.{behind_by_later, count_more, later_is_told}
 use Rattle.cxx_language_laws.proofs.Scopes.{scope_is_there, scopes_at}
-use Rattle.cxx_language_laws.proofs.Stopping.{ChainedOf, Inside, InsideBy, Stops, calm, calm_from, innermost_stops, leads_here, leads_in, quiet_told, repeat_stops, then_calm, told_within, which_in, whole_calm, whole_stops, within_part}
-use Rattle.cxx_language_laws.proofs.Tells.{Quietly, Tells, ToldBy, ask_from, ask_in, behind_stands, ends_later, give_in, if_in, looked_in, next_in, past_stands, punct_in, quiet_in, same_in, taken_in, tells_answer, tells_read, tells_refusal, tells_stop, then_from, then_in, tokens_in, unit_is_told}
+use Rattle.cxx_language_laws.proofs.Stopping.{ChainedOf, Inside, InsideBy, Stops, calm, calm_from, innermost_stops, leads_here, leads_in, quiet_told, repeat_stops, then_calm, told_within, which_in, whole_calm, whole_stops, within_part, then_asked}
+use Rattle.cxx_language_laws.proofs.Tells.{Quietly, Tells, ToldBy, ask_from, behind_stands, ends_later, give_in, if_in, looked_in, next_in, past_stands, punct_in, quiet_in, same_in, taken_in, tells_answer, tells_read, tells_refusal, tells_stop, then_from, then_in, tokens_in, unit_is_told, nothing, saying}
 use Rattle.cxx_language_laws.proofs.TellsSpecifiers.{further_tell}
+use Rattle.cxx_language.specs.Values.{constant_part, has_value, member_value}
+use Rattle.cxx_model.specs.declared.fault.FaultText.{FaultText}
+use Rattle.cxx_reading.specs.declared.specifier.Naming.TheVariants as naming
+use Rattle.cxx_language_laws.proofs.Objects.{HasNumber, value_tells}
 
 -- ---- one member (9.2)
 
@@ -43,53 +49,72 @@ no_bit_field_tells : (name : Lexeme) → Tells IsLater Quietly (no_bit_field nam
 unfolding no_bit_field
 no_bit_field_tells name state ahead = if_in (is_punct punct.COLON (kind_ahead ahead)) (quiet_in later_is_quiet refl) (same_in later_is_quiet tt state ahead)
 
-no_function_tells : (name : Lexeme) (of : CxxType) → Tells IsLater Quietly (no_function name of)
-unfolding no_function
-no_function_tells name of state ahead = if_in (is_function_type of) (quiet_in later_is_quiet refl) (same_in later_is_quiet tt state ahead)
+no_body_tells : (of : CxxType) → Tells IsLater Quietly (no_body of)
+no_body_tells of state ahead = if_in (is_function_type of) (if_in (is_punct punct.LEFT_BRACE (kind_ahead ahead)) (quiet_in later_is_quiet refl) (if_in (is_keyword keyword.TRY (kind_ahead ahead)) (quiet_in later_is_quiet refl) (same_in later_is_quiet tt state ahead))) (same_in later_is_quiet tt state ahead)
 
 whole_member_tells : (is_static : Bool) (name : Lexeme) (of : CxxType) → Tells IsLater Quietly (whole_member is_static name of)
 unfolding whole_member
 whole_member_tells is_static name of state ahead = if_in (not is_static && (is_unbounded of || is_incomplete state.graph of)) (quiet_in later_is_quiet refl) (same_in later_is_quiet tt state ahead)
 
-no_constant_value_tells : (is_static : Bool) (of : CxxType) → Tells IsLater Quietly (no_constant_value is_static of)
-unfolding no_constant_value
-no_constant_value_tells is_static of state ahead = if_in (is_static && (is_const_type of && is_punct punct.EQUALS (kind_ahead ahead))) (quiet_in later_is_quiet refl) (same_in later_is_quiet tt state ahead)
-
 fits_tells : (said : Said) (declarator : Declarator) → Tells IsLater Quietly (declared_fits said declarator)
 unfolding declared_fits
 fits_tells said declarator state ahead = if_in (is_refused (refused_in declarator.layers said.of) || (not said.is_typedef && is_void (declared_type declarator.layers said.of))) (quiet_in later_is_quiet refl) (same_in later_is_quiet tt state ahead)
-
-data_member_tells : (label : Access) (said : Said) (declarator : Declarator) (from : Ahead) → Tells IsLater Quietly (data_member label said declarator from)
-unfolding data_member
-data_member_tells label said declarator from state ahead =
-    let name = name_in declarator in
-    let of = declared_type declarator.layers said.of in
-    then_in later_is_quiet (no_bit_field_tells name state ahead) (λ narrow state ahead.
-    then_in later_is_quiet (fits_tells said declarator state ahead) (λ fits state ahead.
-    then_in later_is_quiet (no_function_tells name of state ahead) (λ object state ahead.
-    then_in later_is_quiet (ask_in ahead (member_tells label said.is_static (is_mutable_member said of) name of state ahead)) (λ number state ahead.
-    then_in later_is_quiet (whole_member_tells said.is_static name of state ahead) (λ whole state ahead.
-    then_in later_is_quiet (no_constant_value_tells said.is_static of state ahead) (λ bare state ahead.
-    then_in later_is_quiet (looked_in later_is_quiet state ahead) (λ to. give_in later_is_quiet (declarator_tree false name of number declarator.parts from to))))))))
 
 synonym_member_tells : (said : Said) (declarator : Declarator) (from : Ahead) → Tells IsLater Quietly (synonym_member said declarator from)
 unfolding synonym_member
 synonym_member_tells said declarator from state ahead = then_in later_is_quiet (fits_tells said declarator state ahead) (λ fits. declared_synonym_tells said declarator from)
 
-declared_member_tells : (label : Access) (said : Said) (declarator : Declarator) (from : Ahead) → Tells IsLater Quietly (declared_member label said declarator from)
+-- the value of a member in its class
+value_stops : (room : ℕ) (name : Lexeme) (of : CxxType) (number : ℕ) (state : CxxState) (ahead : Ahead) → HasNumber number state → Stops (a_member_value room name of number) state ahead (constant_part room name of number state ahead)
+value_stops room name of number state ahead there = innermost_stops tt (λ fault is. is) (value_tells room name of number state ahead there)
+
+member_value_stops : {part : Part} {state : CxxState} {ahead : Ahead} (after : CxxState) (rest : Ahead) (room : ℕ) (is_static : Bool) (name : Lexeme) (of : CxxType) (number : ℕ) → HasNumber number after → (has_value is_static of (kind_ahead rest) ≡ true → Leads part state ahead (a_member_value room name of number) after rest) → IsLater state after → EndsIn ahead.tokens rest.tokens
+    → Inside part state ahead (member_value room is_static name of number after rest)
+unfolding member_value
+member_value_stops after rest room is_static name of number there leads later stands =
+    which_in (has_value is_static of (kind_ahead rest)) (λ begins. leads_in (leads begins) later stands (value_stops room name of number after rest there)) (λ none. calm_from later stands (same_in later_is_quiet [] after rest))
+
+-- what follows what reads nothing, unless it stops
+unless_stops : {B : Type 0} {part : Part} {state : CxxState} {ahead : Ahead} (refused : Bool) (place : Place) (text : FaultText) → saying text ≡ nothing → (go : Unit {0} → Reads CxxState B) (after : CxxState) (rest : Ahead) → Inside part state ahead (go tt after rest) → Inside part state ahead (then_read (if refused then fault_at place text after rest else got tt after rest) go)
+unless_stops {part = part} {state = state} {ahead = ahead} true place text quiet go after rest stops = tells_stop _ (quiet_told within_part part state ahead (fault place text) quiet)
+unless_stops false place text quiet go after rest stops = stops
+
+-- behind what is declared
+abbrev behind_member : ℕ → Bool → Lexeme → CxxType → List CxxTree → Ahead → ℕ → Reads CxxState CxxTree
+behind_member room is_static name of parts from number = whole_member is_static name of >>= λ whole. member_value room is_static name of number >>= λ value. no_body of >>= λ bare. looked >>= λ to. give (declarator_tree false name of number (parts ++ value) from to)
+
+data_member_stops : (room : ℕ) (label : Access) (said : Said) (so_far : Listed) (state : CxxState) (ahead : Ahead) (declarator : Declarator) (after : CxxState) (rest : Ahead) → declarator_of room naming.Required state ahead ≡ Ok (record { value = declarator; state = after; rest = rest }) → said.is_typedef ≡ false → IsLater state after → EndsIn ahead.tokens rest.tokens
+    → Inside (some_member_declarators room label said so_far) state ahead (data_member room label said declarator ahead after rest)
+unfolding data_member no_bit_field whole_member
+data_member_stops room label said so_far state ahead declarator after rest gives plain later stands =
+    let name = name_in declarator in
+    let of = type_of_member said declarator in
+    let question = declare_member label said.is_static (is_mutable_member said of) name of in
+    let behind = behind_member room said.is_static name of declarator.parts ahead in
+    unless_stops (is_punct punct.COLON (kind_ahead rest)) name.place (says.LeftOut form.BitField) refl _ after rest (
+    fits_stops said declarator (λ fits. ask question >>= behind) after rest (
+    then_asked behind question (member_tells label said.is_static (is_mutable_member said of) name of after rest) later stands (λ answer is more.
+    unless_stops (not said.is_static && (is_unbounded of || is_incomplete answer.1.graph of)) name.place says.IncompleteClass refl _ answer.1 rest (
+    then_calm (member_value_stops answer.1 rest room said.is_static name of answer.0 (member_is_there label said.is_static (is_mutable_member said of) name of after answer is) (λ begins. to_member_value gives plain is begins) more stands) (λ value state middle.
+    then_in later_is_quiet (no_body_tells of state middle) (λ bare state middle.
+    then_in later_is_quiet (looked_in later_is_quiet state middle) (λ to. give_in later_is_quiet (declarator_tree false name of answer.0 (declarator.parts ++ value) ahead to))))))))
+
+declared_member_stops : (room : ℕ) (label : Access) (said : Said) (so_far : Listed) (state : CxxState) (ahead : Ahead) (declarator : Declarator) (after : CxxState) (rest : Ahead) → declarator_of room naming.Required state ahead ≡ Ok (record { value = declarator; state = after; rest = rest }) → IsLater state after → EndsIn ahead.tokens rest.tokens
+    → Inside (some_member_declarators room label said so_far) state ahead (declared_member room label said declarator ahead after rest)
 unfolding declared_member
-declared_member_tells label said declarator from state ahead = if_in said.is_typedef (synonym_member_tells said declarator from state ahead) (data_member_tells label said declarator from state ahead)
+declared_member_stops room label said so_far state ahead declarator after rest gives later stands =
+    which_in said.is_typedef (λ synonym. calm_from later stands (synonym_member_tells said declarator ahead after rest)) (λ plain. data_member_stops room label said so_far state ahead declarator after rest gives plain later stands)
 
 named_member_stops : (room : ℕ) (label : Access) (said : Said) (so_far : Listed) (state : CxxState) (ahead : Ahead) → Inside (some_member_declarators room label said so_far) state ahead (named_member_at room label said state ahead)
 unfolding named_member_at
-named_member_stops room label said so_far state ahead = then_calm (leads_here in_member_declarator (declarator_stops room state ahead)) (λ declarator. declared_member_tells label said declarator ahead)
+named_member_stops room label said so_far state ahead =
+    then_from (λ declarator. declared_member room label said declarator ahead) (leads_here in_member_declarator (declarator_stops room state ahead)) (λ one is later stands.
+    declared_member_stops room label said so_far state ahead one.value one.state one.rest is later stands)
 
 member_at_stops : (room : ℕ) (label : Access) (said : Said) (so_far : Listed) (state : CxxState) (ahead : Ahead) → Inside (some_member_declarators room label said so_far) state ahead (member_at room label said state ahead)
 unfolding member_at
 member_at_stops room label said so_far state ahead =
-    if_in (is_punct punct.COLON (kind_ahead ahead)) (calm (quiet_in later_is_quiet refl)) (
-    if_in (not said.is_typedef && begins_function ahead) (calm (quiet_in later_is_quiet refl)) (
-    named_member_stops room label said so_far state ahead))
+    if_in (is_punct punct.COLON (kind_ahead ahead)) (calm (quiet_in later_is_quiet refl)) (named_member_stops room label said so_far state ahead)
 
 member_step_stops : (room : ℕ) (label : Access) (said : Said) (so_far : Listed) (state : CxxState) (ahead : Ahead) → Inside (some_member_declarators room label said so_far) state ahead (member_step room label said so_far state ahead)
 unfolding member_step
@@ -138,7 +163,7 @@ list_step_stops room nested name so_far state ahead =
     if_in (is_punct punct.RIGHT_BRACE (kind_ahead ahead)) (calm (next_in later_is_quiet (Done so_far.trees) state ahead)) (
     if_in (is_punct punct.SEMICOLON (kind_ahead ahead)) (calm (next_in later_is_quiet (More so_far) state ahead)) (
     if_in (access_word (kind_ahead ahead)) (calm (access_tells so_far state ahead)) (
-    if_in (comes_later name ahead) (calm (quiet_in later_is_quiet refl))
+    if_in (comes_later name (behind_inline ahead)) (calm (quiet_in later_is_quiet refl))
     (then_calm (leads_here in_member (member_declaration_stops room nested so_far.access state ahead)) (λ tree. give_in later_is_quiet (More (with_member tree so_far)))))))
 
 members_stop : (room : ℕ) → ClassStops room → (head : Head) (bases : List CxxTree) (state : CxxState) (ahead : Ahead) → Stops (some_members room head.name (behind_bases bases head.access)) state ahead (list_at (suc room) head bases state ahead)
@@ -248,7 +273,9 @@ begins_tells is_union place None state ahead = unnamed_tells is_union place stat
 
 class_stops_by : (room : ℕ) → MembersStop room → ClassStops room
 unfolding class_at class_by head_at
-class_stops_by room inside so_far state ahead = whole_stops (λ fault is. is) (begun_stops room inside so_far head state ahead (behind_name (behind ahead)) refl (name_stands ahead (behind ahead) (behind_stands ahead)) (begins_tells head.is_union head.place head.name state (behind_name (behind ahead))) (λ begun is. is))
+class_stops_by room inside so_far state ahead = whole_stops (λ fault is. is) (
+    unless_stops (begins_name (behind ahead) && not (is_plain_name (behind ahead))) (place_ahead ahead) says.NotBuilt refl _ state ahead
+    (begun_stops room inside so_far head state ahead (behind_name (behind ahead)) refl (name_stands ahead (behind ahead) (behind_stands ahead)) (begins_tells head.is_union head.place head.name state (behind_name (behind ahead))) (λ begun is. is)))
   where
     head : Head
     head = record { is_union = is_keyword keyword.UNION (kind_ahead ahead); access = key_access (kind_ahead ahead); name = name_ahead (behind ahead); place = place_or (place_ahead ahead) (name_ahead (behind ahead)) }

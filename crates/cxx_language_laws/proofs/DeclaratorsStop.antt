@@ -16,8 +16,8 @@ use Rattle.cxx_reading.specs.State.{CxxState}
 use Rattle.cxx_reading.specs.Units.{Said, name_in as name_of_declarator, declared_fits, ends_declarator}
 use Rattle.cxx_answers.specs.Typed.{type_so_far}
 use Rattle.cxx_language.specs.Asked.{answers, inner_at, phrases_at}
-use Rattle.cxx_language.specs.Units.{member_agrees}
-use Rattle.cxx_language.specs.Objects.{begins_initializer, defined_later, defined_part, extern_part, without_initializer}
+use Rattle.cxx_language.specs.Units.{member_agrees, is_function_outside, outside_agrees}
+use Rattle.cxx_language.specs.Objects.{begins_initializer, defined_later, defined_part, extern_part, without_initializer, is_given}
 use Rattle.cxx_language_laws.specs.Stopping.{Leads, Part, a_declarator, an_initializer, declarator_of, initializer_of, some_specifiers, specifiers_of}
 use Rattle.cxx_language_laws.specs.Told.{EndsIn}
 use Rattle.cxx_language_laws.proofs.Asked.{kinds_tell}
@@ -58,7 +58,7 @@ pub defined_part_stops : {kept : CxxState → CxxState → Type 0} → IsHeld ke
 unfolding defined_part without_initializer
 defined_part_stops held after rest room name of number there leads keeps stands =
     which_in (begins_initializer rest) (λ begins. leads_held held (leads begins) keeps stands (initializer_stops room name of number after rest there)) (λ none. calm_held held keeps stands (
-    if_in (ends_declarator (kind_ahead rest)) (uninitialized_tells name (type_so_far after number of) after rest) (quiet_in later_is_quiet refl)))
+    if_in (ends_declarator (kind_ahead rest)) (if_in (is_given after number of) (same_in later_is_quiet [] after rest) (uninitialized_tells name (type_so_far after number of) after rest)) (quiet_in later_is_quiet refl)))
 
 defined_later_stops : {kept : CxxState → CxxState → Type 0} → IsHeld kept → {part : Part} {state : CxxState} {ahead : Ahead} (between : CxxState) (rest : Ahead) (room : ℕ) (name : Lexeme) (of : CxxType) (number : ℕ) → HasNumber number between → ((defined : Unit {0} × CxxState) → define_declared name number between ≡ Ok defined → Leads part state ahead (an_initializer room name of number) defined.1 rest) → kept state between → EndsIn ahead.tokens rest.tokens
     → InsideBy kept part state ahead (defined_later answers (phrases_at room) (inner_at room).phrases name of number between rest)
@@ -99,6 +99,10 @@ pub agrees_stops : {B : Type 0} {kept : CxxState → CxxState → Type 0} {part 
 unfolding agree_here
 agrees_stops {B = B} {kept = kept} {part = part} {state = state} {ahead = ahead} said declarator go after rest stops = by declarator.is_qualified
   where
-    by : (b : Bool) → InsideBy kept part state ahead (then_read (if b then ask (agree_here said.is_typedef (name_of_declarator declarator) (declared_type declarator.layers said.of)) after rest else got tt after rest) go)
-    by true = agreed_stops (name_of_declarator declarator) (members_here after (name_of_declarator declarator)) (any_agrees after.graph after.here.scope said.is_typedef (declared_type declarator.layers said.of) (members_here after (name_of_declarator declarator))) go after rest stops
+    outside : (b : Bool) → InsideBy kept part state ahead (then_read (if b then fault_at (name_of_declarator declarator).place says.NotBuilt after rest else ask (agree_here said.is_typedef (name_of_declarator declarator) (declared_type declarator.layers said.of)) after rest) go)
+    outside true = tells_stop _ tt
+    outside false = agreed_stops (name_of_declarator declarator) (members_here after (name_of_declarator declarator)) (any_agrees after.graph after.here.scope said.is_typedef (declared_type declarator.layers said.of) (members_here after (name_of_declarator declarator))) go after rest stops
+
+    by : (b : Bool) → InsideBy kept part state ahead (then_read (if b then outside_agrees said declarator after rest else got tt after rest) go)
+    by true = outside (is_function_outside said declarator after)
     by false = stops

@@ -314,7 +314,7 @@ linked_object_tells name of state ahead =
     by_then state ahead _ (free_linked_quiet state fact name.spelling) (λ is_free. by_answer state ahead _ (added_tells fact state ahead refl (may_be_added state fact refl (member_object_there state (home_here state) (spelled name.spelling)))) (λ answer later. tells_answer (linked_as answer) (turned state answer.1 (with_linked answer.0 answer.1) later refl refl refl)))
 
 -- what is added has a number that there is
-added_there : (fact : CxxFact) (state : CxxState) (answer : ℕ × CxxState) → added fact state ≡ Ok answer → answer.0 < length answer.1.graph.facts
+pub added_there : (fact : CxxFact) (state : CxxState) (answer : ℕ × CxxState) → added fact state ≡ Ok answer → answer.0 < length answer.1.graph.facts
 unfolding added
 added_there fact state answer e = by (nat_eq (length state.graph.facts + length state.graph.classes) most_facts) e
   where
@@ -332,7 +332,7 @@ added_there fact state answer e = by (nat_eq (length state.graph.facts + length 
     by false e = subst (λ (a : ℕ × CxxState). a.0 < length a.1.graph.facts) (is_it e) more
 
 -- an answer that comes behind others
-behind_answer : {A B : Type 0} (first : Answer A) (go : A → Answer B) (answer : B) → (first >>= go) ≡ Ok answer → (one : A) × (go one ≡ Ok answer)
+pub behind_answer : {A B : Type 0} (first : Answer A) (go : A → Answer B) (answer : B) → (first >>= go) ≡ Ok answer → (one : A) × (go one ≡ Ok answer)
 behind_answer (Ok one) go answer e = (one, e)
 behind_answer (Err why) go answer e = absurd cc
 

@@ -27,7 +27,7 @@ use Rattle.cxx_reading.specs.Paths.{member_or_none, name_in, region_of, sought_i
 use Rattle.cxx_reading.specs.Reads.{Ahead, Got, Reads, answered, ask, got, kind_ahead, behind, beside, then_read, tokens}
 use Rattle.cxx_reading.specs.State.{CxxState}
 use Rattle.cxx_reading.specs.Syntax.{ampersand_part, bracket_part, declarator_at, grouped_at, grouped_part, member_read, name_part, name_read, pointed_at, qualified_part, referred_at, star_part, suffixes_at}
-use Rattle.cxx_reading.specs.Tokens.{begins_name, behind_name, is_plain_name, is_punct, is_unbuilt_part, lacks_first_part, is_whole_name, no_declarator, no_part_there, not_built, path_ahead, path_taken, refused, token_taken}
+use Rattle.cxx_reading.specs.Tokens.{begins_name, behind_name, is_plain_name, is_punct, is_unbuilt_part, lacks_first_part, is_whole_name, no_declarator, no_part_there, not_built, path_ahead, path_taken, refused, token_taken, points_to_member}
 use Rattle.cxx_reading.specs.Trees.{CxxPath, last_part}
 use Rattle.cxx_knot.specs.Readers.{both}
 use Rattle.cxx_language.specs.Answers.{asking}
@@ -217,7 +217,8 @@ unfolding declarator_at star_part ampersand_part bracket_part
 declarator_enters asks inner state ahead =
     if_enters (is_punct punct.STAR (kind_ahead ahead)) (enters_sooner ahead (behind ahead) (behind_stands ahead) (inner.pointed state (behind ahead))) (
     if_enters (is_punct punct.AMPERSAND (kind_ahead ahead)) (enters_sooner ahead (behind ahead) (behind_stands ahead) (inner.referred state (behind ahead))) (
-    if_enters (is_punct punct.LEFT_PARENTHESIS (kind_ahead ahead)) (grouped_part_enters inner state ahead) (name_enters asks inner state ahead)))
+    if_enters (is_punct punct.LEFT_PARENTHESIS (kind_ahead ahead)) (grouped_part_enters inner state ahead) (
+    if_enters (points_to_member ahead) (enters_stop _ tt) (name_enters asks inner state ahead))))
 
 pointed_enters : {asks : Kinds CxxState} → KindsEnter asks → {inner : Readers CxxState} → ReadersEnter inner → EachEnters (pointed_at asks inner naming.Qualified)
 unfolding pointed_at

@@ -1,6 +1,6 @@
 -- The reader of an initializer keeps the declarations and the calls so far, and what stops it is true.
 use Rattle.std.proofs.Common.{arith, ◌≡◌, ◌<◌, ap, refl}
-use Rattle.std.specs.Prelude.{ℕ, ◌||◌, length, List, [], ◌∷◌, Option, Some, None}
+use Rattle.std.specs.Prelude.{ℕ, ◌||◌, length, List, [], ◌∷◌, Option, Some, None, ℤ}
 use Rattle.std.specs.List.{slice_get}
 use Rattle.std.proofs.lemmas.List.{length-append}
 use Rattle.cxx_model.specs.Facts.Declarations as facts
@@ -11,22 +11,25 @@ use Rattle.cxx_model.specs.Types.Trees.{CxxType}
 use Rattle.cxx_reading.specs.Declaring.{declares_by, fact_here}
 use Rattle.cxx_reading.specs.Reads.{Ahead, Got, Reads, then_read}
 use Rattle.cxx_reading.specs.State.{CxxState}
-use Rattle.cxx_reading.specs.Trees.{CxxTree}
+use Rattle.cxx_reading.specs.Trees.{CxxTree, children_of}
 use Rattle.cxx_reading.specs.Units.{is_unbounded}
 use Rattle.cxx_answers.specs.Typed.{entity_number, first_of, type_so_far}
 use Rattle.cxx_language.specs.Known.{is_some_value, known_answer, known_object, known_value, note_known, noted, type_known}
 use Rattle.cxx_language.specs.Objects.{initialized_part, initializer_tree, is_empty_array, some_elements}
 use Rattle.cxx_language.specs.Asked.{answers, inner_at, phrases_at}
-use Rattle.cxx_language_laws.proofs.Asked.{phrases_tell}
+use Rattle.cxx_language_laws.proofs.Asked.{phrases_tell, constant_tells}
 use Rattle.cxx_language_laws.proofs.Both.{both_tell}
 use Rattle.cxx_language_laws.proofs.Declared.{complete_tells}
 use Rattle.cxx_language_laws.proofs.Later.{IsLater, added_tells, by_answer, calm_by, later_is_quiet}
 use Rattle.cxx_language_laws.proofs.QuestionsTell.{if_by, same_by}
 use Rattle.cxx_language_laws.proofs.Reached.{Told, later_is_told}
 use Rattle.cxx_language_laws.proofs.Scopes.{InScopes, IsSound, may_stand}
-use Rattle.cxx_language_laws.proofs.Tells.{IsTold, Quietly, Tells, ToldBy, ToldIn, tells_answer, quiet_in, if_in, from_in, then_from, then_in, ask_in, same_in, looked_in, give_in}
+use Rattle.cxx_language_laws.proofs.Tells.{IsTold, Quietly, Tells, ToldBy, ToldIn, tells_answer, quiet_in, if_in, from_in, then_from, then_in, ask_in, same_in, looked_in, give_in, taken_in, tells_refusal}
 use Rattle.cxx_language_laws.proofs.TellsExpressions.{initialize_tells}
 use Rattle.cxx_language_laws.proofs.TellsInitializers.{initializer_tells}
+use Rattle.cxx_expr.specs.Operands.{only}
+use Rattle.cxx_language.specs.Values.{constant_one, constant_part, constant_read, copied, told_constant}
+use Rattle.cxx_language_laws.proofs.TellsLevels.{conditional_tells}
 
 -- ---- what an initializer makes known
 
@@ -86,3 +89,29 @@ initialized_tells room name of number state ahead there =
     then_there later_is_told number there (some_elements_tell name (type_known known tree) state ahead) (λ fits state ahead there.
     then_in later_is_told (ask_in ahead (calm_by later_is_told (note_tells name number known tree state ahead there))) (λ noted.
     give_in later_is_told (tree ∷ [])))))))))
+
+-- ---- the value of a member in its class (9.4.2)
+
+read_tells : (room : ℕ) → Tells IsLater Told (constant_read (phrases_at room) (inner_at room).phrases)
+read_tells room state ahead =
+    then_in later_is_told (taken_in later_is_told state ahead) (λ equals state ahead.
+    then_in later_is_told (conditional_tells later_is_told (phrases_tell room (both_tell room).types) (both_tell room).phrases state ahead) (λ tree. give_in later_is_told (copied tree)))
+
+told_tells : {state : CxxState} {ahead : Ahead} {r : Answer (ℤ × CxxState)} → ToldBy IsLater Quietly state ahead r → ToldBy IsLater Quietly state ahead (told_constant r)
+told_tells (tells_answer one later) = tells_answer (tt, one.1) later
+told_tells (tells_refusal why quiet) = tells_refusal why quiet
+
+constant_one_tells : (one : Option CxxTree) (state : CxxState) (ahead : Ahead) → ToldBy IsLater Quietly state ahead (constant_one one state)
+constant_one_tells None state ahead = same_by later_is_quiet tt state ahead
+constant_one_tells (Some one) state ahead = told_tells (constant_tells later_is_quiet one state ahead)
+
+pub value_tells : (room : ℕ) (name : Lexeme) (of : CxxType) (number : ℕ) (state : CxxState) (ahead : Ahead) → HasNumber number state → ToldIn IsLater Told state ahead (constant_part room name of number state ahead)
+unfolding constant_part
+value_tells room name of number state ahead there =
+    then_there later_is_told number there (looked_in later_is_told state ahead) (λ from state ahead there.
+    then_there later_is_told number there (read_tells room state ahead) (λ read state ahead there.
+    then_there later_is_told number there (looked_in later_is_told state ahead) (λ to state ahead there.
+    then_there later_is_told number there (ask_in ahead (initialize_tells later_is_told answers of (initializer_tree read from to) state ahead)) (λ tree state ahead there.
+    then_there later_is_told number there (ask_in ahead (calm_by later_is_told (constant_one_tells (only (children_of tree)) state ahead))) (λ value state ahead there.
+    then_in later_is_told (ask_in ahead (calm_by later_is_told (note_tells name number of tree state ahead there))) (λ noted.
+    give_in later_is_told (tree ∷ [])))))))

@@ -14,9 +14,9 @@ use Rattle.cxx_language_laws.proofs.TellsSyntax.{FallbackTells}
 
 -- what is asked of a default argument (8.3.6)
 pub record OffersTell {S : Type 0} (kept : S → S → Type 0) (told : S → Ahead → Stopped → Type 0) (asks : Offering S) : Type 0 where
-  pub begun : Answers kept told asks.begun
+  pub begun : (equals : Place) → Answers kept told (asks.begun equals)
   pub ended : (equals : Place) (was : Bool) (index : ℕ) (of : CxxType) (tree : CxxTree) → Answers kept told (asks.ended equals was index of tree)
 
 pub fallback_at_tells : {S : Type 0} {kept : S → S → Type 0} {told : S → Ahead → Stopped → Type 0} → IsTold kept told → (asks : Asking S) → OffersTell kept told asks.defaults → {at : Phrases S} {inner : Inner S} → PhrasesTell kept told at inner → InnerTell kept told inner → FallbackTells kept told (fallback_at asks at inner)
 unfolding fallback_at
-fallback_at_tells is asks offers at inner index of state ahead = then_in is (taken_in is state ahead) (λ equals state ahead. then_in is (ask_in ahead (offers.begun state ahead)) (λ was state ahead. then_in is (assignment_tells is at inner state ahead) (λ tree state ahead. then_in is (ask_in ahead (offers.ended equals was index of tree state ahead)) (λ converted. give_in is (converted ∷ [])))))
+fallback_at_tells is asks offers at inner index of state ahead = then_in is (taken_in is state ahead) (λ equals state ahead. then_in is (ask_in ahead (offers.begun equals state ahead)) (λ was state ahead. then_in is (assignment_tells is at inner state ahead) (λ tree state ahead. then_in is (ask_in ahead (offers.ended equals was index of tree state ahead)) (λ converted. give_in is (converted ∷ [])))))

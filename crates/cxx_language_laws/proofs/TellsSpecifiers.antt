@@ -1,6 +1,6 @@
 -- What the readers of specifiers keep of the state, and what stops them.
 use Rattle.std.proofs.Common.{◌≡◌, refl}
-use Rattle.std.specs.Prelude.{ℕ, Bool, true, false, [], ◌∷◌, ◌++◌, Option, Some, None, ◌==◌, codes}
+use Rattle.std.specs.Prelude.{ℕ, Bool, true, [], ◌∷◌, ◌++◌, Option, Some, None, ◌==◌, codes}
 use Rattle.cxx_model.specs.declared.keyword.TheConstants as keyword
 use Rattle.cxx_model.specs.declared.fault.FaultText.TheVariants as says
 use Rattle.cxx_model.specs.Stops.{Stopped, fault}
@@ -28,7 +28,7 @@ storage_tells is place word so_far state ahead = if_in _ (next_in is _ state ahe
 
 pub inline_tells : {S : Type 0} {kept : S → S → Type 0} {told : S → Ahead → Stopped → Type 0} → IsTold kept told → (place : SpecifierPlace) (so_far : Specifiers) → Tells kept told (inline_step {S = S} place so_far)
 unfolding inline_step
-inline_tells is place so_far state ahead = if_in _ (quiet_in is refl) (if_in _ (next_in is _ state ahead) (quiet_in is refl))
+inline_tells is place so_far state ahead = if_in _ (next_in is _ state ahead) (quiet_in is refl)
 
 pub const_tells : {S : Type 0} {kept : S → S → Type 0} {told : S → Ahead → Stopped → Type 0} → IsTold kept told → (so_far : Specifiers) → Tells kept told (const_step {S = S} so_far)
 unfolding const_step
@@ -96,19 +96,17 @@ unfolding class_named_step
 class_named_tells is asks is_union is_all from so_far state ahead begins whole = then_in is (ask_from (behind_name ahead) (name_stands ahead) (asks.class_named is_union is_all state ahead begins whole)) (λ of state rest. then_in is (looked_in is state rest) (λ to. give_in is (More (record so_far { named = Some of; stands_alone = true; parts = so_far.parts ++ elaborated_tree (class_key is_union) (path_ahead ahead) of from to ∷ [] }))))
 
 -- the head of a class that is defined, up to which the specifiers are read
-head_tells : {S : Type 0} {kept : S → S → Type 0} {told : S → Ahead → Stopped → Type 0} → IsTold kept told → (place : SpecifierPlace) (plain : Bool) (from : Ahead) (so_far : Specifiers) (state : S) (ahead : Ahead) → ToldIn kept told state from (head_reached place plain from so_far state ahead)
-head_tells is where_.Declaration true from so_far state ahead = same_in is _ state from
-head_tells is where_.Declaration false from so_far state ahead = quiet_in is refl
-head_tells is where_.Member true from so_far state ahead = same_in is _ state from
-head_tells is where_.Member false from so_far state ahead = quiet_in is refl
-head_tells is where_.Block plain from so_far state ahead = quiet_in is refl
-head_tells is where_.Parameter plain from so_far state ahead = quiet_in is refl
-head_tells is where_.TypeId plain from so_far state ahead = quiet_in is refl
+head_tells : {S : Type 0} {kept : S → S → Type 0} {told : S → Ahead → Stopped → Type 0} → IsTold kept told → (place : SpecifierPlace) (from : Ahead) (so_far : Specifiers) (state : S) (ahead : Ahead) → ToldIn kept told state from (head_reached place from so_far state ahead)
+head_tells is where_.Declaration from so_far state ahead = same_in is _ state from
+head_tells is where_.Member from so_far state ahead = same_in is _ state from
+head_tells is where_.Block from so_far state ahead = quiet_in is refl
+head_tells is where_.Parameter from so_far state ahead = quiet_in is refl
+head_tells is where_.TypeId from so_far state ahead = quiet_in is refl
 
 class_behind_tells : {S : Type 0} {kept : S → S → Type 0} {told : S → Ahead → Stopped → Type 0} → IsTold kept told → {asks : Kinds S} → KindsTell kept told asks → (is_union : Bool) (place : SpecifierPlace) (from : Ahead) (so_far : Specifiers) (state : S) (ahead : Ahead) → EndsIn from.tokens ahead.tokens → begins_name ahead ≡ true → is_whole_name ahead ≡ true
     → ToldIn kept told state from (class_behind asks is_union place from (path_ahead ahead) so_far state (behind_name ahead))
 unfolding class_behind
-class_behind_tells is asks is_union place from so_far state ahead stands begins whole = if_in _ (head_tells is place _ from so_far state _) (from_in is state state from ahead (is.keeps.same state) stands (class_named_tells is asks is_union _ from so_far state ahead begins whole))
+class_behind_tells is asks is_union place from so_far state ahead stands begins whole = if_in _ (head_tells is place from so_far state _) (from_in is state state from ahead (is.keeps.same state) stands (class_named_tells is asks is_union _ from so_far state ahead begins whole))
 
 class_name_tells : {S : Type 0} {kept : S → S → Type 0} {told : S → Ahead → Stopped → Type 0} → IsTold kept told → {asks : Kinds S} → KindsTell kept told asks → (is_union : Bool) (place : SpecifierPlace) (from : Ahead) (so_far : Specifiers) (state : S) (ahead : Ahead) → EndsIn from.tokens ahead.tokens → begins_name ahead ≡ true
     → ToldIn kept told state from (class_name_step asks is_union place from so_far state ahead)
@@ -117,7 +115,7 @@ class_name_tells is asks is_union place from so_far state ahead stands begins = 
 
 class_key_tells : {S : Type 0} {kept : S → S → Type 0} {told : S → Ahead → Stopped → Type 0} → IsTold kept told → {asks : Kinds S} → KindsTell kept told asks → (is_union : Bool) (place : SpecifierPlace) (from : Ahead) (so_far : Specifiers) (state : S) (ahead : Ahead) → EndsIn from.tokens ahead.tokens → ToldIn kept told state from (class_key_step asks is_union place from so_far state ahead)
 unfolding class_key_step
-class_key_tells is asks is_union place from so_far state ahead stands = when_in (begins_name ahead) (λ begins. class_name_tells is asks is_union place from so_far state ahead stands begins) (if_in _ (head_tells is place true from so_far state ahead) (quiet_in is refl))
+class_key_tells is asks is_union place from so_far state ahead stands = when_in (begins_name ahead) (λ begins. class_name_tells is asks is_union place from so_far state ahead stands begins) (if_in _ (head_tells is place from so_far state ahead) (quiet_in is refl))
 
 pub class_tells : {S : Type 0} {kept : S → S → Type 0} {told : S → Ahead → Stopped → Type 0} → IsTold kept told → {asks : Kinds S} → KindsTell kept told asks → (place : SpecifierPlace) (n : ℕ) (so_far : Specifiers) → Tells kept told (class_step asks place n so_far)
 unfolding class_step

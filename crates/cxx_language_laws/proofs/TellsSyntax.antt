@@ -1,7 +1,7 @@
 -- What the readers of declarators, parameters and enumerators keep of the state, and what stops them.
 use Rattle.std.proofs.Common.{◌≡◌, refl}
 use Rattle.cxx_model.specs.Stops.{Stopped}
-use Rattle.std.specs.Prelude.{ℕ, Bool, true, false, not, if◌then◌else◌, ◌&&◌, ◌||◌, ◌==◌, List, [], length}
+use Rattle.std.specs.Prelude.{ℕ, Bool, true, false, not, if◌then◌else◌, ◌||◌, ◌==◌, List, [], length}
 use Rattle.cxx_model.specs.declared.fault.FaultText.{FaultText}
 use Rattle.cxx_model.specs.declared.keyword.TheConstants as keyword
 use Rattle.cxx_model.specs.declared.limits.TheConstants as limits
@@ -13,11 +13,11 @@ use Rattle.cxx_reading.specs.declared.specifier.SpecifierPlace.TheVariants as wh
 use Rattle.cxx_reading.specs.Constants.{keyword_text, begins_operand, begins_unary, expression_text, no_expression}
 use Rattle.cxx_reading.specs.Declarators.{Specifiers, pointer_layer, reference_layer, Declarator, no_declarator_yet, outward, is_named, ParameterTypes, parameter_type}
 use Rattle.cxx_reading.specs.Specifiers.{with_const, with_volatile}
-use Rattle.cxx_reading.specs.Tokens.{is_punct, is_keyword, is_plain_name, begins_name, no_declarator}
+use Rattle.cxx_reading.specs.Tokens.{is_punct, is_keyword, is_plain_name, begins_name, no_declarator, is_name, no_qualifier, points_to_member}
 use Rattle.cxx_reading.specs.Trees.{CxxTree}
 use Rattle.cxx_model.specs.declared.token.TokenKind.{TokenKind}
 use Rattle.cxx_model.specs.declared.token.TokenKind.TheVariants.{Name, Keyword, Punct, Text, Integer, Character, End}
-use Rattle.cxx_reading.specs.Syntax.{default_at, is_required, is_never, may_qualify, qualified_part, cv_step, cv_at, suffixed, array_part, function_part, array_suffix, exceptions_at, function_suffix, function_by, bracket_suffix, suffix_at, give_declarator, suffixes_at, name_read, name_part, grouped_part, grouped_by, bracket_part, star_part, ampersand_part, declarator_at, pointed_at, referred_at, grouped_at, specified_type, place_of_declarator, is_refused_parameter, parameter_fits, parameter_tree, with_parameter, with_ellipsis, parameter_at, list_ended, comma_passed, parameter_ended, parameter_step, past_most, parameters_over, no_parameters, some_parameters, turn_result, is_void_list, list_at, parameters_at, enumerator_ended, Suffixed}
+use Rattle.cxx_reading.specs.Syntax.{default_at, is_required, is_never, may_qualify, qualified_part, cv_step, cv_at, suffixed, array_part, function_part, array_suffix, exceptions_at, function_suffix, function_by, bracket_suffix, suffix_at, give_declarator, suffixes_at, name_read, name_part, grouped_part, grouped_by, bracket_part, star_part, ampersand_part, declarator_at, pointed_at, referred_at, grouped_at, specified_type, place_of_declarator, is_refused_parameter, parameter_fits, parameter_tree, with_parameter, with_ellipsis, parameter_at, list_ended, comma_passed, parameter_ended, parameter_step, past_most, parameters_over, no_parameters, some_parameters, turn_result, is_void_list, list_at, parameters_at, enumerator_ended, Suffixed, named_part}
 use Rattle.cxx_model.specs.Types.Trees.{CxxType}
 use Rattle.cxx_reading.specs.Kinds.{Fallback, Kinds, Readers}
 use Rattle.cxx_reading.specs.Reads.{Ahead, Turn, More, Done, give, kind_ahead, behind}
@@ -67,7 +67,7 @@ exceptions_tell is state ahead = if_in (not (is_keyword keyword.THROW (kind_ahea
 
 pub function_tells : {S : Type 0} {kept : S → S → Type 0} {told : S → Ahead → Stopped → Type 0} → IsTold kept told → {inner : Readers S} → ReadersTell kept told inner → (so_far : Suffixed) → Tells kept told (function_suffix inner so_far)
 unfolding function_suffix
-function_tells is inner so_far state ahead = then_in is (taken_in is state ahead) (λ opened state ahead. then_in is (inner.parameters state ahead) (λ list state ahead. then_in is (tokens_in is (cv_tells unit_is_told) state ahead) (λ cv state ahead. then_in is (tokens_in is (exceptions_tell unit_is_told) state ahead) (λ exceptions. give_in is (suffixed false (function_part list so_far.declarator))))))
+function_tells is inner so_far state ahead = then_in is (taken_in is state ahead) (λ opened state ahead. then_in is (inner.parameters state ahead) (λ list state ahead. then_in is (tokens_in is (cv_tells unit_is_told) state ahead) (λ cv state ahead. then_in is (tokens_in is (exceptions_tell unit_is_told) state ahead) (λ exceptions. give_in is (suffixed false (function_part list cv so_far.declarator))))))
 
 function_by_tells : {S : Type 0} {kept : S → S → Type 0} {told : S → Ahead → Stopped → Type 0} → IsTold kept told → {inner : Readers S} → ReadersTell kept told inner → (so_far : Suffixed) (is_list : Bool) → Tells kept told (function_by inner so_far is_list)
 function_by_tells is inner so_far true state ahead = function_tells is inner so_far state ahead
@@ -95,9 +95,16 @@ name_tells {kept = kept} {told = told} is asks {inner = i} inner naming plain st
     others : ToldIn kept told state ahead (if is_required naming then no_declarator state ahead else suffixes_at i no_declarator_yet state ahead)
     others = if_in (is_required naming) (no_declarator_tells is state ahead) (suffixes_tell is inner no_declarator_yet state ahead)
 
-    by : (b : Bool) → b ≡ false → ToldIn kept told state ahead (if b && begins_name ahead then qualified_part asks i state ahead else (if is_required naming then no_declarator state ahead else suffixes_at i no_declarator_yet state ahead))
-    by true plain = absurd cc
-    by false plain = others
+    unqualified : (b : Bool) → b ≡ false → ToldIn kept told state ahead (if b then qualified_part asks i state ahead else no_qualifier state ahead)
+    unqualified true plain = absurd cc
+    unqualified false plain = if_in (is_name (kind_ahead ahead)) (quiet_in is refl) (quiet_in is refl)
+
+    by : (b : Bool) → b ≡ false → ToldIn kept told state ahead (if begins_name ahead then (if b then qualified_part asks i state ahead else no_qualifier state ahead) else (if is_required naming then no_declarator state ahead else suffixes_at i no_declarator_yet state ahead))
+    by b plain = if_in (begins_name ahead) (unqualified b plain) others
+
+-- 8.3.3: pointers to members are left out
+named_tells : {S : Type 0} {kept : S → S → Type 0} {told : S → Ahead → Stopped → Type 0} → IsTold kept told → (asks : Kinds S) {inner : Readers S} → ReadersTell kept told inner → (naming : Naming) → may_qualify naming ≡ false → Tells kept told (named_part asks inner naming)
+named_tells is asks inner naming plain state ahead = if_in (points_to_member ahead) (quiet_in is refl) (name_tells is asks inner naming plain state ahead)
 
 pub grouped_part_tells : {S : Type 0} {kept : S → S → Type 0} {told : S → Ahead → Stopped → Type 0} → IsTold kept told → {inner : Readers S} → ReadersTell kept told inner → (naming : Naming) → may_qualify naming ≡ false → Tells kept told (grouped_part inner naming)
 unfolding grouped_part
@@ -121,7 +128,7 @@ ampersand_tells is inner naming plain state ahead = then_in is (taken_in is stat
 
 pub declarator_tells : {S : Type 0} {kept : S → S → Type 0} {told : S → Ahead → Stopped → Type 0} → IsTold kept told → {asks : Kinds S} → KindsTell kept told asks → {inner : Readers S} → ReadersTell kept told inner → (naming : Naming) → may_qualify naming ≡ false → Tells kept told (declarator_at asks inner naming)
 unfolding declarator_at
-declarator_tells is {asks = a} asks inner naming plain state ahead = if_in (is_punct punct.STAR (kind_ahead ahead)) (star_tells is inner naming plain state ahead) (if_in (is_punct punct.AMPERSAND (kind_ahead ahead)) (ampersand_tells is inner naming plain state ahead) (if_in (is_punct punct.LEFT_PARENTHESIS (kind_ahead ahead)) (bracket_part_tells is asks inner naming plain state ahead) (name_tells is a inner naming plain state ahead)))
+declarator_tells is {asks = a} asks inner naming plain state ahead = if_in (is_punct punct.STAR (kind_ahead ahead)) (star_tells is inner naming plain state ahead) (if_in (is_punct punct.AMPERSAND (kind_ahead ahead)) (ampersand_tells is inner naming plain state ahead) (if_in (is_punct punct.LEFT_PARENTHESIS (kind_ahead ahead)) (bracket_part_tells is asks inner naming plain state ahead) (named_tells is a inner naming plain state ahead)))
 
 pub pointed_tells : {S : Type 0} {kept : S → S → Type 0} {told : S → Ahead → Stopped → Type 0} → IsTold kept told → {asks : Kinds S} → KindsTell kept told asks → {inner : Readers S} → ReadersTell kept told inner → (naming : Naming) → may_qualify naming ≡ false → Tells kept told (pointed_at asks inner naming)
 unfolding pointed_at

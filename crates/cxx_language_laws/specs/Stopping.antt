@@ -27,7 +27,7 @@ use Rattle.cxx_reading.specs.Trees.{CxxTree}
 use Rattle.cxx_reading.specs.Units.{Said, Listed, give_trees, inside_step, linkages_passed, name_in, no_declarators, said_by}
 use Rattle.cxx_language.specs.Blocks.{condition_part, declared_condition_at, local_declaration_at, local_step}
 use Rattle.cxx_language.specs.Bodies.{result_of}
-use Rattle.cxx_language.specs.Classes.{BaseList, Head as ClassHead, Members, base_list, bases_in, bases_or_none, behind_bases, class_at, class_begins, declaration_specifiers, give_members, head_at, list_step, member_declaration_at, member_specifiers, member_step}
+use Rattle.cxx_language.specs.Classes.{BaseList, Head as ClassHead, Members, base_list, bases_in, bases_or_none, behind_bases, class_at, class_begins, declaration_specifiers, give_members, head_at, list_step, member_declaration_at, member_specifiers, member_step, is_mutable_member, type_of_member}
 use Rattle.cxx_language.specs.Objects.{begins_initializer, initialized_part}
 use Rattle.cxx_declare.specs.Functions.{declare_function}
 use Rattle.cxx_heads.specs.Heads.{is_declared_condition}
@@ -40,6 +40,8 @@ use Rattle.cxx_language.specs.Asked.{answers, asked, inner_at, phrases_at}
 use Rattle.cxx_language.specs.Statements.{expression_for, parts_at, statement_head}
 use Rattle.cxx_language.specs.Spaces.{alias_at, namespace_at, using_at}
 use Rattle.cxx_language.specs.Units.{declaration_at, declarator_step, linkage_opened, simple_declaration_at}
+use Rattle.cxx_language.specs.Values.{constant_part, has_value}
+use Rattle.cxx_declare.specs.ClassDefinitions.{declare_member}
 
 -- a reader reads a value from a state with these tokens ahead, to another
 abbrev pub Gives : {S A : Type 0} → Reads S A → S → Ahead → A → S → Ahead → Type 0
@@ -119,6 +121,8 @@ pub data Part : Type 0 where
   -- 9.2: a declaration of members with an access (11)
   a_member_declaration : ℕ → Access → Part
   some_member_declarators : ℕ → Access → Said → Listed → Part
+  -- 9.4.2: the value of a static constant in its class, from its `=` on
+  a_member_value : ℕ → Lexeme → CxxType → ℕ → Part
   -- 7.1: the specifiers behind a class that is defined among them
   some_further_specifiers : ℕ → SpecifierPlace → Specifiers → Part
   -- 8.3: a declarator, with bounds and parameters
@@ -156,6 +160,7 @@ IsInnermost (some_specifiers room place) = Unit {0}
 IsInnermost (some_bases of) = Unit {0}
 IsInnermost (some_further_specifiers room place so_far) = Unit {0}
 IsInnermost (a_declarator room naming) = Unit {0}
+IsInnermost (a_member_value room name of number) = Unit {0}
 IsInnermost (an_initializer room name of number) = Unit {0}
 IsInnermost (an_expression room purpose.Whole) = Unit {0}
 IsInnermost (an_expression room purpose.Constant) = Unit {0}
@@ -184,6 +189,7 @@ IsStopped (a_member_declaration room access) state ahead fault = member_declarat
 IsStopped (some_member_declarators room access said so_far) state ahead fault = IsStoppedIn (member_step room access said) give_trees so_far state ahead fault
 IsStopped (some_further_specifiers room place so_far) state ahead fault = further_specifiers_of room place so_far state ahead ≡ Err (Faulty fault)
 IsStopped (a_declarator room naming) state ahead fault = declarator_of room naming state ahead ≡ Err (Faulty fault)
+IsStopped (a_member_value room name of number) state ahead fault = constant_part room name of number state ahead ≡ Err (Faulty fault)
 IsStopped (an_initializer room name of number) state ahead fault = initializer_of room name of number state ahead ≡ Err (Faulty fault)
 IsStopped (a_body room) state ahead fault = body_of room state ahead ≡ Err (Faulty fault)
 IsStopped (some_statements room so_far) state ahead fault = IsStoppedIn (statement_step_of room) never_ended so_far state ahead fault
@@ -337,6 +343,10 @@ pub data Leads : Part → CxxState → Ahead → Part → CxxState → Ahead →
   next_member_declarator : {room : ℕ} {access : Access} {said : Said} {so_far more : Listed} {state after : CxxState} {ahead rest : Ahead} → Gives (member_step room access said so_far) state ahead (More more) after rest
       → Leads (some_member_declarators room access said so_far) state ahead (some_member_declarators room access said more) after rest
   in_member_declarator : {room : ℕ} {access : Access} {said : Said} {so_far : Listed} {state : CxxState} {ahead : Ahead} → Leads (some_member_declarators room access said so_far) state ahead (a_declarator room naming.Required) state ahead
+  -- 9.4.2: the member of a whole declarator is declared, and its value is ahead
+  to_member_value : {room : ℕ} {access : Access} {said : Said} {so_far : Listed} {declarator : Declarator} {state between : CxxState} {answer : ℕ × CxxState} {ahead rest : Ahead} → Gives (declarator_of room naming.Required) state ahead declarator between rest
+      → said.is_typedef ≡ false → declare_member access said.is_static (is_mutable_member said (type_of_member said declarator)) (name_in declarator) (type_of_member said declarator) between ≡ Ok answer → has_value said.is_static (type_of_member said declarator) (kind_ahead rest) ≡ true
+      → Leads (some_member_declarators room access said so_far) state ahead (a_member_value room (name_in declarator) (type_of_member said declarator) answer.0) answer.1 rest
   -- 8.5: the object of a whole declarator is declared, and its initializer is ahead
   to_initializer : {room number : ℕ} {said : Said} {so_far : Listed} {declarator : Declarator} {state between after : CxxState} {ahead rest : Ahead} → Gives (declarator_of room naming.Qualified) state ahead declarator between rest
       → said.is_typedef ≡ false → is_function_type (declared_type declarator.layers said.of) ≡ false → Initializes said declarator between number after → begins_initializer rest ≡ true

@@ -189,7 +189,7 @@ pub data Layer : Type 0 where
   -- 8.3.5: the parameters, whether an ellipsis follows them, and their scope
   function_layer : CxxTypes → Bool → ℕ → Layer
 
--- 8.3.1 to 8.3.5; the words behind the parameter list of what is no member of a class say nothing
+-- 8.3.1 to 8.3.5; the words behind the parameters of what is no member of a class say nothing
 abbrev pub layer_on : Layer → CxxType → CxxType
 layer_on (pointer_layer cv) of = with_cv cv (pointer_to of)
 layer_on reference_layer of = reference_to of
@@ -201,6 +201,15 @@ layer_on (function_layer parameters ellipsis scope) of = function_of of paramete
 unfoldable pub declared_type : List Layer → CxxType → CxxType
 declared_type [] of = of
 declared_type (layer ∷ layers) of = layer_on layer (declared_type layers of)
+
+-- 8.3.5, 9.3.1: the same of a member of a class; a function has the words behind its parameters
+abbrev pub member_layer_on : Cv → Layer → CxxType → CxxType
+member_layer_on words (function_layer parameters ellipsis scope) of = function_of of parameters ellipsis words
+member_layer_on words layer of = layer_on layer of
+
+abbrev pub member_type : Cv → List Layer → CxxType → CxxType
+member_type words [] of = of
+member_type words (layer ∷ layers) of = member_layer_on words layer (declared_type layers of)
 
 abbrev pub is_void : CxxType → Bool
 is_void (fundamental base.Void) = true
@@ -277,14 +286,21 @@ pub record Declarator : Type 0 where
   pub is_qualified : Bool
   -- from the name outward
   pub layers : List Layer
+  -- 8.3.5: the words behind the parameters of the function that it declares, which only those of a class heed
+  pub cv : Cv
   pub parts : List CxxTree
 
 abbrev pub no_declarator_yet : Declarator
-no_declarator_yet = record { name = None; is_qualified = false; layers = []; parts = [] }
+no_declarator_yet = record { name = None; is_qualified = false; layers = []; cv = no_cv; parts = [] }
 
 -- a part of a declarator that stands outside of what was read of it
 abbrev pub outward : Layer → List CxxTree → Declarator → Declarator
 outward layer parts declarator = record declarator { layers = declarator.layers ++ layer ∷ []; parts = declarator.parts ++ parts }
+
+-- those words, where a list of parameters with words behind it stands outside of these layers
+abbrev pub own_cv : List Layer → Cv → Cv → Cv
+own_cv [] words before = words
+own_cv (layer ∷ layers) words before = before
 
 abbrev pub is_named : Declarator → Bool
 is_named declarator = by declarator.name

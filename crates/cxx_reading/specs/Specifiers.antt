@@ -84,17 +84,12 @@ storage_step place word so_far state ahead =
     then went_on (record so_far { storage = Some word }) state ahead
     else refused state ahead
 
-abbrev pub is_member_place : SpecifierPlace → Bool
-is_member_place where_.Member = true
-is_member_place _ = false
-
--- 7.1.2: of functions in a class nothing is read yet
+-- 7.1.2
 unfoldable pub inline_step : {S : Type 0} → SpecifierPlace → Specifiers → Reads S (Turn Specifiers Specifiers)
 inline_step place so_far state ahead =
-    if is_member_place place then not_built state ahead else (
     if is_declaration place && not so_far.is_inline
     then went_on (record so_far { is_inline = true }) state ahead
-    else refused state ahead)
+    else refused state ahead
 
 abbrev pub with_const : Cv → Cv
 with_const cv = record { is_const = true; is_volatile = cv.is_volatile }
@@ -236,19 +231,16 @@ abbrev pub begins_members : TokenKind → Bool
 begins_members kind = is_punct punct.LEFT_BRACE kind || is_punct punct.COLON kind
 
 -- 9: The head of a class that is defined. Among the specifiers of a declaration of a namespace or of a member reading stops
--- at its key, unless its name has qualifiers; such heads are not read yet. In a block the form is left out (9.8), and
--- elsewhere no class is defined (8.3.5, 5.3.3).
-abbrev pub head_reached : {S : Type 0} → SpecifierPlace → Bool → Ahead → Specifiers → Reads S (Turn Specifiers Specifiers)
-head_reached where_.Declaration true from so_far state ahead = got (Done so_far) state from
-head_reached where_.Declaration false from so_far state ahead = fault_at (place_ahead from) says.NotBuilt state ahead
-head_reached where_.Member true from so_far state ahead = got (Done so_far) state from
-head_reached where_.Member false from so_far state ahead = fault_at (place_ahead from) says.NotBuilt state ahead
-head_reached where_.Block plain from so_far state ahead = fault_at (place_ahead from) (says.LeftOut form.LocalClass) state ahead
-head_reached place plain from so_far state ahead = refused state ahead
+-- at its key. In a block the form is left out (9.8), and elsewhere no class is defined (8.3.5, 5.3.3).
+abbrev pub head_reached : {S : Type 0} → SpecifierPlace → Ahead → Specifiers → Reads S (Turn Specifiers Specifiers)
+head_reached where_.Declaration from so_far state ahead = got (Done so_far) state from
+head_reached where_.Member from so_far state ahead = got (Done so_far) state from
+head_reached where_.Block from so_far state ahead = fault_at (place_ahead from) (says.LeftOut form.LocalClass) state ahead
+head_reached place from so_far state ahead = refused state ahead
 
 unfoldable pub class_behind : {S : Type 0} → Kinds S → Bool → SpecifierPlace → Ahead → CxxPath → Specifiers → Reads S (Turn Specifiers Specifiers)
 class_behind asks is_union place from path so_far state ahead =
-    if begins_members (kind_ahead ahead) then head_reached place (is_plain_path path) from so_far state ahead else
+    if begins_members (kind_ahead ahead) then head_reached place from so_far state ahead else
     class_named_step asks is_union (is_all place so_far path (kind_ahead ahead)) from path so_far state ahead
 
 unfoldable pub class_name_step : {S : Type 0} → Kinds S → Bool → SpecifierPlace → Ahead → Specifiers → Reads S (Turn Specifiers Specifiers)
@@ -258,7 +250,7 @@ class_name_step asks is_union place from so_far = path_taken >>= λ path. class_
 unfoldable pub class_key_step : {S : Type 0} → Kinds S → Bool → SpecifierPlace → Ahead → Specifiers → Reads S (Turn Specifiers Specifiers)
 class_key_step asks is_union place from so_far state ahead =
     if begins_name ahead then class_name_step asks is_union place from so_far state ahead else (
-    if begins_members (kind_ahead ahead) then head_reached place true from so_far state ahead else
+    if begins_members (kind_ahead ahead) then head_reached place from so_far state ahead else
     refused state ahead)
 
 -- 14.6: `typename` is not read yet

@@ -14,14 +14,14 @@ use Rattle.cxx_model.specs.Types.Trees.{CxxType, CxxBound, unknown_bound, number
 use Rattle.cxx_reading.specs.declared.specifier.Naming.{Naming}
 use Rattle.cxx_reading.specs.declared.specifier.Naming.TheVariants as naming
 use Rattle.cxx_reading.specs.declared.specifier.SpecifierPlace.TheVariants as where_
-use Rattle.cxx_reading.specs.Declarators.{Specifiers, type_of_specifiers, Layer, pointer_layer, reference_layer, array_layer, function_layer, Declarator, no_declarator_yet, outward, is_named, ParameterTypes, adjusted_types, parameter_type, declared_type, refused_in, is_refused, is_void, no_cv}
+use Rattle.cxx_reading.specs.Declarators.{Specifiers, type_of_specifiers, Layer, pointer_layer, reference_layer, array_layer, function_layer, Declarator, no_declarator_yet, outward, own_cv, is_named, ParameterTypes, adjusted_types, parameter_type, declared_type, refused_in, is_refused, is_void, no_cv}
 use Rattle.cxx_reading.specs.Kinds.{Kinds, Fallback, Readers}
 use Rattle.cxx_reading.specs.Labels.{label_from}
 use Rattle.cxx_reading.specs.Productions as production
 use Rattle.cxx_reading.specs.Reads.{Reads, Ahead, Turn, More, Done, ◌>>=◌, got, give, ask, limited, fault_at, looked, taken, tokens, kind_ahead, place_ahead, count_ahead, behind, repeat}
 use Rattle.cxx_reading.specs.Shapes.{look, past, is_abstract_list, begins_type}
 use Rattle.cxx_reading.specs.Specifiers.{specifiers_at, with_const, with_volatile, path_of_option, place_or}
-use Rattle.cxx_reading.specs.Tokens.{is_punct, is_keyword, is_plain_name, begins_name, path_taken, token_taken, punct_taken, refused, no_declarator}
+use Rattle.cxx_reading.specs.Tokens.{is_punct, is_keyword, is_plain_name, begins_name, no_qualifier, path_taken, points_to_member, token_taken, punct_taken, refused, no_declarator}
 use Rattle.cxx_reading.specs.Trees.{CxxPathPart, CxxTree, last_part, tree_of}
 
 -- ---- declarators (8.3)
@@ -66,8 +66,8 @@ suffixed in_row declarator = More (record { declarator = declarator; in_row = in
 abbrev pub array_part : Option ℤ × List CxxTree → Declarator → Declarator
 array_part bound declarator = outward (array_layer (bound_by bound.0)) bound.1 declarator
 
-abbrev pub function_part : ParameterTypes → Declarator → Declarator
-function_part list declarator = outward (function_layer (adjusted_types list.types) list.ellipsis list.scope) list.parts declarator
+abbrev pub function_part : ParameterTypes → Cv → Declarator → Declarator
+function_part list cv declarator = record (outward (function_layer (adjusted_types list.types) list.ellipsis list.scope) list.parts declarator) { cv = own_cv declarator.layers cv declarator.cv }
 
 -- 8.3.4: only the first bound of a row may be left out
 unfoldable pub array_suffix : {S : Type 0} → Readers S → Suffixed → Reads S (Turn Suffixed Declarator)
@@ -84,14 +84,14 @@ exceptions_at state ahead =
     if is_punct punct.RIGHT_PARENTHESIS (kind_ahead (behind (behind ahead))) then got tt state (behind (behind (behind ahead))) else
     fault_at (place_ahead ahead) (says.LeftOut form.ExceptionSpecification) state ahead))
 
--- 8.3.5: the words behind the parameters are read and say nothing
+-- 8.3.5
 unfoldable pub function_suffix : {S : Type 0} → Readers S → Suffixed → Reads S (Turn Suffixed Declarator)
 function_suffix inner so_far = do
   opened ← taken
   list ← inner.parameters
   cv ← tokens cv_at
   exceptions ← tokens exceptions_at
-  give (suffixed false (function_part list so_far.declarator))
+  give (suffixed false (function_part list cv so_far.declarator))
 
 abbrev pub function_by : {S : Type 0} → Readers S → Suffixed → Bool → Reads S (Turn Suffixed Declarator)
 function_by inner so_far true = function_suffix inner so_far
@@ -140,9 +140,14 @@ unfoldable pub name_part : {S : Type 0} → Kinds S → Readers S → Naming →
 name_part asks inner naming state ahead =
     if is_never naming then suffixes_at inner no_declarator_yet state ahead else (
     if is_plain_name ahead then (token_taken >>= named_declarator inner) state ahead else (
-    if may_qualify naming && begins_name ahead then qualified_part asks inner state ahead else (
+    if begins_name ahead then (if may_qualify naming then qualified_part asks inner state ahead else no_qualifier state ahead) else (
     if is_required naming then no_declarator state ahead else
     suffixes_at inner no_declarator_yet state ahead)))
+
+-- pointers to members are left out
+abbrev pub named_part : {S : Type 0} → Kinds S → Readers S → Naming → Reads S Declarator
+named_part asks inner naming state ahead =
+    if points_to_member ahead then fault_at (place_ahead ahead) (says.LeftOut form.PointerToMember) state ahead else name_part asks inner naming state ahead
 
 unfoldable pub grouped_part : {S : Type 0} → Readers S → Naming → Reads S Declarator
 grouped_part inner naming = do
@@ -176,7 +181,7 @@ declarator_at asks inner naming state ahead =
     if is_punct punct.STAR (kind_ahead ahead) then star_part inner naming state ahead else (
     if is_punct punct.AMPERSAND (kind_ahead ahead) then ampersand_part inner naming state ahead else (
     if is_punct punct.LEFT_PARENTHESIS (kind_ahead ahead) then bracket_part asks inner naming state ahead else
-    name_part asks inner naming state ahead))
+    named_part asks inner naming state ahead))
 
 -- 8.3.1: behind `*`
 unfoldable pub pointed_at : {S : Type 0} → Kinds S → Readers S → Naming → Reads S Declarator

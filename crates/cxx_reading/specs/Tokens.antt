@@ -121,6 +121,14 @@ unfoldable pub path_taken : {S : Type 0} → Reads S CxxPath
 path_taken state ahead =
     if is_whole_name ahead then got (path_ahead ahead) state (behind_name ahead) else no_part_there (lacks_first_part ahead) state (behind_name ahead)
 
+-- 8.3.3: whether the name of a class, `::` and `*` stand ahead
+abbrev pub points_to_member : Ahead → Bool
+points_to_member ahead = begins_name ahead && (not (lacks_first_part ahead) && (not (is_whole_name ahead) && is_punct punct.STAR (kind_ahead (behind_name ahead))))
+
+-- 8.3: where the name ahead may have no qualifiers, its first `::` is refused
+abbrev pub no_qualifier : {S A : Type 0} → Reads S A
+no_qualifier state ahead = if is_name (kind_ahead ahead) then refused state (behind ahead) else refused state ahead
+
 -- the same, where it is not asked which it is
 abbrev pub name_taken : {S : Type 0} → Reads S (Unit {0})
 name_taken state ahead = got tt state (behind_name ahead)

@@ -1,3 +1,4 @@
+mod Apart
 mod Based
 mod Kept
 mod Listing

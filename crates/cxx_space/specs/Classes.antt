@@ -1,30 +1,35 @@
 -- The definitions of classes, in the code: what their values stand for, given the trees and types of a state, and what is left
 -- of a definition behind its beginning.
-use Rattle.std.specs.Prelude.{ℕ, ◌≡◌, ◌<◌, Bool, false, length, List, option_map}
+use Rattle.std.specs.Prelude.{ℕ, ◌≡◌, ◌<◌, ◌++◌, Bool, false, length, List, option_map}
 use Rattle.cxx_model.specs.declared.facts.Access.{Access}
 use Rattle.cxx_model.specs.declared.types.TreeId.{TreeId}
+use Rattle.cxx_model.specs.declared.types.TypeId.{TypeId}
 use Rattle.cxx_model.specs.Text.Lexemes.{Lexeme}
 use Rattle.cxx_model.specs.Types.Numbers.{type_at}
 use Rattle.cxx_model.specs.Types.Trees.{CxxType, class_type}
 use Rattle.cxx_reading.specs.declared.specifier.SpecifierPlace.{SpecifierPlace}
 use Rattle.cxx_reading.specs.Declarators as declarators
-use Rattle.cxx_reading.specs.Declarators.{Declarator, declared_type}
+use Rattle.cxx_reading.specs.Declarators.{Declarator}
 use Rattle.cxx_reading.specs.Reads as reads
 use Rattle.cxx_reading.specs.Reads.{Reads, Ahead, ◌>>=◌, give, ask, looked, taken, count_ahead, repeat}
 use Rattle.cxx_reading.specs.Specifiers.{specifiers_from}
 use Rattle.cxx_reading.specs.State.{CxxState}
 use Rattle.cxx_reading.specs.Trees.{CxxTree}
 use Rattle.cxx_reading.specs.Units.{Said, declarator_tree, give_trees, name_in, no_declarators}
+use Rattle.cxx_cursor.specs.declared.declarator.Declarator as declarator
 use Rattle.cxx_cursor.specs.declared.turn.Turn.{Turn}
-use Rattle.cxx_cursor.specs.Views.{AreTreesHeld, IsTurn, lexeme_at, trees_held, turn_at}
+use Rattle.cxx_cursor.specs.Views.{AreTreesHeld, IsDeclarator, IsTurn, declarator_of, lexeme_at, trees_held, turn_at}
 use Rattle.cxx_declare.specs.ClassDefinitions.{declare_member, end_class}
 use Rattle.cxx_language.specs.Asked.{asked, inner_at}
 use Rattle.cxx_language.specs.Classes as definition
-use Rattle.cxx_language.specs.Classes.{class_at, class_tree, is_mutable_member, list_at, member_step, no_anonymous_union, no_function, no_constant_value, whole_member, with_class}
+use Rattle.cxx_language.specs.Classes.{class_at, class_tree, is_mutable_member, list_at, member_step, no_anonymous_union, no_body, type_of_member, whole_member, with_class}
+use Rattle.cxx_language.specs.Values.{member_value}
 use Rattle.cxx_space.specs.declared.classes.Begun.{Begun}
 use Rattle.cxx_space.specs.declared.classes.Head.{Head}
 use Rattle.cxx_space.specs.declared.classes.Members.{Members}
-use Rattle.cxx_tree.specs.Held.{Held}
+use Rattle.cxx_tree.specs.Held.{Held, type_of}
+use Rattle.cxx_units.specs.declared.said.Said as said
+use Rattle.cxx_units.specs.Said.{said_of}
 
 -- ---- values
 
@@ -53,16 +58,26 @@ IsMembersTurn held = IsTurn (AreMembers held) (AreTreesHeld held)
 
 -- ---- a member
 
+-- The type is that of the declarator of a member, made of what the specifiers say.
+pub record IsMemberDeclared (held : Held) (said : said.Said) (declarator : declarator.Declarator) (of : TypeId) : Type 0 where
+  pub parts : IsDeclarator held declarator
+  pub known : of.0 < length held.types
+  pub is : type_of held of ≡ type_of_member (said_of held said) (declarator_of held declarator)
+
+-- once its value was read
+abbrev pub member_ended : Lexeme → CxxType → ℕ → List CxxTree → Ahead → Reads CxxState CxxTree
+member_ended name of number parts from = no_body of >>= λ bare. looked >>= λ to. give (declarator_tree false name of number parts from to)
+
 -- once it is declared
-abbrev pub member_kept : Bool → Lexeme → CxxType → ℕ → List CxxTree → Ahead → Reads CxxState CxxTree
-member_kept is_static name of number parts from = whole_member is_static name of >>= λ whole. no_constant_value is_static of >>= λ bare. looked >>= λ to. give (declarator_tree false name of number parts from to)
+abbrev pub member_kept : ℕ → Bool → Lexeme → CxxType → ℕ → List CxxTree → Ahead → Reads CxxState CxxTree
+member_kept room is_static name of number parts from = whole_member is_static name of >>= λ whole. member_value room is_static name of number >>= λ value. member_ended name of number (parts ++ value) from
 
 -- once it is no bit-field and its declarator fits
-abbrev pub member_of : Access → Bool → Bool → Lexeme → CxxType → List CxxTree → Ahead → Reads CxxState CxxTree
-member_of access is_static is_mutable name of parts from = no_function name of >>= λ object. ask (declare_member access is_static is_mutable name of) >>= λ number. member_kept is_static name of number parts from
+abbrev pub member_of : ℕ → Access → Bool → Bool → Lexeme → CxxType → List CxxTree → Ahead → Reads CxxState CxxTree
+member_of room access is_static is_mutable name of parts from = ask (declare_member access is_static is_mutable name of) >>= λ number. member_kept room is_static name of number parts from
 
-abbrev pub fitting_member : Access → Said → Declarator → Ahead → Reads CxxState CxxTree
-fitting_member access said declarator from = member_of access said.is_static (is_mutable_member said (declared_type declarator.layers said.of)) (name_in declarator) (declared_type declarator.layers said.of) declarator.parts from
+abbrev pub fitting_member : ℕ → Access → Said → Declarator → Ahead → Reads CxxState CxxTree
+fitting_member room access said declarator from = member_of room access said.is_static (is_mutable_member said (type_of_member said declarator)) (name_in declarator) (type_of_member said declarator) declarator.parts from
 
 -- behind specifiers
 abbrev pub members_at : ℕ → Access → Said → Reads CxxState (List CxxTree)

@@ -1,23 +1,27 @@
 -- A declarator that fits, and what stands behind that of a function, in a namespace that has begun, and behind specifications
 -- of linkage.
-use Rattle.std.specs.Prelude.{ℕ, Bool, if◌then◌else◌, List, [], Option}
+use Rattle.std.specs.Prelude.{ℕ, Bool, ◌&&◌, if◌then◌else◌, List, [], Option}
 use Rattle.cxx_model.specs.declared.fault.FaultText.TheVariants as says
 use Rattle.cxx_model.specs.declared.fault.LeftOut.TheVariants as form
 use Rattle.cxx_model.specs.declared.keyword.TheConstants as keyword
 use Rattle.cxx_model.specs.declared.punct.TheConstants as punct
 use Rattle.cxx_model.specs.Text.Lexemes.{Lexeme}
 use Rattle.cxx_model.specs.Types.Trees.{CxxType}
-use Rattle.cxx_reading.specs.Declarators.{Declarator}
+use Rattle.cxx_reading.specs.Declarators.{Declarator, is_function_type}
 use Rattle.cxx_reading.specs.Productions as production
-use Rattle.cxx_reading.specs.Reads.{Reads, Ahead, ◌>>=◌, got, ask, fault_at, kind_ahead, place_ahead, taken}
+use Rattle.cxx_reading.specs.Reads.{Reads, Ahead, ◌>>=◌, got, give, ask, fault_at, looked, kind_ahead, place_ahead, taken}
 use Rattle.cxx_reading.specs.Spaces.{close_space}
 use Rattle.cxx_reading.specs.State.{CxxState}
+use Rattle.cxx_reading.specs.Syntax.{declarator_at}
 use Rattle.cxx_reading.specs.Tokens.{is_punct, is_keyword, refused}
 use Rattle.cxx_reading.specs.Trees.{CxxTree}
-use Rattle.cxx_reading.specs.Units.{Said, ends_declarator, linkages_passed, one_tree}
-use Rattle.cxx_language.specs.Bodies.{function_body}
+use Rattle.cxx_reading.specs.Units.{Said, declared_fits, ends_declarator, linkages_passed, one_tree}
+use Rattle.cxx_reading.specs.declared.specifier.Naming.TheVariants as naming
+use Rattle.cxx_declare.specs.Outside.{agree_here, stand_in}
+use Rattle.cxx_language.specs.Asked.{asked, inner_at}
+use Rattle.cxx_language.specs.Bodies.{function_body, standing}
 use Rattle.cxx_language.specs.Spaces.{give_part}
-use Rattle.cxx_language.specs.Units.{Declares, declared_by, linkage_by, member_agrees, not_ended}
+use Rattle.cxx_language.specs.Units.{Declares, declared_by, linkage_by, member_agrees, not_ended, stands_in_class}
 
 -- 8.4: behind the declarator of the function with a declaration, which has a list of parameters with a scope
 abbrev pub body_or_not : ℕ → Lexeme → CxxType → ℕ → ℕ → Reads CxxState (List CxxTree)
@@ -32,9 +36,31 @@ function_end room is_first name of number list state ahead =
     if ends_declarator (kind_ahead ahead) then got [] state ahead else
     not_ended room is_first name of number list state ahead
 
+-- 8.3: what has qualifiers was declared before, given its type; a function of a class is not declared outside of it yet
+abbrev pub outside_by : Bool → Lexeme → CxxType → Reads CxxState (Unit {0})
+outside_by is_typedef name of state ahead =
+    if is_function_type of && stands_in_class state then fault_at name.place says.NotBuilt state ahead else
+    ask (agree_here is_typedef name of) state ahead
+
+-- 8.3: what has qualifiers was declared before with the same type, as one step
+unfoldable pub agreed : Said → Declarator → Reads CxxState (Unit {0})
+agreed said declarator = member_agrees said declarator
+
 -- 8.3: what a declarator declares that fits, once it is known that it agrees with what was declared before
 abbrev pub fitting_by : ℕ → Said → Bool → Ahead → Declarator → Reads CxxState Declares
-fitting_by room said is_first from declarator = member_agrees said declarator >>= λ agrees. declared_by room said is_first from declarator
+fitting_by room said is_first from declarator = agreed said declarator >>= λ agrees. declared_by room said is_first from declarator
+
+-- 8.3: a declarator with what stands behind it, that agrees in one step
+unfoldable pub declarator_apart : ℕ → Said → Bool → Reads CxxState Declares
+declarator_apart room said is_first = do
+  outside ← standing
+  from ← looked
+  declarator ← declarator_at (asked room).kinds (inner_at room).types naming.Qualified
+  fits ← declared_fits said declarator
+  agrees ← agreed said declarator
+  one ← declared_by room said is_first from declarator
+  left ← ask (stand_in outside)
+  give one
 
 -- 7.3.1: from the `{` on, where it has begun
 abbrev pub behind_begin : Reads CxxState (List CxxTree) → Ahead → Reads CxxState CxxTree

@@ -111,6 +111,20 @@ fn head_at<'a>(cursor: &mut Cursor<'a>) -> Head<'a>
     }
 }
 
+// A class whose name has qualifiers is not defined yet (9).
+#[tactic(auto, using(cxx_cursor::proofs::Kept::later_refl))]
+fn no_member_class(state: &State, cursor: &Cursor<'_>) -> Result<(), Stop>
+    ensures { IsRead itself AnyKnown state.now state.now cursor.now result (definition.no_member_class (meaning state.now) cursor.now) }
+{
+    let _ = state;
+    let mut behind = cursor.mark();
+    behind.advance();
+    if behind.begins_name() && !behind.is_plain_name() {
+        return Err(Stop::Fault(cursor.not_built()?));
+    }
+    Ok(())
+}
+
 // The type of a class that begins.
 #[tactic(auto, using(cxx_cursor::proofs::Kept::later_trans))]
 fn begun_as(state: &mut State, class: ClassId) -> Result<Begun, Stop>
@@ -196,6 +210,17 @@ fn comes_later(head: &Head<'_>, cursor: &Cursor<'_>) -> bool
     ensures { result ≡ definition.comes_later (option_map lexeme_at head.now.name) cursor.now }
 {
     begins_other(cursor.kind()) || begins_constructor(head, cursor)
+}
+
+// What is ahead behind `inline`, where that stands first (7.1.2).
+fn behind_inline<'a>(cursor: &Cursor<'a>) -> Cursor<'a>
+    ensures { result ≡ definition.behind_inline cursor.now }
+{
+    let mut ahead = cursor.mark();
+    if is_keyword(keyword::INLINE, cursor.kind()) {
+        ahead.advance();
+    }
+    ahead
 }
 
 fn with_member(so_far: Members, number: TreeId) -> Result<Members, AllocError>
@@ -292,8 +317,9 @@ impl<D: Defines> Space<'_, D> {
         requires { AreMembers state.old so_far }
         ensures { IsRead members_turn IsMembersTurn state.old state.new cursor.new result (definition.declared_step (definition.class_at self.now.room) self.now.room (option_map lexeme_at head.now.name) (members_of state.old so_far) (meaning state.old) cursor.old) }
     {
-        if comes_later(head, cursor) {
-            return Err(Stop::Fault(cursor.not_built()?));
+        let ahead = behind_inline(cursor);
+        if comes_later(head, &ahead) {
+            return Err(Stop::Fault(ahead.not_built()?));
         }
         let number = self.member_declaration_at(state, cursor, so_far.access)?;
         Ok(Turn::More(with_member(so_far, number)?))
@@ -440,6 +466,7 @@ impl<D: Defines> Space<'_, D> {
     {
         let outside = state.scope();
         let from = cursor.mark();
+        no_member_class(state, cursor)?;
         let head = head_at(cursor);
         let begun = self.class_begun(state, &head)?;
         let bases = self.bases_or_none(state, cursor, outside, begun.class, head.access)?;

@@ -2,24 +2,25 @@
 
 ghost use Rattle.std.specs.Prelude.{◌≡◌, ◌<◌, length};
 ghost use Rattle.cxx_language.specs.Units as units;
-ghost use Rattle.cxx_space.specs.Parts.{fitting_by};
+ghost use Rattle.cxx_space.specs.Parts.{agreed, declarator_apart, fitting_by, outside_by};
 ghost use Rattle.cxx_space.specs.Views.{IsDeclaredKnown, declares_of};
 ghost use Rattle.cxx_cursor.specs.Asking.{AnyKnown, itself};
 ghost use Rattle.cxx_cursor.specs.Reading.{IsRead};
-ghost use Rattle.cxx_cursor.specs.Views.{AreSpecifiers, AreTreesHeld, IsDeclarator, declarator_of, specifiers_of, trees_held};
-ghost use Rattle.cxx_tree.specs.Held.{meaning};
+ghost use Rattle.cxx_cursor.specs.Views.{AreSpecifiers, AreTreesHeld, IsDeclarator, declarator_of, name_at, specifiers_of, trees_held};
+ghost use Rattle.cxx_tree.specs.Held.{meaning, type_of};
 ghost use Rattle.cxx_units.specs.Said.{IsDeclared, IsListed, IsListedTurn, IsSaid, listed_of, listed_turn, said_of};
 
 use crate::bodies::{Declared, ended_by};
 use crate::space::{Defines, Space};
-use cxx_cursor::{Cursor, Declarator, Specifiers, Turn, is_punct};
-use cxx_model::{ScopeId, Stop, TreeIdList, TypeId, punct};
+use cxx_cursor::{Cursor, Declarator, NameToken, Specifiers, Turn, is_punct};
+use cxx_model::{FaultText, ScopeId, Stop, TreeIdList, TypeId, punct};
 use cxx_reading::Naming;
 use cxx_syntax::declared;
 use cxx_tree::State;
 use cxx_units::ends::nothing_declared;
 use cxx_units::said::{Listed as ListedTrees, Said, said_by};
-use cxx_units::trees::token_or;
+use cxx_units::trees::{faulty, token_or};
+use cxx_units::types::is_function_type;
 use cxx_units::{declared_fits, no_declarators};
 
 // The scope where the reader stands.
@@ -30,9 +31,40 @@ fn standing(state: &State) -> ScopeId
     state.scope()
 }
 
+// Whether the reader stands in the scope of a class (9.2).
+#[tactic(auto, unfolding(cxx_tree::specs::Held::meaning))]
+fn is_in_class(state: &State) -> bool
+    ensures { result ≡ units.stands_in_class (meaning state.now) }
+{
+    match state.names().class_of_scope(state.graph(), state.scope()) {
+        Some(_) => true,
+        None => false,
+    }
+}
+
 impl<D: Defines> Space<'_, D> {
-    // What has qualifiers was declared before with the same type (8.3).
+    // The same with the name; a function of a class is not declared outside of it yet (9.3).
     #[tactic(auto, using(cxx_cursor::proofs::Kept::later_refl))]
+    fn outside_agrees(
+        &self,
+        state: &State,
+        cursor: &Cursor<'_>,
+        said: Said,
+        name: &NameToken,
+        of: TypeId,
+    ) -> Result<(), Stop>
+        requires { of.0 < length (state.now).types }
+        ensures { IsRead itself AnyKnown state.now state.now cursor.now result (outside_by said.is_typedef (name_at name.now) (type_of state.now of) (meaning state.now) cursor.now) }
+    {
+        if is_function_type(state.types(), of) && is_in_class(state) {
+            let fault = faulty(cursor.alloc(), name.place, FaultText::NotBuilt)?;
+            return Err(Stop::Fault(fault));
+        }
+        self.declares.agree_here(state, said.is_typedef, name, of)
+    }
+
+    // What has qualifiers was declared before with the same type (8.3).
+    #[tactic(auto, using(cxx_cursor::proofs::Kept::later_refl), unfolding(crate::specs::Parts::agreed))]
     fn member_agrees(
         &self,
         state: &State,
@@ -42,16 +74,16 @@ impl<D: Defines> Space<'_, D> {
         of: TypeId,
     ) -> Result<(), Stop>
         requires { IsDeclared state.now said declarator.now of }
-        ensures { IsRead itself AnyKnown state.now state.now cursor.now result (units.member_agrees (said_of state.now said) (declarator_of state.now declarator.now) (meaning state.now) cursor.now) }
+        ensures { IsRead itself AnyKnown state.now state.now cursor.now result (agreed (said_of state.now said) (declarator_of state.now declarator.now) (meaning state.now) cursor.now) }
     {
         if !declarator.is_qualified {
             return Ok(());
         }
         match &declarator.name {
-            Some(name) => self.declares.agree_here(state, said.is_typedef, name, of),
+            Some(name) => self.outside_agrees(state, cursor, said, name, of),
             None => {
                 let name = token_or(cursor.alloc(), None);
-                self.declares.agree_here(state, said.is_typedef, &name, of)
+                self.outside_agrees(state, cursor, said, &name, of)
             }
         }
     }
@@ -97,8 +129,8 @@ impl<D: Defines> Space<'_, D> {
     }
 
     // Behind a declarator the reader stands where it stood before.
-    #[tactic(auto, using(crate::proofs::Kept::declares_kept, crate::proofs::Kept::declared_later, cxx_cursor::proofs::Kept::type_kept, cxx_cursor::proofs::Kept::type_later, cxx_cursor::proofs::Kept::later_refl, cxx_cursor::proofs::Kept::later_trans), unfolding(cxx_language::specs::Units::init_declarator_at))]
-    fn init_declarator_at(
+    #[tactic(auto, using(crate::proofs::Kept::declares_kept, crate::proofs::Kept::declared_later, cxx_cursor::proofs::Kept::type_kept, cxx_cursor::proofs::Kept::type_later, cxx_cursor::proofs::Kept::later_refl, cxx_cursor::proofs::Kept::later_trans), unfolding(crate::specs::Parts::declarator_apart))]
+    fn declarator_apart(
         &self,
         state: &mut State,
         cursor: &mut Cursor<'_>,
@@ -106,7 +138,7 @@ impl<D: Defines> Space<'_, D> {
         is_first: bool,
     ) -> Result<Declared, Stop>
         requires { IsSaid state.old said }
-        ensures { IsRead declares_of IsDeclaredKnown state.old state.new cursor.new result (units.init_declarator_at self.now.room (said_of state.old said) is_first (meaning state.old) cursor.old) }
+        ensures { IsRead declares_of IsDeclaredKnown state.old state.new cursor.new result (declarator_apart self.now.room (said_of state.old said) is_first (meaning state.old) cursor.old) }
     {
         let outside = standing(state);
         let from = cursor.mark();
@@ -117,6 +149,21 @@ impl<D: Defines> Space<'_, D> {
         let one = self.declared_as(state, cursor, said, is_first, &from, declarator)?;
         self.declares.stand_in(state, outside)?;
         Ok(one)
+    }
+
+    // The same, in the steps of its definition.
+    #[tactic(auto, using(crate::proofs::Apart::apart_read))]
+    fn init_declarator_at(
+        &self,
+        state: &mut State,
+        cursor: &mut Cursor<'_>,
+        said: Said,
+        is_first: bool,
+    ) -> Result<Declared, Stop>
+        requires { IsSaid state.old said }
+        ensures { IsRead declares_of IsDeclaredKnown state.old state.new cursor.new result (units.init_declarator_at self.now.room (said_of state.old said) is_first (meaning state.old) cursor.old) }
+    {
+        self.declarator_apart(state, cursor, said, is_first)
     }
 
     // A declarator, and what separates it from the next.

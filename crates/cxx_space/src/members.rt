@@ -3,20 +3,24 @@
 ghost use Rattle.std.specs.Prelude.{◌≡◌, ◌<◌, length};
 ghost use Rattle.cxx_language.specs.Classes as definition;
 ghost use Rattle.cxx_reading.specs.Units.{declared_synonym, name_in};
-ghost use Rattle.cxx_space.specs.Classes.{fitting_member, member_kept, members_at};
+ghost use Rattle.cxx_language.specs.Values.{member_value};
+ghost use Rattle.cxx_reading.specs.Declarators.{no_cv};
+ghost use Rattle.cxx_space.specs.Classes.{IsMemberDeclared, fitting_member, member_ended, member_kept, members_at};
 ghost use Rattle.cxx_cursor.specs.Asking.{AnyKnown, IsTreeKnown, itself};
 ghost use Rattle.cxx_cursor.specs.Reading.{IsRead};
 ghost use Rattle.cxx_cursor.specs.Views.{AreSpecifiers, AreTreesHeld, IsDeclarator, declarator_of, name_at, specifiers_of, trees_held};
 ghost use Rattle.cxx_tree.specs.Held.{meaning, tree, type_of};
-ghost use Rattle.cxx_units.specs.Said.{IsDeclared, IsListed, IsListedTurn, IsSaid, listed_of, listed_turn, said_of};
+ghost use Rattle.cxx_units.specs.Said.{IsListed, IsListedTurn, IsSaid, listed_of, listed_turn, said_of};
 
 use crate::space::{Defines, Space};
-use cxx_cursor::{Cursor, Declarator, NameToken, Specifiers, Turn, is_name, is_punct};
+use cxx_cursor::{Cursor, Declarator, NameToken, Specifiers, Turn, is_keyword, is_punct, joined};
 use cxx_language::Reader;
-use cxx_model::{Access, FactId, FaultText, LeftOut, Stop, TreeId, TreeIdList, TypeId, punct};
+use cxx_model::{
+    Access, Cv, FactId, FaultText, LeftOut, Stop, TreeId, TreeIdList, TypeId, keyword, punct,
+};
 use cxx_names::is_incomplete;
 use cxx_reading::Naming;
-use cxx_syntax::declared;
+use cxx_syntax::{declared, declared_member};
 use cxx_tree::State;
 use cxx_units::ends::nothing_declared;
 use cxx_units::said::{Listed as ListedTrees, Said, said_by};
@@ -38,24 +42,31 @@ fn no_bit_field(state: &State, cursor: &Cursor<'_>, declarator: &Declarator) -> 
     Ok(())
 }
 
-// A name and a bracket, a function (9.3), whose default arguments are read behind the class (3.3.6).
-fn begins_function(cursor: &Cursor<'_>) -> bool
-    ensures { result ≡ definition.begins_function cursor.now }
+// The body of a function of a class is not read yet (9.3), and exceptions are left out (15).
+#[tactic(auto, using(cxx_cursor::proofs::Kept::later_refl))]
+fn no_function_body(state: &State, cursor: &Cursor<'_>) -> Result<(), Stop>
+    ensures { IsRead itself AnyKnown state.now state.now cursor.now result (definition.no_function_body (meaning state.now) cursor.now) }
 {
-    is_name(cursor.kind()) && is_punct(punct::LEFT_PARENTHESIS, cursor.kind_behind())
-}
-
-// Functions of a class are not read yet (9.3).
-#[tactic(auto, using(cxx_cursor::proofs::Kept::later_refl), unfolding(cxx_language::specs::Classes::no_function))]
-fn no_function(state: &State, cursor: &Cursor<'_>, name: &NameToken, of: TypeId) -> Result<(), Stop>
-    requires { of.0 < length (state.now).types }
-    ensures { IsRead itself AnyKnown state.now state.now cursor.now result (definition.no_function (name_at name.now) (type_of state.now of) (meaning state.now) cursor.now) }
-{
-    if is_function_type(state.types(), of) {
-        let fault = faulty(cursor.alloc(), name.place, FaultText::NotBuilt)?;
-        return Err(Stop::Fault(fault));
+    let _ = state;
+    if is_punct(punct::LEFT_BRACE, cursor.kind()) {
+        return Err(Stop::Fault(cursor.not_built()?));
+    }
+    if is_keyword(keyword::TRY, cursor.kind()) {
+        let form = FaultText::LeftOut(LeftOut::Exception);
+        return Err(Stop::Fault(cursor.faulty(form)?));
     }
     Ok(())
+}
+
+#[tactic(auto, using(cxx_cursor::proofs::Kept::later_refl))]
+fn no_body(state: &State, cursor: &Cursor<'_>, of: TypeId) -> Result<(), Stop>
+    requires { of.0 < length (state.now).types }
+    ensures { IsRead itself AnyKnown state.now state.now cursor.now result (definition.no_body (type_of state.now of) (meaning state.now) cursor.now) }
+{
+    if !is_function_type(state.types(), of) {
+        return Ok(());
+    }
+    no_function_body(state, cursor)
 }
 
 // A member that is not static is of a complete type; that of its own class is none yet (9.2, 9.4.2).
@@ -78,29 +89,11 @@ fn whole_member(
     Ok(())
 }
 
-// The value of a static constant is not read in a class yet (9.4.2).
-#[tactic(auto, using(cxx_cursor::proofs::Kept::later_refl), unfolding(cxx_language::specs::Classes::no_constant_value))]
-fn no_constant_value(
-    state: &State,
-    cursor: &Cursor<'_>,
-    is_static: bool,
-    of: TypeId,
-) -> Result<(), Stop>
-    requires { of.0 < length (state.now).types }
-    ensures { IsRead itself AnyKnown state.now state.now cursor.now result (definition.no_constant_value is_static (type_of state.now of) (meaning state.now) cursor.now) }
-{
-    if is_static && (is_const_type(state.types(), of) && is_punct(punct::EQUALS, cursor.kind())) {
-        return Err(Stop::Fault(cursor.not_built()?));
-    }
-    Ok(())
-}
-
-// A member that is declared.
+// A member whose value was read, if it has one.
 #[tactic(auto, using(cxx_cursor::proofs::Kept::later_refl, cxx_cursor::proofs::Kept::later_trans))]
-fn member_kept(
+fn member_ended(
     state: &mut State,
     cursor: &Cursor<'_>,
-    is_static: bool,
     name: &NameToken,
     of: TypeId,
     number: FactId,
@@ -109,11 +102,31 @@ fn member_kept(
 ) -> Result<TreeId, Stop>
     requires of { of.0 < length (state.old).types }
     requires parts { AreTreesHeld state.old parts }
-    ensures { IsRead tree IsTreeKnown state.old state.new cursor.now result (member_kept is_static (name_at name.now) (type_of state.old of) number.0 (trees_held state.old parts) from.now (meaning state.old) cursor.now) }
+    ensures { IsRead tree IsTreeKnown state.old state.new cursor.now result (member_ended (name_at name.now) (type_of state.old of) number.0 (trees_held state.old parts) from.now (meaning state.old) cursor.now) }
 {
-    whole_member(state, cursor, is_static, name, of)?;
-    no_constant_value(state, cursor, is_static, of)?;
+    no_body(state, cursor, of)?;
     declarator_tree(state, false, name, of, number, parts, from, cursor)
+}
+
+fn no_words() -> Cv
+    ensures { result ≡ no_cv }
+{
+    Cv {
+        is_const: false,
+        is_volatile: false,
+    }
+}
+
+// A static function has no words behind its parameters (9.3.1).
+fn words_of(state: &State, said: Said, declarator: &Declarator) -> Cv
+    ensures { result ≡ definition.words_of (said_of state.now said) (declarator_of state.now declarator.now) }
+{
+    let _ = state;
+    if said.is_static {
+        no_words()
+    } else {
+        declarator.cv
+    }
 }
 
 // A constant and a reference are not mutable (7.1.1 p8).
@@ -126,28 +139,71 @@ fn is_mutable_member(state: &State, said: Said, of: TypeId) -> bool
 }
 
 impl<D: Defines> Space<'_, D> {
-    // A data member whose declarator fits, given its type.
+    // The value of a member in its class, where one stands there (9.4.2).
+    fn member_value(
+        &self,
+        state: &mut State,
+        cursor: &mut Cursor<'_>,
+        is_static: bool,
+        name: &NameToken,
+        of: TypeId,
+        number: FactId,
+    ) -> Result<TreeIdList, Stop>
+        requires { of.0 < length (state.old).types }
+        ensures { IsRead trees_held AreTreesHeld state.old state.new cursor.new result (member_value self.now.room is_static (name_at name.now) (type_of state.old of) number.0 (meaning state.old) cursor.old) }
+    {
+        let reader = Reader {
+            declares: self.declares,
+            room: self.room,
+        };
+        reader.member_value(state, cursor, is_static, name, of, number)
+    }
+
+    // A member that is declared.
+    #[tactic(auto, using(cxx_cursor::proofs::Kept::trees_kept, cxx_cursor::proofs::Kept::trees_later, cxx_cursor::proofs::Kept::trees_append, cxx_cursor::proofs::Kept::trees_below_append, cxx_cursor::proofs::Kept::type_kept, cxx_cursor::proofs::Kept::type_later, cxx_cursor::proofs::Kept::later_refl, cxx_cursor::proofs::Kept::later_trans))]
+    fn member_kept(
+        &self,
+        state: &mut State,
+        cursor: &mut Cursor<'_>,
+        is_static: bool,
+        name: &NameToken,
+        of: TypeId,
+        number: FactId,
+        parts: TreeIdList,
+        from: &Cursor<'_>,
+    ) -> Result<TreeId, Stop>
+        requires of { of.0 < length (state.old).types }
+        requires parts { AreTreesHeld state.old parts }
+        ensures { IsRead tree IsTreeKnown state.old state.new cursor.new result (member_kept self.now.room is_static (name_at name.now) (type_of state.old of) number.0 (trees_held state.old parts) from.now (meaning state.old) cursor.old) }
+    {
+        whole_member(state, cursor, is_static, name, of)?;
+        let value = self.member_value(state, cursor, is_static, name, of, number)?;
+        let parts = joined(parts, value)?;
+        member_ended(state, cursor, name, of, number, parts, from)
+    }
+
+    // A member whose declarator fits, given its type.
     #[tactic(auto, using(cxx_cursor::proofs::Kept::trees_kept, cxx_cursor::proofs::Kept::trees_later, cxx_cursor::proofs::Kept::type_kept, cxx_cursor::proofs::Kept::type_later, cxx_cursor::proofs::Kept::later_refl, cxx_cursor::proofs::Kept::later_trans))]
     fn member_of(
         &self,
         state: &mut State,
-        cursor: &Cursor<'_>,
+        cursor: &mut Cursor<'_>,
         access: Access,
         said: Said,
         declarator: Declarator,
         of: TypeId,
         from: &Cursor<'_>,
     ) -> Result<TreeId, Stop>
-        requires { IsDeclared state.old said declarator of }
-        ensures { IsRead tree IsTreeKnown state.old state.new cursor.now result (fitting_member access (said_of state.old said) (declarator_of state.old declarator) from.now (meaning state.old) cursor.now) }
+        requires said { IsSaid state.old said }
+        requires declared { IsMemberDeclared state.old said declarator of }
+        ensures { IsRead tree IsTreeKnown state.old state.new cursor.new result (fitting_member self.now.room access (said_of state.old said) (declarator_of state.old declarator) from.now (meaning state.old) cursor.old) }
     {
         let name = token_or(cursor.alloc(), declarator.name);
-        no_function(state, cursor, &name, of)?;
         let is_mutable = is_mutable_member(state, said, of);
         let number = self
             .declares
             .declare_member(state, access, said.is_static, is_mutable, &name, of)?;
-        member_kept(
+        self.member_kept(
             state,
             cursor,
             said.is_static,
@@ -164,7 +220,7 @@ impl<D: Defines> Space<'_, D> {
     fn member_as(
         &self,
         state: &mut State,
-        cursor: &Cursor<'_>,
+        cursor: &mut Cursor<'_>,
         access: Access,
         said: Said,
         declarator: Declarator,
@@ -172,20 +228,21 @@ impl<D: Defines> Space<'_, D> {
     ) -> Result<TreeId, Stop>
         requires said { IsSaid state.old said }
         requires declarator { IsDeclarator state.old declarator }
-        ensures { IsRead tree IsTreeKnown state.old state.new cursor.now result (fitting_member access (said_of state.old said) (declarator_of state.old declarator) from.now (meaning state.old) cursor.now) }
+        ensures { IsRead tree IsTreeKnown state.old state.new cursor.new result (fitting_member self.now.room access (said_of state.old said) (declarator_of state.old declarator) from.now (meaning state.old) cursor.old) }
     {
-        match declared(state, declarator.layers.as_slice(), said.of) {
+        let words = words_of(state, said, &declarator);
+        match declared_member(state, declarator.layers.as_slice(), words, said.of) {
             Ok(of) => self.member_of(state, cursor, access, said, declarator, of, from),
             Err(_) => Err(Stop::OutOfMemory),
         }
     }
 
-    // A data member, given its declarator.
+    // A data member or a function, given its declarator.
     #[tactic(auto, using(cxx_cursor::proofs::Kept::later_refl, cxx_cursor::proofs::Kept::later_trans), unfolding(cxx_language::specs::Classes::data_member))]
     fn data_member(
         &self,
         state: &mut State,
-        cursor: &Cursor<'_>,
+        cursor: &mut Cursor<'_>,
         access: Access,
         said: Said,
         declarator: Declarator,
@@ -193,7 +250,7 @@ impl<D: Defines> Space<'_, D> {
     ) -> Result<TreeId, Stop>
         requires said { IsSaid state.old said }
         requires declarator { IsDeclarator state.old declarator }
-        ensures { IsRead tree IsTreeKnown state.old state.new cursor.now result (definition.data_member access (said_of state.old said) (declarator_of state.old declarator) from.now (meaning state.old) cursor.now) }
+        ensures { IsRead tree IsTreeKnown state.old state.new cursor.new result (definition.data_member self.now.room access (said_of state.old said) (declarator_of state.old declarator) from.now (meaning state.old) cursor.old) }
     {
         no_bit_field(state, cursor, &declarator)?;
         declared_fits(state, cursor, said, &declarator)?;
@@ -247,7 +304,7 @@ impl<D: Defines> Space<'_, D> {
     fn declared_member(
         &self,
         state: &mut State,
-        cursor: &Cursor<'_>,
+        cursor: &mut Cursor<'_>,
         access: Access,
         said: Said,
         declarator: Declarator,
@@ -255,7 +312,7 @@ impl<D: Defines> Space<'_, D> {
     ) -> Result<TreeId, Stop>
         requires said { IsSaid state.old said }
         requires declarator { IsDeclarator state.old declarator }
-        ensures { IsRead tree IsTreeKnown state.old state.new cursor.now result (definition.declared_member access (said_of state.old said) (declarator_of state.old declarator) from.now (meaning state.old) cursor.now) }
+        ensures { IsRead tree IsTreeKnown state.old state.new cursor.new result (definition.declared_member self.now.room access (said_of state.old said) (declarator_of state.old declarator) from.now (meaning state.old) cursor.old) }
     {
         if said.is_typedef {
             return self.synonym_member(state, cursor, said, declarator, from);
@@ -281,7 +338,7 @@ impl<D: Defines> Space<'_, D> {
         self.declared_member(state, cursor, access, said, declarator, &from)
     }
 
-    // A member; a bit-field may have no name (9.6), and functions are not read yet.
+    // A member; a bit-field may have no name (9.6).
     #[tactic(auto, using(cxx_cursor::proofs::Kept::later_refl), unfolding(cxx_language::specs::Classes::member_at))]
     fn member_at(
         &self,
@@ -296,9 +353,6 @@ impl<D: Defines> Space<'_, D> {
         if is_punct(punct::COLON, cursor.kind()) {
             let form = FaultText::LeftOut(LeftOut::BitField);
             return Err(Stop::Fault(cursor.faulty(form)?));
-        }
-        if !said.is_typedef && begins_function(cursor) {
-            return Err(Stop::Fault(cursor.not_built()?));
         }
         self.named_member_at(state, cursor, access, said)
     }

@@ -69,8 +69,8 @@ pub trait Defines: Declares {
     fn declare_base(&self, state: &mut State, of: BaseOf, path: &Path) -> Result<(), Stop>
         ensures { IsAsked itself AnyKnown state.old state.new result (bases.declare_base (base_of of) (path_at path.now) (meaning state.old)) };
 
-    /// A data member (9.2), with the access of the label before it (11.1), whether it is static (9.4.2), and whether it is
-    /// mutable (7.1.1).
+    /// A member (9.2), with the access of the label before it (11.1), whether it is static (9.4), and, where it is an object,
+    /// whether it is mutable (7.1.1).
     fn declare_member(
         &self,
         state: &mut State,

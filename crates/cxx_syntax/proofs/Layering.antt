@@ -10,7 +10,7 @@ use Rattle.cxx_model.specs.Types.Numbers.{type_at, types_at}
 use Rattle.cxx_model.specs.Types.Trees.{CxxType, CxxTypes, any_cv, pointer_to, qualified, type_then, adjusted}
 use Rattle.cxx_types.specs.Parameters as parameters
 use Rattle.cxx_reading.specs.Declarators as definition
-use Rattle.cxx_reading.specs.Declarators.{pointer_layer, reference_layer, array_layer, function_layer, adjusted_types, declared_type, is_void, layer_on, or_later, refused_in, refused_on}
+use Rattle.cxx_reading.specs.Declarators.{pointer_layer, reference_layer, array_layer, function_layer, adjusted_types, declared_type, is_void, layer_on, member_layer_on, or_later, own_cv, refused_in, refused_on}
 use Rattle.cxx_cursor.specs.declared.declarator.Layer.{Layer}
 use Rattle.cxx_syntax.specs.declared.layers.Footing.{Footing}
 use Rattle.cxx_syntax.specs.Layering.{IsDeclaredFrom, IsFooting, footing_of, footing_on, refused_by}
@@ -170,6 +170,30 @@ declared_all at layers old new of made so_far e = record {
   same = so_far.same;
   made = (so_far.known, subst (λ n. type_of new made ≡ declared_type (layers_in old.types (drop n layers)) (type_of old of)) e so_far.is);
 }
+
+-- ---- of members (9.3.1)
+
+pub member_below : (layer : Layer) (old mid : Held) (made : TypeId) (result : Result TypeId OutOfMemory) (one : CxxType) → MakesType old mid result one → IsLayerBelow (length old.types) layer → IsLayerBelow (length mid.types) layer
+member_below layer old mid made result one makes below = kept.layer_later old mid layer makes.later below
+
+pub member_made : (layer : Layer) (others : List Layer) (words : Cv) (old mid new : Held) (of made : TypeId) (first result : Result TypeId OutOfMemory) → IsLayerBelow (length old.types) layer → MakesType old mid first (declared_type (layers_in old.types others) (type_of old of)) → first ≡ Ok made
+    → MakesType mid new result (member_layer_on words (layer_in mid.types layer) (type_of mid made)) → MakesType old new result (member_layer_on words (layer_in old.types layer) (declared_type (layers_in old.types others) (type_of old of)))
+member_made layer others words old mid new of made first result below start is makes =
+    let begun : MakesType old mid (Ok made) (declared_type (layers_in old.types others) (type_of old of)) = subst (λ (r : Result TypeId OutOfMemory). MakesType old mid r (declared_type (layers_in old.types others) (type_of old of))) is start in
+    let same_type : member_layer_on words (layer_in mid.types layer) (type_of mid made) ≡ member_layer_on words (layer_in old.types layer) (declared_type (layers_in old.types others) (type_of old of)) =
+    ap (λ (l : definition.Layer). member_layer_on words l (type_of mid made)) (kept.layer_kept old mid layer begun.later below)
+    ∙ ap (λ (t : CxxType). member_layer_on words (layer_in old.types layer) t) begun.made.1 in
+    let ended : MakesType mid new result (member_layer_on words (layer_in old.types layer) (declared_type (layers_in old.types others) (type_of old of))) = subst (λ (t : CxxType). MakesType mid new result t) same_type makes in
+    record { later = kept.later_trans old mid new begun.later ended.later; same = ended.same ∙ begun.same; made = ended.made }
+
+pub member_stops : (old mid : Held) (memory : OutOfMemory) (first : Result TypeId OutOfMemory) (one two : CxxType) → MakesType old mid first one → first ≡ Err memory → MakesType old mid (Err memory) two
+member_stops old mid memory first one two makes is =
+    let stopped : MakesType old mid (Err memory) one = subst (λ (r : Result TypeId OutOfMemory). MakesType old mid r one) is makes in
+    record { later = stopped.later; same = stopped.same; made = tt }
+
+pub own_of_some : (types : List CxxType) (layers : List Layer) (words before : Cv) → 1 ≤ length layers → before ≡ own_cv (layers_in types layers) words before
+own_of_some types [] words before some = absurd (omega (arith, some))
+own_of_some types (layer ∷ layers) words before some = refl
 
 pub void_of_none : (types : List CxxType) (layers : List Layer) (of : CxxType) → length layers < 1 → is_void (declared_type (layers_in types layers) of) ≡ is_void of
 unfolding declared_type

@@ -1,16 +1,19 @@
 //! How declarators are read (8.3).
 
-ghost use Rattle.std.specs.Prelude.{◌≡◌, ◌++◌, [], ◌∷◌, Some, None, false, IfOk, IfErr};
+ghost use Rattle.std.specs.Prelude.{◌≡◌, ◌++◌, List, [], ◌∷◌, Some, None, false, IfOk, IfErr};
 ghost use Rattle.cxx_model.specs.declared.stop.Stop.TheVariants as stop;
+ghost use Rattle.cxx_model.specs.Types.Trees.{CxxType};
 ghost use Rattle.cxx_reading.specs.Shapes as shape;
 ghost use Rattle.cxx_cursor.specs.declared.declarator.Layer.TheVariants as layer;
+ghost use Rattle.cxx_reading.specs.Declarators.{no_cv};
+ghost use Rattle.cxx_reading.specs.Declarators as declarators;
 ghost use Rattle.cxx_reading.specs.Syntax as definition;
 ghost use Rattle.cxx_reading.specs.Trees.{last_part};
 ghost use Rattle.cxx_cursor.specs.Asking.{AnyKnown, itself};
 ghost use Rattle.cxx_syntax.specs.Outlines.{names_type};
 ghost use Rattle.cxx_cursor.specs.Reading.{IsRead};
 ghost use Rattle.cxx_syntax.specs.Suffixes.{IsSuffixed, IsSuffixedTurn, suffixed_of, suffixed_turn};
-ghost use Rattle.cxx_cursor.specs.Views.{IsConstantOption, IsDeclarator, declarator_of, name_at};
+ghost use Rattle.cxx_cursor.specs.Views.{IsConstantOption, IsDeclarator, declarator_of, layers_in, name_at};
 ghost use Rattle.cxx_tree.specs.Arena.{bound_of, path_at};
 ghost use Rattle.cxx_tree.specs.Held.{meaning};
 
@@ -23,7 +26,10 @@ use cxx_cursor::{
     Cursor, Declarator, Layer, NameToken, ParameterTypes, Turn, is_keyword, is_punct, joined,
     last_part, type_word,
 };
-use cxx_model::{Kind, Listed, Path, Place, Stop, TokenKind, TreeIdList, Word, keyword, punct};
+use cxx_model::{
+    Cv, FaultText, Kind, LeftOut, Listed, Path, Place, Stop, TokenKind, TreeIdList, Word, keyword,
+    punct,
+};
 use cxx_reading::Naming;
 use cxx_tree::State;
 use std::alloc::{AllocError, Global};
@@ -63,14 +69,25 @@ fn is_never(naming: Naming) -> bool
     }
 }
 
+// The words behind the parameters of a function, before any is read.
+fn no_words() -> Cv
+    ensures { result ≡ no_cv }
+{
+    Cv {
+        is_const: false,
+        is_volatile: false,
+    }
+}
+
 // Nothing was read of a declarator but, maybe, its name.
 fn with_name(alloc: Global, name: Option<NameToken>) -> Declarator
-    ensures { result ≡ record { name = name; is_qualified = false; layers = []; parts = [] } }
+    ensures { result ≡ record { name = name; is_qualified = false; layers = []; cv = no_cv; parts = [] } }
 {
     Declarator {
         name,
         is_qualified: false,
         layers: Listed::new(alloc),
+        cv: no_words(),
         parts: Listed::new(alloc),
     }
 }
@@ -104,6 +121,7 @@ fn with_path(state: &State, alloc: Global, path: &Path) -> Result<Declarator, Al
         name: Some(name),
         is_qualified: true,
         layers: Listed::new(alloc),
+        cv: no_words(),
         parts: Listed::new(alloc),
     })
 }
@@ -117,6 +135,7 @@ fn outward(layer: Layer, parts: TreeIdList, inside: Declarator) -> Result<Declar
         name,
         is_qualified,
         mut layers,
+        cv,
         parts: before,
     } = inside;
     layers.push(layer)?;
@@ -124,6 +143,7 @@ fn outward(layer: Layer, parts: TreeIdList, inside: Declarator) -> Result<Declar
         name,
         is_qualified,
         layers,
+        cv,
         parts: joined(before, parts)?,
     })
 }
@@ -145,8 +165,19 @@ fn bound_by(value: Option<i128>) -> Option<u64>
     }
 }
 
+// The words behind the parameters of a function that a declarator with these layers declares.
+#[tactic(auto, using(crate::proofs::Layering::own_of_some))]
+fn own_cv(layers: &[Layer], words: Cv, before: Cv) -> Cv
+    ensures { (types : List CxxType) → result ≡ declarators.own_cv (layers_in types layers.now) words before }
+{
+    match layers {
+        [] => words,
+        [_, ..] => before,
+    }
+}
+
 // A function, with its parameters.
-fn with_function(list: ParameterTypes, inside: Declarator) -> Result<Declarator, Stop>
+fn with_list(list: ParameterTypes, inside: Declarator) -> Result<Declarator, Stop>
     ensures is { IfOk result (λ declarator. declarator ≡ record inside { layers = inside.layers ++ layer.Function list.types list.ellipsis list.scope ∷ []; parts = inside.parts ++ list.parts }) }
     ensures memory { IfErr result (λ why. why ≡ stop.OutOfMemory) }
 {
@@ -162,6 +193,17 @@ fn with_function(list: ParameterTypes, inside: Declarator) -> Result<Declarator,
         scope,
     };
     outward(layer, parts, inside)
+}
+
+// The same with the words behind them.
+fn with_function(list: ParameterTypes, cv: Cv, inside: Declarator) -> Result<Declarator, Stop>
+    ensures is { (types : List CxxType) → IfOk result (λ declarator. declarator ≡ record inside { layers = inside.layers ++ layer.Function list.types list.ellipsis list.scope ∷ []; cv = declarators.own_cv (layers_in types inside.layers) cv inside.cv; parts = inside.parts ++ list.parts }) }
+    ensures memory { IfErr result (λ why. why ≡ stop.OutOfMemory) }
+{
+    let own = own_cv(inside.layers.as_slice(), cv, inside.cv);
+    let mut declarator = with_list(list, inside)?;
+    declarator.cv = own;
+    Ok(declarator)
 }
 
 pub(crate) fn is_cv(number: u8) -> bool
@@ -259,7 +301,7 @@ impl<K: Kinds, N: Nested> Reader<'_, K, N> {
         }))
     }
 
-    // The words behind the parameters are read and say nothing (8.3.5).
+    // Parameters, and the words behind them (8.3.5).
     #[tactic(auto, using(cxx_cursor::proofs::Kept::trees_kept, cxx_cursor::proofs::Kept::trees_later, cxx_cursor::proofs::Kept::trees_append, cxx_cursor::proofs::Kept::trees_below_append, cxx_cursor::proofs::Kept::layers_kept, cxx_cursor::proofs::Kept::layers_later, cxx_cursor::proofs::Kept::layers_append, cxx_cursor::proofs::Kept::layers_below_append, cxx_cursor::proofs::Kept::later_trans, cxx_cursor::proofs::Kept::later_refl), unfolding(cxx_reading::specs::Syntax::function_suffix))]
     fn function_suffix(
         &self,
@@ -273,9 +315,9 @@ impl<K: Kinds, N: Nested> Reader<'_, K, N> {
     {
         cursor.advance();
         let list = self.nested.parameters(state, cursor)?;
-        cv_at(cursor)?;
+        let cv = cv_at(cursor)?;
         exceptions_at(cursor)?;
-        let declarator = with_function(list, so_far.declarator)?;
+        let declarator = with_function(list, cv, so_far.declarator)?;
         Ok(Turn::More(Suffixed {
             declarator,
             in_row: false,
@@ -383,13 +425,35 @@ impl<K: Kinds, N: Nested> Reader<'_, K, N> {
             let name = cursor.kept()?;
             return self.suffixes_at(state, cursor, with_name(cursor.alloc(), Some(name)));
         }
-        if may_qualify(naming) && cursor.begins_name() {
-            return self.qualified_part(state, cursor);
+        if cursor.begins_name() {
+            if may_qualify(naming) {
+                return self.qualified_part(state, cursor);
+            }
+            return Err(Stop::Fault(cursor.no_qualifier()?));
         }
         if is_required(naming) {
             return Err(Stop::Fault(cursor.no_declarator()?));
         }
         self.suffixes_at(state, cursor, with_name(cursor.alloc(), None))
+    }
+
+    // The same, where it is no pointer to a member, which is left out (8.3.3).
+    #[tactic(auto, using(cxx_cursor::proofs::Kept::later_refl))]
+    fn named_part(
+        &self,
+        state: &mut State,
+        cursor: &mut Cursor<'_>,
+        naming: Naming,
+    ) -> Result<Declarator, Stop>
+        requires ready { K.is_ready self.now.kinds.now }
+        requires open { N.is_open self.now.nested.now }
+        ensures { IsRead declarator_of IsDeclarator state.old state.new cursor.new result (definition.named_part (K.asks self.now.kinds.now self.now.room) (N.inner self.now.nested.now) naming (meaning state.old) cursor.old) }
+    {
+        if cursor.points_to_member() {
+            let form = FaultText::LeftOut(LeftOut::PointerToMember);
+            return Err(Stop::Fault(cursor.faulty(form)?));
+        }
+        self.name_part(state, cursor, naming)
     }
 
     // A declarator in brackets.
@@ -477,7 +541,7 @@ impl<K: Kinds, N: Nested> Reader<'_, K, N> {
         if is_punct(punct::LEFT_PARENTHESIS, cursor.kind()) {
             return self.bracket_part(state, cursor, naming);
         }
-        self.name_part(state, cursor, naming)
+        self.named_part(state, cursor, naming)
     }
 
     /// What stands behind `*` (8.3.1).

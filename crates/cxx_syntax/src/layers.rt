@@ -4,7 +4,7 @@ ghost use Rattle.std.specs.Prelude.{◌≡◌, ◌<◌, ◌+◌, ◌-◌, ◌∷
 ghost use Rattle.cxx_model.specs.Types.Numbers.{type_at};
 ghost use Rattle.cxx_model.specs.Types.Trees.{fundamental};
 ghost use Rattle.cxx_reading.specs.Declarators as definition;
-ghost use Rattle.cxx_reading.specs.Declarators.{declared_type, is_below_one, layer_on, parameter_type, refused_in};
+ghost use Rattle.cxx_reading.specs.Declarators.{declared_type, is_below_one, layer_on, member_layer_on, member_type, parameter_type, refused_in};
 ghost use Rattle.cxx_syntax.specs.Layering.{footing_of as footing_of_type, footing_on as footing_on_layer, is_bare_void, refused_by};
 ghost use Rattle.cxx_cursor.specs.Views.{AreLayersBelow, IsLayerBelow, layer_in, layers_in};
 ghost use Rattle.cxx_tree.specs.Arena.{bound_of};
@@ -12,7 +12,7 @@ ghost use Rattle.cxx_tree.specs.Held.{type_of};
 ghost use Rattle.cxx_tree.specs.Later.{MakesType};
 
 use cxx_cursor::Layer;
-use cxx_model::{Base, OutOfMemory, SubstitutionText, TypeId, TypeNode};
+use cxx_model::{Base, Cv, OutOfMemory, SubstitutionText, TypeId, TypeNode};
 use cxx_tree::State;
 use cxx_types::TypeTable;
 
@@ -212,6 +212,15 @@ pub fn is_declared_void(state: &State, layers: &[Layer], of: TypeId) -> bool
     is_void_under(state.types(), layers, of)
 }
 
+fn no_words() -> Cv
+    ensures { result ≡ definition.no_cv }
+{
+    Cv {
+        is_const: false,
+        is_volatile: false,
+    }
+}
+
 // A type with one layer more.
 #[tactic(auto, using(crate::proofs::Layering::adjusted_same, cxx_cursor::proofs::Kept::later_trans))]
 fn with_layer(state: &mut State, layer: &Layer, of: TypeId) -> Result<TypeId, OutOfMemory>
@@ -230,7 +239,7 @@ fn with_layer(state: &mut State, layer: &Layer, of: TypeId) -> Result<TypeId, Ou
             parameters,
             ellipsis,
             ..
-        } => state.function_to(of, parameters.as_slice(), *ellipsis),
+        } => state.function_to(of, parameters.as_slice(), *ellipsis, no_words()),
     }
 }
 
@@ -250,6 +259,66 @@ pub fn declared(state: &mut State, layers: &[Layer], of: TypeId) -> Result<TypeI
         }
     }
     Ok(made)
+}
+
+// The same of a member of a class, where a function has words behind its parameters (9.3.1).
+#[tactic(auto, using(crate::proofs::Layering::adjusted_same, cxx_cursor::proofs::Kept::later_trans))]
+fn with_member_layer(
+    state: &mut State,
+    layer: &Layer,
+    words: Cv,
+    of: TypeId,
+) -> Result<TypeId, OutOfMemory>
+    requires known { of.0 < length (state.old).types }
+    requires below { IsLayerBelow (length (state.old).types) layer.now }
+    ensures { MakesType state.old state.new result (member_layer_on words (layer_in (state.old).types layer.now) (type_of state.old of)) }
+{
+    match layer {
+        Layer::Function {
+            parameters,
+            ellipsis,
+            ..
+        } => state.function_to(of, parameters.as_slice(), *ellipsis, words),
+        other => with_layer(state, other, of),
+    }
+}
+
+// The type that a declarator of a member declares, given its layer at the name.
+#[tactic(auto, using(crate::proofs::Layering::member_below, crate::proofs::Layering::member_made, crate::proofs::Layering::member_stops))]
+fn declared_on(
+    state: &mut State,
+    layer: &Layer,
+    others: &[Layer],
+    words: Cv,
+    of: TypeId,
+) -> Result<TypeId, OutOfMemory>
+    requires known { of.0 < length (state.old).types }
+    requires below { IsLayerBelow (length (state.old).types) layer.now }
+    requires all { AreLayersBelow (length (state.old).types) others.now }
+    ensures { MakesType state.old state.new result (member_layer_on words (layer_in (state.old).types layer.now) (declared_type (layers_in (state.old).types others.now) (type_of state.old of))) }
+{
+    match declared(state, others, of) {
+        Ok(made) => with_member_layer(state, layer, words, made),
+        Err(memory) => Err(memory),
+    }
+}
+
+/// The type that a declarator of a member declares; a function has the words behind its parameters (8.3.5, 9.3.1).
+#[tactic(auto, using(cxx_cursor::proofs::Kept::later_refl))]
+pub fn declared_member(
+    state: &mut State,
+    layers: &[Layer],
+    words: Cv,
+    of: TypeId,
+) -> Result<TypeId, OutOfMemory>
+    requires known { of.0 < length (state.old).types }
+    requires below { AreLayersBelow (length (state.old).types) layers.now }
+    ensures { MakesType state.old state.new result (member_type words (layers_in (state.old).types layers.now) (type_of state.old of)) }
+{
+    match layers {
+        [] => Ok(of),
+        [layer, others @ ..] => declared_on(state, layer, others, words, of),
+    }
 }
 
 /// The type of a parameter with that declarator: an array and a function are what they decay to (8.3.5).

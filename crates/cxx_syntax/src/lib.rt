@@ -15,7 +15,7 @@ mod trees;
 
 pub use defaults::Defaults;
 pub use kinds::Kinds;
-pub use layers::{declared, declared_parameter, is_declared_void, refused};
+pub use layers::{declared, declared_member, declared_parameter, is_declared_void, refused};
 pub use nested::Nested;
 pub use parameters::specified;
 pub use reader::Reader;

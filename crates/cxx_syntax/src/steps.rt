@@ -88,16 +88,7 @@ fn is_declaration(place: SpecifierPlace) -> bool
     }
 }
 
-fn is_member_place(place: SpecifierPlace) -> bool
-    ensures { result ≡ definition.is_member_place place }
-{
-    match place {
-        SpecifierPlace::Member => true,
-        _ => false,
-    }
-}
-
-// `inline`, once, in a declaration (7.1.2); functions in a class are not read yet.
+// `inline`, once, in a declaration (7.1.2).
 #[tactic(auto, unfolding(cxx_reading::specs::Specifiers::inline_step))]
 fn inline_step(
     state: &State,
@@ -108,9 +99,6 @@ fn inline_step(
     requires { AreSpecifiers state.now so_far }
     ensures { IsRead specifiers_turn IsSpecifiersTurn state.now state.now cursor.new result (definition.inline_step place (specifiers_of state.now so_far) (meaning state.now) cursor.old) }
 {
-    if is_member_place(place) {
-        return Err(Stop::Fault(cursor.not_built()?));
-    }
     if !is_declaration(place) || so_far.is_inline {
         return Err(Stop::Fault(cursor.refused()?));
     }
@@ -251,32 +239,24 @@ pub(crate) fn begins_class(number: u8) -> bool
 }
 
 // The head of a class that is defined (9). Among the specifiers of a declaration of a namespace or of a member reading stops
-// at its key, unless its name has qualifiers; such heads are not read yet. In a block the form is left out (9.8), and
-// elsewhere no class is defined (8.3.5, 5.3.3).
+// at its key. In a block the form is left out (9.8), and elsewhere no class is defined (8.3.5, 5.3.3).
 #[tactic(auto, using(cxx_cursor::proofs::Kept::later_refl))]
 fn head_reached<'a>(
     state: &State,
     cursor: &mut Cursor<'a>,
     place: SpecifierPlace,
-    is_plain: bool,
     from: &Cursor<'a>,
     so_far: Specifiers,
 ) -> Result<Turn<Specifiers, Specifiers>, Stop>
     requires { AreSpecifiers state.now so_far }
-    ensures { IsRead specifiers_turn IsSpecifiersTurn state.now state.now cursor.new result (definition.head_reached place is_plain from.now (specifiers_of state.now so_far) (meaning state.now) cursor.old) }
+    ensures { IsRead specifiers_turn IsSpecifiersTurn state.now state.now cursor.new result (definition.head_reached place from.now (specifiers_of state.now so_far) (meaning state.now) cursor.old) }
 {
     match place {
         SpecifierPlace::Declaration => {
-            if !is_plain {
-                return Err(Stop::Fault(from.not_built()?));
-            }
             *cursor = from.mark();
             Ok(Turn::Done(so_far))
         }
         SpecifierPlace::Member => {
-            if !is_plain {
-                return Err(Stop::Fault(from.not_built()?));
-            }
             *cursor = from.mark();
             Ok(Turn::Done(so_far))
         }
@@ -605,7 +585,7 @@ impl<K: Kinds, N: Nested> Reader<'_, K, N> {
         ensures { IsRead specifiers_turn IsSpecifiersTurn state.old state.new cursor.new result (definition.class_behind (K.asks self.now.kinds.now self.now.room) is_union place from.now (path_at path) (specifiers_of state.old so_far) (meaning state.old) cursor.old) }
     {
         if begins_members(cursor.kind()) {
-            return head_reached(state, cursor, place, is_plain_path(&path), from, so_far);
+            return head_reached(state, cursor, place, from, so_far);
         }
         let is_all = is_all(state, place, &so_far, &path, cursor.kind());
         self.class_named_step(state, cursor, is_union, is_all, from, path, so_far)
@@ -649,7 +629,7 @@ impl<K: Kinds, N: Nested> Reader<'_, K, N> {
             return self.class_name_step(state, cursor, is_union, place, from, so_far);
         }
         if begins_members(cursor.kind()) {
-            return head_reached(state, cursor, place, true, from, so_far);
+            return head_reached(state, cursor, place, from, so_far);
         }
         Err(Stop::Fault(cursor.refused()?))
     }

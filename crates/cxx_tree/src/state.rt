@@ -13,7 +13,6 @@ ghost use Rattle.cxx_names.specs.Index.{Notes};
 ghost use Rattle.cxx_names.specs.Plain.{ArePlain, IsPlainFact};
 ghost use Rattle.cxx_linked.specs.Links.{Links};
 ghost use Rattle.cxx_types.specs.Parameters.{adjusted_types};
-ghost use Rattle.cxx_reading.specs.Declarators.{no_cv};
 ghost use Rattle.cxx_reading.specs.Declaring as declaring;
 ghost use Rattle.cxx_reading.specs.Declaring.{added, at_scope, in_enumeration, with_definition, with_linked};
 ghost use Rattle.cxx_reading.specs.Classes.{reserved};
@@ -851,24 +850,21 @@ impl State {
         self.types.array_of(of, bound)
     }
 
-    /// A function (8.3.5), given the type that it returns. Its parameters are adjusted.
+    /// A function (8.3.5), given the type that it returns and the words behind its parameters. Its parameters are adjusted.
     pub fn function_to(
         &mut self,
         returned: TypeId,
         parameters: &[TypeId],
         ellipsis: bool,
+        cv: Cv,
     ) -> Result<TypeId, OutOfMemory>
         requires known { returned.0 < length (self.old).types }
         requires below { AreTypesBelow (length (self.old).types) parameters.now }
-        ensures { MakesType self.old self.new result (definition.function_of (type_at (self.old).types returned.0) (adjusted_types (types_at (self.old).types parameters.now)) ellipsis no_cv) }
+        ensures { MakesType self.old self.new result (definition.function_of (type_at (self.old).types returned.0) (adjusted_types (types_at (self.old).types parameters.now)) ellipsis cv) }
     {
         if self.is_deepest(returned) {
             return Err(OutOfMemory);
         }
-        let cv = Cv {
-            is_const: false,
-            is_volatile: false,
-        };
         self.types.function_to(returned, parameters, ellipsis, cv)
     }
 }

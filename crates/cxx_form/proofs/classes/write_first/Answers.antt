@@ -7,4 +7,4 @@ use Rattle.cxx_form.proofs.classes.write_first.Goals as goal
 pub returns : goal.returns
 returns c =
     subst (λ (ls : Lines). Writes c.write_if.result c.write_if.new.page (put_lines ls c.args.page.now))
-    (member_is c.args.book.now c.args.number c.is_first.result c.is_first.ensures) c.write_if.ensures
+    (member_is c.args.book.now c.args.number c.args.value c.is_first.result c.is_first.ensures) c.write_if.ensures
