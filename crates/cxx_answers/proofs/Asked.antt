@@ -25,15 +25,17 @@ use Rattle.cxx_reading.specs.Seen.{Numbered}
 use Rattle.cxx_reading.specs.State.{CxxState}
 use Rattle.cxx_standard.specs.Views.{operand_at}
 use Rattle.cxx_overload.specs.Calls.{CxxDecision, decided}
+use Rattle.cxx_overload.specs.declared.object.Object.{Object}
 use Rattle.cxx_overload.specs.Views as overload
+use Rattle.cxx_overload.specs.Views.{object_at}
 use Rattle.cxx_tree.specs.Answered.{IsAnswered}
 use Rattle.cxx_tree.specs.Held.{Held, meaning}
 use Rattle.cxx_expr.specs.declared.questions.Chosen.{Chosen}
 use Rattle.cxx_expr.specs.Questions.{CxxChosen, CxxQuestion}
-use Rattle.cxx_expr.specs.Views.{AreFactsKnown, AreOperandsBelow, IsChosen, chosen_of, numbered, numbered_in, operands_in, question_of, with_fact}
+use Rattle.cxx_expr.specs.Views.{AreFactsKnown, AreOperandsBelow, IsChosen, chosen_of, numbered, numbered_in, operands_in, with_fact}
 use Rattle.cxx_answers.specs.Answers.{call_here, called_as, decided_among, functions_of_call, types_of_operands, word_or_none}
 use Rattle.cxx_answers.specs.declared.calls.Ruling.{Ruling}
-use Rattle.cxx_answers.specs.Ruled.{CxxRuling, made_by, ruled_by, ruling_at}
+use Rattle.cxx_answers.specs.Ruled.{CxxRuling, asked_of, made_by, ruled_by, ruling_at}
 
 -- ---- the same values, seen from above
 
@@ -53,14 +55,14 @@ numbered_same : (graph : CxxGraph) (numbers : List FactId) → overload.numbered
 numbered_same graph [] = refl
 numbered_same graph (n ∷ numbers) = ap (λ all. overload.with_fact n.0 (slice_get graph.facts n.0) all) (numbered_same graph numbers) ∙ with_same n.0 (numbered_in graph numbers) (slice_get graph.facts n.0)
 
-pub ruling_same : (held : Held) (place : Place) (functions : List FactId) (operands : List Operand) (result : Result Ruling Stop) →
-    Gives (ruling_at held.types) result (ruled_by (decided place (overload.operands_at held.types operands) (graph_at held.types held.graph) (overload.numbered_in (graph_at held.types held.graph) functions))) →
-    Gives (ruling_at held.types) result (ruled_by (decided place (operands_in held.types operands) (meaning held).graph (numbered held functions)))
+pub ruling_same : (held : Held) (place : Place) (functions : List FactId) (object : Option Object) (operands : List Operand) (result : Result Ruling Stop) →
+    Gives (ruling_at held.types) result (ruled_by (decided place (object_at held.types object) (overload.operands_at held.types operands) (graph_at held.types held.graph) (overload.numbered_in (graph_at held.types held.graph) functions))) →
+    Gives (ruling_at held.types) result (ruled_by (decided place (object_at held.types object) (operands_in held.types operands) (meaning held).graph (numbered held functions)))
 unfolding meaning
-ruling_same held place functions operands result given =
+ruling_same held place functions object operands result given =
     let graph : CxxGraph = graph_at held.types held.graph in
-    subst (λ (all : List Numbered). Gives (ruling_at held.types) result (ruled_by (decided place (operands_in held.types operands) graph all))) (numbered_same graph functions)
-    (subst (λ (os : List CxxOperand). Gives (ruling_at held.types) result (ruled_by (decided place os graph (overload.numbered_in graph functions)))) (operands_same held.types operands) given)
+    subst (λ (all : List Numbered). Gives (ruling_at held.types) result (ruled_by (decided place (object_at held.types object) (operands_in held.types operands) graph all))) (numbered_same graph functions)
+    (subst (λ (os : List CxxOperand). Gives (ruling_at held.types) result (ruled_by (decided place (object_at held.types object) os graph (overload.numbered_in graph functions)))) (operands_same held.types operands) given)
 
 -- ---- what is answered
 
@@ -101,22 +103,22 @@ count_is types operands seen test b same counts is =
     ap (λ n. nat_lt limits.MOST_ARGUMENTS n) (counted types operands)
     ∙ (ap (λ (os : List Operand). nat_lt limits.MOST_ARGUMENTS (length os)) (sym same) ∙ (sym counts ∙ is))
 
-pub too_many : (held : Held) (place : Place) (is_bare : Bool) (word : List ℕ) (functions : List FactId) (operands seen : List Operand) (test : Bool) → seen ≡ operands → test ≡ nat_lt limits.MOST_ARGUMENTS (length seen) → test ≡ true → call_here (question_of held place is_bare word functions operands) (meaning held) ≡ Err (Limited Arguments)
+pub too_many : (held : Held) (place : Place) (is_bare : Bool) (word : List ℕ) (functions : List FactId) (object : Option Object) (operands seen : List Operand) (test : Bool) → seen ≡ operands → test ≡ nat_lt limits.MOST_ARGUMENTS (length seen) → test ≡ true → call_here (asked_of held place is_bare word functions object operands) (meaning held) ≡ Err (Limited Arguments)
 unfolding call_here
-too_many held place is_bare word functions operands seen test same counts is = rw (count_is held.types operands seen test true same counts is) refl
+too_many held place is_bare word functions object operands seen test same counts is = rw (count_is held.types operands seen test true same counts is) refl
 
-pub few_enough : (old new : Held) (result : Result Chosen Stop) (place : Place) (is_bare : Bool) (word : List ℕ) (functions : List FactId) (operands seen : List Operand) (test : Bool) → seen ≡ operands → test ≡ nat_lt limits.MOST_ARGUMENTS (length seen) → test ≡ false
-    → IsAnswered chosen_of IsChosen old new result (called_as (meaning old) (decided_among (question_of old place is_bare word functions operands) (meaning old) (functions_of_call (meaning old).graph (meaning old).here.scope (question_of old place is_bare word functions operands))))
-    → IsAnswered chosen_of IsChosen old new result (call_here (question_of old place is_bare word functions operands) (meaning old))
+pub few_enough : (old new : Held) (result : Result Chosen Stop) (place : Place) (is_bare : Bool) (word : List ℕ) (functions : List FactId) (object : Option Object) (operands seen : List Operand) (test : Bool) → seen ≡ operands → test ≡ nat_lt limits.MOST_ARGUMENTS (length seen) → test ≡ false
+    → IsAnswered chosen_of IsChosen old new result (called_as (meaning old) (decided_among (asked_of old place is_bare word functions object operands) (meaning old) (functions_of_call (meaning old).graph (meaning old).here.scope (asked_of old place is_bare word functions object operands))))
+    → IsAnswered chosen_of IsChosen old new result (call_here (asked_of old place is_bare word functions object operands) (meaning old))
 unfolding call_here
-few_enough old new result place is_bare word functions operands seen test same counts is called = rw (count_is old.types operands seen test false same counts is) called
+few_enough old new result place is_bare word functions object operands seen test same counts is called = rw (count_is old.types operands seen test false same counts is) called
 
 -- ---- among which functions it is decided
 
 -- none
-pub ruled_none : (held : Held) (place : Place) (is_bare : Bool) (word : List ℕ) (functions all : List FactId) (operands : List Operand) → length all ≡ 0 → Err (undeclared_at place (word_or_none (bare_word is_bare word))) ≡ ruled_by (decided_among (question_of held place is_bare word functions operands) (meaning held) (numbered held all))
-ruled_none held place is_bare word functions [] operands none = refl
-ruled_none held place is_bare word functions (one ∷ all) operands none = absurd (omega (arith, none))
+pub ruled_none : (held : Held) (place : Place) (is_bare : Bool) (word : List ℕ) (functions all : List FactId) (object : Option Object) (operands : List Operand) → length all ≡ 0 → Err (undeclared_at place (word_or_none (bare_word is_bare word))) ≡ ruled_by (decided_among (asked_of held place is_bare word functions object operands) (meaning held) (numbered held all))
+ruled_none held place is_bare word functions [] object operands none = refl
+ruled_none held place is_bare word functions (one ∷ all) object operands none = absurd (omega (arith, none))
 
 known_there : (held : Held) (number : FactId) → number.0 < length held.graph.facts → (fact : CxxFact) × (slice_get (meaning held).graph.facts number.0 ≡ Some fact)
 unfolding meaning
@@ -124,17 +126,17 @@ known_there held number less =
     let at : (fact : Fact) × (slice_get held.graph.facts number.0 ≡ Some fact) = there_at held.graph.facts number.0 less in
     (fact_at held.types at.0, fact_seen held.types held.graph.facts number.0 ∙ ap (option_map (fact_at held.types)) at.1)
 
-some_decided : (held : Held) (place : Place) (is_bare : Bool) (word : List ℕ) (functions all : List FactId) (operands : List Operand) → AreFactsKnown held all → 0 < length all → decided place (operands_in held.types operands) (meaning held).graph (numbered held all) ≡ decided_among (question_of held place is_bare word functions operands) (meaning held) (numbered held all)
-some_decided held place is_bare word functions [] operands known some = absurd (omega (arith, some))
-some_decided held place is_bare word functions (one ∷ all) operands known some =
+some_decided : (held : Held) (place : Place) (is_bare : Bool) (word : List ℕ) (functions all : List FactId) (object : Option Object) (operands : List Operand) → AreFactsKnown held all → 0 < length all → decided place (object_at held.types object) (operands_in held.types operands) (meaning held).graph (numbered held all) ≡ decided_among (asked_of held place is_bare word functions object operands) (meaning held) (numbered held all)
+some_decided held place is_bare word functions [] object operands known some = absurd (omega (arith, some))
+some_decided held place is_bare word functions (one ∷ all) object operands known some =
     let there : (fact : CxxFact) × (slice_get (meaning held).graph.facts one.0 ≡ Some fact) = known_there held one known.0 in
-    ap (λ o. decided place (operands_in held.types operands) (meaning held).graph (with_fact one.0 o (numbered held all))) there.1
-    ∙ sym (ap (λ o. decided_among (question_of held place is_bare word functions operands) (meaning held) (with_fact one.0 o (numbered held all))) there.1)
+    ap (λ o. decided place (object_at held.types object) (operands_in held.types operands) (meaning held).graph (with_fact one.0 o (numbered held all))) there.1
+    ∙ sym (ap (λ o. decided_among (asked_of held place is_bare word functions object operands) (meaning held) (with_fact one.0 o (numbered held all))) there.1)
 
 -- some
-pub ruled_some : (held : Held) (place : Place) (is_bare : Bool) (word : List ℕ) (functions all : List FactId) (operands : List Operand) (result : Result Ruling Stop) → AreFactsKnown held all → 0 < length all → Gives (ruling_at held.types) result (ruled_by (decided place (operands_in held.types operands) (meaning held).graph (numbered held all))) → Gives (ruling_at held.types) result (ruled_by (decided_among (question_of held place is_bare word functions operands) (meaning held) (numbered held all)))
-ruled_some held place is_bare word functions all operands result known some gives =
-    subst (λ (answer : Answer CxxDecision). Gives (ruling_at held.types) result (ruled_by answer)) (some_decided held place is_bare word functions all operands known some) gives
+pub ruled_some : (held : Held) (place : Place) (is_bare : Bool) (word : List ℕ) (functions all : List FactId) (object : Option Object) (operands : List Operand) (result : Result Ruling Stop) → AreFactsKnown held all → 0 < length all → Gives (ruling_at held.types) result (ruled_by (decided place (object_at held.types object) (operands_in held.types operands) (meaning held).graph (numbered held all))) → Gives (ruling_at held.types) result (ruled_by (decided_among (asked_of held place is_bare word functions object operands) (meaning held) (numbered held all)))
+ruled_some held place is_bare word functions all object operands result known some gives =
+    subst (λ (answer : Answer CxxDecision). Gives (ruling_at held.types) result (ruled_by answer)) (some_decided held place is_bare word functions all object operands known some) gives
 
 -- the functions are those that the call may mean
 pub called_same : (old new : Held) (result : Result Chosen Stop) (question : CxxQuestion) (all : List FactId) (meant : List Numbered) → numbered old all ≡ meant → IsAnswered chosen_of IsChosen old new result (called_as (meaning old) (decided_among question (meaning old) (numbered old all))) → IsAnswered chosen_of IsChosen old new result (called_as (meaning old) (decided_among question (meaning old) meant))

@@ -4,6 +4,7 @@ pub mod Built
 pub mod ByTypes
 pub mod Found
 pub mod Fresh
+pub mod Objects
 pub mod Opened
 pub mod Records
 pub mod Taken

@@ -31,7 +31,7 @@ use Rattle.cxx_reading.specs.Paths.{found_in, name_in, region_of, scope_of_regio
 use Rattle.cxx_reading.specs.Reads.{Asks}
 use Rattle.cxx_reading.specs.Seen.{Numbered, numbered_at}
 use Rattle.cxx_reading.specs.State.{CxxGiven, CxxState}
-use Rattle.cxx_reading.specs.Trees.{CxxTree, CxxPath, CxxPathPart, last_part}
+use Rattle.cxx_reading.specs.Trees.{CxxTree, CxxPath, is_plain_path, last_part}
 use Rattle.cxx_overload.specs.Calls.{CxxDecision, decided}
 use Rattle.cxx_tree.specs.Defaults.{first_given}
 use Rattle.cxx_tree.specs.Uses.{with_use}
@@ -71,27 +71,33 @@ abbrev pub names_tested : Option ℕ → ℕ → List Numbered → Bool
 names_tested tested scope [] = false
 names_tested tested scope (one ∷ others) = is_tested tested scope one || names_tested tested scope others
 
--- 9.3: whether a declaration is that of a function of a class; what names one is not read yet
-abbrev pub is_member_function : Declares → Bool
-is_member_function (facts.function of kind flags defaults first) = not (is_free kind)
-is_member_function _ = false
+-- 9.3: Whether a declaration is that of a function of a class which a name may not mean yet: one that belongs to an object, and
+-- any where the name has no qualifiers.
+abbrev pub is_put_off : Bool → MemberKind → Bool
+is_put_off is_plain member_kind.Free = false
+is_put_off is_plain member_kind.Static = is_plain
+is_put_off is_plain _ = true
 
-abbrev pub names_member_function : List Numbered → Bool
-names_member_function [] = false
-names_member_function (one ∷ others) = is_member_function one.fact.what || names_member_function others
+abbrev pub is_function_put_off : Bool → Declares → Bool
+is_function_put_off is_plain (facts.function of kind flags defaults first) = is_put_off is_plain kind
+is_function_put_off is_plain _ = false
+
+abbrev pub names_put_off : Bool → List Numbered → Bool
+names_put_off is_plain [] = false
+names_put_off is_plain (one ∷ others) = is_function_put_off is_plain one.fact.what || names_put_off is_plain others
 
 -- 8.3.6: a default argument means no local object. 6.5.3: What a `for` does behind each turn does not name the object that its
 -- condition declares, which stands in the scope of the `for` itself.
-abbrev pub name_meant : CxxPathPart → List Numbered → Asks CxxState (List Numbered)
-name_meant part all state =
-    if state.in_default && names_local state.graph all then Err (fault part.place says.OperandsDoNotFit) else (
-    if state.in_step && names_tested state.tested state.here.scope all then Err (fault part.place (says.LeftOut form.ConditionNameInStep)) else (
-    if names_member_function all then Err (not_built_at part.place) else
+abbrev pub name_meant : CxxPath → List Numbered → Asks CxxState (List Numbered)
+name_meant path all state =
+    if state.in_default && names_local state.graph all then Err (fault (last_part path.parts).place says.OperandsDoNotFit) else (
+    if state.in_step && names_tested state.tested state.here.scope all then Err (fault (last_part path.parts).place (says.LeftOut form.ConditionNameInStep)) else (
+    if names_put_off (is_plain_path path) all then Err (not_built_at (last_part path.parts).place) else
     Ok (all, state)))
 
 -- 3.4: what it may mean is told apart
 abbrev pub name_in_region : CxxPath → Region → Asks CxxState (List Numbered)
-name_in_region path where_ state = unambiguous state.graph (last_part path.parts) (sought_in state.graph any_name where_ (name_in path)) >>= λ is_one. name_meant (last_part path.parts) (meant_in state.graph where_ (name_in path)) state
+name_in_region path where_ state = unambiguous state.graph (last_part path.parts) (sought_in state.graph any_name where_ (name_in path)) >>= λ is_one. name_meant path (meant_in state.graph where_ (name_in path)) state
 
 -- its qualifiers first
 unfoldable pub name_here : CxxPath → Asks CxxState (List Numbered)
@@ -142,7 +148,7 @@ word_or_none (Some word) = word
 
 abbrev pub decided_among : CxxQuestion → CxxState → List Numbered → Answer CxxDecision
 decided_among question state [] = Err (undeclared_at question.place (word_or_none question.word))
-decided_among question state (one ∷ others) = decided question.place question.operands state.graph (one ∷ others)
+decided_among question state (one ∷ others) = decided question.place question.object question.operands state.graph (one ∷ others)
 
 -- there is a limit on how many arguments a call has
 unfoldable pub call_here : CxxQuestion → Asks CxxState CxxChosen

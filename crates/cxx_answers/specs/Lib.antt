@@ -5,6 +5,7 @@ pub mod Besides
 pub mod Defaults
 pub mod Members
 pub mod Named
+pub mod Objects
 pub mod Ruled
 pub mod Told
 pub mod Typed

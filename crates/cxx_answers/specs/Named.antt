@@ -12,4 +12,4 @@ use Rattle.cxx_answers.specs.Answers.{meant_in, name_meant}
 
 -- in a region
 abbrev pub name_found : CxxPath → Region → Sought → Asks CxxState (List Numbered)
-name_found path where_ found state = unambiguous state.graph (last_part path.parts) found >>= λ is_one. name_meant (last_part path.parts) (meant_in state.graph where_ (name_in path)) state
+name_found path where_ found state = unambiguous state.graph (last_part path.parts) found >>= λ is_one. name_meant path (meant_in state.graph where_ (name_in path)) state

@@ -1,19 +1,29 @@
 -- A decision without its ratings, and what the values of the code stand for.
-use Rattle.std.specs.Prelude.{ℕ, ◌≡◌, ◌<◌, Bool, List, length, Result, Ok, Err}
+use Rattle.std.specs.Prelude.{ℕ, ◌≡◌, ◌<◌, Bool, List, length, Option, Result, Ok, Err}
+use Rattle.cxx_model.specs.declared.place.Place.{Place}
+use Rattle.cxx_model.specs.declared.sequence.Operand.{Operand}
 use Rattle.cxx_model.specs.declared.stop.Stop.{Stop}
 use Rattle.cxx_model.specs.declared.stop.Stop.TheVariants as stop
+use Rattle.cxx_model.specs.declared.types.FactId.{FactId}
 use Rattle.cxx_model.specs.Stops.{Answer}
 use Rattle.cxx_model.specs.Types.Numbers.{AreTypesBelow, type_at}
 use Rattle.cxx_model.specs.Types.Trees.{CxxType}
 use Rattle.cxx_reading.specs.Initializers.{with_call}
 use Rattle.cxx_reading.specs.State.{CxxCall, CxxState}
-use Rattle.cxx_expr.specs.Questions.{CxxChosen}
-use Rattle.cxx_expr.specs.Views.{types_in}
+use Rattle.cxx_expr.specs.Calls.{bare_word}
+use Rattle.cxx_expr.specs.Questions.{CxxChosen, CxxQuestion}
+use Rattle.cxx_expr.specs.Views.{numbered, operands_in, types_in}
 use Rattle.cxx_overload.specs.Calls.{CxxDecision}
+use Rattle.cxx_overload.specs.declared.object.Object.{Object}
+use Rattle.cxx_overload.specs.Views.{object_at}
 use Rattle.cxx_tree.specs.declared.kept.Decided.{Decided}
 use Rattle.cxx_tree.specs.Held.{AreOperandsBelow, AreRowsBelow, Held, call_at, meaning}
 use Rattle.cxx_tree.specs.Later.{Later}
 use Rattle.cxx_answers.specs.declared.calls.Ruling.{Ruling}
+
+-- the question of a call, with its object, where it has one
+abbrev pub asked_of : Held → Place → Bool → List ℕ → List FactId → Option Object → List Operand → CxxQuestion
+asked_of held place is_bare word functions object operands = record { place = place; word = bare_word is_bare word; functions = numbered held functions; object = object_at held.types object; operands = operands_in held.types operands }
 
 -- the function that a call means, by its first declaration, with its type, and what is kept of the call
 pub record CxxRuling : Type 0 where

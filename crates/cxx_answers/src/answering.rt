@@ -1,6 +1,6 @@
 //! Who answers what is asked of expressions by the declarations so far.
 
-use crate::calls::call_here;
+use crate::calls::{call_here, call_member_here};
 use crate::constants::is_null_here;
 use crate::defaults::fallback_here;
 use crate::making::{built_in_here, cast_here, conditional_here};
@@ -62,6 +62,18 @@ impl Questions for Answering {
             functions,
             operands,
         )
+    }
+
+    #[tactic(auto, unfolding(crate::specs::Answers::questions))]
+    fn call_member(
+        &self,
+        state: &mut State,
+        place: Place,
+        object: Operand,
+        functions: &[FactId],
+        operands: OperandList,
+    ) -> Result<Chosen, Stop> {
+        call_member_here(state.alloc(), state, place, object, functions, operands)
     }
 
     #[tactic(auto, unfolding(crate::specs::Answers::questions))]

@@ -1,13 +1,13 @@
 //! Which function a call means (13.3).
 
-ghost use Rattle.std.specs.Prelude.{◌≡◌, ◌≤◌, ◌++◌, nat_lt, length, List, Some, IfErr, IfOk, OnOk};
+ghost use Rattle.std.specs.Prelude.{◌≡◌, ◌≤◌, ◌<◌, ◌++◌, nat_lt, length, List, Some, IfErr, IfOk, IfSome, OnOk};
 ghost use Rattle.cxx_found.specs.Associated.{given};
 ghost use Rattle.cxx_answers.specs.Answers as definition;
 ghost use Rattle.cxx_answers.specs.Answers.{called_as};
 ghost use Rattle.cxx_answers.specs.Besides.{besides_in};
-ghost use Rattle.cxx_answers.specs.Ruled.{IsCallBelow, IsRulingBelow, KeepsCall, made_by, ruled as ruled_of, ruled_by, ruling_at};
+ghost use Rattle.cxx_answers.specs.Ruled.{IsCallBelow, IsRulingBelow, KeepsCall, asked_of, made_by, ruled as ruled_of, ruled_by, ruling_at};
 ghost use Rattle.cxx_expr.specs.Calls.{bare_word};
-ghost use Rattle.cxx_expr.specs.Views.{AreFactsKnown, AreOperandsBelow, IsChosen, chosen_of, numbered, operands_in, question_of};
+ghost use Rattle.cxx_expr.specs.Views.{AreFactsKnown, AreOperandsBelow, IsChosen, chosen_of, member_question_of, numbered, operands_in, question_of};
 ghost use Rattle.cxx_model.specs.declared.limits.TheConstants as limits;
 ghost use Rattle.cxx_model.specs.Facts.Declarations.{graph_at};
 ghost use Rattle.cxx_model.specs.Facts.Fitted.{Fitted};
@@ -16,13 +16,14 @@ ghost use Rattle.cxx_model.specs.Stops.{Faulty, Gives, undeclared_at};
 ghost use Rattle.cxx_model.specs.Types.Numbers.{AreTypesBelow};
 ghost use Rattle.cxx_overload.specs.Calls.{decided as decided_of};
 ghost use Rattle.cxx_overload.specs.Decisions.{IsDecisionBelow, decision_at};
-ghost use Rattle.cxx_overload.specs.Views.{AreOperandsBelow as AreBelow, numbered_in, operands_at};
+ghost use Rattle.cxx_overload.specs.Views.{AreOperandsBelow as AreBelow, IsObject, numbered_in, object_at, operands_at, passed};
 ghost use Rattle.cxx_tree.specs.Answered.{IsAnswered};
 ghost use Rattle.cxx_tree.specs.Held.{call_at, meaning};
 ghost use Rattle.cxx_tree.specs.Told.{told};
 ghost use Rattle.cxx_overload.specs.Choosers.{told_by};
 ghost use Rattle.cxx_overload.specs.Told.{HasStayed, told_more};
 
+use crate::object::object_of;
 use crate::record::decided;
 use crate::seen::telling_of;
 use cxx_expr::Chosen;
@@ -33,7 +34,7 @@ use cxx_model::{
     FactId, FactList, Fault, FaultText, LimitKind, Listed, Operand, OperandList, OutOfMemory,
     Place, Stop, TypeId, TypeIdList, Word,
 };
-use cxx_overload::{Chooser, Choosing, Decision};
+use cxx_overload::{Chooser, Choosing, Decision, Object};
 use cxx_tree::{Decided, State};
 use cxx_types::TypeTable;
 use std::alloc::{AllocError, Global};
@@ -56,12 +57,14 @@ fn ruled(
     alloc: Global,
     types: &TypeTable,
     place: Place,
+    object: Option<Object>,
     operands: OperandList,
     decision: &Decision,
 ) -> Result<Ruling, AllocError>
+    requires object { IfSome object (IsObject types.now) }
     requires operands { AreBelow (length types.now) operands }
-    requires decision { IsDecisionBelow (length types.now) (length operands) decision.now }
-    ensures is { IfOk result (λ one. ruling_at types.now one ≡ ruled_of (decision_at types.now place operands decision.now)) }
+    requires decision { IsDecisionBelow (length types.now) (length (passed object operands)) decision.now }
+    ensures is { IfOk result (λ one. ruling_at types.now one ≡ ruled_of (decision_at types.now place object operands decision.now)) }
     ensures below { IfOk result (IsRulingBelow (length types.now)) }
     ensures place { IfOk result (λ one. one.call.place ≡ place) }
 {
@@ -71,7 +74,7 @@ fn ruled(
         parameters: TypeIdList::from_slice(alloc, meant.parameters)?,
         result: meant.result,
         ellipsis: meant.ellipsis,
-        call: decided(alloc, types, place, operands, decision)?,
+        call: decided(alloc, types, place, object, operands, decision)?,
     })
 }
 
@@ -82,20 +85,23 @@ fn rule<H: Chooser>(
     types: &TypeTable,
     place: Place,
     functions: &[FactId],
+    object: Option<Object>,
     operands: OperandList,
     chooser: &mut H,
 ) -> Result<Ruling, Stop>
     requires few { length operands ≤ limits.MOST_ARGUMENTS }
+    requires object { IfSome object (IsObject types.now) }
     requires operands { AreBelow (length types.now) operands }
     requires fitted { Fitted graph.now types.now }
-    ensures is { Gives (ruling_at types.now) result (ruled_by (decided_of place (operands_at types.now operands) (graph_at types.now graph.now) (numbered_in (graph_at types.now graph.now) functions.now))) }
+    ensures is { Gives (ruling_at types.now) result (ruled_by (decided_of place (object_at types.now object) (operands_at types.now operands) (graph_at types.now graph.now) (numbered_in (graph_at types.now graph.now) functions.now))) }
     ensures below { IfOk result (IsRulingBelow (length types.now)) }
     ensures place { IfOk result (λ one. one.call.place ≡ place) }
     ensures asked { OnOk result (H.told chooser.new ≡ told_more place (H.told chooser.old)) }
     ensures stays { IfErr result (HasStayed (H.told chooser.old) (H.told chooser.new)) }
 {
-    let decision = chooser.choose(alloc, graph, types, place, operands.as_slice(), functions)?;
-    Ok(ruled(alloc, types, place, operands, &decision)?)
+    let arguments = operands.as_slice();
+    let decision = chooser.choose(alloc, graph, types, place, object, arguments, functions)?;
+    Ok(ruled(alloc, types, place, object, operands, &decision)?)
 }
 
 // The same of the state.
@@ -105,12 +111,14 @@ fn rule_here<H: Chooser>(
     state: &State,
     place: Place,
     functions: &[FactId],
+    object: Option<Object>,
     operands: OperandList,
     chooser: &mut H,
 ) -> Result<Ruling, Stop>
     requires few { length operands ≤ limits.MOST_ARGUMENTS }
+    requires object { IfSome object (IsObject (state.now).types) }
     requires operands { AreOperandsBelow (length (state.now).types) operands }
-    ensures is { Gives (ruling_at (state.now).types) result (ruled_by (decided_of place (operands_in (state.now).types operands) (meaning state.now).graph (numbered state.now functions.now))) }
+    ensures is { Gives (ruling_at (state.now).types) result (ruled_by (decided_of place (object_at (state.now).types object) (operands_in (state.now).types operands) (meaning state.now).graph (numbered state.now functions.now))) }
     ensures below { IfOk result (IsRulingBelow (length (state.now).types)) }
     ensures place { IfOk result (λ one. one.call.place ≡ place) }
     ensures asked { OnOk result (H.told chooser.new ≡ told_more place (H.told chooser.old)) }
@@ -122,6 +130,7 @@ fn rule_here<H: Chooser>(
         state.types(),
         place,
         functions,
+        object,
         operands,
         chooser,
     )
@@ -156,13 +165,15 @@ fn rule_among<H: Chooser>(
     is_bare: bool,
     word: &[u8],
     all: &[FactId],
+    object: Option<Object>,
     operands: OperandList,
     chooser: &mut H,
 ) -> Result<Ruling, Stop>
     requires few { length operands ≤ limits.MOST_ARGUMENTS }
     requires all { AreFactsKnown state.now all.now }
+    requires object { IfSome object (IsObject (state.now).types) }
     requires operands { AreOperandsBelow (length (state.now).types) operands }
-    ensures is { (functions : List FactNumber) → Gives (ruling_at (state.now).types) result (ruled_by (definition.decided_among (question_of state.now place is_bare word.now functions operands) (meaning state.now) (numbered state.now all.now))) }
+    ensures is { (functions : List FactNumber) → Gives (ruling_at (state.now).types) result (ruled_by (definition.decided_among (asked_of state.now place is_bare word.now functions object operands) (meaning state.now) (numbered state.now all.now))) }
     ensures below { IfOk result (IsRulingBelow (length (state.now).types)) }
     ensures place { IfOk result (λ one. one.call.place ≡ place) }
     ensures asked { OnOk result (H.told chooser.new ≡ told_more place (H.told chooser.old)) }
@@ -170,7 +181,7 @@ fn rule_among<H: Chooser>(
 {
     match all {
         [] => Err(Stop::Fault(undeclared(alloc, place, is_bare, word)?)),
-        _ => rule_here(alloc, state, place, all, operands, chooser),
+        _ => rule_here(alloc, state, place, all, object, operands, chooser),
     }
 }
 
@@ -218,18 +229,20 @@ fn called_by(
     is_bare: bool,
     word: &[u8],
     all: &[FactId],
+    object: Option<Object>,
     operands: OperandList,
     chooser: Choosing,
 ) -> Result<Chosen, Stop>
     requires few { length operands ≤ limits.MOST_ARGUMENTS }
     requires all { AreFactsKnown state.old all.now }
+    requires object { IfSome object (IsObject (state.old).types) }
     requires operands { AreOperandsBelow (length (state.old).types) operands }
     requires told { told_by chooser ≡ told state.old }
-    ensures { (functions : List FactNumber) → IsAnswered chosen_of IsChosen state.old state.new result (called_as (meaning state.old) (definition.decided_among (question_of state.old place is_bare word.now functions operands) (meaning state.old) (numbered state.old all.now))) }
+    ensures { (functions : List FactNumber) → IsAnswered chosen_of IsChosen state.old state.new result (called_as (meaning state.old) (definition.decided_among (asked_of state.old place is_bare word.now functions object operands) (meaning state.old) (numbered state.old all.now))) }
 {
     let mut asked = chooser;
     match rule_among(
-        alloc, state, place, is_bare, word, all, operands, &mut asked,
+        alloc, state, place, is_bare, word, all, object, operands, &mut asked,
     ) {
         Ok(ruling) => made(state, ruling, asked),
         Err(Stop::OutOfMemory) => Err(Stop::OutOfMemory),
@@ -248,15 +261,19 @@ fn called(
     is_bare: bool,
     word: &[u8],
     all: &[FactId],
+    object: Option<Object>,
     operands: OperandList,
 ) -> Result<Chosen, Stop>
     requires few { length operands ≤ limits.MOST_ARGUMENTS }
     requires all { AreFactsKnown state.old all.now }
+    requires object { IfSome object (IsObject (state.old).types) }
     requires operands { AreOperandsBelow (length (state.old).types) operands }
-    ensures { (functions : List FactNumber) → IsAnswered chosen_of IsChosen state.old state.new result (called_as (meaning state.old) (definition.decided_among (question_of state.old place is_bare word.now functions operands) (meaning state.old) (numbered state.old all.now))) }
+    ensures { (functions : List FactNumber) → IsAnswered chosen_of IsChosen state.old state.new result (called_as (meaning state.old) (definition.decided_among (asked_of state.old place is_bare word.now functions object operands) (meaning state.old) (numbered state.old all.now))) }
 {
     match state.take_chooser() {
-        Some(chooser) => called_by(alloc, state, place, is_bare, word, all, operands, chooser),
+        Some(chooser) => called_by(
+            alloc, state, place, is_bare, word, all, object, operands, chooser,
+        ),
         None => Err(Stop::OutOfMemory),
     }
 }
@@ -359,14 +376,16 @@ fn functions_of_call(
     is_bare: bool,
     word: &[u8],
     functions: &[FactId],
+    object: Option<Object>,
     operands: &[Operand],
 ) -> Result<FactList, OutOfMemory>
     requires functions { AreFactsKnown state.now functions.now }
     requires operands { AreOperandsBelow (length (state.now).types) operands.now }
-    ensures is { IfOk result (λ all. numbered state.now all ≡ definition.functions_of_call (meaning state.now).graph (meaning state.now).here.scope (question_of state.now place is_bare word.now functions.now operands.now)) }
+    ensures is { IfOk result (λ all. numbered state.now all ≡ definition.functions_of_call (meaning state.now).graph (meaning state.now).here.scope (asked_of state.now place is_bare word.now functions.now object operands.now)) }
     ensures known { IfOk result (AreFactsKnown state.now) }
 {
     let _ = place;
+    let _ = object;
     let more = besides(alloc, state, is_bare, word, functions, operands)?;
     Ok(both(alloc, state, functions, more.as_slice())?)
 }
@@ -380,12 +399,14 @@ fn called_here(
     is_bare: bool,
     word: &[u8],
     functions: &[FactId],
+    object: Option<Object>,
     operands: OperandList,
 ) -> Result<Chosen, Stop>
     requires few { length operands ≤ limits.MOST_ARGUMENTS }
     requires functions { AreFactsKnown state.old functions.now }
+    requires object { IfSome object (IsObject (state.old).types) }
     requires operands { AreOperandsBelow (length (state.old).types) operands }
-    ensures { IsAnswered chosen_of IsChosen state.old state.new result (called_as (meaning state.old) (definition.decided_among (question_of state.old place is_bare word.now functions.now operands) (meaning state.old) (definition.functions_of_call (meaning state.old).graph (meaning state.old).here.scope (question_of state.old place is_bare word.now functions.now operands)))) }
+    ensures { IsAnswered chosen_of IsChosen state.old state.new result (called_as (meaning state.old) (definition.decided_among (asked_of state.old place is_bare word.now functions.now object operands) (meaning state.old) (definition.functions_of_call (meaning state.old).graph (meaning state.old).here.scope (asked_of state.old place is_bare word.now functions.now object operands)))) }
 {
     let all = match functions_of_call(
         alloc,
@@ -394,19 +415,53 @@ fn called_here(
         is_bare,
         word,
         functions,
+        object,
         operands.as_slice(),
     ) {
         Ok(all) => all,
         Err(_) => return Err(Stop::OutOfMemory),
     };
-    called(alloc, state, place, is_bare, word, all.as_slice(), operands)
+    called(
+        alloc,
+        state,
+        place,
+        is_bare,
+        word,
+        all.as_slice(),
+        object,
+        operands,
+    )
+}
+
+// Which function a call means, by its object, where it has one.
+#[tactic(auto, using(cxx_expr::proofs::Kept::later_refl), unfolding(crate::specs::Answers::call_here))]
+fn call_with(
+    alloc: Global,
+    state: &mut State,
+    place: Place,
+    is_bare: bool,
+    word: &[u8],
+    functions: &[FactId],
+    object: Option<Object>,
+    operands: OperandList,
+) -> Result<Chosen, Stop>
+    requires functions { AreFactsKnown state.old functions.now }
+    requires object { IfSome object (IsObject (state.old).types) }
+    requires operands { AreOperandsBelow (length (state.old).types) operands }
+    ensures { IsAnswered chosen_of IsChosen state.old state.new result (definition.call_here (asked_of state.old place is_bare word.now functions.now object operands) (meaning state.old)) }
+{
+    if are_too_many(operands.as_slice()) {
+        return Err(Stop::Limit(LimitKind::Arguments));
+    }
+    called_here(
+        alloc, state, place, is_bare, word, functions, object, operands,
+    )
 }
 
 /// Which function a call at a place means, given the word that is called, whether it is bare, the functions that its name
 /// means, and what the arguments give (13.3). A name without brackets and qualifiers means besides what the types of the
-/// arguments find (3.4.2). The call is kept. It stops at more arguments than a call may have, where there is no function, where none is
-/// viable, where none is best, at too many candidates, and at what needs a class.
-#[tactic(auto, using(cxx_expr::proofs::Kept::later_refl), unfolding(crate::specs::Answers::call_here))]
+/// arguments find (3.4.2). The call is kept. It stops at more arguments than a call may have, where there is no function,
+/// where none is viable, where none is best, at too many candidates, and at what needs a class.
 pub fn call_here(
     alloc: Global,
     state: &mut State,
@@ -420,8 +475,38 @@ pub fn call_here(
     requires operands { AreOperandsBelow (length (state.old).types) operands }
     ensures { IsAnswered chosen_of IsChosen state.old state.new result (definition.call_here (question_of state.old place is_bare word.now functions.now operands) (meaning state.old)) }
 {
-    if are_too_many(operands.as_slice()) {
-        return Err(Stop::Limit(LimitKind::Arguments));
+    call_with(
+        alloc, state, place, is_bare, word, functions, None, operands,
+    )
+}
+
+/// The same of a call of a member, given its object as an lvalue, and the functions that its name means in the class of the
+/// object (13.3.1.1.1). The types of the arguments find nothing besides. The object is kept before the arguments.
+#[tactic(auto, using(crate::proofs::Objects::member_called, crate::proofs::Objects::facts_later, crate::proofs::Objects::operands_later))]
+pub fn call_member_here(
+    alloc: Global,
+    state: &mut State,
+    place: Place,
+    object: Operand,
+    functions: &[FactId],
+    operands: OperandList,
+) -> Result<Chosen, Stop>
+    requires object { object.of.0 < length (state.old).types }
+    requires functions { AreFactsKnown state.old functions.now }
+    requires operands { AreOperandsBelow (length (state.old).types) operands }
+    ensures { IsAnswered chosen_of IsChosen state.old state.new result (definition.call_here (member_question_of state.old place object functions.now operands) (meaning state.old)) }
+{
+    match object_of(state, object) {
+        Ok(object) => call_with(
+            alloc,
+            state,
+            place,
+            false,
+            &[],
+            functions,
+            Some(object),
+            operands,
+        ),
+        Err(_) => Err(Stop::OutOfMemory),
     }
-    called_here(alloc, state, place, is_bare, word, functions, operands)
 }

@@ -12,13 +12,14 @@ mod making;
 mod measured;
 mod members;
 mod names;
+mod object;
 mod record;
 mod seen;
 mod sizes;
 pub mod typed;
 
 pub use answering::Answering;
-pub use calls::call_here;
+pub use calls::{call_here, call_member_here};
 pub use constants::{constant_here, is_null_here, value_here};
 pub use defaults::{begin_default, end_default};
 pub use members::member_here;

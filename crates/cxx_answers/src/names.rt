@@ -11,9 +11,8 @@ ghost use Rattle.cxx_names.specs.Index.{Notes};
 ghost use Rattle.cxx_names.specs.Looked.{looked_up};
 ghost use Rattle.cxx_reading.specs.Paths.{found_in, name_in, sought_in};
 ghost use Rattle.cxx_reading.specs.Seen.{fact_numbers, numbered_at};
-ghost use Rattle.cxx_reading.specs.Trees.{last_part};
 ghost use Rattle.cxx_tree.specs.Answered.{AnyKnown, IsAnswered, itself};
-ghost use Rattle.cxx_tree.specs.Arena.{path_at, path_parts_at};
+ghost use Rattle.cxx_tree.specs.Arena.{path_at};
 ghost use Rattle.cxx_tree.specs.Held.{fact_of_option, meaning};
 
 use crate::seen::with_givers;
@@ -22,12 +21,12 @@ use cxx_expr::faults::{fault, not_built_at};
 use cxx_found::{Found, Wanted};
 use cxx_graph::Graph;
 use cxx_model::{
-    Entity, FactId, FactList, FaultText, LeftOut, MemberKind, Path, PathPart, Place, ScopeId, Stop,
+    Entity, FactId, FactList, FaultText, LeftOut, MemberKind, Path, Place, ScopeId, Stop,
 };
 use cxx_names::Names;
 use cxx_paths::{last_place, name_sought, region_here, scope_of, set_in, unambiguous_name};
 use cxx_reading::Region;
-use cxx_tree::State;
+use cxx_tree::{State, is_plain_path};
 use std::alloc::Global;
 
 fn is_free(member: MemberKind) -> bool
@@ -128,31 +127,42 @@ fn is_left_out(state: &State, numbers: &[FactId]) -> bool
     state.in_step() && means_tested(state, numbers)
 }
 
-fn is_member_function(what: Entity) -> bool
-    ensures { (types : List CxxType) → result ≡ definition.is_member_function (declares_at types what) }
+// Whether a name, with qualifiers or without, may not mean a function that stands to a class like this yet (9.3).
+fn is_put_off(is_plain: bool, member: MemberKind) -> bool
+    ensures { result ≡ definition.is_put_off is_plain member }
+{
+    match member {
+        MemberKind::Free => false,
+        MemberKind::Static => is_plain,
+        _ => true,
+    }
+}
+
+fn is_function_put_off(is_plain: bool, what: Entity) -> bool
+    ensures { (types : List CxxType) → result ≡ definition.is_function_put_off is_plain (declares_at types what) }
 {
     match what {
-        Entity::Function { member, .. } => !is_free(member),
+        Entity::Function { member, .. } => is_put_off(is_plain, member),
         _ => false,
     }
 }
 
-// Whether a declaration is that of a function of a class (9.3).
-fn is_of_class(graph: &Graph, number: FactId) -> bool
-    ensures { (types : List CxxType) → result ≡ definition.names_member_function (looked_up types graph.now.facts (number ∷ [])) }
+// Whether a declaration is that of such a function.
+fn puts_off(graph: &Graph, is_plain: bool, number: FactId) -> bool
+    ensures { (types : List CxxType) → result ≡ definition.names_put_off is_plain (looked_up types graph.now.facts (number ∷ [])) }
 {
     match fact_of(graph, number) {
-        Some(fact) => is_member_function(fact.what),
+        Some(fact) => is_function_put_off(is_plain, fact.what),
         None => false,
     }
 }
 
 // Whether one of some declarations is that of such a function.
-fn names_member_function(graph: &Graph, numbers: &[FactId]) -> bool
-    ensures { (types : List CxxType) → result ≡ definition.names_member_function (looked_up types graph.now.facts numbers.now) }
+fn names_put_off(graph: &Graph, is_plain: bool, numbers: &[FactId]) -> bool
+    ensures { (types : List CxxType) → result ≡ definition.names_put_off is_plain (looked_up types graph.now.facts numbers.now) }
 {
     for number in numbers {
-        if is_of_class(graph, *number) {
+        if puts_off(graph, is_plain, *number) {
             return true;
         }
     }
@@ -160,23 +170,25 @@ fn names_member_function(graph: &Graph, numbers: &[FactId]) -> bool
 }
 
 // The same of the state.
-fn means_member_function(state: &State, numbers: &[FactId]) -> bool
-    ensures { result ≡ definition.names_member_function (numbered state.now numbers.now) }
+fn means_put_off(state: &State, is_plain: bool, numbers: &[FactId]) -> bool
+    ensures { result ≡ definition.names_put_off is_plain (numbered state.now numbers.now) }
 {
-    names_member_function(state.graph(), numbers)
+    names_put_off(state.graph(), is_plain, numbers)
 }
 
-// What a name means that has these declarations, where it may mean them; functions of classes are not named yet.
+// What a name means that has these declarations, where it may mean them. A function that belongs to an object is not named
+// yet, and a static one of a class is named with qualifiers alone (9.3, 9.4).
 #[tactic(auto, using(cxx_expr::proofs::Kept::later_refl))]
 fn name_meant(
     alloc: Global,
     state: &mut State,
-    parts: &[PathPart],
+    path: &Path,
     all: FactList,
 ) -> Result<FactList, Stop>
     requires { AreFactsKnown state.old all }
-    ensures { IsAnswered numbered AreFactsKnown state.old state.new result (definition.name_meant (last_part (path_parts_at parts.now)) (numbered state.old all) (meaning state.old)) }
+    ensures { IsAnswered numbered AreFactsKnown state.old state.new result (definition.name_meant (path_at path.now) (numbered state.old all) (meaning state.old)) }
 {
+    let parts = path.parts.as_slice();
     if is_refused(state, all.as_slice()) {
         let place = last_place(parts);
         return Err(Stop::Fault(fault(alloc, place, FaultText::OperandsDoNotFit)?));
@@ -186,7 +198,7 @@ fn name_meant(
         let text = FaultText::LeftOut(LeftOut::ConditionNameInStep);
         return Err(Stop::Fault(fault(alloc, place, text)?));
     }
-    if means_member_function(state, all.as_slice()) {
+    if means_put_off(state, is_plain_path(path), all.as_slice()) {
         return Err(Stop::Fault(not_built_at(alloc, last_place(parts))?));
     }
     Ok(all)
@@ -202,10 +214,10 @@ fn name_among(
     numbers: &[FactId],
 ) -> Result<FactList, Stop>
     requires { numbered_at (meaning state.old).graph (fact_numbers numbers.now) ≡ found_in (meaning state.old).graph region (name_in (path_at path.now)) }
-    ensures { IsAnswered numbered AreFactsKnown state.old state.new result (definition.name_meant (last_part (path_at path.now).parts) (definition.meant_in (meaning state.old).graph region (name_in (path_at path.now))) (meaning state.old)) }
+    ensures { IsAnswered numbered AreFactsKnown state.old state.new result (definition.name_meant (path_at path.now) (definition.meant_in (meaning state.old).graph region (name_in (path_at path.now))) (meaning state.old)) }
 {
     let all = with_givers(alloc, state, scope_of(region), numbers)?;
-    name_meant(alloc, state, path.parts.as_slice(), all)
+    name_meant(alloc, state, path, all)
 }
 
 // The same of what was found, where that is not ambiguous.
@@ -245,7 +257,8 @@ fn name_in_region(
 /// All declarations that a name with its qualifiers means where the reader stands (3.4.1, 3.4.3): its entities by their first
 /// declarations, and behind them the declarations of functions that tell their default arguments where it is looked up (8.3.6).
 /// It stops where a qualifier means no namespace, where the name is ambiguous (3.4), at a local object in a default argument
-/// (8.3.6), and at the object that the condition of a `for` declares in what that does behind each turn (6.5.3).
+/// (8.3.6), at the object that the condition of a `for` declares in what that does behind each turn (6.5.3), and at a function
+/// of a class, but for a static one that is named with qualifiers (9.4).
 #[tactic(auto, using(cxx_paths::proofs::Stopping::region_then, cxx_paths::proofs::Stopping::region_stopped), unfolding(crate::specs::Answers::name_here))]
 pub fn name_here(alloc: Global, state: &mut State, path: &Path) -> Result<FactList, Stop>
     ensures { IsAnswered numbered AreFactsKnown state.old state.new result (definition.name_here (path_at path.now) (meaning state.old)) }

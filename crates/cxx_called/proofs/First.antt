@@ -1,5 +1,5 @@
 -- The first of the declarations of a member.
-use Rattle.std.specs.Prelude.{◌≡◌, List, [], ◌∷◌, Some}
+use Rattle.std.specs.Prelude.{◌≡◌, Bool, List, [], ◌∷◌, Some}
 use Rattle.std.proofs.Common.{ap}
 use Rattle.std.specs.List.{slice_get}
 use Rattle.cxx_model.specs.declared.types.FactId.{FactId}
@@ -11,5 +11,5 @@ use Rattle.cxx_tree.specs.Held.{Held, meaning}
 use Rattle.cxx_expr.specs.Members.{selected_first, selected_value}
 use Rattle.cxx_expr.specs.Views.{numbered, with_fact}
 
-pub value_first : (held : Held) (part : CxxPathPart) (object : CxxOperand) (all : List Numbered) (number : FactId) (numbers : List FactId) (fact : CxxFact) → slice_get (meaning held).graph.facts number.0 ≡ Some fact → selected_value part object all (numbered held (number ∷ numbers)) (meaning held) ≡ selected_first part object (meaning held).graph (meaning held).here.enumeration number.0 fact.what (meaning held)
-value_first held part object all number numbers fact at = ap (λ o. selected_value part object all (with_fact number.0 o (numbered held numbers)) (meaning held)) at
+pub value_first : (held : Held) (part : CxxPathPart) (called : Bool) (object : CxxOperand) (all : List Numbered) (number : FactId) (numbers : List FactId) (fact : CxxFact) → slice_get (meaning held).graph.facts number.0 ≡ Some fact → selected_value part called object all (numbered held (number ∷ numbers)) (meaning held) ≡ selected_first part called object (meaning held).graph (meaning held).here.enumeration fact.scope number.0 fact.what (meaning held)
+value_first held part called object all number numbers fact at = ap (λ o. selected_value part called object all (with_fact number.0 o (numbered held numbers)) (meaning held)) at

@@ -1,11 +1,12 @@
 -- What the arguments of a call give, and the question that they make.
-use Rattle.std.specs.Prelude.{ℕ, ◌≡◌, ◌<◌, ◌≤◌, ◌+◌, List, [], ◌∷◌, ◌++◌, length, refl}
+use Rattle.std.specs.Prelude.{ℕ, ◌≡◌, ◌<◌, ◌≤◌, ◌+◌, List, [], ◌∷◌, ◌++◌, length, Some, None, refl}
 use Rattle.std.proofs.Common.{ap, sym, subst, ◌∙◌, append_assoc, get_or, drop}
 use Rattle.std.proofs.lemmas.List.{append-nil, at_drop_more, at_drop_all}
 use Rattle.cxx_model.specs.declared.sequence.Operand.{Operand}
 use Rattle.cxx_model.specs.declared.tree.Node.{Node}
 use Rattle.cxx_model.specs.declared.types.FactId.{FactId}
 use Rattle.cxx_model.specs.declared.types.TreeId.{TreeId}
+use Rattle.cxx_model.specs.declared.types.TypeId.{TypeId}
 use Rattle.cxx_model.specs.Types.Trees.{CxxType}
 use Rattle.cxx_meaning.specs.Conversions.Standard.{CxxOperand}
 use Rattle.cxx_reading.specs.Seen.{Numbered}
@@ -14,15 +15,16 @@ use Rattle.cxx_reading.specs.Trees.{CxxTree}
 use Rattle.cxx_standard.specs.Views.{operand_at}
 use Rattle.cxx_tree.proofs.Graphs.{length_facts}
 use Rattle.cxx_tree.specs.Arena.{label_at}
-use Rattle.cxx_tree.specs.Held.{Held, meaning, tree, trees}
+use Rattle.cxx_tree.specs.Held.{Held, meaning, tree, trees, type_of}
 use Rattle.cxx_tree.specs.Later.{Later}
-use Rattle.cxx_expr.specs.Calls.{bare_word, is_bare, question}
+use Rattle.cxx_called.specs.Views.{asked_of}
+use Rattle.cxx_expr.specs.Calls.{bare_word, is_bare, member_question, question}
 use Rattle.cxx_expr.specs.Making.{AreTreesHeld, trees_held}
 use Rattle.cxx_expr.specs.Names.{word_in}
-use Rattle.cxx_expr.specs.Operands.{judged, judged_each}
+use Rattle.cxx_expr.specs.Operands.{judged, judged_each, object_operand}
 use Rattle.cxx_expr.specs.Questions.{CxxQuestion, Questions}
 use Rattle.cxx_expr.specs.Views.{AreFactsBelow, AreFactsKnown, AreOperandsBelow, numbered, numbered_in, operands_in, question_of}
-use Rattle.cxx_expr.proofs.Kept.{number_at, operand_kept, operand_later}
+use Rattle.cxx_expr.proofs.Kept.{number_at, operand_kept, operand_later, type_kept}
 
 pub operands_more : (types : List CxxType) (found : List Operand) (one : Operand) → operands_in types (found ++ one ∷ []) ≡ operands_in types found ++ operand_at types one ∷ []
 operands_more types [] one = refl
@@ -82,6 +84,15 @@ facts_known old mid functions same ok =
 pub question_is : (q : Questions) (old mid : Held) (node : Node) (functions : List FactId) (arguments : List TreeId) (operands : List Operand) → meaning mid ≡ meaning old → operands_in mid.types operands ≡ judged_each q (trees_held old arguments) (meaning old) →
     q.call (question_of mid node.place (is_bare (label_at mid.types node)) (word_in (label_at mid.types node)).word functions operands) (meaning mid) ≡ q.call (question q (label_at old.types node) (numbered old functions) (trees_held old arguments) (meaning old)) (meaning old)
 question_is q old mid node functions arguments operands same is =
-    let make : List Numbered → List CxxOperand → CxxQuestion = λ fs os. record { place = node.place; word = bare_word (is_bare (label_at old.types node)) (word_in (label_at old.types node)).word; functions = fs; operands = os } in
+    let make : List Numbered → List CxxOperand → CxxQuestion = λ fs os. record { place = node.place; word = bare_word (is_bare (label_at old.types node)) (word_in (label_at old.types node)).word; functions = fs; object = None; operands = os } in
     ap (λ (s : CxxState). q.call (make (numbered_in s.graph functions) (operands_in mid.types operands)) s) same
     ∙ ap (λ os. q.call (make (numbered old functions) os) (meaning old)) is
+
+-- the same of a call of a member, whose object has a type
+pub member_question_is : (q : Questions) (old mid : Held) (callee : Node) (of : TypeId) (functions : List FactId) (arguments : List TreeId) (operands : List Operand) → of.0 < length old.types → Later old mid → meaning mid ≡ meaning old → operands_in mid.types operands ≡ judged_each q (trees_held old arguments) (meaning old) →
+    q.call (asked_of mid (word_in (label_at mid.types callee)).place (type_of mid of) functions operands) (meaning mid) ≡ q.call (member_question q (label_at old.types callee) (type_of old of) (numbered old functions) (trees_held old arguments) (meaning old)) (meaning old)
+member_question_is q old mid callee of functions arguments operands there later same is =
+    let make : List Numbered → CxxType → List CxxOperand → CxxQuestion = λ fs t os. record { place = (word_in (label_at old.types callee)).place; word = None; functions = fs; object = Some (object_operand t); operands = os } in
+    ap (λ (s : CxxState). q.call (make (numbered_in s.graph functions) (type_of mid of) (operands_in mid.types operands)) s) same
+    ∙ ap (λ t. q.call (make (numbered old functions) t (operands_in mid.types operands)) (meaning old)) (type_kept old mid of later there)
+    ∙ ap (λ os. q.call (make (numbered old functions) (type_of old of) os) (meaning old)) is

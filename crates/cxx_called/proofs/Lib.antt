@@ -1,3 +1,4 @@
+mod Called
 mod Chosen
 mod Declared
 mod Judged

@@ -6,8 +6,8 @@ use Rattle.cxx_reading.specs.State.{CxxState}
 use Rattle.cxx_reading.specs.Trees.{CxxTree}
 use Rattle.cxx_tree.specs.Arena.{tree_in}
 use Rattle.cxx_tree.specs.Held.{Held, trees}
-use Rattle.cxx_expr.specs.Asking.{◌>>=◌, give}
-use Rattle.cxx_expr.specs.Calls.{chosen_tree, fallbacks}
+use Rattle.cxx_expr.specs.Asking.{◌>>=◌}
+use Rattle.cxx_expr.specs.Calls.{chosen_as, fallbacks}
 use Rattle.cxx_expr.specs.Converting.{convert_each}
 use Rattle.cxx_expr.specs.Names.{path_in}
 use Rattle.cxx_expr.specs.Making.{AreTreesHeld, trees_held}
@@ -17,7 +17,7 @@ use Rattle.cxx_expr.specs.Questions.{CxxChosen, Questions}
 unfoldable pub filled : Questions → CxxTree → ℕ → CxxChosen → List CxxTree → Asks CxxState CxxTree
 filled q tree count chosen given = do
   all ← fallbacks q (path_in tree.label) chosen.target count given (length chosen.parameters - count)
-  give (chosen_tree tree chosen all)
+  chosen_as tree chosen all
 
 -- a call of a function, once that is noted
 unfoldable pub converted : Questions → CxxTree → List CxxTree → CxxChosen → Asks CxxState CxxTree

@@ -3,6 +3,8 @@ use Rattle.std.specs.Prelude.{ℕ, ◌<◌, List, length, Option, Some, None}
 use Rattle.cxx_model.specs.declared.facts.Entity.{Entity}
 use Rattle.cxx_model.specs.declared.facts.Entity.TheVariants as entity
 use Rattle.cxx_model.specs.declared.facts.Name.{Name}
+use Rattle.cxx_model.specs.declared.place.Place.{Place}
+use Rattle.cxx_model.specs.declared.sequence.Operand.{Operand}
 use Rattle.cxx_model.specs.declared.types.FactId.{FactId}
 use Rattle.cxx_model.specs.Facts.Declarations.{name_at}
 use Rattle.cxx_model.specs.Facts.Graph.{Graph, enumerations}
@@ -13,7 +15,9 @@ use Rattle.cxx_standard.specs.Views.{operand_at}
 use Rattle.cxx_tree.specs.Held.{Held}
 use Rattle.cxx_expr.specs.Calls as calls
 use Rattle.cxx_expr.specs.Names.{Means}
-use Rattle.cxx_expr.specs.Views.{types_in}
+use Rattle.cxx_expr.specs.Operands.{object_operand}
+use Rattle.cxx_expr.specs.Questions.{CxxQuestion}
+use Rattle.cxx_expr.specs.Views.{numbered, operands_in, types_in}
 use Rattle.cxx_called.specs.declared.names.Meant.{Meant}
 use Rattle.cxx_called.specs.declared.signatures.Signature.{Signature}
 
@@ -34,6 +38,12 @@ IsOfThere graph _ = Unit {0}
 -- those of some declarations that have a name
 abbrev pub named_of : Held → Name → List FactId → List FactId
 named_of held name numbers = named_among held.types held.graph.facts (name_at held.types name) numbers
+
+-- ---- calls of members
+
+-- the question of one, whose object has a type
+abbrev pub asked_of : Held → Place → CxxType → List FactId → List Operand → CxxQuestion
+asked_of held place of functions operands = record { place = place; word = None; functions = numbered held functions; object = Some (object_operand of); operands = operands_in held.types operands }
 
 -- ---- types of functions
 

@@ -1,37 +1,46 @@
 //! Calls (5.2.2).
 
-ghost use Rattle.std.specs.Prelude.{◌≡◌, ◌<◌, ◌-◌, [], length, IfOk};
-ghost use Rattle.cxx_model.specs.Facts.Declarations.{declares_at};
+ghost use Rattle.std.specs.Prelude.{◌≡◌, ◌<◌, ◌-◌, [], length, IfOk, Some};
+ghost use Rattle.cxx_model.specs.Facts.Declarations.{declares_at, type_of_option};
+ghost use Rattle.cxx_model.specs.Facts.Fitted.{IsTypeNumberBelow};
 ghost use Rattle.cxx_model.specs.Stops.{Faulty};
+ghost use Rattle.cxx_model.specs.Types.Trees.{class_type};
 ghost use Rattle.cxx_meaning.specs.Lookups.Wanted as wanted;
 ghost use Rattle.cxx_tree.specs.Answered.{IsAnswered};
-ghost use Rattle.cxx_tree.specs.Arena.{label_at, path_at};
+ghost use Rattle.cxx_reading.specs.Plain.{target_or};
+ghost use Rattle.cxx_tree.specs.Arena.{label_at, number_of_option, path_at};
 ghost use Rattle.cxx_tree.specs.Held.{Held, meaning, tree, trees, type_of};
 ghost use Rattle.cxx_expr.specs.Calls as definition;
+ghost use Rattle.cxx_expr.specs.Members.{class_of_object as class_of_object_by};
+ghost use Rattle.cxx_expr.specs.Operands.{object_operand};
 ghost use Rattle.cxx_expr.specs.Making.{AddsOperand, AreTreesHeld, Gathers, GrowsOperands, GrowsTree, IsTreeKnown, trees_held};
 ghost use Rattle.cxx_expr.specs.Names as names;
 ghost use Rattle.cxx_expr.specs.Nodes.{IsNodeHeld, node_tree};
 ghost use Rattle.cxx_expr.specs.Operands as operands_of;
 ghost use Rattle.cxx_expr.specs.Views.{AreFactsKnown, AreOperandsBelow, IsChosen, chosen_of, numbered, question_of};
 ghost use Rattle.cxx_expr.specs.declared.production.TheConstants as production;
+ghost use Rattle.cxx_called.specs.Members.{class_of_option};
 ghost use Rattle.cxx_called.specs.Tails as tails;
 ghost use Rattle.cxx_called.specs.Tails.{IsFirstSplit, first_split};
-ghost use Rattle.cxx_called.specs.Views.{IsFoundBelow, IsSignatureBelow, found_signature, signature_at};
+ghost use Rattle.cxx_called.specs.Views.{asked_of, IsFoundBelow, IsSignatureBelow, found_signature, signature_at};
 
 use crate::facts::{fact_at, is_function, values_among};
-use crate::names::{declared, is_plain, named, no_path, word_in};
+use crate::members::{class_of_object, declared_member};
+use crate::names::{
+    declared, is_plain, means_object, named, no_path, place_in, type_of_class, word_in,
+};
 use crate::signatures::{Signature, called_signature, fits_count};
 use cxx_expr::conditional::is_of_class;
-use cxx_expr::converting::convert_each;
+use cxx_expr::converting::{convert_each, push};
 use cxx_expr::faults::{fault, not_built_at};
 use cxx_expr::nodes::given_over;
 use cxx_expr::operands::{judged, operand_of, result_operand};
 use cxx_expr::operators::{listed_one, misshapen, no_fit};
-use cxx_expr::production::NAME;
-use cxx_expr::{Chosen, Questions};
+use cxx_expr::production::{ARROW, MEMBER, NAME};
+use cxx_expr::{Chosen, Questions, is_function_at, node_of, static_class};
 use cxx_model::{
-    Entity, FactId, Fault, FaultText, Listed, Node, OperandList, Path, Place, Stop, TreeId,
-    TreeIdList, TypeId,
+    ClassId, ConstantKind, Entity, FactId, Fault, FaultText, Listed, Node, Operand, OperandList,
+    Path, Place, Stop, TreeId, TreeIdList, TypeId,
 };
 use cxx_tree::State;
 use std::alloc::{AllocError, Global};
@@ -108,18 +117,58 @@ fn chosen_tree(
     state: &mut State,
     node: Node,
     chosen: &Chosen,
+    class: Option<TypeId>,
     arguments: TreeIdList,
 ) -> Result<TreeId, Stop>
     requires node { IsNodeHeld state.old node }
     requires chosen { IsChosen state.old chosen.now }
     requires arguments { AreTreesHeld state.old arguments }
-    ensures { GrowsTree state.old state.new result (definition.chosen_tree (node_tree state.old node) (chosen_of state.old chosen.now) (trees_held state.old arguments)) }
+    requires class { IsTypeNumberBelow (length (state.old).types) class }
+    ensures { GrowsTree state.old state.new result (definition.chosen_tree (node_tree state.old node) (chosen_of state.old chosen.now) (type_of_option (state.old).types class) (trees_held state.old arguments)) }
 {
     let operand = result_operand(state, chosen.result)?;
     let mut node = node;
+    node.of = class;
     node.target = Some(chosen.target);
     node.call = Some(chosen.number);
     given_over(state, node, operand, arguments)
+}
+
+// The same of a static member of a class (9.4).
+#[tactic(auto, using(cxx_expr::proofs::Kept::later_trans, cxx_expr::proofs::NodeKept::node_later, cxx_expr::proofs::NodeKept::node_kept, cxx_expr::proofs::Kept::trees_later, cxx_expr::proofs::Kept::trees_kept, crate::proofs::Chosen::chosen_later, crate::proofs::Chosen::chosen_kept))]
+fn chosen_in(
+    state: &mut State,
+    node: Node,
+    chosen: &Chosen,
+    class: ClassId,
+    arguments: TreeIdList,
+) -> Result<TreeId, Stop>
+    requires node { IsNodeHeld state.old node }
+    requires chosen { IsChosen state.old chosen.now }
+    requires class { class.0 < length (state.old).graph.classes }
+    requires arguments { AreTreesHeld state.old arguments }
+    ensures { GrowsTree state.old state.new result (definition.chosen_tree (node_tree state.old node) (chosen_of state.old chosen.now) (Some (class_type class.0)) (trees_held state.old arguments)) }
+{
+    let of = type_of_class(state, class)?;
+    chosen_tree(state, node, chosen, Some(of), arguments)
+}
+
+// The same with its class, where the function is a static member.
+fn chosen_as(
+    state: &mut State,
+    node: Node,
+    chosen: &Chosen,
+    arguments: TreeIdList,
+) -> Result<TreeId, Stop>
+    requires node { IsNodeHeld state.old node }
+    requires chosen { IsChosen state.old chosen.now }
+    requires arguments { AreTreesHeld state.old arguments }
+    ensures { GrowsTree state.old state.new result (definition.chosen_tree (node_tree state.old node) (chosen_of state.old chosen.now) (names.static_class (meaning state.old).graph chosen.now.target.0) (trees_held state.old arguments)) }
+{
+    match static_class(state, chosen.target) {
+        Some(class) => chosen_in(state, node, chosen, class, arguments),
+        None => chosen_tree(state, node, chosen, None, arguments),
+    }
 }
 
 // Once the arguments are converted.
@@ -140,7 +189,7 @@ fn filled<Q: Questions>(
 {
     let end = chosen.parameters.len();
     let all = left_out(questions, state, &node, chosen.target, count, given, end)?;
-    chosen_tree(state, node, chosen, all)
+    chosen_as(state, node, chosen, all)
 }
 
 // Once the function is noted.
@@ -227,7 +276,7 @@ fn judged_each<Q: Questions>(
 }
 
 fn is_none_left(spelling: &[u8]) -> bool
-    ensures { result ≡ definition.is_none_left spelling.now }
+    ensures { result ≡ names.is_none_left spelling.now }
 {
     match spelling {
         [] => true,
@@ -618,6 +667,355 @@ fn name_call<Q: Questions>(
     called(alloc, questions, state, node, arguments, all.as_slice())
 }
 
+// ---- a call of a member of an object (13.3.1.1.1)
+
+fn is_selection(number: u8) -> bool
+    ensures { result ≡ definition.is_selection number }
+{
+    number == MEMBER || number == ARROW
+}
+
+fn names_function(state: &State, target: Option<FactId>) -> bool
+    ensures { result ≡ names.is_function_at (meaning state.now).graph (target_or (number_of_option target)) }
+{
+    match target {
+        Some(target) => is_function_at(state, target),
+        None => is_function_at(state, FactId(0)),
+    }
+}
+
+// Whether functions of the class of an object are called.
+fn calls_member(state: &State, callee: TreeId) -> bool
+    requires { callee.0 < length (trees state.now) }
+    ensures { result ≡ definition.calls_member (meaning state.now).graph (tree state.now callee).label }
+{
+    let node = state.node(callee);
+    is_selection(node.production) && names_function(state, node.target)
+}
+
+// Which function the call of a member means.
+fn asked_member<Q: Questions>(
+    questions: &Q,
+    state: &mut State,
+    callee: &Node,
+    of: TypeId,
+    functions: &[FactId],
+    operands: OperandList,
+) -> Result<Chosen, Stop>
+    requires ready { Q.is_ready questions.now }
+    requires of { of.0 < length (state.old).types }
+    requires functions { AreFactsKnown state.old functions.now }
+    requires operands { AreOperandsBelow (length (state.old).types) operands }
+    ensures { IsAnswered chosen_of IsChosen state.old state.new result ((Q.asks questions.now).call (asked_of state.old (names.word_in (label_at (state.old).types callee.now)).place (type_of state.old of) functions.now operands) (meaning state.old)) }
+{
+    let object = Operand {
+        of,
+        lvalue: true,
+        constant: ConstantKind::No,
+    };
+    questions.call_member(state, place_in(callee), object, functions, operands)
+}
+
+// The question of such a call, by what its arguments give.
+#[tactic(auto, using(cxx_expr::proofs::Kept::later_trans, crate::proofs::Judged::member_question_is, crate::proofs::Judged::facts_known, cxx_expr::proofs::Kept::type_later, cxx_expr::proofs::Kept::type_kept))]
+fn member_question<Q: Questions>(
+    alloc: Global,
+    questions: &Q,
+    state: &mut State,
+    callee: &Node,
+    of: TypeId,
+    functions: &[FactId],
+    arguments: &[TreeId],
+) -> Result<Chosen, Stop>
+    requires ready { Q.is_ready questions.now }
+    requires of { of.0 < length (state.old).types }
+    requires functions { AreFactsKnown state.old functions.now }
+    requires arguments { AreTreesHeld state.old arguments.now }
+    ensures { IsAnswered chosen_of IsChosen state.old state.new result ((Q.asks questions.now).call (definition.member_question (Q.asks questions.now) (label_at (state.old).types callee.now) (type_of state.old of) (numbered state.old functions.now) (trees_held state.old arguments.now) (meaning state.old)) (meaning state.old)) }
+{
+    let operands = judged_each(alloc, questions, state, arguments)?;
+    asked_member(questions, state, callee, of, functions, operands)
+}
+
+// What is called, once it is known which function that is.
+fn callee_as(state: &mut State, callee: Node, chosen: &Chosen) -> Result<TreeId, Stop>
+    requires callee { IsNodeHeld state.old callee }
+    requires chosen { IsChosen state.old chosen.now }
+    ensures { GrowsTree state.old state.new result (definition.callee_as (node_tree state.old callee) (chosen_of state.old chosen.now) (meaning state.old)) }
+{
+    let meant = means_object(state, chosen.target, chosen.result);
+    let mut callee = callee;
+    callee.target = Some(chosen.target);
+    callee.operand = Some(meant.operand);
+    push(state, callee)
+}
+
+// Over what is called and the arguments behind it.
+#[tactic(auto, using(cxx_expr::proofs::Kept::later_trans, cxx_expr::proofs::NodeKept::node_later, cxx_expr::proofs::NodeKept::node_kept, cxx_expr::proofs::Kept::trees_later, cxx_expr::proofs::Kept::trees_kept, crate::proofs::Chosen::chosen_later, crate::proofs::Chosen::chosen_kept))]
+fn member_call_tree(
+    state: &mut State,
+    node: Node,
+    place: Place,
+    chosen: &Chosen,
+    parts: TreeIdList,
+) -> Result<TreeId, Stop>
+    requires node { IsNodeHeld state.old node }
+    requires chosen { IsChosen state.old chosen.now }
+    requires parts { AreTreesHeld state.old parts }
+    ensures { GrowsTree state.old state.new result (definition.member_call_tree (node_tree state.old node) place (chosen_of state.old chosen.now) (trees_held state.old parts)) }
+{
+    let operand = result_operand(state, chosen.result)?;
+    let mut node = node;
+    node.place = place;
+    node.target = Some(chosen.target);
+    node.call = Some(chosen.number);
+    given_over(state, node, operand, parts)
+}
+
+// Once what is called is known as a tree.
+#[tactic(auto, using(cxx_expr::proofs::Kept::later_trans, cxx_expr::proofs::NodeKept::node_later, cxx_expr::proofs::NodeKept::node_kept, crate::proofs::Chosen::chosen_later, crate::proofs::Chosen::chosen_kept), unfolding(cxx_expr::specs::Calls::member_converted))]
+fn member_converted<Q: Questions>(
+    alloc: Global,
+    questions: &Q,
+    state: &mut State,
+    node: Node,
+    place: Place,
+    callee: TreeId,
+    arguments: &[TreeId],
+    chosen: &Chosen,
+) -> Result<TreeId, Stop>
+    requires ready { Q.is_ready questions.now }
+    requires node { IsNodeHeld state.old node }
+    requires callee { callee.0 < length (trees state.old) }
+    requires arguments { AreTreesHeld state.old arguments.now }
+    requires chosen { IsChosen state.old chosen.now }
+    ensures { IsAnswered tree IsTreeKnown state.old state.new result (definition.member_converted (Q.asks questions.now) (node_tree state.old node) place (tree state.old callee) (trees_held state.old arguments.now) (chosen_of state.old chosen.now) (meaning state.old)) }
+{
+    let before = listed_one(alloc, callee)?;
+    let parts = convert_each(
+        alloc,
+        questions,
+        state,
+        place,
+        chosen.parameters.as_slice(),
+        before,
+        arguments,
+    )?;
+    member_call_tree(state, node, place, chosen, parts)
+}
+
+// Once the function is noted.
+#[tactic(auto, using(cxx_expr::proofs::Kept::later_trans, cxx_expr::proofs::NodeKept::node_later, cxx_expr::proofs::NodeKept::node_kept, cxx_expr::proofs::Kept::trees_later, cxx_expr::proofs::Kept::trees_kept, crate::proofs::Chosen::chosen_later, crate::proofs::Chosen::chosen_kept))]
+fn member_meant<Q: Questions>(
+    alloc: Global,
+    questions: &Q,
+    state: &mut State,
+    node: Node,
+    callee: Node,
+    arguments: &[TreeId],
+    chosen: &Chosen,
+) -> Result<TreeId, Stop>
+    requires ready { Q.is_ready questions.now }
+    requires node { IsNodeHeld state.old node }
+    requires callee { IsNodeHeld state.old callee }
+    requires arguments { AreTreesHeld state.old arguments.now }
+    requires chosen { IsChosen state.old chosen.now }
+    ensures { IsAnswered tree IsTreeKnown state.old state.new result (definition.member_meant (Q.asks questions.now) (node_tree state.old node) (node_tree state.old callee) (trees_held state.old arguments.now) (chosen_of state.old chosen.now) (meaning state.old)) }
+{
+    let place = place_in(&callee);
+    let callee = callee_as(state, callee, chosen)?;
+    member_converted(
+        alloc, questions, state, node, place, callee, arguments, chosen,
+    )
+}
+
+// What the call is once it is known which function it means.
+#[tactic(auto, using(cxx_expr::proofs::Kept::later_trans, cxx_expr::proofs::NodeKept::node_later, cxx_expr::proofs::NodeKept::node_kept, cxx_expr::proofs::Kept::trees_later, cxx_expr::proofs::Kept::trees_kept, crate::proofs::Chosen::chosen_later, crate::proofs::Chosen::chosen_kept), unfolding(cxx_expr::specs::Calls::member_chosen))]
+fn member_chosen<Q: Questions>(
+    alloc: Global,
+    questions: &Q,
+    state: &mut State,
+    node: Node,
+    callee: Node,
+    arguments: &[TreeId],
+    chosen: Chosen,
+) -> Result<TreeId, Stop>
+    requires ready { Q.is_ready questions.now }
+    requires node { IsNodeHeld state.old node }
+    requires callee { IsNodeHeld state.old callee }
+    requires arguments { AreTreesHeld state.old arguments.now }
+    requires chosen { IsChosen state.old chosen }
+    ensures { IsAnswered tree IsTreeKnown state.old state.new result (definition.member_chosen (Q.asks questions.now) (node_tree state.old node) (node_tree state.old callee) (trees_held state.old arguments.now) (chosen_of state.old chosen) (meaning state.old)) }
+{
+    questions.bound(state, place_in(&callee), chosen.target)?;
+    member_meant(alloc, questions, state, node, callee, arguments, &chosen)
+}
+
+#[tactic(auto, using(cxx_expr::proofs::Kept::later_trans, cxx_expr::proofs::NodeKept::node_later, cxx_expr::proofs::NodeKept::node_kept, cxx_expr::proofs::Kept::trees_later, cxx_expr::proofs::Kept::trees_kept), unfolding(cxx_expr::specs::Calls::member_function_call))]
+fn member_function_call<Q: Questions>(
+    alloc: Global,
+    questions: &Q,
+    state: &mut State,
+    node: Node,
+    callee: Node,
+    of: TypeId,
+    arguments: &[TreeId],
+    functions: &[FactId],
+) -> Result<TreeId, Stop>
+    requires ready { Q.is_ready questions.now }
+    requires node { IsNodeHeld state.old node }
+    requires callee { IsNodeHeld state.old callee }
+    requires of { of.0 < length (state.old).types }
+    requires arguments { AreTreesHeld state.old arguments.now }
+    requires functions { AreFactsKnown state.old functions.now }
+    ensures { IsAnswered tree IsTreeKnown state.old state.new result (definition.member_function_call (Q.asks questions.now) (node_tree state.old node) (node_tree state.old callee) (type_of state.old of) (trees_held state.old arguments.now) (numbered state.old functions.now) (meaning state.old)) }
+{
+    let chosen = member_question(alloc, questions, state, &callee, of, functions, arguments)?;
+    member_chosen(alloc, questions, state, node, callee, arguments, chosen)
+}
+
+// The members with the name that is called.
+#[tactic(auto, using(cxx_expr::proofs::Kept::later_refl), unfolding(cxx_expr::specs::Calls::member_among))]
+fn member_among<Q: Questions>(
+    alloc: Global,
+    questions: &Q,
+    state: &mut State,
+    node: Node,
+    callee: Node,
+    of: TypeId,
+    arguments: &[TreeId],
+    all: &[FactId],
+) -> Result<TreeId, Stop>
+    requires ready { Q.is_ready questions.now }
+    requires node { IsNodeHeld state.old node }
+    requires callee { IsNodeHeld state.old callee }
+    requires of { of.0 < length (state.old).types }
+    requires arguments { AreTreesHeld state.old arguments.now }
+    requires all { AreFactsKnown state.old all.now }
+    ensures { IsAnswered tree IsTreeKnown state.old state.new result (definition.member_among (Q.asks questions.now) (node_tree state.old node) (node_tree state.old callee) (type_of state.old of) (trees_held state.old arguments.now) (numbered state.old all.now) (meaning state.old)) }
+{
+    let values = values_among(alloc, state, all)?;
+    member_function_call(
+        alloc,
+        questions,
+        state,
+        node,
+        callee,
+        of,
+        arguments,
+        values.as_slice(),
+    )
+}
+
+#[tactic(auto, using(cxx_expr::proofs::Kept::later_trans, cxx_expr::proofs::NodeKept::node_later, cxx_expr::proofs::NodeKept::node_kept, cxx_expr::proofs::Kept::trees_later, cxx_expr::proofs::Kept::trees_kept, cxx_expr::proofs::Kept::type_later, cxx_expr::proofs::Kept::type_kept), unfolding(cxx_expr::specs::Calls::member_in))]
+fn member_in<Q: Questions>(
+    alloc: Global,
+    questions: &Q,
+    state: &mut State,
+    node: Node,
+    callee: Node,
+    of: TypeId,
+    arguments: &[TreeId],
+    class: ClassId,
+) -> Result<TreeId, Stop>
+    requires ready { Q.is_ready questions.now }
+    requires node { IsNodeHeld state.old node }
+    requires callee { IsNodeHeld state.old callee }
+    requires of { of.0 < length (state.old).types }
+    requires arguments { AreTreesHeld state.old arguments.now }
+    ensures { IsAnswered tree IsTreeKnown state.old state.new result (definition.member_in (Q.asks questions.now) (node_tree state.old node) (node_tree state.old callee) (type_of state.old of) (trees_held state.old arguments.now) class.0 (meaning state.old)) }
+{
+    let all = declared_member(alloc, questions, state, &callee, class)?;
+    member_among(
+        alloc,
+        questions,
+        state,
+        node,
+        callee,
+        of,
+        arguments,
+        all.as_slice(),
+    )
+}
+
+// The class of the object is that of the type of what is called.
+fn class_called(state: &State, of: TypeId) -> Option<ClassId>
+    requires { of.0 < length (state.now).types }
+    ensures { class_of_option result ≡ class_of_object_by (object_operand (type_of state.now of)) }
+{
+    let object = Operand {
+        of,
+        lvalue: true,
+        constant: ConstantKind::No,
+    };
+    class_of_object(state, object)
+}
+
+#[tactic(auto, using(cxx_expr::proofs::Kept::later_refl))]
+fn member_of<Q: Questions>(
+    alloc: Global,
+    questions: &Q,
+    state: &mut State,
+    node: Node,
+    callee: Node,
+    of: TypeId,
+    arguments: &[TreeId],
+) -> Result<TreeId, Stop>
+    requires ready { Q.is_ready questions.now }
+    requires node { IsNodeHeld state.old node }
+    requires callee { IsNodeHeld state.old callee }
+    requires of { of.0 < length (state.old).types }
+    requires arguments { AreTreesHeld state.old arguments.now }
+    ensures { IsAnswered tree IsTreeKnown state.old state.new result (definition.member_typed (Q.asks questions.now) (node_tree state.old node) (node_tree state.old callee) (trees_held state.old arguments.now) (Some (type_of state.old of)) (meaning state.old)) }
+{
+    match class_called(state, of) {
+        None => Err(Stop::Fault(misshapen(alloc, node.start)?)),
+        Some(class) => member_in(alloc, questions, state, node, callee, of, arguments, class),
+    }
+}
+
+// The same of what is called with its type, where it has one.
+#[tactic(auto, using(cxx_expr::proofs::Kept::later_refl))]
+fn member_typed<Q: Questions>(
+    alloc: Global,
+    questions: &Q,
+    state: &mut State,
+    node: Node,
+    callee: Node,
+    arguments: &[TreeId],
+) -> Result<TreeId, Stop>
+    requires ready { Q.is_ready questions.now }
+    requires node { IsNodeHeld state.old node }
+    requires callee { IsNodeHeld state.old callee }
+    requires arguments { AreTreesHeld state.old arguments.now }
+    ensures { IsAnswered tree IsTreeKnown state.old state.new result (definition.member_typed (Q.asks questions.now) (node_tree state.old node) (node_tree state.old callee) (trees_held state.old arguments.now) (type_of_option (state.old).types callee.of) (meaning state.old)) }
+{
+    match callee.of {
+        None => Err(Stop::Fault(misshapen(alloc, node.start)?)),
+        Some(of) => member_of(alloc, questions, state, node, callee, of, arguments),
+    }
+}
+
+// A call of a function of the class of an object.
+#[tactic(auto, using(crate::proofs::Called::member_called, cxx_expr::proofs::Kept::later_refl))]
+fn member_call<Q: Questions>(
+    alloc: Global,
+    questions: &Q,
+    state: &mut State,
+    node: Node,
+    callee: TreeId,
+    arguments: &[TreeId],
+) -> Result<TreeId, Stop>
+    requires ready { Q.is_ready questions.now }
+    requires node { IsNodeHeld state.old node }
+    requires callee { callee.0 < length (trees state.old) }
+    requires arguments { AreTreesHeld state.old arguments.now }
+    ensures { IsAnswered tree IsTreeKnown state.old state.new result (definition.member_call (Q.asks questions.now) (node_tree state.old node) (tree state.old callee) (trees_held state.old arguments.now) (meaning state.old)) }
+{
+    let callee = node_of(alloc, state, callee)?;
+    member_typed(alloc, questions, state, node, callee, arguments)
+}
+
 // ---- both
 
 fn split_first(
@@ -655,7 +1053,11 @@ fn expression_call<Q: Questions>(
     match parts {
         None => Err(Stop::Fault(misshapen(alloc, node.start)?)),
         Some((callee, arguments)) => {
-            through(alloc, questions, state, node, callee, arguments.as_slice())
+            if calls_member(state, callee) {
+                member_call(alloc, questions, state, node, callee, arguments.as_slice())
+            } else {
+                through(alloc, questions, state, node, callee, arguments.as_slice())
+            }
         }
     }
 }

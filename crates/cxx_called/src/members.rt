@@ -23,16 +23,16 @@ use crate::names::{
     Meant, is_nonstatic, means_enumerator, means_object, no_path, no_value, place_in,
 };
 use cxx_builtin::BuiltIn;
-use cxx_expr::Questions;
 use cxx_expr::converting::convert_each;
 use cxx_expr::faults::not_built_at;
 use cxx_expr::nodes::{given_over, only_child};
 use cxx_expr::operands::operand_of;
 use cxx_expr::operators::{listed_one, meaning_of, misshapen, no_fit, operands_one};
 use cxx_expr::production::NAME;
+use cxx_expr::{Questions, class_of_scope, is_function_at};
 use cxx_model::{
-    ClassId, ConstantKind, Cv, Entity, FactId, FactList, Listed, MemberKind, Node, Operand, Stop,
-    TreeId, TreeIdList, TypeId, TypeNode, punct,
+    ClassId, ConstantKind, Cv, Entity, FactId, FactList, Listed, MemberKind, Node, Operand,
+    ScopeId, Stop, TreeId, TreeIdList, TypeId, TypeNode, punct,
 };
 use cxx_standard::{TypeKind, cv_of, kind_of};
 use cxx_tree::State;
@@ -49,7 +49,7 @@ fn class_in(kind: TypeKind) -> Option<ClassId>
     }
 }
 
-fn class_of_object(state: &State, operand: Operand) -> Option<ClassId>
+pub(crate) fn class_of_object(state: &State, operand: Operand) -> Option<ClassId>
     requires { operand.of.0 < length (state.now).types }
     ensures { class_of_option result ≡ definition.class_of_object (operand_at (state.now).types operand) }
 {
@@ -155,19 +155,67 @@ fn means_data(
     Ok(means_object(state, target, of))
 }
 
+// Whether a class is the one that a scope belongs to (9.2).
+fn same_class(one: Option<ClassId>, two: Option<ClassId>) -> bool
+    ensures { result ≡ definition.same_class (class_of_option one) two }
+{
+    match (one, two) {
+        (Some(one), Some(two)) => one.0 == two.0,
+        _ => false,
+    }
+}
+
+fn is_own_scope(state: &State, object: Operand, scope: ScopeId) -> bool
+    requires { object.of.0 < length (state.now).types }
+    ensures { result ≡ definition.is_own_scope (meaning state.now).graph (operand_at (state.now).types object) scope.0 }
+{
+    let own = class_of_object(state, object);
+    same_class(own, class_of_scope(state, scope))
+}
+
+// Whether arguments in brackets follow (5.2.2).
+fn is_called(node: &Node) -> bool
+    ensures { result ≡ definition.is_called (label_at [] node.now) }
+{
+    match node.spelling.as_slice() {
+        [] => false,
+        _ => true,
+    }
+}
+
+// A function of the class, which is meant by what is called.
+#[tactic(auto, using(cxx_expr::proofs::Kept::later_refl))]
+fn selected_function(
+    alloc: Global,
+    state: &State,
+    node: &Node,
+    target: FactId,
+    of: TypeId,
+    is_meant: bool,
+) -> Result<Meant, Stop>
+    requires { of.0 < length (state.now).types }
+    ensures { IsAnswered means_of IsMeant state.now state.now result (definition.selected_function (word_in_label (label_at (state.now).types node.now)) (meaning state.now).graph target.0 (type_of state.now of) is_meant (meaning state.now)) }
+{
+    if is_meant {
+        return Ok(means_object(state, target, of));
+    }
+    Err(Stop::Fault(not_built_at(alloc, place_in(node))?))
+}
+
 #[tactic(auto, using(cxx_expr::proofs::Kept::later_refl))]
 fn selected_first(
     alloc: Global,
     state: &mut State,
     node: &Node,
     object: Operand,
+    scope: ScopeId,
     number: FactId,
     what: Entity,
 ) -> Result<Meant, Stop>
     requires object { object.of.0 < length (state.old).types }
     requires below { IsEntityBelow (length (state.old).types) what }
     requires there { IsOfThere (state.old).graph what }
-    ensures { IsAnswered means_of IsMeant state.old state.new result (definition.selected_first (word_in_label (label_at (state.old).types node.now)) (operand_at (state.old).types object) (meaning state.old).graph (meaning state.old).here.enumeration number.0 (declares_at (state.old).types what) (meaning state.old)) }
+    ensures { IsAnswered means_of IsMeant state.old state.new result (definition.selected_first (word_in_label (label_at (state.old).types node.now)) (definition.is_called (label_at (state.old).types node.now)) (operand_at (state.old).types object) (meaning state.old).graph (meaning state.old).here.enumeration scope.0 number.0 (declares_at (state.old).types what) (meaning state.old)) }
 {
     match what {
         Entity::Object {
@@ -188,6 +236,10 @@ fn selected_first(
             number: list,
             value,
         } => means_enumerator(state, number, list, value),
+        Entity::Function { of, first, .. } => {
+            let is_meant = is_called(node) && is_own_scope(state, object, scope);
+            selected_function(alloc, state, node, first_or(number, first), of, is_meant)
+        }
         _ => Err(Stop::Fault(not_built_at(alloc, place_in(node))?)),
     }
 }
@@ -204,13 +256,14 @@ fn selected_value(
     requires object { object.of.0 < length (state.old).types }
     requires all { AreFactsKnown state.old all.now }
     requires values { AreFactsKnown state.old values.now }
-    ensures { IsAnswered means_of IsMeant state.old state.new result (definition.selected_value (word_in_label (label_at (state.old).types node.now)) (operand_at (state.old).types object) (numbered state.old all.now) (numbered state.old values.now) (meaning state.old)) }
+    ensures { IsAnswered means_of IsMeant state.old state.new result (definition.selected_value (word_in_label (label_at (state.old).types node.now)) (definition.is_called (label_at (state.old).types node.now)) (operand_at (state.old).types object) (numbered state.old all.now) (numbered state.old values.now) (meaning state.old)) }
 {
     match values {
         [] => Err(Stop::Fault(no_value(alloc, state, node, all)?)),
         [one, ..] => {
-            let what = fact_at(state, *one).what;
-            selected_first(alloc, state, node, object, *one, what)
+            let fact = fact_at(state, *one);
+            let (scope, what) = (fact.scope, fact.what);
+            selected_first(alloc, state, node, object, scope, *one, what)
         }
     }
 }
@@ -226,7 +279,7 @@ fn selected_by(
 ) -> Result<Meant, Stop>
     requires object { object.of.0 < length (state.old).types }
     requires all { AreFactsKnown state.old all.now }
-    ensures { IsAnswered means_of IsMeant state.old state.new result (definition.selected_by (word_in_label (label_at (state.old).types node.now)) (operand_at (state.old).types object) (numbered state.old all.now) (meaning state.old)) }
+    ensures { IsAnswered means_of IsMeant state.old state.new result (definition.selected_by (word_in_label (label_at (state.old).types node.now)) (definition.is_called (label_at (state.old).types node.now)) (operand_at (state.old).types object) (numbered state.old all.now) (meaning state.old)) }
 {
     let values = values_among(alloc, state, all)?;
     selected_value(alloc, state, node, object, all, values.as_slice())
@@ -266,8 +319,70 @@ fn selected_tree(
     given_over(state, node, meant.operand, parts)
 }
 
+// A function that is called: its type is that of the object.
+fn function_tree(
+    state: &mut State,
+    node: Node,
+    object: Operand,
+    parts: TreeIdList,
+    meant: Meant,
+) -> Result<TreeId, Stop>
+    requires node { IsNodeHeld state.old node }
+    requires object { object.of.0 < length (state.old).types }
+    requires parts { AreTreesHeld state.old parts }
+    requires meant { IsMeant state.old meant }
+    ensures { GrowsTree state.old state.new result (definition.function_tree (node_tree state.old node) (operand_at (state.old).types object) (trees_held state.old parts) (means_of state.old meant)) }
+{
+    let mut node = node;
+    node.of = Some(object.of);
+    node.target = Some(meant.target);
+    given_over(state, node, meant.operand, parts)
+}
+
+// What a member means is noted.
+#[tactic(auto, using(cxx_expr::proofs::Kept::later_refl, cxx_expr::proofs::Kept::later_trans, cxx_expr::proofs::NodeKept::node_later, cxx_expr::proofs::NodeKept::node_kept, cxx_expr::proofs::Kept::trees_later, cxx_expr::proofs::Kept::trees_kept, crate::proofs::Chosen::means_later, crate::proofs::Chosen::means_kept), unfolding(cxx_expr::specs::Members::selected_noted))]
+fn selected_noted<Q: Questions>(
+    questions: &Q,
+    state: &mut State,
+    node: Node,
+    parts: TreeIdList,
+    meant: Meant,
+) -> Result<TreeId, Stop>
+    requires ready { Q.is_ready questions.now }
+    requires node { IsNodeHeld state.old node }
+    requires parts { AreTreesHeld state.old parts }
+    requires meant { IsMeant state.old meant }
+    ensures { IsAnswered tree IsTreeKnown state.old state.new result (definition.selected_noted (Q.asks questions.now) (node_tree state.old node) (trees_held state.old parts) (means_of state.old meant) (meaning state.old)) }
+{
+    questions.bound(state, place_in(&node), meant.target)?;
+    selected_tree(state, node, parts, meant)
+}
+
+// Of functions the call notes which it means.
+#[tactic(auto, using(cxx_expr::proofs::Kept::later_refl))]
+fn selected_as_meant<Q: Questions>(
+    questions: &Q,
+    state: &mut State,
+    node: Node,
+    object: Operand,
+    parts: TreeIdList,
+    meant: Meant,
+) -> Result<TreeId, Stop>
+    requires ready { Q.is_ready questions.now }
+    requires node { IsNodeHeld state.old node }
+    requires object { object.of.0 < length (state.old).types }
+    requires parts { AreTreesHeld state.old parts }
+    requires meant { IsMeant state.old meant }
+    ensures { IsAnswered tree IsTreeKnown state.old state.new result (definition.selected_as_meant (Q.asks questions.now) (node_tree state.old node) (operand_at (state.old).types object) (trees_held state.old parts) (means_of state.old meant) (meaning state.old)) }
+{
+    if is_function_at(state, meant.target) {
+        return function_tree(state, node, object, parts, meant);
+    }
+    selected_noted(questions, state, node, parts, meant)
+}
+
 // All declarations that the name of a node means as a member of a class.
-fn declared<Q: Questions>(
+pub(crate) fn declared_member<Q: Questions>(
     alloc: Global,
     questions: &Q,
     state: &mut State,
@@ -284,7 +399,7 @@ fn declared<Q: Questions>(
 }
 
 // A name that has these declarations as a member, given the object and the parts of the tree.
-#[tactic(auto, using(cxx_expr::proofs::Kept::later_refl, cxx_expr::proofs::Kept::later_trans, cxx_expr::proofs::NodeKept::node_later, cxx_expr::proofs::NodeKept::node_kept, cxx_expr::proofs::Kept::trees_later, cxx_expr::proofs::Kept::trees_kept, crate::proofs::Chosen::means_later, crate::proofs::Chosen::means_kept))]
+#[tactic(auto, using(cxx_expr::proofs::Kept::later_refl, cxx_expr::proofs::Kept::later_trans, cxx_expr::proofs::NodeKept::node_later, cxx_expr::proofs::NodeKept::node_kept, cxx_expr::proofs::Kept::operand_kept, cxx_expr::proofs::Kept::trees_later, cxx_expr::proofs::Kept::trees_kept))]
 fn selected_among<Q: Questions>(
     alloc: Global,
     questions: &Q,
@@ -302,8 +417,7 @@ fn selected_among<Q: Questions>(
     ensures { IsAnswered tree IsTreeKnown state.old state.new result (definition.selected_among (Q.asks questions.now) (node_tree state.old node) (operand_at (state.old).types object) (trees_held state.old parts) (numbered state.old all.now) (meaning state.old)) }
 {
     let meant = selected_by(alloc, state, &node, object, all)?;
-    questions.bound(state, place_in(&node), meant.target)?;
-    selected_tree(state, node, parts, meant)
+    selected_as_meant(questions, state, node, object, parts, meant)
 }
 
 // The member of a class.
@@ -323,7 +437,7 @@ fn selected_in<Q: Questions>(
     requires parts { AreTreesHeld state.old parts }
     ensures { IsAnswered tree IsTreeKnown state.old state.new result (definition.selected_in (Q.asks questions.now) (node_tree state.old node) (operand_at (state.old).types object) (trees_held state.old parts) class.0 (meaning state.old)) }
 {
-    let all = declared(alloc, questions, state, &node, class)?;
+    let all = declared_member(alloc, questions, state, &node, class)?;
     selected_among(alloc, questions, state, node, object, parts, all.as_slice())
 }
 

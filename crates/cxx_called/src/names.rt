@@ -385,7 +385,8 @@ fn meant_by(alloc: Global, state: &mut State, node: &Node, all: &[FactId]) -> Re
 
 // ---- the tree
 
-fn type_of_class(state: &mut State, class: ClassId) -> Result<TypeId, Stop>
+/// The type of a class.
+pub(crate) fn type_of_class(state: &mut State, class: ClassId) -> Result<TypeId, Stop>
     requires { class.0 < length (state.old).graph.classes }
     ensures { GrowsType state.old state.new result (class_type class.0) }
 {

@@ -1,5 +1,5 @@
 -- The class of a static member, and that it is there.
-use Rattle.std.specs.Prelude.{ℕ, zero, suc, ◌≡◌, ◌<◌, ◌++◌, List, [], ◌∷◌, length, Option, Some, None, option_map, refl}
+use Rattle.std.specs.Prelude.{ℕ, zero, suc, ◌≡◌, ◌<◌, ◌++◌, false, List, [], ◌∷◌, length, Option, Some, None, option_map, refl}
 use Rattle.std.specs.List.{slice_get}
 use Rattle.std.proofs.Common.{ap, sym, subst, ◌∙◌}
 use Rattle.cxx_model.specs.declared.facts.Entity.{Entity}
@@ -14,7 +14,7 @@ use Rattle.cxx_model.specs.Facts.Entities.{scope_kinds}
 use Rattle.cxx_model.specs.Facts.Graph.{EachMayFollow, Graph, InRange, IsClassNumberInRange, IsEntityInRange, IsKindInRange, MayFollow}
 use Rattle.cxx_model.specs.Types.Trees.{CxxType}
 use Rattle.cxx_meaning.specs.Lookups.Member.{class_of_scope}
-use Rattle.cxx_expr.specs.Names.{class_of_fact, static_class}
+use Rattle.cxx_expr.specs.Names.{class_of_fact, is_function_at, is_function_fact, static_class}
 use Rattle.cxx_tree.specs.Held.{Held, meaning}
 
 abbrev IsHolderThere : ℕ → ScopeKind → Type 0
@@ -80,3 +80,13 @@ class_some held n fact at = sym (ap (class_of_fact (meaning held).graph) (seen h
 pub class_none : (held : Held) (n : ℕ) → slice_get held.graph.facts n ≡ None → None ≡ static_class (meaning held).graph n
 unfolding static_class meaning
 class_none held n at = sym (ap (class_of_fact (meaning held).graph) (seen held.types held.graph.facts n ∙ ap (option_map (fact_at held.types)) at))
+
+-- ---- whether it is a function
+
+pub function_some : (held : Held) (n : ℕ) (fact : Fact) → slice_get held.graph.facts n ≡ Some fact → is_function_fact (Some (fact_at held.types fact)) ≡ is_function_at (meaning held).graph n
+unfolding is_function_at meaning
+function_some held n fact at = sym (ap is_function_fact (seen held.types held.graph.facts n ∙ ap (option_map (fact_at held.types)) at))
+
+pub function_none : (held : Held) (n : ℕ) → slice_get held.graph.facts n ≡ None → false ≡ is_function_at (meaning held).graph n
+unfolding is_function_at meaning
+function_none held n at = sym (ap is_function_fact (seen held.types held.graph.facts n ∙ ap (option_map (fact_at held.types)) at))

@@ -11,12 +11,13 @@ use Rattle.cxx_model.specs.Types.Trees.{CxxType}
 use Rattle.cxx_model.specs.Types.Numbers.{type_at, Keeps}
 use Rattle.cxx_meaning.specs.Conversions.Standard.{CxxOperand}
 use Rattle.cxx_reading.specs.Trees.{CxxTree, Label, children_of, each_tree, in_turn, tree_of}
-use Rattle.cxx_tree.specs.Arena.{IsNodeBelow, IsOperandBelow, label_at, operand_of_option, path_of_option, number_of_option}
-use Rattle.cxx_tree.specs.Held.{Held}
+use Rattle.cxx_tree.specs.Arena.{AreTreesBelow, IsNodeBelow, IsOperandBelow, label_at, operand_of_option, path_of_option, number_of_option}
+use Rattle.cxx_tree.specs.Held.{Held, trees}
 use Rattle.cxx_tree.specs.Later.{Later}
+use Rattle.cxx_tree.proofs.Arenas as arena
 use Rattle.cxx_builtin.specs.Built.{list_at}
 use Rattle.cxx_expr.specs.Views.{types_in}
-use Rattle.cxx_expr.specs.Making.{trees_held}
+use Rattle.cxx_expr.specs.Making.{AreTreesHeld, trees_held}
 use Rattle.cxx_expr.specs.Nodes.{IsNodeHeld, node_tree}
 use Rattle.cxx_expr.specs.Operands.{all_three, both, only}
 use Rattle.cxx_expr.proofs.Kept.{trees_kept, trees_later}
@@ -111,3 +112,13 @@ three_long held (a ∷ []) long = absurd (omega (arith, long))
 three_long held (a ∷ b ∷ []) long = absurd (omega (arith, long))
 three_long held (a ∷ b ∷ c ∷ []) long = absurd (omega (arith, long))
 three_long held (a ∷ b ∷ c ∷ d ∷ numbers) long = refl
+
+-- ---- the node of a tree
+
+pub parts_held : (held : Held) (number : TreeId) (numbers : List TreeId) → number.0 < length (trees held) → AreTreesBelow number.0 numbers → AreTreesHeld held numbers
+parts_held held number numbers there below =
+    let few : number.0 ≤ length (trees held) = omega (arith, there) in
+    arena.below_later number.0 (length (trees held)) numbers few below
+
+pub node_held : (held : Held) (number : TreeId) (node : Node) → number.0 < length (trees held) → IsNodeBelow (length held.types) node → AreTreesBelow number.0 node.children → IsNodeHeld held node
+node_held held number node there below children = record { below = below; children = parts_held held number node.children there children }

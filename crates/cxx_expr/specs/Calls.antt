@@ -1,14 +1,17 @@
 -- Calls (5.2.2).
-use Rattle.std.specs.Prelude.{ℕ, zero, suc, ◌+◌, ◌-◌, Bool, true, false, not, ◌&&◌, ◌||◌, nat_eq, nat_lt, if◌then◌else◌, List, [], ◌∷◌, ◌++◌, length, Option, Some, None, Err}
+use Rattle.std.specs.Prelude.{ℕ, zero, suc, ◌+◌, ◌-◌, Bool, true, false, not, ◌&&◌, ◌||◌, nat_eq, nat_lt, if◌then◌else◌, List, [], ◌∷◌, ◌++◌, length, Option, Some, None, Ok, Err}
 use Rattle.cxx_model.specs.declared.fault.FaultText.TheVariants as says
 use Rattle.cxx_model.specs.declared.place.Place.{Place}
 use Rattle.cxx_model.specs.Stops.{Stopped, fault, not_built_at}
+use Rattle.cxx_model.specs.Facts.Declarations.{CxxGraph}
 use Rattle.cxx_model.specs.Types.Trees.{CxxType, function_of}
 use Rattle.cxx_meaning.specs.Conversions.BuiltIn.{operand_kind}
 use Rattle.cxx_meaning.specs.Conversions.Kinds.{CxxKind, pointing}
+use Rattle.cxx_meaning.specs.Conversions.Standard.{CxxOperand}
 use Rattle.cxx_meaning.specs.Lookups.Wanted.{is_function}
 use Rattle.cxx_reading.specs.Choosing.{each_type}
 use Rattle.cxx_reading.specs.Initializers.{operand_of}
+use Rattle.cxx_reading.specs.Plain.{target_or}
 use Rattle.cxx_reading.specs.Reads.{Asks}
 use Rattle.cxx_reading.specs.Seen.{Numbered}
 use Rattle.cxx_reading.specs.State.{CxxState}
@@ -16,8 +19,9 @@ use Rattle.cxx_reading.specs.Trees.{CxxPath, CxxTree, Label, children_of, is_pla
 use Rattle.cxx_expr.specs.declared.production.TheConstants as production
 use Rattle.cxx_expr.specs.Asking.{◌>>=◌, give}
 use Rattle.cxx_expr.specs.Converting.{convert_each}
-use Rattle.cxx_expr.specs.Names.{named, path_in, values_among, word_in}
-use Rattle.cxx_expr.specs.Operands.{is_none, is_of_class, judged_each, result_operand}
+use Rattle.cxx_expr.specs.Members.{class_of_object}
+use Rattle.cxx_expr.specs.Names.{is_function_at, is_none_left, means_object, named, path_in, static_class, values_among, word_in}
+use Rattle.cxx_expr.specs.Operands.{is_none, is_of_class, judged_each, object_operand, result_operand}
 use Rattle.cxx_expr.specs.Operators.{misshapen}
 use Rattle.cxx_expr.specs.Questions.{CxxChosen, CxxQuestion, Questions}
 
@@ -38,8 +42,12 @@ fallbacks q path target index done (suc count) = do
 
 -- ---- a call of a function by its name (13.3.1.1.1)
 
-abbrev pub chosen_tree : CxxTree → CxxChosen → List CxxTree → CxxTree
-chosen_tree tree chosen arguments = tree_of (record tree.label { operand = Some (result_operand chosen.result); target = Some chosen.target; call = Some chosen.number }) arguments
+-- the type of the call of a static member is its class (9.4)
+abbrev pub chosen_tree : CxxTree → CxxChosen → Option CxxType → List CxxTree → CxxTree
+chosen_tree tree chosen class arguments = tree_of (record tree.label { of = class; operand = Some (result_operand chosen.result); target = Some chosen.target; call = Some chosen.number }) arguments
+
+abbrev pub chosen_as : CxxTree → CxxChosen → List CxxTree → Asks CxxState CxxTree
+chosen_as tree chosen arguments state = Ok (chosen_tree tree chosen (static_class state.graph chosen.target) arguments, state)
 
 -- what the call is once it is known which function it means
 unfoldable pub chosen_call : Questions → CxxTree → List CxxTree → CxxChosen → Asks CxxState CxxTree
@@ -47,11 +55,7 @@ chosen_call q tree arguments chosen = do
   noted ← q.bound tree.label.place chosen.target
   given ← convert_each q tree.label.place chosen.parameters [] arguments
   all ← fallbacks q (path_in tree.label) chosen.target (length arguments) given (length chosen.parameters - length arguments)
-  give (chosen_tree tree chosen all)
-
-abbrev pub is_none_left : {A : Type 0} → List A → Bool
-is_none_left [] = true
-is_none_left (x ∷ xs) = false
+  chosen_as tree chosen all
 
 -- 3.4.2: whether the called name stands in no brackets and has no qualifiers
 abbrev pub is_bare : Label → Bool
@@ -63,7 +67,7 @@ bare_word true word = Some word
 bare_word false word = None
 
 abbrev pub question : Questions → Label → List Numbered → List CxxTree → CxxState → CxxQuestion
-question q label functions arguments state = record { place = label.place; word = bare_word (is_bare label) (word_in label).word; functions = functions; operands = judged_each q arguments state }
+question q label functions arguments state = record { place = label.place; word = bare_word (is_bare label) (word_in label).word; functions = functions; object = None; operands = judged_each q arguments state }
 
 unfoldable pub function_call : Questions → CxxTree → List Numbered → List CxxTree → Asks CxxState CxxTree
 function_call q tree functions arguments state = (q.call (question q tree.label functions arguments state) >>= chosen_call q tree arguments) state
@@ -151,6 +155,65 @@ called q tree arguments all state = called_first q tree all arguments (values_am
 unfoldable pub name_call : Questions → CxxTree → List CxxTree → Asks CxxState CxxTree
 name_call q tree arguments = q.name (path_in tree.label) >>= called q tree arguments
 
+-- ---- a call of a member of an object (13.3.1.1.1)
+
+abbrev pub is_selection : ℕ → Bool
+is_selection number = nat_eq number production.MEMBER || nat_eq number production.ARROW
+
+-- whether functions of the class of an object are called
+abbrev pub calls_member : CxxGraph → Label → Bool
+calls_member graph callee = is_selection callee.production && is_function_at graph (target_or callee.target)
+
+-- The object has the type of what is called. Whatever it is, a function of its class may be called for it (13.3.1 p5).
+abbrev pub member_question : Questions → Label → CxxType → List Numbered → List CxxTree → CxxState → CxxQuestion
+member_question q callee of functions arguments state = record { place = (word_in callee).place; word = None; functions = functions; object = Some (object_operand of); operands = judged_each q arguments state }
+
+-- what is called, once it is known which function that is
+abbrev pub callee_meant : CxxTree → ℕ → CxxOperand → CxxTree
+callee_meant callee target operand = record { label = record callee.label { operand = Some operand; target = Some target }; children = callee.children }
+
+abbrev pub callee_as : CxxTree → CxxChosen → CxxState → CxxTree
+callee_as callee chosen state = callee_meant callee chosen.target (means_object state.graph chosen.target chosen.result).operand
+
+-- over what is called and the arguments behind it
+abbrev pub member_call_tree : CxxTree → Place → CxxChosen → List CxxTree → CxxTree
+member_call_tree tree place chosen parts = tree_of (record tree.label { place = place; operand = Some (result_operand chosen.result); target = Some chosen.target; call = Some chosen.number }) parts
+
+unfoldable pub member_converted : Questions → CxxTree → Place → CxxTree → List CxxTree → CxxChosen → Asks CxxState CxxTree
+member_converted q tree place callee arguments chosen = do
+  parts ← convert_each q place chosen.parameters (callee ∷ []) arguments
+  give (member_call_tree tree place chosen parts)
+
+abbrev pub member_meant : Questions → CxxTree → CxxTree → List CxxTree → CxxChosen → Asks CxxState CxxTree
+member_meant q tree callee arguments chosen state = member_converted q tree (word_in callee.label).place (callee_as callee chosen state) arguments chosen state
+
+-- what the call is once it is known which function it means; default arguments of a class are not read yet
+unfoldable pub member_chosen : Questions → CxxTree → CxxTree → List CxxTree → CxxChosen → Asks CxxState CxxTree
+member_chosen q tree callee arguments chosen = do
+  noted ← q.bound (word_in callee.label).place chosen.target
+  member_meant q tree callee arguments chosen
+
+unfoldable pub member_function_call : Questions → CxxTree → CxxTree → CxxType → List CxxTree → List Numbered → Asks CxxState CxxTree
+member_function_call q tree callee of arguments functions state = (q.call (member_question q callee.label of functions arguments state) >>= member_chosen q tree callee arguments) state
+
+-- the members with the name that is called
+unfoldable pub member_among : Questions → CxxTree → CxxTree → CxxType → List CxxTree → List Numbered → Asks CxxState CxxTree
+member_among q tree callee of arguments all state = member_function_call q tree callee of arguments (values_among state.graph all) state
+
+unfoldable pub member_in : Questions → CxxTree → CxxTree → CxxType → List CxxTree → ℕ → Asks CxxState CxxTree
+member_in q tree callee of arguments class = q.member class (path_in callee.label) >>= member_among q tree callee of arguments
+
+abbrev pub member_of : Questions → CxxTree → CxxTree → CxxType → List CxxTree → Option ℕ → Asks CxxState CxxTree
+member_of q tree callee of arguments None = misshapen tree
+member_of q tree callee of arguments (Some class) = member_in q tree callee of arguments class
+
+abbrev pub member_typed : Questions → CxxTree → CxxTree → List CxxTree → Option CxxType → Asks CxxState CxxTree
+member_typed q tree callee arguments None = misshapen tree
+member_typed q tree callee arguments (Some of) = member_of q tree callee of arguments (class_of_object (object_operand of))
+
+unfoldable pub member_call : Questions → CxxTree → CxxTree → List CxxTree → Asks CxxState CxxTree
+member_call q tree callee arguments = member_typed q tree callee arguments callee.label.of
+
 -- ---- both
 
 abbrev pub split_first : List CxxTree → Option (CxxTree × List CxxTree)
@@ -159,7 +222,7 @@ split_first (callee ∷ arguments) = Some (callee, arguments)
 
 abbrev pub expression_call : Questions → CxxTree → Option (CxxTree × List CxxTree) → Asks CxxState CxxTree
 expression_call q tree None state = misshapen tree state
-expression_call q tree (Some parts) state = through q tree parts.0 parts.1 state
+expression_call q tree (Some parts) state = if calls_member state.graph parts.0.label then member_call q tree parts.0 parts.1 state else through q tree parts.0 parts.1 state
 
 unfoldable pub call : Questions → CxxTree → Asks CxxState CxxTree
 call q tree state = if is_none tree.label.path then expression_call q tree (split_first (children_of tree)) state else name_call q tree (children_of tree) state

@@ -1,9 +1,10 @@
 -- Members of objects, and of what is pointed to (5.2.5).
-use Rattle.std.specs.Prelude.{ℕ, Bool, true, false, nat_eq, if◌then◌else◌, List, [], ◌∷◌, Option, Some, None, Ok, Err}
+use Rattle.std.specs.Prelude.{ℕ, Bool, true, false, not, ◌&&◌, nat_eq, if◌then◌else◌, List, [], ◌∷◌, Option, Some, None, Ok, Err}
 use Rattle.cxx_model.specs.declared.fault.FaultText.TheVariants as says
 use Rattle.cxx_model.specs.declared.facts.MemberKind.{MemberKind}
 use Rattle.cxx_model.specs.declared.punct.TheConstants as punct
 use Rattle.cxx_model.specs.declared.sequence.ConstantKind.TheVariants as constant
+use Rattle.cxx_model.specs.declared.types.ClassId.{ClassId}
 use Rattle.cxx_model.specs.declared.types.Cv.{Cv}
 use Rattle.cxx_model.specs.Facts.Declarations as facts
 use Rattle.cxx_model.specs.Facts.Declarations.{CxxGraph, Declares}
@@ -13,15 +14,16 @@ use Rattle.cxx_model.specs.Types.Trees.{CxxType, reference_to, with_cv}
 use Rattle.cxx_meaning.specs.Conversions.BuiltIn.{CxxBuiltIn, built_in_result}
 use Rattle.cxx_meaning.specs.Conversions.Kinds.{CxxKind, of_class, cv_of, kind_of}
 use Rattle.cxx_meaning.specs.Conversions.Standard.{CxxOperand}
+use Rattle.cxx_meaning.specs.Lookups.Member.{class_of_scope}
 use Rattle.cxx_reading.specs.Initializers.{operand_of}
 use Rattle.cxx_reading.specs.Reads.{Asks}
 use Rattle.cxx_reading.specs.Seen.{Numbered}
 use Rattle.cxx_reading.specs.State.{CxxState}
-use Rattle.cxx_reading.specs.Trees.{CxxPathPart, CxxTree, children_of, tree_of}
+use Rattle.cxx_reading.specs.Trees.{CxxPathPart, CxxTree, Label, children_of, tree_of}
 use Rattle.cxx_expr.specs.declared.production.TheConstants as production
 use Rattle.cxx_expr.specs.Asking.{◌>>=◌, fault_at, give, stop}
 use Rattle.cxx_expr.specs.Converting.{convert_each}
-use Rattle.cxx_expr.specs.Names.{Means, is_nonstatic, means_enumerator, means_object, no_value_at, path_in, values_among, word_in}
+use Rattle.cxx_expr.specs.Names.{Means, is_function_at, is_none_left, is_nonstatic, means_enumerator, means_object, no_value_at, path_in, values_among, word_in}
 use Rattle.cxx_expr.specs.Operands.{built_operand, is_of_class, object_operand, only}
 use Rattle.cxx_expr.specs.Operators.{meaning_at, misshapen, with_meaning}
 use Rattle.cxx_expr.specs.Questions.{Questions}
@@ -59,19 +61,32 @@ abbrev pub means_data : CxxGraph → CxxOperand → ℕ → MemberKind → Bool 
 means_data graph object target kind is_mutable of =
     if is_nonstatic kind then means_lent object target is_mutable of else means_object graph target of
 
--- a member function is not read yet
-abbrev pub selected_first : CxxPathPart → CxxOperand → CxxGraph → Option ℕ → ℕ → Declares → Asks CxxState Means
-selected_first part object graph list number (facts.object of kind is_mutable value first) = give (means_data graph object (first_or number first) kind is_mutable of)
-selected_first part object graph list number (facts.enumerator n value) = give (means_enumerator list number n value)
-selected_first part object graph list number _ = stop (not_built_at part.place)
+-- 9.2: whether a class is the one that a scope belongs to
+abbrev pub same_class : Option ℕ → Option ClassId → Bool
+same_class (Some n) (Some class) = nat_eq n class.0
+same_class _ _ = false
 
-abbrev pub selected_value : CxxPathPart → CxxOperand → List Numbered → List Numbered → Asks CxxState Means
-selected_value part object all [] state = Err (no_value_at part all)
-selected_value part object all (one ∷ others) state = selected_first part object state.graph state.here.enumeration one.number one.fact.what state
+abbrev pub is_own_scope : CxxGraph → CxxOperand → ℕ → Bool
+is_own_scope graph object scope = same_class (class_of_object object) (class_of_scope graph.facts (record { 0 = scope }))
 
--- what a name means that has these declarations as a member of an object's class
-unfoldable pub selected_by : CxxPathPart → CxxOperand → List Numbered → Asks CxxState Means
-selected_by part object all state = selected_value part object all (values_among state.graph all) state
+-- 9.3: A function of the class is meant by what is called. One that is not called, and one of a base, are not read yet.
+abbrev pub selected_function : CxxPathPart → CxxGraph → ℕ → CxxType → Bool → Asks CxxState Means
+selected_function part graph target of true = give (means_object graph target of)
+selected_function part graph target of false = stop (not_built_at part.place)
+
+abbrev pub selected_first : CxxPathPart → Bool → CxxOperand → CxxGraph → Option ℕ → ℕ → ℕ → Declares → Asks CxxState Means
+selected_first part called object graph list scope number (facts.object of kind is_mutable value first) = give (means_data graph object (first_or number first) kind is_mutable of)
+selected_first part called object graph list scope number (facts.enumerator n value) = give (means_enumerator list number n value)
+selected_first part called object graph list scope number (facts.function of kind flags defaults first) = selected_function part graph (first_or number first) of (called && is_own_scope graph object scope)
+selected_first part called object graph list scope number _ = stop (not_built_at part.place)
+
+abbrev pub selected_value : CxxPathPart → Bool → CxxOperand → List Numbered → List Numbered → Asks CxxState Means
+selected_value part called object all [] state = Err (no_value_at part all)
+selected_value part called object all (one ∷ others) state = selected_first part called object state.graph state.here.enumeration one.fact.scope one.number one.fact.what state
+
+-- what a name means that has these declarations as a member of an object's class, given whether it is called
+unfoldable pub selected_by : CxxPathPart → Bool → CxxOperand → List Numbered → Asks CxxState Means
+selected_by part called object all state = selected_value part called object all (values_among state.graph all) state
 
 -- ---- the tree
 
@@ -83,12 +98,30 @@ selected_as false tree parts means = tree_of (record tree.label { operand = Some
 abbrev pub selected_tree : CxxTree → List CxxTree → Means → CxxTree
 selected_tree tree parts means = selected_as means.is_enumerator tree parts means
 
--- a name that has these declarations as a member, given the object and the parts of the tree: what it means is noted
-abbrev pub selected_among : Questions → CxxTree → CxxOperand → List CxxTree → List Numbered → Asks CxxState CxxTree
-selected_among q tree object parts all = do
-  means ← selected_by (word_in tree.label) object all
+-- a function that is called: its type is that of the object, whose class is searched once more when it is chosen
+abbrev pub function_tree : CxxTree → CxxOperand → List CxxTree → Means → CxxTree
+function_tree tree object parts means = tree_of (record tree.label { of = Some object.of; operand = Some means.operand; target = Some means.target }) parts
+
+-- what a member means is noted
+unfoldable pub selected_noted : Questions → CxxTree → List CxxTree → Means → Asks CxxState CxxTree
+selected_noted q tree parts means = do
   noted ← q.bound (word_in tree.label).place means.target
   give (selected_tree tree parts means)
+
+-- of functions the call notes which it means
+abbrev pub selected_as_meant : Questions → CxxTree → CxxOperand → List CxxTree → Means → Asks CxxState CxxTree
+selected_as_meant q tree object parts means state =
+    if is_function_at state.graph means.target then Ok (function_tree tree object parts means, state) else selected_noted q tree parts means state
+
+-- 5.2.2: the spelling tells whether arguments in brackets follow
+abbrev pub is_called : Label → Bool
+is_called label = not (is_none_left label.spelling)
+
+-- a name that has these declarations as a member, given the object and the parts of the tree
+abbrev pub selected_among : Questions → CxxTree → CxxOperand → List CxxTree → List Numbered → Asks CxxState CxxTree
+selected_among q tree object parts all = do
+  means ← selected_by (word_in tree.label) (is_called tree.label) object all
+  selected_as_meant q tree object parts means
 
 -- the member of a class
 unfoldable pub selected_in : Questions → CxxTree → CxxOperand → List CxxTree → ℕ → Asks CxxState CxxTree

@@ -128,6 +128,18 @@ abbrev pub no_value_at : CxxPathPart → List Numbered → Stopped
 no_value_at part [] = undeclared_at part.place part.word
 no_value_at part (one ∷ others) = wrong_kind_at part one.fact.place
 
+-- whether a declaration is that of a function
+abbrev pub declares_function : Declares → Bool
+declares_function (facts.function of kind flags defaults first) = true
+declares_function _ = false
+
+abbrev pub is_function_fact : Option CxxFact → Bool
+is_function_fact None = false
+is_function_fact (Some fact) = declares_function fact.what
+
+unfoldable pub is_function_at : CxxGraph → ℕ → Bool
+is_function_at graph target = is_function_fact (slice_get graph.facts target)
+
 abbrev pub means_function : Place → CxxGraph → ℕ → CxxType → List Numbered → Asks CxxState Means
 means_function place graph target own all state = if are_one_function target all then Ok (means_object graph target own, state) else Err (several_at place)
 
@@ -163,6 +175,10 @@ abbrev pub path_or : Option CxxPath → CxxPath
 path_or None = no_path
 path_or (Some path) = path
 
+abbrev pub is_none_left : {A : Type 0} → List A → Bool
+is_none_left [] = true
+is_none_left (x ∷ xs) = false
+
 -- the name that is written
 abbrev pub path_in : Label → CxxPath
 path_in label = path_or label.path
@@ -178,14 +194,15 @@ last_part path = slice_get path.parts (length path.parts - 1)
 abbrev pub word_in : Label → CxxPathPart
 word_in label = part_or (last_part (path_in label))
 
--- 9.4: whether a declaration is that of a static data member
+-- 9.4: whether a declaration is that of a static member
 abbrev pub is_static : MemberKind → Bool
 is_static member.Static = true
 is_static _ = false
 
-abbrev pub is_static_object : Declares → Bool
-is_static_object (facts.object of kind is_mutable value first) = is_static kind
-is_static_object _ = false
+abbrev pub is_static_member : Declares → Bool
+is_static_member (facts.object of kind is_mutable value first) = is_static kind
+is_static_member (facts.function of kind flags defaults first) = is_static kind
+is_static_member _ = false
 
 abbrev pub class_or_none : Option ClassId → Option CxxType
 class_or_none None = None
@@ -197,9 +214,9 @@ class_if graph scope false = None
 
 abbrev pub class_of_fact : CxxGraph → Option CxxFact → Option CxxType
 class_of_fact graph None = None
-class_of_fact graph (Some fact) = class_if graph fact.scope (is_static_object fact.what)
+class_of_fact graph (Some fact) = class_if graph fact.scope (is_static_member fact.what)
 
--- 9.4: the class that declares what is named, where that is a static data member
+-- 9.4: the class that declares what is named, where that is a static member
 unfoldable pub static_class : CxxGraph → ℕ → Option CxxType
 static_class graph target = class_of_fact graph (slice_get graph.facts target)
 

@@ -9,13 +9,14 @@ use Rattle.cxx_reading.specs.Seen.{Numbered}
 use Rattle.cxx_reading.specs.State.{CxxState}
 use Rattle.cxx_reading.specs.Trees.{CxxPath, CxxTree}
 
--- 13.3: The question of a call: where it stands, the name that is called, the functions that the name means, and the
--- operands of the arguments. Where the name stands in brackets or has qualifiers it is not said, so that the types of the
--- arguments find no functions besides (3.4.2).
+-- 13.3: The question of a call: where it stands, the name that is called, the functions that the name means, the object of a
+-- member (13.3.1.1.1), as an lvalue, and the operands of the arguments. Where the name stands in brackets, has qualifiers or
+-- is that of a member of an object, it is not said, so that the types of the arguments find no functions besides (3.4.2).
 pub record CxxQuestion : Type 0 where
   pub place : Place
   pub word : Option (List ℕ)
   pub functions : List Numbered
+  pub object : Option CxxOperand
   pub operands : List CxxOperand
 
 -- 13.3: the function that a call means, by its first declaration, with its type, and the number of the record of the call

@@ -55,7 +55,11 @@ AreOperandsBelow count (operand ∷ others) = (operand.of.0 < count) × AreOpera
 -- ---- questions
 
 abbrev pub question_of : Held → Place → Bool → List ℕ → List FactId → List Operand → CxxQuestion
-question_of held place is_bare word functions operands = record { place = place; word = bare_word is_bare word; functions = numbered held functions; operands = operands_in held.types operands }
+question_of held place is_bare word functions operands = record { place = place; word = bare_word is_bare word; functions = numbered held functions; object = None; operands = operands_in held.types operands }
+
+-- of a call of a member of an object
+abbrev pub member_question_of : Held → Place → Operand → List FactId → List Operand → CxxQuestion
+member_question_of held place object functions operands = record { place = place; word = None; functions = numbered held functions; object = Some (operand_at held.types object); operands = operands_in held.types operands }
 
 abbrev pub chosen_of : Held → Chosen → CxxChosen
 chosen_of held chosen = record { target = chosen.target.0; parameters = types_in held.types chosen.parameters; result = type_at held.types chosen.result.0; ellipsis = chosen.ellipsis; number = chosen.number }

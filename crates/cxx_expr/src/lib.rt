@@ -6,6 +6,7 @@ mod bases;
 mod casts;
 pub mod conditional;
 pub mod converting;
+mod copies;
 pub mod faults;
 mod literals;
 pub mod nodes;
@@ -18,8 +19,9 @@ mod statics;
 
 pub use casts::{cast, functional};
 pub use converting::convert;
+pub use copies::{node_of, node_over};
 pub use literals::literal;
 pub use operators::{binary, prefix, step, subscript};
 pub use questions::{Chosen, Questions};
 pub use sizes::size;
-pub use statics::static_class;
+pub use statics::{class_of_scope, is_function_at, static_class};

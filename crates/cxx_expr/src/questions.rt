@@ -13,7 +13,7 @@ ghost use Rattle.cxx_meaning.specs.Conversions.Casts.{cast as cast_of};
 ghost use Rattle.cxx_expr.specs.Built.{MakesBuilt};
 ghost use Rattle.cxx_expr.specs.Casting.{MakesCast};
 ghost use Rattle.cxx_expr.specs.Questions as definition;
-ghost use Rattle.cxx_expr.specs.Views.{AreFactsKnown, AreOperandsBelow, IsChosen, chosen_of, numbered, operands_in, question_of};
+ghost use Rattle.cxx_expr.specs.Views.{AreFactsKnown, AreOperandsBelow, IsChosen, chosen_of, member_question_of, numbered, operands_in, question_of};
 
 use cxx_builtin::{BuiltIn, ResultFault};
 use cxx_casts::CastSteps;
@@ -72,6 +72,21 @@ pub trait Questions {
         requires functions { AreFactsKnown state.old functions.now }
         requires operands { AreOperandsBelow (length (state.old).types) operands }
         ensures { IsAnswered chosen_of IsChosen state.old state.new result ((asks self.now).call (question_of state.old place is_bare word.now functions.now operands) (meaning state.old)) };
+
+    /// Which function a call of a member means, given its object as an lvalue (13.3.1.1.1).
+    fn call_member(
+        &self,
+        state: &mut State,
+        place: Place,
+        object: Operand,
+        functions: &[FactId],
+        operands: OperandList,
+    ) -> Result<Chosen, Stop>
+        requires ready { is_ready self.now }
+        requires object { object.of.0 < length (state.old).types }
+        requires functions { AreFactsKnown state.old functions.now }
+        requires operands { AreOperandsBelow (length (state.old).types) operands }
+        ensures { IsAnswered chosen_of IsChosen state.old state.new result ((asks self.now).call (member_question_of state.old place object functions.now operands) (meaning state.old)) };
 
     /// The default argument of a parameter, by the name that is called and the first declaration of its function, as it is
     /// converted (8.3.6).

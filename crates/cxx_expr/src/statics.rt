@@ -1,4 +1,4 @@
-//! The classes of static data members (9.4).
+//! Members that are static, and functions (9.4, 9.3).
 
 ghost use Rattle.std.specs.Prelude.{◌≡◌, List, Some};
 ghost use Rattle.std.specs.List.{slice_get};
@@ -23,18 +23,19 @@ fn is_static(member: MemberKind) -> bool
     }
 }
 
-fn is_static_object(what: Entity) -> bool
-    ensures { (types : List CxxType) → result ≡ definition.is_static_object (declares_at types what) }
+fn is_static_member(what: Entity) -> bool
+    ensures { (types : List CxxType) → result ≡ definition.is_static_member (declares_at types what) }
 {
     match what {
         Entity::Object { member, .. } => is_static(member),
+        Entity::Function { member, .. } => is_static(member),
         _ => false,
     }
 }
 
-// The class to which a scope belongs (9.2).
+/// The class to which a scope belongs (9.2).
 #[tactic(auto, unfolding(cxx_tree::specs::Held::meaning))]
-fn class_of_scope(state: &State, scope: ScopeId) -> Option<ClassId>
+pub fn class_of_scope(state: &State, scope: ScopeId) -> Option<ClassId>
     ensures is { result ≡ class_of_one (meaning state.now).graph.facts scope }
     ensures there { IsClassNumberInRange (state.now).graph result }
 {
@@ -47,7 +48,7 @@ fn class_of_fact(state: &State, fact: &Fact) -> Option<ClassId>
     ensures is { definition.class_or_none result ≡ definition.class_of_fact (meaning state.now).graph (Some (fact_at (state.now).types fact.now)) }
     ensures there { IsClassNumberInRange (state.now).graph result }
 {
-    if is_static_object(fact.what) {
+    if is_static_member(fact.what) {
         class_of_scope(state, fact.scope)
     } else {
         None
@@ -60,7 +61,7 @@ fn fact_found(graph: &Graph, number: FactId) -> Option<&Fact>
     graph.facts().get(number.0 as usize)
 }
 
-/// The class that declares what a number names, where that is a static data member (9.4).
+/// The class that declares what a number names, where that is a static member (9.4).
 #[tactic(auto, using(crate::proofs::Classed::class_some, crate::proofs::Classed::class_none))]
 pub fn static_class(state: &State, target: FactId) -> Option<ClassId>
     ensures is { definition.class_or_none result ≡ definition.static_class (meaning state.now).graph target.0 }
@@ -69,5 +70,32 @@ pub fn static_class(state: &State, target: FactId) -> Option<ClassId>
     match fact_found(state.graph(), target) {
         Some(fact) => class_of_fact(state, fact),
         None => None,
+    }
+}
+
+fn is_function(what: Entity) -> bool
+    ensures { (types : List CxxType) → result ≡ definition.declares_function (declares_at types what) }
+{
+    match what {
+        Entity::Function { .. } => true,
+        _ => false,
+    }
+}
+
+fn is_function_fact(state: &State, fact: &Fact) -> bool
+    ensures { result ≡ definition.is_function_fact (Some (fact_at (state.now).types fact.now)) }
+{
+    let _ = state;
+    is_function(fact.what)
+}
+
+/// Whether the declaration with a number is that of a function (8.3.5).
+#[tactic(auto, using(crate::proofs::Classed::function_some, crate::proofs::Classed::function_none))]
+pub fn is_function_at(state: &State, target: FactId) -> bool
+    ensures { result ≡ definition.is_function_at (meaning state.now).graph target.0 }
+{
+    match fact_found(state.graph(), target) {
+        Some(fact) => is_function_fact(state, fact),
+        None => false,
     }
 }

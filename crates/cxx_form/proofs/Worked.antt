@@ -18,8 +18,10 @@ use Rattle.cxx_reading.specs.Declarators.{no_cv}
 use Rattle.cxx_reading.specs.State.{CxxPart, CxxState, first_state, unit_scope}
 use Rattle.cxx_reading.specs.TextOrder.{text_name}
 use Rattle.cxx_reading.specs.Trees.{CxxTree, Label, tree_of}
+use Rattle.cxx_phrase_text.specs.Phrases.{pointed_words}
 use Rattle.cxx_statement_text.specs.Calls.{statement_calls}
 use Rattle.cxx_statement_text.specs.Statements.{body_lines}
+use Rattle.cxx_form.specs.Called.{function_text, functions_from, targets}
 use Rattle.cxx_form.specs.Definitions.{definition_words}
 use Rattle.cxx_form.specs.Order.{lines, names_of_text, text_order}
 use Rattle.cxx_form.specs.Text.{printed_calls, text_by}
@@ -71,8 +73,14 @@ literal = tree_of (label 34 (codes "0")) []
 abbrev named : ℕ → CxxTree
 named n = tree_of (record (label 36 []) { target = Some n }) []
 
+abbrev called : ℕ → ℕ → Label
+called number target = record (label 40 []) { target = Some target; call = Some number }
+
+abbrev by_name : Label → Label
+by_name from = record from { path = Some (record { global = false; parts = [] }) }
+
 abbrev call : ℕ → ℕ → List CxxTree → CxxTree
-call number target arguments = tree_of (record (label 40 []) { target = Some target; call = Some number }) arguments
+call number target arguments = tree_of (by_name (called number target)) arguments
 
 abbrev declarator : ℕ → CxxType → List CxxTree → CxxTree
 declarator n of parts = tree_of (record (label 20 []) { target = Some n; of = Some of }) parts
@@ -243,3 +251,38 @@ with_functions =
 functions_and_constants_of_a_class : text with_functions ≡ codes "struct S__1;\nenum E__2 { a__3 = 1 };\nstruct S__1 {\n  int n__4;\n  int f__5(int) const;\n  static void g__6();\n  static const int k__7 = 3;\n  static const E__2 e__8 = static_cast<E__2>(1);\n};\n"
 unfolding names_of_text text_order lines text_name printed_name stem definition_words body_lines digits
 functions_and_constants_of_a_class = refl
+
+-- struct S { int f(int) const; static int f(); }; int h(S *p) { return p->f(S::f()) + (*p).f(0); }
+abbrev static_call : CxxType → ℕ → ℕ → CxxTree
+static_call class number target = tree_of (record (by_name (called number target)) { of = Some class }) []
+
+-- a call of a member of an object or of what a pointer points to, by the production
+abbrev member_call : ℕ → ℕ → ℕ → CxxTree → List CxxTree → CxxTree
+member_call production number target object arguments =
+    tree_of (called number target) (tree_of (record (by_name (label production (codes "("))) { of = Some (class_type 0); target = Some target }) (object ∷ []) ∷ arguments)
+
+abbrev with_calls_of_members : CxxState
+with_calls_of_members =
+    let struct : ClassId = record { 0 = 0 } in
+    let one : CxxType = function_of int (type_then int no_types) false const in
+    let other : CxxType = function_type int no_types in
+    let pointer : CxxType = pointer_to (class_type 0) in
+    let h : CxxType = function_type int (type_then pointer no_types) in
+    let all : List CxxFact =
+    class_begun struct (codes "S") 1
+    ++ list_in 1 ∷ object_in 2 unnamed int ∷ member_here (codes "f") (facts.function one member.Nonstatic flags 0 None) ∷ list_in 1 ∷ member_here (codes "f") (facts.function other member.Static flags 0 None)
+    ∷ class_ended struct 1 ∷ list_in 0 ∷ object_in 4 (spelled (codes "p")) pointer ∷ function (codes "h") h ∷ body_in 4 12 ∷ [] in
+    let arrow : CxxTree = member_call 43 1 6 (named 11) (static_call (class_type 0) 0 8 ∷ []) in
+    let dot : CxxTree = member_call 42 2 6 (tree_of (label 46 (codes "*")) (named 11 ∷ [])) (literal ∷ []) in
+    let class : CxxTree = tree_of (label 8 []) (class_tree (simple (declarator 6 one [] ∷ []) ∷ simple (declarator 8 other [] ∷ []) ∷ []) ∷ []) in
+    let read : CxxState = reading all (class ∷ defined_as 12 h 13 (returns (tree_of (label 50 (codes "+")) (arrow ∷ dot ∷ [])) ∷ []) ∷ []) in
+    record read { graph = record { facts = read.graph.facts; classes = None ∷ []; patterns = [] } }
+
+calls_of_functions_of_a_class : text with_calls_of_members
+    ≡ codes "struct S__1;\nstruct S__1 {\n  int f__2(int) const;\n  static int f__3();\n};\nint h__4(S__1 *);\nint h__4(S__1 *p__5) {\n  return (*p__5).f__2(S__1::f__3()) + (*p__5).f__2(0);\n}\n"
+unfolding pointed_words names_of_text text_order lines text_name printed_name stem definition_words body_lines digits
+calls_of_functions_of_a_class = refl
+
+functions_of_a_class_by_their_numbers : functions_from with_calls_of_members (targets with_calls_of_members) ≡ codes "int f__3();\nint f__2(int) const;\nint f__2(int) const;\n"
+unfolding function_text targets printed_calls statement_calls names_of_text text_order lines text_name printed_name stem digits
+functions_of_a_class_by_their_numbers = refl

@@ -16,7 +16,8 @@ targets state = map (λ call. call.target) (printed_calls state)
 abbrev pub target_of : ListedCall → ℕ
 target_of call = call.target.0
 
--- the line by which the plain form declares a function
+-- The line by which the plain form declares a function: its type, and the name with the number that it has there. In the line
+-- of a member of a class spaces, and `static` (9.4), stand before it.
 unfoldable pub function_text : CxxState → ℕ → List ℕ
 function_text state number = line_text (function_words (names_of_text state) state.graph.facts number)
 

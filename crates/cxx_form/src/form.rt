@@ -30,7 +30,7 @@ pub struct Printed {
     /// Its plain form.
     pub text: Vec<u8>,
     /// For each call of the plain form, in its order, the line by which the plain form declares the function that the
-    /// call names.
+    /// call names; that of a member of a class without the spaces and without `static` before it.
     pub functions: Vec<u8>,
 }
 

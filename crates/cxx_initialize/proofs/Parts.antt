@@ -1,29 +1,17 @@
 -- The parts of a tree, and what they are where there is one.
-use Rattle.std.specs.Prelude.{suc, ◌≡◌, ◌<◌, ◌≤◌, List, [], ◌∷◌, length, refl}
-use Rattle.std.proofs.Common.{ap, arith}
+use Rattle.std.specs.Prelude.{suc, ◌≡◌, List, [], ◌∷◌, length, refl}
+use Rattle.std.proofs.Common.{ap}
 use Rattle.cxx_model.specs.declared.place.Place.{Place}
-use Rattle.cxx_model.specs.declared.tree.Node.{Node}
 use Rattle.cxx_model.specs.declared.types.TreeId.{TreeId}
 use Rattle.cxx_model.specs.Types.Trees.{CxxType}
 use Rattle.cxx_reading.specs.State.{CxxState}
 use Rattle.cxx_reading.specs.Trees.{CxxTree}
-use Rattle.cxx_tree.specs.Arena.{AreTreesBelow, IsNodeBelow}
-use Rattle.cxx_tree.specs.Held.{Held, trees}
-use Rattle.cxx_tree.proofs.Arenas as arena
+use Rattle.cxx_tree.specs.Held.{Held}
 use Rattle.cxx_expr.specs.Initializing.{one_of, text_in}
-use Rattle.cxx_expr.specs.Making.{AreTreesHeld, trees_held}
-use Rattle.cxx_expr.specs.Nodes.{IsNodeHeld}
+use Rattle.cxx_expr.specs.Making.{trees_held}
 use Rattle.cxx_expr.specs.Operands.{only}
 use Rattle.cxx_expr.specs.Questions.{Questions}
 use Rattle.cxx_initialize.specs.Behind.{one_by, text_by}
-
-pub parts_held : (held : Held) (number : TreeId) (numbers : List TreeId) → number.0 < length (trees held) → AreTreesBelow number.0 numbers → AreTreesHeld held numbers
-parts_held held number numbers there below =
-    let few : number.0 ≤ length (trees held) = omega (arith, there) in
-    arena.below_later number.0 (length (trees held)) numbers few below
-
-pub node_held : (held : Held) (number : TreeId) (node : Node) → number.0 < length (trees held) → IsNodeBelow (length held.types) node → AreTreesBelow number.0 node.children → IsNodeHeld held node
-node_held held number node there below children = record { below = below; children = parts_held held number node.children there children }
 
 pub trees_count : (held : Held) (numbers : List TreeId) → length (trees_held held numbers) ≡ length numbers
 trees_count held [] = refl

@@ -2,7 +2,6 @@
 #![tactic(auto)]
 
 mod bounds;
-mod copies;
 mod elements;
 mod strings;
 mod values;

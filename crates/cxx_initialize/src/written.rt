@@ -9,8 +9,8 @@ ghost use Rattle.cxx_expr.specs.Nodes.{IsNodeHeld, IsOneKnown, node_tree, one_tr
 ghost use Rattle.cxx_expr.specs.Operands.{only};
 ghost use Rattle.cxx_initialize.specs.Behind as behind;
 
-use crate::copies::node_over;
 use cxx_expr::converting::push;
+use cxx_expr::node_over;
 use cxx_expr::nodes::only_child;
 use cxx_expr::operators::listed_one;
 use cxx_expr::production::INITIALIZER;
@@ -50,7 +50,7 @@ pub fn start_of(state: &State, number: TreeId) -> Place
 }
 
 /// The one part of a tree.
-#[tactic(auto, using(crate::proofs::Parts::node_held))]
+#[tactic(auto, using(cxx_expr::proofs::NodeKept::node_held))]
 pub fn only_part(state: &State, number: TreeId) -> Option<TreeId>
     requires { number.0 < length (trees state.now) }
     ensures is { one_tree state.now result ≡ only (children_of (tree state.now number)) }
@@ -60,7 +60,7 @@ pub fn only_part(state: &State, number: TreeId) -> Option<TreeId>
 }
 
 /// The parts of a tree.
-#[tactic(auto, using(cxx_expr::proofs::NodeKept::children_are, crate::proofs::Parts::parts_held))]
+#[tactic(auto, using(cxx_expr::proofs::NodeKept::children_are, cxx_expr::proofs::NodeKept::parts_held))]
 pub fn parts_of(alloc: Global, state: &State, number: TreeId) -> Result<TreeIdList, AllocError>
     requires { number.0 < length (trees state.now) }
     ensures is { IfOk result (λ numbers. trees_held state.now numbers ≡ children_of (tree state.now number)) }

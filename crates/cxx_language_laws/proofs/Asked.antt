@@ -19,7 +19,7 @@ use Rattle.cxx_meaning.specs.Lookups.Member.{member}
 use Rattle.cxx_meaning.specs.Lookups.Pending.{Asked}
 use Rattle.cxx_meaning.specs.Lookups.Wanted.{any_name, types_only}
 use Rattle.cxx_constant.specs.Constants.{CxxValue, not_constant, overflow, divide_by_zero, constant}
-use Rattle.cxx_phrases.specs.Forms.{name_tree, call_tree, member_tree}
+use Rattle.cxx_phrases.specs.Forms.{name_tree, call_tree, called_tree, member_tree}
 use Rattle.cxx_phrases.specs.Productions as phrase
 use Rattle.cxx_reading.specs.declared.region.Region.{Region}
 use Rattle.cxx_reading.specs.Declaring.{elaborated_here, elaborated_by, elaborated_found, enumeration_in}
@@ -32,17 +32,19 @@ use Rattle.cxx_reading.specs.Tokens.{begins_name, behind_name, is_whole_name, pa
 use Rattle.cxx_reading.specs.Trees.{CxxPath, CxxPathPart, CxxTree, children_of, each_tree, in_turn, is_plain_path, last_part, Label}
 use Rattle.cxx_tree.specs.Defaults.{first_given, within_default}
 use Rattle.cxx_tree.specs.Uses.{with_use}
-use Rattle.cxx_expr.specs.Calls.{bare_word, is_bare, is_none_left}
-use Rattle.cxx_expr.specs.Names.{part_or, path_in, word_in}
+use Rattle.cxx_expr.specs.Calls.{bare_word, is_bare, member_question}
+use Rattle.cxx_expr.specs.Members.{class_of_object}
+use Rattle.cxx_expr.specs.Names.{is_none_left, part_or, path_in, values_among, word_in}
+use Rattle.cxx_expr.specs.Operands.{object_operand}
 use Rattle.cxx_expr.specs.Elaborating.{elaborate}
 use Rattle.cxx_language.specs.Answers.{asking}
-use Rattle.cxx_answers.specs.Answers.{associated_functions, bound_here, call_here, constant_by, constant_here, fallback_by, fallback_here, fresh_among, is_held, meant_in, name_here, name_in_region, name_meant, names_local, names_member_function, names_tested, questions, scope_of_giver, size_here, word_or_none}
+use Rattle.cxx_answers.specs.Answers.{associated_functions, bound_here, call_here, constant_by, constant_here, fallback_by, fallback_here, fresh_among, is_held, meant_in, name_here, name_in_region, name_meant, names_local, names_put_off, names_tested, questions, scope_of_giver, size_here, word_or_none}
 use Rattle.cxx_answers.specs.Defaults.{begin_default, end_default, is_list_of_class, offered_as}
 use Rattle.cxx_answers.specs.Members.{has_begun, in_state, member_found as member_answered, member_here}
 use Rattle.cxx_language.specs.Asked.{answers, asked, inner_at, phrases_at}
 use Rattle.cxx_language_laws.specs.Best.{IsClear, asked_word, functions_by_types, values_besides, values_of}
-use Rattle.cxx_language_laws.specs.Told.{IsFoundClear, IsOfObject, of_object, of_pointed, IsSelector, IsSoughtMember, IsUnitCall, IsUnitSelected, called, called_by_types, nothing_in, operands, place_of_call, selected_part, twofold_member, unknown_call, unknown_member}
-use Rattle.cxx_language_laws.proofs.CallsTell.{NothingTold, asked_for, call_asked_tells}
+use Rattle.cxx_language_laws.specs.Told.{HasNoValue, IsFoundClear, IsMemberCall, IsOfObject, of_object, of_pointed, IsSelector, IsSoughtCalled, IsSoughtMember, IsUnitCall, IsUnitCallOf, IsUnitSelected, called, called_by_types, declared_then, member_part, nothing_in, operands, place_of_call, selected_part, twofold_called, twofold_member, unknown_call, unknown_called, unknown_member}
+use Rattle.cxx_language_laws.proofs.CallsTell.{NothingTold, asked_for, call_asked_tells, member_asked_tells}
 use Rattle.cxx_language_laws.proofs.Classed.{class_tells}
 use Rattle.cxx_language_laws.proofs.Later.{IsLater, by_answer, later_same, later_is_kept, later_is_quiet, calmly, turned, parameter_answer_tells, enumeration_answer_tells, enumerator_answer_tells, enumerated_tells, kind_tells, type_tells}
 use Rattle.cxx_language_laws.proofs.Lists.{listed_tells}
@@ -56,9 +58,9 @@ use Rattle.cxx_language_laws.proofs.Sought.{fitting, none_by_types, nothing_soug
 use Rattle.cxx_language_laws.proofs.Tells.{IsQuiet, IsTold, KindsTell, Quietly, ReadersTell, ToldBy, tells_answer, tells_refusal, Answers}
 use Rattle.cxx_language_laws.proofs.TellsConversions.{convert_tells}
 use Rattle.cxx_language_laws.proofs.TellsDefaults.{OffersTell}
-use Rattle.cxx_language_laws.proofs.TellsExpressions.{plain_tells, name_tells, call_tells, member_tells, arrow_tells}
+use Rattle.cxx_language_laws.proofs.TellsExpressions.{plain_tells, name_tells, call_tells, through_call_tells, member_tells, arrow_tells}
 use Rattle.cxx_language_laws.proofs.TellsKnot.{type_id_tells}
-use Rattle.cxx_language_laws.proofs.TellsMembers.{MemberTells}
+use Rattle.cxx_language_laws.proofs.TellsMembers.{MemberTells, MembersTell}
 use Rattle.cxx_language_laws.proofs.TellsNames.{AskedOf, CalledTells, IsAskedSo, NameTells, UnknownUnasked}
 
 -- ---- the types of names behind `enum`
@@ -154,16 +156,16 @@ if_named true one two = one
 if_named false one two = two
 
 -- 6.5.3, 8.3.6: what a `for` does behind each turn, and a default argument, do not name everything
-meant_so : (path : CxxPath) (state : CxxState) (where_ : Region) → MeansRegion path state where_ → IsClear (sought_there path state where_) → NamedSo path state (name_meant (last_part path.parts) (meant_there path state where_) state)
+meant_so : (path : CxxPath) (state : CxxState) (where_ : Region) → MeansRegion path state where_ → IsClear (sought_there path state where_) → NamedSo path state (name_meant path (meant_there path state where_) state)
 meant_so path state where_ means clear =
     if_named (state.in_default && names_local state.graph (meant_there path state where_)) (not_named (fault (last_part path.parts).place says.OperandsDoNotFit) refl) (
     if_named (state.in_step && names_tested state.tested state.here.scope (meant_there path state where_)) (not_named (fault (last_part path.parts).place (says.LeftOut form.ConditionNameInStep)) refl) (
-    if_named (names_member_function (meant_there path state where_)) (not_named (not_built_at (last_part path.parts).place) refl) (named_so where_ means clear)))
+    if_named (names_put_off (is_plain_path path) (meant_there path state where_)) (not_named (not_built_at (last_part path.parts).place) refl) (named_so where_ means clear)))
 
 region_so : (path : CxxPath) (state : CxxState) (where_ : Region) → MeansRegion path state where_ → NamedSo path state (name_in_region path where_ state)
 region_so path state where_ means = by (sought_there path state where_) refl (clear_or state.graph (last_part path.parts) (sought_there path state where_))
   where
-    by : (x : Found) → sought_there path state where_ ≡ x → {r : Answer (Unit {0})} → ClearOr state.graph (last_part path.parts) x r → NamedSo path state (r >>= λ is_one. name_meant (last_part path.parts) (meant_there path state where_) state)
+    by : (x : Found) → sought_there path state where_ ≡ x → {r : Answer (Unit {0})} → ClearOr state.graph (last_part path.parts) x r → NamedSo path state (r >>= λ is_one. name_meant path (meant_there path state where_) state)
     by x is (is_clear clear) = meant_so path state where_ means (subst IsClear (sym is) clear)
     by x is (is_twain why two) = named_twice where_ x why means is two
 
@@ -476,6 +478,98 @@ member_ahead_tells room state ahead is = asked_later state ahead ahead state (la
     by (inr arrow) = subst elaborated (sym arrow.1) (arrow_tells told (questions_tell told) (place_ahead ahead) (path_ahead (behind ahead)) is.object is.from (behind_name (behind ahead)) state ahead
         (λ meaning built class parts at converts later so. member_answers state ahead room is phrase.arrow class at later (subst (λ (number : ℕ). IsOfObject state (place_ahead ahead) is.object number class at) (sym arrow.1) (of_pointed class meaning parts at built converts so))))
 
+-- ---- a call of what was read (5.2.2)
+
+-- the name that is called
+abbrev called_path : {room : ℕ} {state : CxxState} {ahead : Ahead} → IsMemberCall room state ahead → CxxPath
+called_path is = path_in is.call.callee.label
+
+-- it is the one of its tree
+part_is : {room : ℕ} {state : CxxState} {ahead : Ahead} (is : IsMemberCall room state ahead) → member_part is ≡ last_part (called_path is).parts
+part_is is = word_is (called_path is).parts
+
+-- what is found of it, at the place of a fault
+called_sought : (state : CxxState) (ahead : Ahead) (room : ℕ) (is : IsMemberCall room state ahead) (of : CxxType) → is.call.callee.label.of ≡ Some of → (class : ℕ) → class_of_object (object_operand of) ≡ Some class → (finds : MemberFound) → member (declared_then is) any_name (record { 0 = class }) (name_in (called_path is)) ≡ Ok finds → (fault : Fault) → (last_part (called_path is).parts).place ≡ fault.place
+    → IsSoughtCalled state ahead finds fault (last_part (called_path is).parts).word
+called_sought state ahead room is of typed class so finds e fault is_at = record {
+  room = room;
+  is = is;
+  of = of;
+  typed = typed;
+  class = class;
+  of_object = so;
+  spelled_so = ap (λ (part : CxxPathPart). part.word) (part_is is);
+  is_at = ap (λ (part : CxxPathPart). part.place) (part_is is) ∙ is_at;
+  finds_so = e;
+}
+
+-- where no function is found
+called_unknown : (state : CxxState) (ahead : Ahead) (room : ℕ) (is : IsMemberCall room state ahead) (of : CxxType) → is.call.callee.label.of ≡ Some of → (class : ℕ) → class_of_object (object_operand of) ≡ Some class → (finds : MemberFound) → member (declared_then is) any_name (record { 0 = class }) (name_in (called_path is)) ≡ Ok finds → HasNoValue (declared_then is) finds
+    → Told state ahead (undeclared_at (member_part is).place [])
+unfolding called_sought
+called_unknown state ahead room is of typed class so finds e none =
+    reached_here state ahead (IsUndeclared fault []) (record {
+      is = λ scopes. (unknown_called finds (last_part (called_path is).parts).word (called_sought state ahead room is of typed class so finds e fault (sym (ap (λ (part : CxxPathPart). part.place) (part_is is)))) none refl, tt);
+      bare = refl;
+    })
+  where
+    fault : Fault
+    fault = record { place = (member_part is).place; text = says.UndeclaredName []; evidence = [] }
+
+-- where it is looked up
+called_told : (state : CxxState) (ahead rest : Ahead) (room : ℕ) (is : IsMemberCall room state ahead) (of : CxxType) → is.call.callee.label.of ≡ Some of → (class : ℕ) → class_of_object (object_operand of) ≡ Some class → {answer : NameAnswers} → MemberSo class (called_path is) is.call.at answer → ToldBy IsLater (ToldSince state ahead) is.call.at rest answer
+unfolding called_sought
+called_told state ahead rest room is of typed class so (no_member e) = same_by (later_is_told_since state ahead) [] is.call.at rest
+called_told state ahead rest room is of typed class so (some_members all bases e) = same_by (later_is_told_since state ahead) (numbered_at (declared_then is) (fact_numbers all)) is.call.at rest
+called_told state ahead rest room is of typed class so (member_refused why quiet) = quiet_by (later_is_told_since state ahead) quiet
+called_told state ahead rest room is of typed class so (member_twice one two e) =
+    tells_refusal _ (λ later. reached_here state ahead (IsManifold fault word)
+    (λ scopes. twofold_called one two (called_sought state ahead room is of typed class so (member_found.Ambiguous one two) e fault refl) (class_apart (declared_then is) any_name (name_in (called_path is)) (record { 0 = class }) one two (later.scopes scopes).sound e) refl))
+  where
+    word : List ℕ
+    word = (last_part (called_path is).parts).word
+
+    fault : Fault
+    fault = record { place = (last_part (called_path is).parts).place; text = says.AmbiguousName word; evidence = by_bases (declared_then is) one ∷ by_bases (declared_then is) two ∷ [] }
+
+-- what is asked of the functions that are found
+abbrev ChosenTells : {room : ℕ} {state : CxxState} {ahead : Ahead} → IsMemberCall room state ahead → CxxType → Ahead → List Numbered × CxxState → Type 0
+ChosenTells {state = state} {ahead = ahead} is of rest one = ToldBy IsLater (ToldSince state ahead) one.1 rest (call_here (member_question answers is.call.callee.label of (values_among one.1.graph one.0) is.call.arguments one.1) one.1)
+
+called_chosen : (state : CxxState) (ahead rest : Ahead) (room : ℕ) (is : IsMemberCall room state ahead) (of : CxxType) → is.call.callee.label.of ≡ Some of → (class : ℕ) → class_of_object (object_operand of) ≡ Some class → (one : List Numbered × CxxState) {answer : NameAnswers} → MemberSo class (called_path is) is.call.at answer → answer ≡ Ok one → ChosenTells is of rest one
+called_chosen state ahead rest room is of typed class so one (no_member found) e = subst (ChosenTells is of rest) (by e) (
+    member_asked_tells state ahead rest room is of [] typed (λ why told later. told) (λ none. called_unknown state ahead room is of typed class so member_found.Empty found tt) (λ first others some. absurd (no_one some)))
+  where
+    by : AreNames (Ok ([], is.call.at)) (Ok one) → ([], is.call.at) ≡ one
+    by e = cc
+
+    no_one : {first : Numbered} {others : List Numbered} → [] ≡ first ∷ others → ⊥
+    no_one e = cc
+called_chosen state ahead rest room is of typed class so one (some_members all bases found) e = subst (ChosenTells is of rest) (by e) (
+    member_asked_tells state ahead rest room is of functions typed (λ why told later. told) (λ none. called_unknown state ahead room is of typed class so (member_found.Set all bases) found none)
+    (λ first others some. record { class = class; of_object = so; found = all; way = bases; finds = found; are = refl }))
+  where
+    functions : List Numbered
+    functions = values_among (declared_then is) (numbered_at (declared_then is) (fact_numbers all))
+
+    by : AreNames (Ok (numbered_at (declared_then is) (fact_numbers all), is.call.at)) (Ok one) → (numbered_at (declared_then is) (fact_numbers all), is.call.at) ≡ one
+    by e = cc
+called_chosen state ahead rest room is of typed class so one (member_refused why quiet) e = absurd cc
+called_chosen state ahead rest room is of typed class so one (member_twice m n found) e = absurd cc
+
+functions_tell : (state : CxxState) (ahead rest : Ahead) (room : ℕ) (is : IsMemberCall room state ahead) → MembersTell IsLater (ToldSince state ahead) answers is.call.callee.label is.call.arguments is.call.at rest
+unfolding questions
+functions_tell state ahead rest room is of class typed so = record {
+  answers = called_told state ahead rest room is of typed class so (member_so class (called_path is) is.call.at);
+  chosen = λ one e. called_chosen state ahead rest room is of typed class so one (member_so class (called_path is) is.call.at) e;
+}
+
+through_ahead_tells : (room : ℕ) (state : CxxState) (ahead : Ahead) (call : IsUnitCallOf room state ahead) → IsLater state call.at → ToldBy IsLater Told state ahead (elaborate answers (called_tree call.callee call.arguments call.from call.rest) call.at)
+through_ahead_tells room state ahead call later =
+    let is = later_is_told_since state ahead in
+    asked_later state ahead ahead call.at later (through_call_tells is (questions_tell is) call.callee call.arguments call.from call.rest call.at ahead (λ is_member.
+    subst (λ (trees : List CxxTree). MembersTell IsLater (ToldSince state ahead) answers call.callee.label trees call.at ahead) (sym (trees_same call.arguments)) (functions_tell state ahead ahead room (record { call = call; is_member = is_member }))))
+
 -- ---- default arguments (8.3.6)
 
 begin_tells : (equals : Place) → Answers IsLater Told (begin_default equals)
@@ -503,6 +597,7 @@ phrases_tell room types = record {
   whole = λ tree plain. plain_tells later_is_told (questions_tell later_is_told) tree plain;
   name = name_ahead_tells;
   call = λ state ahead is keeps from. call_ahead_tells room state ahead is keeps from;
+  through = λ state ahead is keeps. through_ahead_tells room state ahead is keeps;
   member = λ state ahead is. member_ahead_tells room state ahead is;
   type_id = type_id_tells later_is_told (kinds_tell room) types;
 }

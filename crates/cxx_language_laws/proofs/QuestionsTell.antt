@@ -32,11 +32,12 @@ pub if_by : {S A : Type 0} {kept : S → S → Type 0} {told : S → Ahead → S
 if_by true x y = x
 if_by false x y = y
 
--- the same where it is known what the test says
-pub yes_by : {S A : Type 0} {kept : S → S → Type 0} {told : S → Ahead → Stopped → Type 0} {state : S} {ahead : Ahead} (b : Bool) {x : Answer (A × S)} (y : Answer (A × S)) → b ≡ true → ToldBy kept told state ahead x → ToldBy kept told state ahead (if b then x else y)
-yes_by true y e x = x
-yes_by false y e x = absurd cc
+-- the same where what is asked rests on the test
+pub when_by : {S A : Type 0} {kept : S → S → Type 0} {told : S → Ahead → Stopped → Type 0} {state : S} {ahead : Ahead} (b : Bool) {x y : Answer (A × S)} → (b ≡ true → ToldBy kept told state ahead x) → (b ≡ false → ToldBy kept told state ahead y) → ToldBy kept told state ahead (if b then x else y)
+when_by true x y = x refl
+when_by false x y = y refl
 
+-- the same where it is known what the test says
 pub no_by : {S A : Type 0} {kept : S → S → Type 0} {told : S → Ahead → Stopped → Type 0} {state : S} {ahead : Ahead} (b : Bool) (x : Answer (A × S)) {y : Answer (A × S)} → b ≡ false → ToldBy kept told state ahead y → ToldBy kept told state ahead (if b then x else y)
 no_by true x e y = absurd cc
 no_by false x e y = y

@@ -1,5 +1,5 @@
 -- What is kept of the state, and what stops the unit, where it is found what an expression or an initializer means.
-use Rattle.std.proofs.Common.{◌≡◌, refl, ap}
+use Rattle.std.proofs.Common.{◌≡◌, refl}
 use Rattle.std.specs.Prelude.{ℕ, zero, Bool, true, false, ◌||◌, nat_eq, List, [], ◌∷◌, length, Option, Some, None, Ok}
 use Rattle.cxx_model.specs.declared.place.Place.{Place}
 use Rattle.cxx_model.specs.declared.punct.TheConstants as punct
@@ -12,22 +12,22 @@ use Rattle.cxx_reading.specs.Initializers.{operand_of}
 use Rattle.cxx_reading.specs.Reads.{Ahead, Asks}
 use Rattle.cxx_reading.specs.Seen.{Numbered}
 use Rattle.cxx_reading.specs.State.{CxxState}
-use Rattle.cxx_reading.specs.Trees.{CxxPath, CxxTree, children_of}
-use Rattle.cxx_phrases.specs.Forms.{name_tree, call_tree, member_tree}
+use Rattle.cxx_reading.specs.Trees.{CxxPath, CxxTree, children_of, each_tree, in_turn}
+use Rattle.cxx_phrases.specs.Forms.{name_tree, call_tree, called_tree, member_tree}
 use Rattle.cxx_phrases.specs.Productions as phrase
 use Rattle.cxx_expr.specs.declared.production.TheConstants as production
-use Rattle.cxx_expr.specs.Calls.{call, expression_call, split_first}
+use Rattle.cxx_expr.specs.Calls.{call, calls_member, expression_call}
 use Rattle.cxx_expr.specs.Elaborating.{bracketed, over_one, parenthesis, expressions_in, without_operand, operated, by_production, elaborate}
 use Rattle.cxx_expr.specs.Initializing.{array_braces, array_from, array_part, array_whole, array_with, as_copy, bound_by, braces_part, element_in, elements, has_room, initialize, initialized, is_braces, is_made_of_class, is_nothing, is_text_for, list_part, nothing_by, one_less, one_of, part, text_count, text_in, text_part, text_whole, value_part, value_whole, wants_value, whole_by}
 use Rattle.cxx_expr.specs.Members.{arrow, class_of_object, selected}
 use Rattle.cxx_expr.specs.Names.{name, path_in}
-use Rattle.cxx_expr.specs.Operands.{any_open, is_none, only}
+use Rattle.cxx_expr.specs.Operands.{any_open, only}
 use Rattle.cxx_expr.specs.Questions.{Questions}
-use Rattle.cxx_language_laws.proofs.PhrasesTell.{IsPlain}
-use Rattle.cxx_language_laws.proofs.QuestionsTell.{DefaultsTell, QuestionsTell, quiet_by, same_by, if_by, yes_by, no_by, then_by, give_by}
+use Rattle.cxx_language_laws.proofs.PhrasesTell.{IsPlain, is_named}
+use Rattle.cxx_language_laws.proofs.QuestionsTell.{DefaultsTell, QuestionsTell, quiet_by, same_by, if_by, when_by, no_by, then_by, give_by}
 use Rattle.cxx_language_laws.proofs.Tells.{IsTold, ToldBy, Answers}
 use Rattle.cxx_language_laws.proofs.TellsConversions.{literal_tells, convert_tells, size_tells}
-use Rattle.cxx_language_laws.proofs.TellsMembers.{MemberTells, PointedTells, arrow_of_tells, selected_from_tells}
+use Rattle.cxx_language_laws.proofs.TellsMembers.{MemberTells, MembersTell, PointedTells, arrow_of_tells, member_call_tells, selected_from_tells}
 use Rattle.cxx_language_laws.proofs.TellsNames.{AskedOf, CalledTells, NameTells, through_tells, name_call_tells, name_alone_tells}
 use Rattle.cxx_language_laws.proofs.TellsOperators.{misshapen_tells, prefix_tells, step_tells, binary_tells, conditional_tells, cast_tells, functional_tells}
 
@@ -41,29 +41,28 @@ parenthesis_tells : {kept : CxxState → CxxState → Type 0} {told : CxxState �
 unfolding parenthesis
 parenthesis_tells is tree = bracketed_tells is tree (only (children_of tree))
 
-expression_call_tells : {kept : CxxState → CxxState → Type 0} {told : CxxState → Ahead → Stopped → Type 0} → IsTold kept told → (q : Questions) (tree : CxxTree) (parts : Option (CxxTree × List CxxTree)) → Answers kept told (expression_call q tree parts)
-expression_call_tells is q tree None state ahead = misshapen_tells is tree state ahead
-expression_call_tells is q tree (Some parts) state ahead = through_tells is q tree parts.0 parts.1 state ahead
-
-plain_call_tells : {kept : CxxState → CxxState → Type 0} {told : CxxState → Ahead → Stopped → Type 0} → IsTold kept told → (q : Questions) (tree : CxxTree) → tree.label.path ≡ None → Answers kept told (call q tree)
-unfolding call
-plain_call_tells is q tree unnamed state ahead = yes_by (is_none tree.label.path) _ (ap is_none unnamed) (expression_call_tells is q tree (split_first (children_of tree)) state ahead)
-
--- it is no name, and no member of an object
+-- it is no name, no call, and no member of an object
 neither : (one two : Bool) → (one || two) ≡ false → (one ≡ false) × (two ≡ false)
 neither true two e = absurd cc
 neither false two e = (refl, e)
 
-no_name : (tree : CxxTree) → IsPlain tree → nat_eq tree.label.production production.NAME ≡ false
-no_name tree plain = (neither (nat_eq tree.label.production phrase.name) (nat_eq tree.label.production phrase.member || nat_eq tree.label.production phrase.arrow) plain.0).0
+record IsNone (number : ℕ) : Type 0 where
+  no_name : nat_eq number production.NAME ≡ false
+  no_call : nat_eq number production.CALL ≡ false
+  no_member : nat_eq number production.MEMBER ≡ false
+  no_arrow : nat_eq number production.ARROW ≡ false
 
-no_member : (tree : CxxTree) → IsPlain tree → (nat_eq tree.label.production production.MEMBER ≡ false) × (nat_eq tree.label.production production.ARROW ≡ false)
-no_member tree plain = neither (nat_eq tree.label.production phrase.member) (nat_eq tree.label.production phrase.arrow) (neither (nat_eq tree.label.production phrase.name) (nat_eq tree.label.production phrase.member || nat_eq tree.label.production phrase.arrow) plain.0).1
+is_none_of : (number : ℕ) → is_named number ≡ false → IsNone number
+is_none_of number plain =
+    let named = neither (nat_eq number production.NAME) (nat_eq number production.CALL || (nat_eq number production.MEMBER || nat_eq number production.ARROW)) plain in
+    let called = neither (nat_eq number production.CALL) (nat_eq number production.MEMBER || nat_eq number production.ARROW) named.1 in
+    let selected = neither (nat_eq number production.MEMBER) (nat_eq number production.ARROW) called.1 in
+    record { no_name = named.0; no_call = called.0; no_member = selected.0; no_arrow = selected.1 }
 
 operated_tells : {kept : CxxState → CxxState → Type 0} {told : CxxState → Ahead → Stopped → Type 0} → IsTold kept told → (q : Questions) (tree : CxxTree) → IsPlain tree → Answers kept told (operated q tree)
 operated_tells is q tree plain state ahead =
-    no_by (nat_eq tree.label.production production.MEMBER) _ (no_member tree plain).0 (
-    no_by (nat_eq tree.label.production production.ARROW) _ (no_member tree plain).1 (
+    no_by (nat_eq tree.label.production production.MEMBER) _ (is_none_of tree.label.production plain).no_member (
+    no_by (nat_eq tree.label.production production.ARROW) _ (is_none_of tree.label.production plain).no_arrow (
     if_by (nat_eq tree.label.production production.SUBSCRIPT) (binary_tells is q tree punct.LEFT_BRACKET state ahead) (
     if_by (nat_eq tree.label.production production.STEP) (step_tells is q tree state ahead) (
     if_by (nat_eq tree.label.production production.PREFIX) (prefix_tells is q tree state ahead) (
@@ -76,9 +75,9 @@ by_production_tells : {kept : CxxState → CxxState → Type 0} {told : CxxState
 unfolding by_production
 by_production_tells is {q = q} asks tree plain state ahead =
     if_by (nat_eq tree.label.production production.LITERAL) (literal_tells is tree state ahead) (
-    no_by (nat_eq tree.label.production production.NAME) _ (no_name tree plain) (
+    no_by (nat_eq tree.label.production production.NAME) _ (is_none_of tree.label.production plain).no_name (
     if_by (nat_eq tree.label.production production.PARENTHESIS) (parenthesis_tells is tree state ahead) (
-    if_by (nat_eq tree.label.production production.CALL) (plain_call_tells is q tree plain.1 state ahead) (
+    no_by (nat_eq tree.label.production production.CALL) _ (is_none_of tree.label.production plain).no_call (
     if_by (nat_eq tree.label.production production.FUNCTIONAL_CAST) (functional_tells is q tree state ahead) (
     if_by (nat_eq tree.label.production production.SIZE) (size_tells is asks tree state ahead) (
     if_by (nat_eq tree.label.production production.CAST) (cast_tells is q tree state ahead)
@@ -101,6 +100,18 @@ unfolding elaborate by_production call
 call_tells is asks spelling path defaults arguments from to state ahead tells calls =
     let tree = call_tree spelling path arguments from to in
     if_by (any_open (expressions_in tree)) (same_by is (without_operand tree) state ahead) (name_call_tells is asks tree defaults (children_of tree) state ahead tells calls)
+
+-- ---- calls of what was read
+
+expression_call_tells : {kept : CxxState → CxxState → Type 0} {told : CxxState → Ahead → Stopped → Type 0} → IsTold kept told → {q : Questions} → QuestionsTell kept told q → (tree callee : CxxTree) (arguments : List CxxTree) (state : CxxState) (ahead : Ahead) → (calls_member state.graph callee.label ≡ true → MembersTell kept told q callee.label arguments state ahead) → ToldBy kept told state ahead (expression_call q tree (Some (callee, arguments)) state)
+expression_call_tells is {q = q} asks tree callee arguments state ahead tells = when_by (calls_member state.graph callee.label) (λ is_member. member_call_tells is asks tree callee arguments state ahead (tells is_member)) (λ no_member. through_tells is q tree callee arguments state ahead)
+
+pub through_call_tells : {kept : CxxState → CxxState → Type 0} {told : CxxState → Ahead → Stopped → Type 0} → IsTold kept told → {q : Questions} → QuestionsTell kept told q → (callee : CxxTree) (arguments : List CxxTree) (from to : Ahead) (state : CxxState) (ahead : Ahead) → (calls_member state.graph callee.label ≡ true → MembersTell kept told q callee.label (each_tree (in_turn arguments)) state ahead)
+    → ToldBy kept told state ahead (elaborate q (called_tree callee arguments from to) state)
+unfolding elaborate by_production call
+through_call_tells is asks callee arguments from to state ahead tells =
+    let tree = called_tree callee arguments from to in
+    if_by (any_open (expressions_in tree)) (same_by is (without_operand tree) state ahead) (expression_call_tells is asks tree callee (each_tree (in_turn arguments)) state ahead tells)
 
 -- ---- members of objects
 

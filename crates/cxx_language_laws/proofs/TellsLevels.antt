@@ -29,7 +29,7 @@ member_operand_tells is asks inner state ahead = then_in is (operand_tells is as
 
 operation_tells : {S : Type 0} {kept : S → S → Type 0} {told : S → Ahead → Stopped → Type 0} → IsTold kept told → {asks : Phrases S} {inner : Inner S} → PhrasesTell kept told asks inner → InnerTell kept told inner → (operand : Reads S CxxTree) → Tells kept told operand → (from : Ahead) (left : CxxTree) → Tells kept told (operation asks operand from left)
 unfolding operation
-operation_tells is asks inner operand tells from left state ahead = then_in is (looked_in is state ahead) (λ at state ahead. then_in is (taken_in is state ahead) (λ place state ahead. then_in is (tells state ahead) (λ right state ahead. then_in is (looked_in is state ahead) (λ to state ahead. then_in is (ask_in ahead (asks.whole (operator_tree phrase.binary (operator_ahead at) place left right from to) (refl, refl) state ahead)) (λ tree. give_in is (More tree))))))
+operation_tells is asks inner operand tells from left state ahead = then_in is (looked_in is state ahead) (λ at state ahead. then_in is (taken_in is state ahead) (λ place state ahead. then_in is (tells state ahead) (λ right state ahead. then_in is (looked_in is state ahead) (λ to state ahead. then_in is (ask_in ahead (asks.whole (operator_tree phrase.binary (operator_ahead at) place left right from to) refl state ahead)) (λ tree. give_in is (More tree))))))
 
 operation_step_tells : {S : Type 0} {kept : S → S → Type 0} {told : S → Ahead → Stopped → Type 0} → IsTold kept told → {asks : Phrases S} {inner : Inner S} → PhrasesTell kept told asks inner → InnerTell kept told inner → (operand : Reads S CxxTree) → Tells kept told operand → (level : ℕ) (from : Ahead) (left : CxxTree) → Tells kept told (operation_step asks operand level from left)
 unfolding operation_step
@@ -52,7 +52,7 @@ binary_tells is {asks = a} {inner = i} asks inner (suc level) state ahead = oper
 
 conditional_part_tells : {S : Type 0} {kept : S → S → Type 0} {told : S → Ahead → Stopped → Type 0} → IsTold kept told → {asks : Phrases S} {inner : Inner S} → PhrasesTell kept told asks inner → InnerTell kept told inner → (from : Ahead) (condition : CxxTree) → Tells kept told (conditional_part asks inner from condition)
 unfolding conditional_part
-conditional_part_tells is asks inner from condition state ahead = then_in is (taken_in is state ahead) (λ place state ahead. then_in is (inner.expression level.Whole state ahead) (λ one state ahead. then_in is (tokens_in is (punct_in unit_is_told punct.COLON) state ahead) (λ colon state ahead. then_in is (inner.expression level.Assignment state ahead) (λ other state ahead. then_in is (looked_in is state ahead) (λ to state ahead. ask_in ahead (asks.whole (conditional_tree place condition one other from to) (refl, refl) state ahead))))))
+conditional_part_tells is asks inner from condition state ahead = then_in is (taken_in is state ahead) (λ place state ahead. then_in is (inner.expression level.Whole state ahead) (λ one state ahead. then_in is (tokens_in is (punct_in unit_is_told punct.COLON) state ahead) (λ colon state ahead. then_in is (inner.expression level.Assignment state ahead) (λ other state ahead. then_in is (looked_in is state ahead) (λ to state ahead. ask_in ahead (asks.whole (conditional_tree place condition one other from to) refl state ahead))))))
 
 conditional_by_tells : {S : Type 0} {kept : S → S → Type 0} {told : S → Ahead → Stopped → Type 0} → IsTold kept told → {asks : Phrases S} {inner : Inner S} → PhrasesTell kept told asks inner → InnerTell kept told inner → (from : Ahead) (condition : CxxTree) → Tells kept told (conditional_by asks inner from condition)
 unfolding conditional_by
@@ -66,7 +66,7 @@ conditional_tells is asks inner state ahead = then_in is (looked_in is state ahe
 
 assignment_part_tells : {S : Type 0} {kept : S → S → Type 0} {told : S → Ahead → Stopped → Type 0} → IsTold kept told → {asks : Phrases S} {inner : Inner S} → PhrasesTell kept told asks inner → InnerTell kept told inner → (from : Ahead) (left : CxxTree) → Tells kept told (assignment_part asks inner from left)
 unfolding assignment_part
-assignment_part_tells is asks inner from left state ahead = then_in is (looked_in is state ahead) (λ at state ahead. then_in is (taken_in is state ahead) (λ place state ahead. then_in is (inner.expression level.Assignment state ahead) (λ right state ahead. then_in is (looked_in is state ahead) (λ to state ahead. ask_in ahead (asks.whole (operator_tree phrase.assignment (operator_ahead at) place left right from to) (refl, refl) state ahead)))))
+assignment_part_tells is asks inner from left state ahead = then_in is (looked_in is state ahead) (λ at state ahead. then_in is (taken_in is state ahead) (λ place state ahead. then_in is (inner.expression level.Assignment state ahead) (λ right state ahead. then_in is (looked_in is state ahead) (λ to state ahead. ask_in ahead (asks.whole (operator_tree phrase.assignment (operator_ahead at) place left right from to) refl state ahead)))))
 
 assignment_by_tells : {S : Type 0} {kept : S → S → Type 0} {told : S → Ahead → Stopped → Type 0} → IsTold kept told → {asks : Phrases S} {inner : Inner S} → PhrasesTell kept told asks inner → InnerTell kept told inner → (from : Ahead) (left : CxxTree) → Tells kept told (assignment_by asks inner from left)
 unfolding assignment_by
@@ -84,7 +84,7 @@ assignment_tells is asks inner state ahead = if_in (is_keyword keyword.THROW (ki
 
 comma_part_tells : {S : Type 0} {kept : S → S → Type 0} {told : S → Ahead → Stopped → Type 0} → IsTold kept told → {asks : Phrases S} {inner : Inner S} → PhrasesTell kept told asks inner → InnerTell kept told inner → (from : Ahead) (left : CxxTree) → Tells kept told (comma_part asks inner from left)
 unfolding comma_part
-comma_part_tells is asks inner from left state ahead = then_in is (looked_in is state ahead) (λ at state ahead. then_in is (taken_in is state ahead) (λ place state ahead. then_in is (assignment_tells is asks inner state ahead) (λ right state ahead. then_in is (looked_in is state ahead) (λ to state ahead. then_in is (ask_in ahead (asks.whole (operator_tree phrase.assignment (operator_ahead at) place left right from to) (refl, refl) state ahead)) (λ tree. give_in is (More tree))))))
+comma_part_tells is asks inner from left state ahead = then_in is (looked_in is state ahead) (λ at state ahead. then_in is (taken_in is state ahead) (λ place state ahead. then_in is (assignment_tells is asks inner state ahead) (λ right state ahead. then_in is (looked_in is state ahead) (λ to state ahead. then_in is (ask_in ahead (asks.whole (operator_tree phrase.assignment (operator_ahead at) place left right from to) refl state ahead)) (λ tree. give_in is (More tree))))))
 
 comma_step_tells : {S : Type 0} {kept : S → S → Type 0} {told : S → Ahead → Stopped → Type 0} → IsTold kept told → {asks : Phrases S} {inner : Inner S} → PhrasesTell kept told asks inner → InnerTell kept told inner → (from : Ahead) (left : CxxTree) → Tells kept told (comma_step asks inner from left)
 unfolding comma_step

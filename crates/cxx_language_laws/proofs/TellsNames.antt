@@ -6,7 +6,7 @@ use Rattle.cxx_model.specs.Facts.Declarations as facts
 use Rattle.cxx_model.specs.Facts.Declarations.{CxxGraph, Declares}
 use Rattle.cxx_model.specs.Facts.Entities.{first_or}
 use Rattle.cxx_model.specs.declared.fault.FaultText.TheVariants as says
-use Rattle.cxx_model.specs.Stops.{Answer, Stopped, fault, not_built_at, undeclared_at}
+use Rattle.cxx_model.specs.Stops.{Stopped, fault, not_built_at, undeclared_at}
 use Rattle.cxx_expr.specs.Asking.{then_asked}
 use Rattle.cxx_model.specs.Types.Trees.{CxxType}
 use Rattle.cxx_meaning.specs.Lookups.Wanted.{is_function}
@@ -14,13 +14,13 @@ use Rattle.cxx_reading.specs.Reads.{Ahead}
 use Rattle.cxx_reading.specs.Seen.{Numbered}
 use Rattle.cxx_reading.specs.State.{CxxState}
 use Rattle.cxx_reading.specs.Trees.{CxxPath, CxxPathPart, CxxTree, Label}
-use Rattle.cxx_expr.specs.Calls.{fallback_more, fallbacks, chosen_tree, chosen_call, is_bare, question, function_call, Signature, fits_count, through_tree, through_signature, through_counted, no_callee, through_by, signature_by, through, called_label, without_name, value_call, is_asked_for, called_first, called, name_call}
+use Rattle.cxx_expr.specs.Calls.{fallback_more, fallbacks, chosen_as, chosen_tree, chosen_call, is_bare, question, function_call, Signature, fits_count, through_tree, through_signature, through_counted, no_callee, through_by, signature_by, through, called_label, without_name, value_call, is_asked_for, called_first, called, name_call}
 use Rattle.cxx_expr.specs.Names.{Means, are_one_function, is_nonstatic, means_enumerator, means_first, means_function, means_object, means_object_by, means_value, meant_by, named, named_tree, path_in, static_class, values_among, word_in}
 use Rattle.cxx_expr.specs.Operands.{is_of_class}
 use Rattle.cxx_expr.specs.Questions.{CxxChosen, Questions}
 use Rattle.cxx_reading.specs.Initializers.{operand_of}
 use Rattle.cxx_meaning.specs.Conversions.BuiltIn.{operand_kind}
-use Rattle.cxx_language_laws.proofs.QuestionsTell.{DefaultsTell, QuestionsTell, quiet_by, same_by, if_by, then_by, then_by_from, from_by, give_by}
+use Rattle.cxx_language_laws.proofs.QuestionsTell.{DefaultsTell, QuestionsTell, quiet_by, same_by, if_by, when_by, then_by, then_by_from, from_by, give_by}
 use Rattle.cxx_language_laws.proofs.Tells.{IsTold, IsQuiet, ToldBy, tells_refusal, Answers}
 use Rattle.cxx_language_laws.proofs.TellsConversions.{convert_each_tells}
 
@@ -84,9 +84,12 @@ unfolding fallbacks
 fallbacks_tell is asks target index done zero state ahead = give_by is done state ahead
 fallbacks_tell is asks target index done (suc count) state ahead = then_by is (fallback_more_tells is asks target index done state ahead) (λ more. fallbacks_tell is asks target (index + 1) more count)
 
+chosen_as_tells : {kept : CxxState → CxxState → Type 0} {told : CxxState → Ahead → Stopped → Type 0} → IsTold kept told → (tree : CxxTree) (chosen : CxxChosen) (arguments : List CxxTree) → Answers kept told (chosen_as tree chosen arguments)
+chosen_as_tells is tree chosen arguments state ahead = same_by is (chosen_tree tree chosen (static_class state.graph chosen.target) arguments) state ahead
+
 chosen_call_tells : {kept : CxxState → CxxState → Type 0} {told : CxxState → Ahead → Stopped → Type 0} → IsTold kept told → {q : Questions} → QuestionsTell kept told q → (tree : CxxTree) → DefaultsTell kept told q (path_in tree.label) → (arguments : List CxxTree) (chosen : CxxChosen) → Answers kept told (chosen_call q tree arguments chosen)
 unfolding chosen_call
-chosen_call_tells is {q = q} asks tree defaults arguments chosen state ahead = then_by is (asks.bound tree.label.place chosen.target state ahead) (λ noted state ahead. then_by is (convert_each_tells is q tree.label.place chosen.parameters [] arguments state ahead) (λ given state ahead. then_by is (fallbacks_tell is defaults chosen.target (length arguments) given (length chosen.parameters - length arguments) state ahead) (λ all. give_by is (chosen_tree tree chosen all))))
+chosen_call_tells is {q = q} asks tree defaults arguments chosen state ahead = then_by is (asks.bound tree.label.place chosen.target state ahead) (λ noted state ahead. then_by is (convert_each_tells is q tree.label.place chosen.parameters [] arguments state ahead) (λ given state ahead. then_by is (fallbacks_tell is defaults chosen.target (length arguments) given (length chosen.parameters - length arguments) state ahead) (λ all. chosen_as_tells is tree chosen all)))
 
 -- 3.4.2: a call asks for its functions where its name has a value, or means nothing and stands in no brackets, without
 -- qualifiers
@@ -110,15 +113,10 @@ function_call_tells : {kept : CxxState → CxxState → Type 0} {told : CxxState
 unfolding function_call
 function_call_tells is asks tree defaults functions arguments state ahead answered = then_by is answered (chosen_call_tells is asks tree defaults arguments)
 
--- by a test of which it is known what it says
-which_by : {kept : CxxState → CxxState → Type 0} {told : CxxState → Ahead → Stopped → Type 0} {state : CxxState} {ahead : Ahead} (b : Bool) {x y : Answer (CxxTree × CxxState)} → (b ≡ true → ToldBy kept told state ahead x) → (b ≡ false → ToldBy kept told state ahead y) → ToldBy kept told state ahead (if b then x else y)
-which_by true x y = x refl
-which_by false x y = y refl
-
 called_first_tells : {kept : CxxState → CxxState → Type 0} {told : CxxState → Ahead → Stopped → Type 0} → IsTold kept told → {q : Questions} → QuestionsTell kept told q → (tree : CxxTree) → DefaultsTell kept told q (path_in tree.label) → (all : List Numbered) (arguments : List CxxTree) (values : List Numbered) (state : CxxState) (ahead : Ahead) → values_among state.graph all ≡ values → UnknownUnasked told tree.label all state ahead
     → (IsAskedSo tree.label all values → ToldBy kept told state ahead (q.call (question q tree.label values arguments state) state)) → ToldBy kept told state ahead (called_first q tree all arguments values state)
 called_first_tells is asks tree defaults all arguments [] state ahead are unknown answered =
-    which_by (is_asked_for tree.label all) (λ asked. function_call_tells is asks tree defaults [] arguments state ahead (answered asked))
+    when_by (is_asked_for tree.label all) (λ asked. function_call_tells is asks tree defaults [] arguments state ahead (answered asked))
     (λ not_asked. value_call_tells is asks tree all arguments state ahead (λ none. unknown none (subst (λ (some : List Numbered). is_asked_for tree.label some ≡ false) none not_asked)))
 called_first_tells is asks tree defaults all arguments (one ∷ others) state ahead are unknown answered =
     if_by (is_function state.graph one.fact.what) (function_call_tells is asks tree defaults (one ∷ others) arguments state ahead (answered tt))

@@ -29,17 +29,19 @@ use Rattle.cxx_language_laws.proofs.TellsPrimary.{arguments_tell, called_tells, 
 
 -- ---- postfix expressions
 
-call_step_tells : {S : Type 0} {kept : S → S → Type 0} {told : S → Ahead → Stopped → Type 0} → IsTold kept told → {asks : Phrases S} {inner : Inner S} → PhrasesTell kept told asks inner → InnerTell kept told inner → (from : Ahead) (function : CxxTree) → Tells kept told (call_step asks inner from function)
+call_step_tells : {S : Type 0} {kept : S → S → Type 0} {told : S → Ahead → Stopped → Type 0} → IsTold kept told → {asks : Phrases S} {inner : Inner S} → PhrasesTell kept told asks inner → InnerTell kept told inner → (from : Ahead) (function : CxxTree) (state : S) (ahead : Ahead) → IsPostfix asks inner from function state ahead → is_punct punct.LEFT_PARENTHESIS (kind_ahead ahead) ≡ true → ToldIn kept told state ahead (call_step asks inner from function state ahead)
 unfolding call_step
-call_step_tells is asks inner from function state ahead = then_in is (arguments_tell is asks inner state ahead) (λ arguments state ahead. then_in is (looked_in is state ahead) (λ to state ahead. then_in is (ask_in ahead (asks.whole (called_tree function arguments from to) (refl, refl) state ahead)) (λ tree. give_in is (More tree))))
+call_step_tells is {asks = a} asks inner from function state ahead reads opened =
+    then_from (λ arguments. looked >>= λ to. ask (a.whole (called_tree function arguments from to)) >>= λ tree. give (More tree)) (arguments_tell is asks inner state ahead) (λ one lists keeps ends.
+    then_in is (ask_from one.rest ends (asks.through state ahead (record { from = from; callee = function; reads = reads; opened = opened; arguments = one.value; at = one.state; rest = one.rest; lists = lists }) keeps)) (λ tree. give_in is (More tree)))
 
 subscript_step_tells : {S : Type 0} {kept : S → S → Type 0} {told : S → Ahead → Stopped → Type 0} → IsTold kept told → {asks : Phrases S} {inner : Inner S} → PhrasesTell kept told asks inner → InnerTell kept told inner → (from : Ahead) (object : CxxTree) → Tells kept told (subscript_step asks inner from object)
 unfolding subscript_step
-subscript_step_tells is asks inner from object state ahead = then_in is (taken_in is state ahead) (λ place state ahead. then_in is (inner.expression level.Whole state ahead) (λ index state ahead. then_in is (tokens_in is (punct_in unit_is_told punct.RIGHT_BRACKET) state ahead) (λ closed state ahead. then_in is (looked_in is state ahead) (λ to state ahead. then_in is (ask_in ahead (asks.whole (subscript_tree place object index from to) (refl, refl) state ahead)) (λ tree. give_in is (More tree))))))
+subscript_step_tells is asks inner from object state ahead = then_in is (taken_in is state ahead) (λ place state ahead. then_in is (inner.expression level.Whole state ahead) (λ index state ahead. then_in is (tokens_in is (punct_in unit_is_told punct.RIGHT_BRACKET) state ahead) (λ closed state ahead. then_in is (looked_in is state ahead) (λ to state ahead. then_in is (ask_in ahead (asks.whole (subscript_tree place object index from to) refl state ahead)) (λ tree. give_in is (More tree))))))
 
 step_step_tells : {S : Type 0} {kept : S → S → Type 0} {told : S → Ahead → Stopped → Type 0} → IsTold kept told → {asks : Phrases S} {inner : Inner S} → PhrasesTell kept told asks inner → InnerTell kept told inner → (from : Ahead) (operand : CxxTree) → Tells kept told (step_step asks from operand)
 unfolding step_step
-step_step_tells is asks inner from operand state ahead = then_in is (looked_in is state ahead) (λ at state ahead. then_in is (taken_in is state ahead) (λ place state ahead. then_in is (looked_in is state ahead) (λ to state ahead. then_in is (ask_in ahead (asks.whole (step_tree (operator_ahead at) place operand from to) (refl, refl) state ahead)) (λ tree. give_in is (More tree)))))
+step_step_tells is asks inner from operand state ahead = then_in is (looked_in is state ahead) (λ at state ahead. then_in is (taken_in is state ahead) (λ place state ahead. then_in is (looked_in is state ahead) (λ to state ahead. then_in is (ask_in ahead (asks.whole (step_tree (operator_ahead at) place operand from to) refl state ahead)) (λ tree. give_in is (More tree)))))
 
 -- a name that is whole begins
 none_whole : (ahead : Ahead) → begins_name ahead ≡ false → is_whole_name ahead ≡ true → ⊥
@@ -78,7 +80,7 @@ selected_step_tells is {asks = a} asks number from object state ahead reads sele
 postfix_step_tells : {S : Type 0} {kept : S → S → Type 0} {told : S → Ahead → Stopped → Type 0} → IsTold kept told → {asks : Phrases S} {inner : Inner S} → PhrasesTell kept told asks inner → InnerTell kept told inner → (from : Ahead) (so_far : CxxTree) (state : S) (ahead : Ahead) → IsPostfix asks inner from so_far state ahead → ToldIn kept told state ahead (postfix_step asks inner from so_far state ahead)
 unfolding postfix_step
 postfix_step_tells is asks inner from so_far state ahead reads =
-    if_in (is_punct punct.LEFT_PARENTHESIS (kind_ahead ahead)) (call_step_tells is asks inner from so_far state ahead) (
+    when_in (is_punct punct.LEFT_PARENTHESIS (kind_ahead ahead)) (λ opened. call_step_tells is asks inner from so_far state ahead reads opened) (
     if_in (is_punct punct.LEFT_BRACKET (kind_ahead ahead)) (subscript_step_tells is asks inner from so_far state ahead) (
     if_in (is_step (kind_ahead ahead)) (step_step_tells is asks inner from so_far state ahead) (
     when_in (is_punct punct.DOT (kind_ahead ahead)) (λ dot. selected_step_tells is asks phrase.member from so_far state ahead reads (inl (dot, refl))) (
@@ -94,7 +96,7 @@ postfixes_tell is {asks = a} {inner = i} asks inner from first state ahead reads
 
 cast_tells : {S : Type 0} {kept : S → S → Type 0} {told : S → Ahead → Stopped → Type 0} → IsTold kept told → {asks : Phrases S} {inner : Inner S} → PhrasesTell kept told asks inner → InnerTell kept told inner → Tells kept told (cast_at asks inner)
 unfolding cast_at
-cast_tells is asks inner state ahead = then_in is (looked_in is state ahead) (λ from state ahead. then_in is (taken_in is state ahead) (λ opened state ahead. then_in is (inner.type_id state ahead) (λ of state ahead. then_in is (tokens_in is (punct_in unit_is_told punct.RIGHT_PARENTHESIS) state ahead) (λ closed state ahead. then_in is (inner.expression level.Operand state ahead) (λ operand state ahead. then_in is (looked_in is state ahead) (λ to state ahead. ask_in ahead (asks.whole (cast_tree (codes "(") of operand from to) (refl, refl) state ahead)))))))
+cast_tells is asks inner state ahead = then_in is (looked_in is state ahead) (λ from state ahead. then_in is (taken_in is state ahead) (λ opened state ahead. then_in is (inner.type_id state ahead) (λ of state ahead. then_in is (tokens_in is (punct_in unit_is_told punct.RIGHT_PARENTHESIS) state ahead) (λ closed state ahead. then_in is (inner.expression level.Operand state ahead) (λ operand state ahead. then_in is (looked_in is state ahead) (λ to state ahead. ask_in ahead (asks.whole (cast_tree (codes "(") of operand from to) refl state ahead)))))))
 
 parenthesis_part_tells : {S : Type 0} {kept : S → S → Type 0} {told : S → Ahead → Stopped → Type 0} → IsTold kept told → {asks : Phrases S} {inner : Inner S} → PhrasesTell kept told asks inner → InnerTell kept told inner → Tells kept told (parenthesis_part asks inner)
 unfolding parenthesis_part
@@ -140,11 +142,11 @@ bracket_tells is {asks = a} asks inner state ahead opens = bracket_by_tells is a
 
 prefix_tells : {S : Type 0} {kept : S → S → Type 0} {told : S → Ahead → Stopped → Type 0} → IsTold kept told → {asks : Phrases S} {inner : Inner S} → PhrasesTell kept told asks inner → InnerTell kept told inner → Tells kept told (prefix_at asks inner)
 unfolding prefix_at
-prefix_tells is asks inner state ahead = then_in is (looked_in is state ahead) (λ from state ahead. then_in is (taken_in is state ahead) (λ operator state ahead. then_in is (inner.expression level.Operand state ahead) (λ operand state ahead. then_in is (looked_in is state ahead) (λ to state ahead. ask_in ahead (asks.whole (prefix_tree (operator_ahead from) operand from to) (refl, refl) state ahead)))))
+prefix_tells is asks inner state ahead = then_in is (looked_in is state ahead) (λ from state ahead. then_in is (taken_in is state ahead) (λ operator state ahead. then_in is (inner.expression level.Operand state ahead) (λ operand state ahead. then_in is (looked_in is state ahead) (λ to state ahead. ask_in ahead (asks.whole (prefix_tree (operator_ahead from) operand from to) refl state ahead)))))
 
 size_tells : {S : Type 0} {kept : S → S → Type 0} {told : S → Ahead → Stopped → Type 0} → IsTold kept told → {asks : Phrases S} {inner : Inner S} → PhrasesTell kept told asks inner → InnerTell kept told inner → Tells kept told (size_at asks inner)
 unfolding size_at
-size_tells is asks inner state ahead = then_in is (looked_in is state ahead) (λ from state ahead. then_in is (taken_in is state ahead) (λ word state ahead. then_in is (inner.sized state ahead) (λ sized state ahead. then_in is (looked_in is state ahead) (λ to state ahead. ask_in ahead (asks.whole (size_tree sized from to) (refl, refl) state ahead)))))
+size_tells is asks inner state ahead = then_in is (looked_in is state ahead) (λ from state ahead. then_in is (taken_in is state ahead) (λ word state ahead. then_in is (inner.sized state ahead) (λ sized state ahead. then_in is (looked_in is state ahead) (λ to state ahead. ask_in ahead (asks.whole (size_tree sized from to) refl state ahead)))))
 
 primary_part_tells : {S : Type 0} {kept : S → S → Type 0} {told : S → Ahead → Stopped → Type 0} → IsTold kept told → {asks : Phrases S} {inner : Inner S} → PhrasesTell kept told asks inner → InnerTell kept told inner → Tells kept told (primary_part asks inner)
 unfolding primary_part

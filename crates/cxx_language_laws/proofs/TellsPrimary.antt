@@ -53,7 +53,7 @@ arguments_tell is {asks = a} asks inner state ahead = if_in (a.room == 0) (quiet
 
 literal_part_tells : {S : Type 0} {kept : S → S → Type 0} {told : S → Ahead → Stopped → Type 0} → IsTold kept told → {asks : Phrases S} {inner : Inner S} → PhrasesTell kept told asks inner → InnerTell kept told inner → Tells kept told (literal_part asks)
 unfolding literal_part
-literal_part_tells is asks inner state ahead = then_in is (looked_in is state ahead) (λ from state ahead. then_in is (taken_in is state ahead) (λ token state ahead. then_in is (looked_in is state ahead) (λ to state ahead. ask_in ahead (asks.whole (literal_tree from to) (refl, refl) state ahead))))
+literal_part_tells is asks inner state ahead = then_in is (looked_in is state ahead) (λ from state ahead. then_in is (taken_in is state ahead) (λ token state ahead. then_in is (looked_in is state ahead) (λ to state ahead. ask_in ahead (asks.whole (literal_tree from to) refl state ahead))))
 
 -- ---- names
 
@@ -80,7 +80,7 @@ value_name_tells is asks inner state ahead begins = if_in (is_punct punct.LEFT_P
 
 functional_cast_tells : {S : Type 0} {kept : S → S → Type 0} {told : S → Ahead → Stopped → Type 0} → IsTold kept told → {asks : Phrases S} {inner : Inner S} → PhrasesTell kept told asks inner → InnerTell kept told inner → (from : Ahead) (of : CxxType) → Tells kept told (functional_cast asks inner from of)
 unfolding functional_cast
-functional_cast_tells is asks inner from of state ahead = then_in is (arguments_tell is asks inner state ahead) (λ arguments state ahead. then_in is (looked_in is state ahead) (λ to state ahead. ask_in ahead (asks.whole (functional_tree of arguments from to) (refl, refl) state ahead)))
+functional_cast_tells is asks inner from of state ahead = then_in is (arguments_tell is asks inner state ahead) (λ arguments state ahead. then_in is (looked_in is state ahead) (λ to state ahead. ask_in ahead (asks.whole (functional_tree of arguments from to) refl state ahead)))
 
 functional_tells : {S : Type 0} {kept : S → S → Type 0} {told : S → Ahead → Stopped → Type 0} → IsTold kept told → {asks : Phrases S} {inner : Inner S} → PhrasesTell kept told asks inner → InnerTell kept told inner → (from : Ahead) (of : CxxType) → Tells kept told (functional_at asks inner from of)
 unfolding functional_at
@@ -117,7 +117,7 @@ cast_opened_tells is asks inner state ahead = then_in is (taken_in is state ahea
 
 cast_closed_tells : {S : Type 0} {kept : S → S → Type 0} {told : S → Ahead → Stopped → Type 0} → IsTold kept told → {asks : Phrases S} {inner : Inner S} → PhrasesTell kept told asks inner → InnerTell kept told inner → (from : Ahead) (of : CxxType × List CxxTree) → Tells kept told (cast_closed asks inner from of)
 unfolding cast_closed
-cast_closed_tells is asks inner from of state ahead = then_in is (tokens_in is (punct_in unit_is_told punct.LEFT_PARENTHESIS) state ahead) (λ opened state ahead. then_in is (inner.expression level.Whole state ahead) (λ operand state ahead. then_in is (tokens_in is (punct_in unit_is_told punct.RIGHT_PARENTHESIS) state ahead) (λ closed state ahead. then_in is (looked_in is state ahead) (λ to state ahead. ask_in ahead (asks.whole (cast_tree (word_ahead from) of operand from to) (refl, refl) state ahead)))))
+cast_closed_tells is asks inner from of state ahead = then_in is (tokens_in is (punct_in unit_is_told punct.LEFT_PARENTHESIS) state ahead) (λ opened state ahead. then_in is (inner.expression level.Whole state ahead) (λ operand state ahead. then_in is (tokens_in is (punct_in unit_is_told punct.RIGHT_PARENTHESIS) state ahead) (λ closed state ahead. then_in is (looked_in is state ahead) (λ to state ahead. ask_in ahead (asks.whole (cast_tree (word_ahead from) of operand from to) refl state ahead)))))
 
 cast_word_tells : {S : Type 0} {kept : S → S → Type 0} {told : S → Ahead → Stopped → Type 0} → IsTold kept told → {asks : Phrases S} {inner : Inner S} → PhrasesTell kept told asks inner → InnerTell kept told inner → Tells kept told (cast_word_at asks inner)
 unfolding cast_word_at
@@ -127,7 +127,7 @@ cast_word_tells is asks inner state ahead = then_in is (looked_in is state ahead
 
 pub parenthesis_tells : {S : Type 0} {kept : S → S → Type 0} {told : S → Ahead → Stopped → Type 0} → IsTold kept told → {asks : Phrases S} {inner : Inner S} → PhrasesTell kept told asks inner → InnerTell kept told inner → Tells kept told (parenthesis_at asks inner)
 unfolding parenthesis_at
-parenthesis_tells is asks inner state ahead = then_in is (looked_in is state ahead) (λ from state ahead. then_in is (taken_in is state ahead) (λ opened state ahead. then_in is (inner.expression level.Whole state ahead) (λ inside state ahead. then_in is (tokens_in is (punct_in unit_is_told punct.RIGHT_PARENTHESIS) state ahead) (λ closed state ahead. then_in is (looked_in is state ahead) (λ to state ahead. ask_in ahead (asks.whole (parenthesis_tree inside from to) (refl, refl) state ahead))))))
+parenthesis_tells is asks inner state ahead = then_in is (looked_in is state ahead) (λ from state ahead. then_in is (taken_in is state ahead) (λ opened state ahead. then_in is (inner.expression level.Whole state ahead) (λ inside state ahead. then_in is (tokens_in is (punct_in unit_is_told punct.RIGHT_PARENTHESIS) state ahead) (λ closed state ahead. then_in is (looked_in is state ahead) (λ to state ahead. ask_in ahead (asks.whole (parenthesis_tree inside from to) refl state ahead))))))
 
 -- ---- all of them
 

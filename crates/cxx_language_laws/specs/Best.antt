@@ -8,14 +8,16 @@ use Rattle.cxx_model.specs.declared.types.FactId.{FactId}
 use Rattle.cxx_model.specs.Choice.Better.{IsBest}
 use Rattle.cxx_model.specs.Facts.Declarations.{CxxFact, CxxGraph, CxxName}
 use Rattle.cxx_meaning.specs.Conversions.Standard.{CxxOperand}
+use Rattle.cxx_meaning.specs.Lookups.Member.{member}
 use Rattle.cxx_meaning.specs.Lookups.Wanted.{any_name}
 use Rattle.cxx_reading.specs.declared.region.Region.{Region}
 use Rattle.cxx_reading.specs.Givers.{with_givers}
 use Rattle.cxx_reading.specs.Paths.{name_in, region_of, sought_in}
-use Rattle.cxx_reading.specs.Seen.{Numbered, numbered_at}
+use Rattle.cxx_reading.specs.Seen.{Numbered, fact_numbers, numbered_at}
 use Rattle.cxx_reading.specs.State.{CxxState, CxxCall}
 use Rattle.cxx_reading.specs.Trees.{CxxPath, is_plain_path, last_part}
 use Rattle.cxx_reading.specs.Units.{CxxReading}
+use Rattle.cxx_expr.specs.Members.{class_of_object}
 use Rattle.cxx_expr.specs.Names.{values_among}
 use Rattle.cxx_overload.specs.Calls.{call_of}
 use Rattle.cxx_overload.specs.Candidates.{candidates}
@@ -53,35 +55,63 @@ values_besides graph scope where_ path is_open operands = with_givers graph scop
 abbrev pub values_of_call : CxxGraph → ℕ → Region → CxxPath → Bool → List CxxOperand → List Numbered
 values_of_call graph scope where_ path is_open operands = values_of graph where_ (name_in path) ++ values_besides graph scope where_ path is_open operands
 
--- 13.3.2: a function can be called with the arguments, or it is not viable for the first reason that holds
-abbrev pub IsRatedSo : CxxGraph → List CxxOperand → Rated → Type 0
-IsRatedSo graph operands one = IsOutcome graph operands one.candidate one.sequences one.outcome
-
--- The call means one of the functions that its name means among the declarations before it, or that the types of its
--- arguments find among them: the one that is viable and better than every other viable one.
-pub record IsBestCall (state : CxxState) (call : CxxCall) : Type 0 where
-  -- what is declared before the call, and behind it
-  pub before : CxxGraph
-  pub later : List CxxFact
-  pub stands : state.graph.facts ≡ before.facts ++ later
-  -- the scope in which it stands, its name with its qualifiers, whether that stands in no brackets, and where its last part
-  -- is looked up
+-- 13.3.1.1.1: Some functions are those that a call by a name may mean: the scope in which it stands, its name with its
+-- qualifiers, whether that stands in no brackets, and where its last part is looked up.
+pub record AreOfName (before : CxxGraph) (operands : List CxxOperand) (functions : List Numbered) : Type 0 where
   pub scope : ℕ
   pub path : CxxPath
   pub is_open : Bool
   pub where_ : Region
   pub qualifies : region_of before scope path ≡ Ok where_
   pub clear : IsClear (sought_in before any_name where_ (name_in path))
-  -- all functions that it may mean, with the sequences of its arguments
+  pub are : functions ≡ values_of_call before scope where_ path is_open operands
+
+-- 5.2.5, 10.2, 13.3.1.1.1: Some functions are the members with the name that is called of the class of an object.
+pub record AreMembers (before : CxxGraph) (object : CxxOperand) (path : CxxPath) (functions : List Numbered) : Type 0 where
+  pub class : ℕ
+  pub of_object : class_of_object object ≡ Some class
+  pub found : List FactId
+  pub way : List ℕ
+  pub finds : member before any_name (record { 0 = class }) (name_in path) ≡ Ok (member_found.Set found way)
+  pub are : functions ≡ values_among before (numbered_at before (fact_numbers found))
+
+-- the same by whatever name
+pub record AreOfObject (before : CxxGraph) (object : CxxOperand) (functions : List Numbered) : Type 0 where
+  pub path : CxxPath
+  pub are : AreMembers before object path functions
+
+-- 13.3.1.1.1: which functions a call may mean, with its object, where it has one, and its arguments
+abbrev pub MayMean : CxxGraph → Option CxxOperand → List CxxOperand → List Numbered → Type 0
+MayMean before None operands functions = AreOfName before operands functions
+MayMean before (Some object) operands functions = AreOfObject before object functions
+
+-- 13.3.2: a function can be called with the object and the arguments, or it is not viable for the first reason that holds
+abbrev pub IsRatedSo : CxxGraph → Option CxxOperand → List CxxOperand → Rated → Type 0
+IsRatedSo graph object operands one = IsOutcome graph object operands one.candidate one.sequences one.outcome
+
+-- The call means one of the functions that its name means among the declarations before it, or that the types of its
+-- arguments find among them, or of the members of the class of its object: the one that is viable and better than every
+-- other viable one.
+pub record IsBestCall (state : CxxState) (call : CxxCall) : Type 0 where
+  -- what is declared before the call, and behind it
+  pub before : CxxGraph
+  pub later : List CxxFact
+  pub stands : state.graph.facts ≡ before.facts ++ later
+  -- its object, where it has one, its arguments, and all functions that it may mean
+  pub object : Option CxxOperand
+  pub operands : List CxxOperand
+  pub functions : List Numbered
+  pub may_mean : MayMean before object operands functions
+  -- these with the sequences of the object and the arguments
   pub all : List Rated
-  pub rated_so : rated before call.operands (candidates (values_of_call before scope where_ path is_open call.operands)) ≡ Ok all
+  pub rated_so : rated before object operands (candidates functions) ≡ Ok all
   -- why each that is not viable is not
-  pub reasons : AllByRecursion (IsRatedSo before call.operands) all
+  pub reasons : AllByRecursion (IsRatedSo before object operands) all
   -- the function that is meant
   pub meant : Rated
   pub best : IsBest position_of (beats before) (viable all) meant
-  -- its candidates, their outcomes, the rows of those that are viable, and the chosen one
-  pub keeps : call ≡ call_of call.place call.operands (position_of meant) all
+  -- its object and its arguments, its candidates, their outcomes, the rows of those that are viable, and the chosen one
+  pub keeps : call ≡ call_of call.place object operands (position_of meant) all
 
 abbrev pub AreBestCalls : CxxState → Type 0
 AreBestCalls state = AllByRecursion (IsBestCall state) state.calls

@@ -1,5 +1,5 @@
 -- What is true of the fault with which the reading of a unit stops, where that is one of a call (13.3) or of a name (3.4).
-use Rattle.std.specs.Prelude.{ℕ, ◌≤◌, ◌<◌, ◌≡◌, ◌⊎◌, Bool, List, [], ◌∷◌, ◌++◌, length, Option, Some, Ok, Err, true, false, codes}
+use Rattle.std.specs.Prelude.{ℕ, ◌≤◌, ◌<◌, ◌≡◌, ◌⊎◌, Bool, List, [], ◌∷◌, ◌++◌, length, Option, Some, None, Ok, Err, true, false, codes}
 use Rattle.std.specs.List.{Contains}
 use Rattle.cxx_model.specs.declared.evidence.Evidence.TheVariants as evidence
 use Rattle.cxx_model.specs.declared.fault.FaultText.{FaultText}
@@ -19,6 +19,7 @@ use Rattle.cxx_model.specs.declared.types.ScopeId.{ScopeId}
 use Rattle.cxx_model.specs.Facts.Declarations.{CxxFact, CxxGraph, CxxName, CxxSpecialisation, spelled}
 use Rattle.cxx_model.specs.Stops.{Faulty}
 use Rattle.cxx_model.specs.Text.Lexemes.{Lexeme, first_place}
+use Rattle.cxx_model.specs.Types.Trees.{CxxType}
 use Rattle.cxx_meaning.specs.Conversions.BuiltIn.{CxxBuiltIn, built_in_result}
 use Rattle.cxx_meaning.specs.Conversions.Standard.{CxxOperand}
 use Rattle.cxx_meaning.specs.Lookups.Directives.{reached}
@@ -35,7 +36,7 @@ use Rattle.cxx_reading.specs.Linked.{scope_id}
 use Rattle.cxx_reading.specs.Paths.{by_bases, first_region, name_in, place_of_fact, region_by, region_of, sought_in}
 use Rattle.cxx_reading.specs.Initializers.{operand_of}
 use Rattle.cxx_reading.specs.Reads.{Ahead, Got, More, kind_ahead, place_ahead, behind}
-use Rattle.cxx_reading.specs.Seen.{Numbered}
+use Rattle.cxx_reading.specs.Seen.{Numbered, fact_numbers, numbered_at}
 use Rattle.cxx_reading.specs.State.{CxxState, first_state, unit_scope}
 use Rattle.cxx_reading.specs.Tokens.{begins_name, behind_name, is_end, is_plain_name, is_punct, is_whole_name, path_ahead}
 use Rattle.cxx_reading.specs.Trees.{CxxPath, CxxPathPart, CxxTree, last_part}
@@ -46,12 +47,14 @@ use Rattle.cxx_phrases.specs.Phrases.{Phrases, Inner}
 use Rattle.cxx_phrases.specs.Primary.{called_at, parenthesis_at, primary_at}
 use Rattle.cxx_phrases.specs.Productions as phrase
 use Rattle.cxx_expr.specs.Converting.{convert_each}
+use Rattle.cxx_expr.specs.Calls.{calls_member}
 use Rattle.cxx_expr.specs.Members.{class_of_object}
-use Rattle.cxx_expr.specs.Operands.{built_operand, judged_each}
+use Rattle.cxx_expr.specs.Names.{path_in, values_among, word_in}
+use Rattle.cxx_expr.specs.Operands.{built_operand, judged_each, object_operand}
 use Rattle.cxx_overload.specs.Decided.{NoneViable, IsAmbiguous}
 use Rattle.cxx_language.specs.Asked.{answers, inner_at, phrases_at}
 use Rattle.cxx_language.specs.Units.{declaration_at}
-use Rattle.cxx_language_laws.specs.Best.{IsClear, functions_by_types, values_of_call}
+use Rattle.cxx_language_laws.specs.Best.{AreMembers, IsClear, functions_by_types, values_of_call}
 use Rattle.cxx_language_laws.specs.Stopping.{Gives, IsInnermost, Part, StopsWithin, a_declaration}
 
 -- ---- tokens
@@ -118,12 +121,6 @@ called_by_types call = functions_by_types call.at.graph (called call) call.is_op
 abbrev pub meant : {room : ℕ} {before : CxxState} {ahead : Ahead} (call : IsUnitCall room before ahead) → IsFoundClear call → List Numbered
 meant call clear = values_of_call call.at.graph call.at.here.scope clear.where_ (called call) call.is_open (operands call)
 
--- 13.3: A true fault of the call, with its evidence: no function that it may mean is viable, each for its reason, or some
--- are and none is better than every other one.
-pub data IsChoiceFault (before : CxxState) (ahead : Ahead) (fault : Fault) : Type 0 where
-  no_viable_function : (room : ℕ) (call : IsUnitCall room before ahead) (clear : IsFoundClear call) → NoneViable (place_of_call call) (operands call) call.at.graph (meant call clear) (Faulty fault) → IsChoiceFault before ahead fault
-  ambiguous_call : (room : ℕ) (call : IsUnitCall room before ahead) (clear : IsFoundClear call) → IsAmbiguous (place_of_call call) (operands call) call.at.graph (meant call clear) (Faulty fault) → IsChoiceFault before ahead fault
-
 -- ---- members of objects (5.2.5)
 
 -- 5.2: what was read of a postfix expression that begins at a place, up to what is ahead: a primary expression, one in
@@ -133,6 +130,52 @@ pub data IsPostfix {S : Type 0} (asks : Phrases S) (inner : Inner S) (from : Ahe
   is_bracketed : (before at : S) (first : CxxTree) (rest : Ahead) → Gives (parenthesis_at asks inner) before from first at rest → IsPostfix asks inner from first at rest
   is_called : (before at : S) (path : CxxPath) (opened : Ahead) (first : CxxTree) (rest : Ahead) → Gives (called_at asks inner (codes "(") from path) before opened first at rest → IsPostfix asks inner from first at rest
   goes_on : (before at : S) (so_far next : CxxTree) (ahead rest : Ahead) → IsPostfix asks inner from so_far before ahead → Gives (postfix_step asks inner from so_far) before ahead (More next) at rest → IsPostfix asks inner from next at rest
+
+-- 5.2.2: What is called was read, and the bracket of its arguments is ahead. These are read from a state, and then reading
+-- stands in another.
+pub record IsCallOf {S : Type 0} (asks : Phrases S) (inner : Inner S) (before : S) (ahead : Ahead) : Type 0 where
+  pub from : Ahead
+  pub callee : CxxTree
+  pub reads : IsPostfix asks inner from callee before ahead
+  pub opened : is_punct punct.LEFT_PARENTHESIS (kind_ahead ahead) ≡ true
+  pub arguments : List CxxTree
+  pub at : S
+  pub rest : Ahead
+  pub lists : Gives (arguments_at asks inner) before ahead arguments at rest
+
+abbrev pub IsUnitCallOf : ℕ → CxxState → Ahead → Type 0
+IsUnitCallOf room before ahead = IsCallOf (phrases_at room) (inner_at room).phrases before ahead
+
+-- 5.2.5: what is called is a function of the class of an object
+pub record IsMemberCall (room : ℕ) (before : CxxState) (ahead : Ahead) : Type 0 where
+  pub call : IsUnitCallOf room before ahead
+  pub is_member : calls_member call.at.graph call.callee.label ≡ true
+
+-- what is declared once its arguments are read
+abbrev pub declared_then : {room : ℕ} {before : CxxState} {ahead : Ahead} → IsMemberCall room before ahead → CxxGraph
+declared_then is = is.call.at.graph
+
+-- the name that is called
+abbrev pub member_part : {room : ℕ} {before : CxxState} {ahead : Ahead} → IsMemberCall room before ahead → CxxPathPart
+member_part is = word_in is.call.callee.label
+
+-- what the arguments give
+abbrev pub member_operands : {room : ℕ} {before : CxxState} {ahead : Ahead} → IsMemberCall room before ahead → List CxxOperand
+member_operands is = judged_each answers is.call.arguments is.call.at
+
+-- 13.3.1.1.1: the object has the type of what is called, and the functions are the members of its class with that name
+pub record AreMembersCalled {room : ℕ} {before : CxxState} {ahead : Ahead} (is : IsMemberCall room before ahead) (functions : List Numbered) : Type 0 where
+  pub of : CxxType
+  pub typed : is.call.callee.label.of ≡ Some of
+  pub are : AreMembers (declared_then is) (object_operand of) (path_in is.call.callee.label) functions
+
+-- 13.3: A true fault of the call, with its evidence: no function that it may mean is viable, each for its reason, or some
+-- are and none is better than every other one.
+pub data IsChoiceFault (before : CxxState) (ahead : Ahead) (fault : Fault) : Type 0 where
+  no_viable_function : (room : ℕ) (call : IsUnitCall room before ahead) (clear : IsFoundClear call) → NoneViable (place_of_call call) None (operands call) call.at.graph (meant call clear) (Faulty fault) → IsChoiceFault before ahead fault
+  ambiguous_call : (room : ℕ) (call : IsUnitCall room before ahead) (clear : IsFoundClear call) → IsAmbiguous (place_of_call call) None (operands call) call.at.graph (meant call clear) (Faulty fault) → IsChoiceFault before ahead fault
+  no_viable_member : (room : ℕ) (is : IsMemberCall room before ahead) (functions : List Numbered) (members : AreMembersCalled is functions) → NoneViable (member_part is).place (Some (object_operand members.of)) (member_operands is) (declared_then is) functions (Faulty fault) → IsChoiceFault before ahead fault
+  ambiguous_member : (room : ℕ) (is : IsMemberCall room before ahead) (functions : List Numbered) (members : AreMembersCalled is functions) → IsAmbiguous (member_part is).place (Some (object_operand members.of)) (member_operands is) (declared_then is) functions (Faulty fault) → IsChoiceFault before ahead fault
 
 -- which operator selects the member
 abbrev pub IsSelector : ℕ → Ahead → Type 0
@@ -170,6 +213,25 @@ pub record IsSoughtMember (before : CxxState) (ahead : Ahead) (finds : MemberFou
   pub spelled_so : (selected_part ahead).word ≡ word
   pub is_at : (selected_part ahead).place ≡ fault.place
   pub finds_so : member at.graph any_name (record { 0 = class }) (spelled word) ≡ Ok finds
+
+-- 5.2.2, 10.2: A member that is called is looked up again where its arguments are read, in the class of the object, at the
+-- place of the fault.
+pub record IsSoughtCalled (before : CxxState) (ahead : Ahead) (finds : MemberFound) (fault : Fault) (word : List ℕ) : Type 0 where
+  pub room : ℕ
+  pub is : IsMemberCall room before ahead
+  pub of : CxxType
+  pub typed : is.call.callee.label.of ≡ Some of
+  pub class : ℕ
+  pub of_object : class_of_object (object_operand of) ≡ Some class
+  pub spelled_so : (member_part is).word ≡ word
+  pub is_at : (member_part is).place ≡ fault.place
+  pub finds_so : member (declared_then is) any_name (record { 0 = class }) (spelled word) ≡ Ok finds
+
+-- 3.3.7: nothing that is found has a value
+abbrev pub HasNoValue : CxxGraph → MemberFound → Type 0
+HasNoValue graph member_found.Empty = Unit {0}
+HasNoValue graph (member_found.Set all path) = values_among graph (numbered_at graph (fact_numbers all)) ≡ []
+HasNoValue graph (member_found.Ambiguous one two) = ⊥
 
 -- ---- the fault of one name
 
@@ -231,11 +293,13 @@ pub record IsUnknownCall (before : CxxState) (ahead : Ahead) (wanted : Wanted) (
 
 -- 3.4: a part of a name that is not declared: of a name in an expression or a using-declaration, of a type behind `enum`
 -- (3.4.4), of a namespace in an alias or a directive (3.4.6), or of a called name; any of them may stand before `::` (3.4.3);
--- or a name that is no member of an object's class (5.2.5)
+-- or a name that is no member of an object's class (5.2.5); or that of a member that is called and has no value once the
+-- arguments are read (5.2.2), which is told without its word
 pub data IsUnknown (at : CxxState) (ahead : Ahead) (fault : Fault) (word : List ℕ) : Type 0 where
   unknown_name : (wanted : Wanted) (finds : Found) (is : IsNamed wanted finds at ahead fault word) → finds ≡ nothing_in is.is_sought.where_ → IsUnknown at ahead fault word
   unknown_call : (wanted : Wanted) → IsUnknownCall at ahead wanted fault word → IsUnknown at ahead fault word
   unknown_member : IsSoughtMember at ahead member_found.Empty fault word → IsUnknown at ahead fault word
+  unknown_called : (finds : MemberFound) (name : List ℕ) (is : IsSoughtCalled at ahead finds fault name) → HasNoValue (declared_then is.is) finds → word ≡ [] → IsUnknown at ahead fault word
 
 -- 10.2: no member of a class is found, of its own or of its bases
 abbrev pub IsNoMember : CxxGraph → Wanted → ClassId → CxxName → Type 0
@@ -266,6 +330,7 @@ abbrev pub IsNowhere : {at : CxxState} {ahead : Ahead} {fault : Fault} {word : L
 IsNowhere {at = at} {word = word} (unknown_name wanted finds is nothing) = IsNotThere at.graph wanted is.is_sought.where_ (spelled word)
 IsNowhere {word = word} (unknown_call wanted is) = IsNotThere is.call.at.graph wanted is.is_sought.where_ (spelled word)
 IsNowhere (unknown_member is) = Unit {0}
+IsNowhere (unknown_called finds name is none no_word) = Unit {0}
 
 -- 3.4: two different declarations, no overloads, that are found, and their places in the evidence
 pub record AreTwo (graph : CxxGraph) (one two : FactId) (fault : Fault) : Type 0 where
@@ -302,6 +367,8 @@ pub data IsTwofold (at : CxxState) (ahead : Ahead) (fault : Fault) (word : List 
   twofold_inherited : (wanted : Wanted) (class : ClassId) (one two : Hit) → IsNamed wanted (sought.Member class (member_found.Ambiguous one two)) at ahead fault word → AreApart at.graph wanted (spelled word) class one two → AreShown at.graph one two fault → IsTwofold at ahead fault word
   -- 5.2.5, 10.2: two members of an object's class
   twofold_member : (one two : Hit) (is : IsSoughtMember at ahead (member_found.Ambiguous one two) fault word) → AreApart is.at.graph any_name (spelled word) (record { 0 = is.class }) one two → AreShown is.at.graph one two fault → IsTwofold at ahead fault word
+  -- 5.2.2: the same where such a member is called, once the arguments are read
+  twofold_called : (one two : Hit) (is : IsSoughtCalled at ahead (member_found.Ambiguous one two) fault word) → AreApart (declared_then is.is) any_name (spelled word) (record { 0 = is.class }) one two → AreShown (declared_then is.is) one two fault → IsTwofold at ahead fault word
 
 -- ---- the fault of a unit
 

@@ -15,8 +15,9 @@ ghost use Rattle.cxx_language_laws.specs.Told.{IsAmbiguousFault, IsChoiceText, I
 /// Each call of a whole reading means the viable function of its name, declared before it, that is better than every other
 /// viable one (13.3.3). Its candidates are all functions that its name means where it stands (3.4.1, 7.3.4), or in the
 /// namespace or the class that its qualifiers mean (3.4.3), and, where it has no qualifiers and no brackets stand round it, those that
-/// the types of its arguments find besides (3.4.2). Each is viable or not for the first reason that holds (13.3.2), and what
-/// the call keeps of them is so.
+/// the types of its arguments find besides (3.4.2). Those of a call of a member are all members of the class of the object with
+/// that name (5.2.5, 10.2, 13.3.1.1.1), and the object comes before the arguments. Each is viable or not for the first reason
+/// that holds (13.3.2), and what the call keeps of them is so.
 pub fn each_call_is_best()
     ensures { (options : Options) (tokens : List Lexeme) (reading : CxxReading) → unit_reading options tokens ≡ Ok reading → EachCallIsBest reading }
 {}
@@ -29,6 +30,9 @@ pub fn each_call_is_best()
 /// name where the fault is. Once its arguments are read, none of the functions that it may mean is viable for them, or none
 /// is the best. The evidence has exactly a line for each candidate with its reason, or for each viable function with the
 /// first other one that it is not better than.
+/// Or a function of the class of an object was read behind `.` or `->`, its arguments stand there, and the fault is where its
+/// name is. Once they are read, none of the members of the class with that name is viable for the object and the arguments, or
+/// none is the best (5.2.2, 13.3.1.1.1).
 pub fn choice_faults_are_told()
     ensures { (options : Options) (tokens : List Lexeme) (fault : Fault) → unit_reading options tokens ≡ Err (Faulty fault) → IsChoiceText fault.text → IsToldFault tokens fault }
 {}
@@ -47,7 +51,8 @@ pub fn choice_faults_are_told()
 /// by its bases (3.4.3.1, 10.2). The name of a base is looked up where its class is
 /// declared.
 /// Or an object was read, `.` or `->` stands there, and behind it a name without qualifiers where the fault is: its lookup in
-/// the class of the object, or in that of what the pointer points to, finds nothing (5.2.5, 10.2).
+/// the class of the object, or in that of what the pointer points to, finds nothing (5.2.5, 10.2). A function that is found there
+/// and called is looked up again once its arguments are read: a fault with an empty word says that this finds no value (5.2.2).
 pub fn undeclared_names_are_told()
     ensures { (options : Options) (tokens : List Lexeme) (fault : Fault) (word : List ℕ) → unit_reading options tokens ≡ Err (Faulty fault) → fault.text ≡ says.UndeclaredName word → IsUndeclaredFault tokens fault word }
 {}
@@ -61,8 +66,9 @@ pub fn undeclared_names_are_told()
 /// together (3.4.1, 10.2): each is declared in a
 /// subobject to which bases lead, nothing in between declares the name, and the two are of different classes, or one of the
 /// name is nonstatic. The evidence has the places of the two with the bases that lead to each.
-/// Or an object was read, and the name behind `.` or `->` is looked up in its class (5.2.5): two such members are found, and
-/// the evidence has the places of the two with the bases that lead to each.
+/// Or an object was read, and the name behind `.` or `->` is looked up in its class (5.2.5), and again once its arguments are
+/// read where it is called (5.2.2): two such members are found, and the evidence has the places of the two with the bases that
+/// lead to each.
 pub fn ambiguous_names_are_told()
     ensures { (options : Options) (tokens : List Lexeme) (fault : Fault) (word : List ℕ) → unit_reading options tokens ≡ Err (Faulty fault) → fault.text ≡ says.AmbiguousName word → IsAmbiguousFault tokens fault word }
 {}

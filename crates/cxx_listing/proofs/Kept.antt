@@ -3,11 +3,12 @@ use Rattle.std.proofs.Common.{◌≡◌, ◌≤◌, ◌<◌, inl, inr, ℕ, zero
 use Rattle.std.specs.List.{AllByRecursion, Contains, filter, slice_get}
 use Rattle.std.proofs.lemmas.List.{length-map}
 use Rattle.cxx_form.specs.Text.{printed_calls}
-use Rattle.cxx_language_laws.specs.Best.{EachCallIsBest, IsBestCall, values_of_call}
+use Rattle.cxx_language_laws.specs.Best.{EachCallIsBest, IsBestCall}
 use Rattle.cxx_meaning.specs.Conversions.Asking.{Asked, ◌>>=◌}
 use Rattle.cxx_meaning.specs.Conversions.Standard.{CxxOperand}
 use Rattle.cxx_meaning.specs.Lookups.Gathered.{before}
 use Rattle.cxx_model.proofs.Champion.{first_of, later_of, first_or_later}
+use Rattle.cxx_model.specs.declared.facts.MemberKind.{MemberKind}
 use Rattle.cxx_model.specs.declared.place.Place.{Place}
 use Rattle.cxx_model.specs.Facts.Declarations as facts
 use Rattle.cxx_model.specs.Facts.Declarations.{CxxGraph, Declares}
@@ -35,12 +36,12 @@ put_counted : (one : Option CxxCandidate) (later : ℕ → List CxxCandidate) (p
 put_counted None later position at counted = counted position
 put_counted (Some candidate) later position at counted = (at candidate refl, counted (suc position))
 
-placed_by : (position number : ℕ) (place : Place) (defaults : ℕ) (of : CxxType) (candidate : CxxCandidate) → candidate_by position number place defaults of ≡ Some candidate → candidate.position ≡ position
-placed_by position number place defaults (function_of result parameters ellipsis cv) candidate e = cc
-placed_by position number place defaults _ candidate e = absurd cc
+placed_by : (position number : ℕ) (place : Place) (member : MemberKind) (defaults : ℕ) (of : CxxType) (candidate : CxxCandidate) → candidate_by position number place member defaults of ≡ Some candidate → candidate.position ≡ position
+placed_by position number place member defaults (function_of result parameters ellipsis cv) candidate e = cc
+placed_by position number place member defaults _ candidate e = absurd cc
 
 placed : (position number : ℕ) (place : Place) (what : Declares) (others : List Numbered) (candidate : CxxCandidate) → candidate_by_what position number place what others ≡ Some candidate → candidate.position ≡ position
-placed position number place (facts.function of kind flags defaults None) others candidate e = placed_by position number place (defaults_behind number defaults others) of candidate e
+placed position number place (facts.function of kind flags defaults None) others candidate e = placed_by position number place kind (defaults_behind number defaults others) of candidate e
 placed position number place _ others candidate e = absurd cc
 
 candidates_counted : (all : List Numbered) (from : ℕ) → AreCounted from (candidates_from all from)
@@ -67,17 +68,17 @@ first_in_order : (from : ℕ) (all : List Rated) (first : Asked Rated) (later : 
 first_in_order from all (Err class) later at ordered e = absurd cc
 first_in_order from all (Ok one) later at ordered e = others_in_order one from all later (at one refl) ordered e
 
-rated_in_order : (graph : CxxGraph) (operands : List CxxOperand) (some : List CxxCandidate) (from : ℕ) (all : List Rated) → AreCounted from some → rated graph operands some ≡ Ok all → AreInOrder from all
+rated_in_order : (graph : CxxGraph) (object : Option CxxOperand) (operands : List CxxOperand) (some : List CxxCandidate) (from : ℕ) (all : List Rated) → AreCounted from some → rated graph object operands some ≡ Ok all → AreInOrder from all
 unfolding rated
-rated_in_order graph operands [] from all counted e = subst (λ (rs : List Rated). AreInOrder from rs) (ok_is [] all e) tt
-rated_in_order graph operands (candidate ∷ others) from all counted e =
-    first_in_order from all (rated_one graph operands candidate) (rated graph operands others)
-    (λ one is. ap (λ (c : CxxCandidate). c.position) (same_candidate graph operands candidate one is) ∙ counted.0)
-    (λ rest is. rated_in_order graph operands others (suc from) rest counted.1 is) e
+rated_in_order graph object operands [] from all counted e = subst (λ (rs : List Rated). AreInOrder from rs) (ok_is [] all e) tt
+rated_in_order graph object operands (candidate ∷ others) from all counted e =
+    first_in_order from all (rated_one graph object operands candidate) (rated graph object operands others)
+    (λ one is. ap (λ (c : CxxCandidate). c.position) (same_candidate graph object operands candidate one is) ∙ counted.0)
+    (λ rest is. rated_in_order graph object operands others (suc from) rest counted.1 is) e
 
-all_in_order : (graph : CxxGraph) (operands : List CxxOperand) (declared : List Numbered) (all : List Rated) → rated graph operands (candidates declared) ≡ Ok all → AreInOrder 1 all
+all_in_order : (graph : CxxGraph) (object : Option CxxOperand) (operands : List CxxOperand) (declared : List Numbered) (all : List Rated) → rated graph object operands (candidates declared) ≡ Ok all → AreInOrder 1 all
 unfolding candidates
-all_in_order graph operands declared all e = rated_in_order graph operands (candidates_from declared 1) 1 all (candidates_counted declared 1) e
+all_in_order graph object operands declared all e = rated_in_order graph object operands (candidates_from declared 1) 1 all (candidates_counted declared 1) e
 
 -- ---- one of them
 
@@ -105,7 +106,7 @@ of_filter test (first ∷ others) one m = kept_of (test first) first (filter tes
 
 well_kept : (state : CxxState) (call : CxxCall) → IsBestCall state call → IsWellKept call
 well_kept state call is =
-    let ordered : AreInOrder 1 is.all = all_in_order is.before call.operands (values_of_call is.before is.scope is.where_ is.path is.is_open call.operands) is.all is.rated_so in
+    let ordered : AreInOrder 1 is.all = all_in_order is.before is.object is.operands is.functions is.all is.rated_so in
     let at = within 1 is.all ordered is.meant (of_filter (λ one. is_viable one.outcome) is.all is.meant is.best.member) in
     let count : length call.candidates ≡ length is.all = ap (λ (c : CxxCall). length c.candidates) is.keeps ∙ length-map is.all number_of in
     let told : length call.outcomes ≡ length is.all = ap (λ (c : CxxCall). length c.outcomes) is.keeps ∙ length-map is.all outcome_of in

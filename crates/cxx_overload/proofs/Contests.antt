@@ -1,12 +1,15 @@
 -- The contender that the definition chooses is the best of the contest, and a counter is the first other that one does
 -- not beat.
-use Rattle.std.proofs.Common.{◌≡◌, ◌≢◌, ℕ, zero, suc, ◌+◌, ◌<◌, ◌≤◌, Bool, true, false, not, cond, ◌&&◌, ◌||◌, eqb, List, [], ◌∷◌, length, Option, Some, None, refl, sym, ◌∙◌, ap, ◌⊎◌, inl, inr, arith, drop, get_or, ◌++◌, append_assoc, add-one}
+use Rattle.std.proofs.Common.{◌≡◌, ◌≢◌, ℕ, zero, suc, ◌+◌, ◌<◌, ◌≤◌, Bool, true, false, not, cond, ◌&&◌, ◌||◌, eqb, List, [], ◌∷◌, length, Option, Some, None, refl, sym, ◌∙◌, ap, ◌⊎◌, inl, inr, arith, IfSome, map, drop, drop-cons, get_or, ◌++◌, append_assoc, add-one}
+use Rattle.std.proofs.lemmas.List.{map-append}
 use Rattle.std.specs.Option.{option_map}
 use Rattle.std.proofs.lemmas.Option.{slice_get-map, slice_get-get_or}
-use Rattle.std.specs.List.{slice_get, find, list_all, filter, filter_map, cons_option}
+use Rattle.std.proofs.lemmas.List.Elements.{All-push}
+use Rattle.std.specs.List.{All, slice_get, find, list_all, filter, filter_map, cons_option}
 use Rattle.cxx_model.specs.declared.evidence.Evidence.{Evidence}
 use Rattle.cxx_model.specs.Types.Trees.{CxxType}
 use Rattle.cxx_overload.specs.declared.contender.Contender.{Contender}
+use Rattle.cxx_overload.specs.declared.object.Object.{Object}
 use Rattle.cxx_overload.specs.Views.{with_option}
 use Rattle.std.proofs.lemmas.Bool.{cases_order}
 use Rattle.cxx_model.specs.Choice.Better.{beats_if_other, best, counter}
@@ -218,9 +221,9 @@ tie_by_least graph all i f rival n at_i least =
 
 -- ---- the lines of all
 
-pub contender_here : (types : List CxxType) (operands : List Operand) (all : List Contender) (i : ℕ) (one else_ : Contender) → i < length all → one ≡ get_or all i else_ → slice_get (contenders_at types operands all) i ≡ Some (contender_at types operands one)
-contender_here types operands all i one else_ below is =
-    slice_get-map (contender_at types operands) all i ∙ ap (option_map (contender_at types operands)) (slice_get-get_or all i else_ below) ∙ ap (λ c. Some (contender_at types operands c)) (sym is)
+pub contender_here : (types : List CxxType) (object : Option Object) (operands : List Operand) (all : List Contender) (i : ℕ) (one else_ : Contender) → i < length all → one ≡ get_or all i else_ → slice_get (contenders_at types object operands all) i ≡ Some (contender_at types object operands one)
+contender_here types object operands all i one else_ below is =
+    slice_get-map (contender_at types object operands) all i ∙ ap (option_map (contender_at types object operands)) (slice_get-get_or all i else_ below) ∙ ap (λ c. Some (contender_at types object operands c)) (sym is)
 
 drop_there : {X : Type 0} (xs : List X) (i : ℕ) (y : X) → slice_get xs i ≡ Some y → drop i xs ≡ y ∷ drop (suc i) xs
 drop_there [] i y e = absurd cc
@@ -239,3 +242,26 @@ ties_step graph all items i o below is =
     ∙ ap (λ o. items ++ cons_option o (filter_map (tie graph all) (drop (suc i) all))) made
     ∙ joined items o (filter_map (tie graph all) (drop (suc i) all))
     ∙ ap (λ k. with_option items o ++ filter_map (tie graph all) (drop k all)) (sym (add-one i))
+
+-- ---- the viable ones
+
+contended : {A B : Type 0} (f : A → Rated) (g : B → Rated) (found : List A) (rest : List Rated) (one : B) (o : Option A) (b : Bool) → option_map f o ≡ cond b (Some (g one)) None → map f (with_option found o) ++ rest ≡ map f found ++ cond b (g one ∷ rest) rest
+contended f g found rest one None true e = absurd cc
+contended f g found rest one None false e = refl
+contended f g found rest one (Some this) true e =
+    let same : f this ≡ g one = cc in
+    ap (λ xs. xs ++ rest) (map-append f found (this ∷ []))
+    ∙ append_assoc (map f found) (f this ∷ []) rest
+    ∙ ap (λ r. map f found ++ r ∷ rest) same
+contended f g found rest one (Some this) false e = absurd cc
+
+pub contended_step : {A B : Type 0} (f : A → Rated) (g : B → Rated) (found new : List A) (given all : List B) (i : ℕ) (one d : B) (o : Option A) → given ≡ all → i < length given → one ≡ get_or given i d → option_map f o ≡ cond (is_viable (g one).outcome) (Some (g one)) None → new ≡ with_option found o → map f new ++ viable (map g (drop (i + 1) all)) ≡ map f found ++ viable (map g (drop i all))
+contended_step f g found new given all i one d o same below is made grows =
+    let next : drop i all ≡ one ∷ drop (i + 1) all = ap (drop i) (sym same) ∙ drop-cons given i d below ∙ ap (λ y. y ∷ drop (suc i) given) (sym is) ∙ ap (λ k. one ∷ drop k given) (sym (add-one i)) ∙ ap (λ xs. one ∷ drop (i + 1) xs) same in
+    ap (λ xs. map f xs ++ viable (map g (drop (i + 1) all))) grows
+    ∙ contended f g found (viable (map g (drop (i + 1) all))) one o (is_viable (g one).outcome) made
+    ∙ ap (λ xs. map f found ++ viable (map g xs)) (sym next)
+
+pub all_with : {A : Type 0} (P : A → Type 0) (found : List A) (o : Option A) → All P found → IfSome o P → All P (with_option found o)
+all_with P found None each is = each
+all_with P found (Some one) each is = All-push P found one each is

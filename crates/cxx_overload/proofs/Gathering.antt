@@ -6,6 +6,7 @@ use Rattle.std.proofs.lemmas.List.{length-append, length-map, append-nil}
 use Rattle.std.specs.List.{slice_get}
 use Rattle.std.specs.Option.{option_map}
 use Rattle.cxx_model.specs.declared.facts.Fact.{Fact}
+use Rattle.cxx_model.specs.declared.facts.MemberKind.{MemberKind}
 use Rattle.cxx_model.specs.declared.limits.TheConstants as limits
 use Rattle.cxx_model.specs.declared.place.Place.{Place}
 use Rattle.cxx_model.specs.declared.stop.LimitKind.TheVariants as kind
@@ -54,8 +55,8 @@ pub seen_nowhere : (graph : Graph) (types : List CxxType) (found : List CxxCandi
 seen_nowhere graph types found n past = ap (seen_fact found n) (fact_seen types graph.facts n ∙ ap (option_map (fact_at types)) (slice_get_past graph.facts n past))
 
 -- the types of a function's type
-pub function_below : (count number : ℕ) (of : TypeNode) (position : ℕ) (n : FactId) (place : Place) (result : TypeId) (parameters : List TypeId) (given : Bor (List TypeId)) (ellipsis : Bool) (cv : Cv) (defaults : ℕ) → IsNodeBelow number of → of ≡ Function result parameters ellipsis cv → given.now ≡ parameters → number < count → IsCandidateBelow count (record { position = position; number = n; place = place; result = result; parameters = given; ellipsis = ellipsis; defaults = defaults })
-function_below count number of position n place result parameters given ellipsis cv defaults below is same known =
+pub function_below : (count number : ℕ) (of : TypeNode) (position : ℕ) (n : FactId) (place : Place) (member : MemberKind) (result : TypeId) (parameters : List TypeId) (given : Bor (List TypeId)) (ellipsis : Bool) (cv : Cv) (defaults : ℕ) → IsNodeBelow number of → of ≡ Function result parameters ellipsis cv → given.now ≡ parameters → number < count → IsCandidateBelow count (record { position = position; number = n; place = place; member = member; cv = cv; result = result; parameters = given; ellipsis = ellipsis; defaults = defaults })
+function_below count number of position n place member result parameters given ellipsis cv defaults below is same known =
     let parts : (result.0 < number) × AreTypesBelow number parameters = subst (IsNodeBelow number) is below in
     record { result = omega (arith, parts.0, known); parameters = subst (AreTypesBelow count) (sym same) (types_later number count parameters (omega (arith, known)) parts.1) }
 
@@ -115,10 +116,10 @@ joins found one others =
     ∙ sym (append_assoc (map (with_later others) found) (with_later others one ∷ []) rest)
     ∙ ap (λ xs. xs ++ rest) (sym (map_more (with_later others) found one))
 
-step_of_type : (found : List CxxCandidate) (number : ℕ) (place : Place) (defaults : ℕ) (of : CxxType) (others : List Numbered) → map (with_later others) found ++ put (candidate_by (length found + 1) number place (defaults_behind number defaults others) of) (candidates_from others) (length found + 1) ≡ so_far (with_candidate found (candidate_by (length found + 1) number place defaults of)) others
-step_of_type found number place defaults (function_of result parameters ellipsis cv) others = joins found _ others
-step_of_type found number place defaults (fundamental of) others = refl
-step_of_type found number place defaults _ others = refl
+step_of_type : (found : List CxxCandidate) (number : ℕ) (place : Place) (member : MemberKind) (defaults : ℕ) (of : CxxType) (others : List Numbered) → map (with_later others) found ++ put (candidate_by (length found + 1) number place member (defaults_behind number defaults others) of) (candidates_from others) (length found + 1) ≡ so_far (with_candidate found (candidate_by (length found + 1) number place member defaults of)) others
+step_of_type found number place member defaults (function_of result parameters ellipsis cv) others = joins found _ others
+step_of_type found number place member defaults (fundamental of) others = refl
+step_of_type found number place member defaults _ others = refl
 
 given_by : (b : Bool) (defaults : ℕ) (others : List Numbered) (one : CxxCandidate) → record one { defaults = defaults_behind one.number (cond b defaults one.defaults) others } ≡ with_later others (cond b (record one { defaults = defaults }) one)
 given_by true defaults others one = refl
@@ -130,7 +131,7 @@ step_again found first defaults others each same =
     ∙ ap (λ n. map (with_later others) (map (with_defaults first defaults) found) ++ candidates_from others (n + 1)) (sym (length-map found (with_defaults first defaults)))
 
 step_by : (found : List CxxCandidate) (number : ℕ) (place : Place) (what : Declares) (others : List Numbered) → stepped found number place what others ≡ so_far (seen_by found number place what) others
-step_by found number place (declares.function of kind flags defaults None) others = step_of_type found number place defaults of others
+step_by found number place (declares.function of kind flags defaults None) others = step_of_type found number place kind defaults of others
 step_by found number place (declares.function of kind flags defaults (Some first)) others = step_again found first.0 defaults others (after (declares.function of kind flags defaults (Some first)) others) (λ one. given_by (nat_eq first.0 one.number) defaults others one)
 step_by found number place _ others = refl
 
@@ -194,13 +195,13 @@ placed_put : (position : ℕ) (o : Option CxxCandidate) (later : ℕ → List Cx
 placed_put position None later is rest = rest position
 placed_put position (Some one) later is rest = (omega (arith, is), subst (λ k. AreNumbered place_among k (later (suc position))) (grind (arith, is)) (rest (suc position)))
 
-placed_by : (position number : ℕ) (place : Place) (defaults : ℕ) (of : CxxType) → IfSome (candidate_by position number place defaults of) (λ one. one.position ≡ position)
-placed_by position number place defaults (function_of result parameters ellipsis cv) = refl
-placed_by position number place defaults (fundamental of) = tt
-placed_by position number place defaults _ = tt
+placed_by : (position number : ℕ) (place : Place) (member : MemberKind) (defaults : ℕ) (of : CxxType) → IfSome (candidate_by position number place member defaults of) (λ one. one.position ≡ position)
+placed_by position number place member defaults (function_of result parameters ellipsis cv) = refl
+placed_by position number place member defaults (fundamental of) = tt
+placed_by position number place member defaults _ = tt
 
 placed_of : (position number : ℕ) (place : Place) (what : Declares) (others : List Numbered) → IfSome (candidate_by_what position number place what others) (λ one. one.position ≡ position)
-placed_of position number place (declares.function of kind flags defaults None) others = placed_by position number place (defaults_behind number defaults others) of
+placed_of position number place (declares.function of kind flags defaults None) others = placed_by position number place kind (defaults_behind number defaults others) of
 placed_of position number place (declares.function of kind flags defaults (Some first)) others = tt
 placed_of position number place _ others = tt
 

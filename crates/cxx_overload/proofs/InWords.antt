@@ -7,6 +7,7 @@ use Rattle.cxx_model.specs.declared.evidence.Evidence.{Evidence}
 use Rattle.cxx_model.specs.declared.evidence.Evidence.TheVariants.{DoesNotBeat}
 use Rattle.cxx_model.specs.declared.overload.Outcome.{Outcome}
 use Rattle.cxx_model.specs.declared.overload.Outcome.TheVariants.{Viable, NotViable}
+use Rattle.cxx_model.specs.declared.sequence.Order.TheVariants.{Same}
 use Rattle.cxx_model.specs.Choice.Better.{beats_if_other, counter, IsBest}
 use Rattle.cxx_model.specs.Facts.Declarations.{CxxGraph}
 use Rattle.cxx_model.proofs.Champion.{best_is_best, eqb_of_other}
@@ -15,9 +16,17 @@ use Rattle.cxx_champion.specs.declared.Verdict.TheVariants.{Best}
 use Rattle.cxx_overload.specs.Choices.{beats, choice, choice_by, chosen, chosen_one, none_viable, ambiguous, position_of, refusal, refusal_by, refusals, shown, tie, ties}
 use Rattle.cxx_overload.specs.Contests.{wins_at}
 use Rattle.cxx_overload.specs.Gathering.{AreNumbered}
+use Rattle.cxx_overload.specs.Sequences.{CxxSequence, by_standard, by_ellipsis, no_sequence, order_between}
 use Rattle.cxx_overload.specs.Viability.{Rated, is_viable, viable}
 use Rattle.cxx_overload.specs.Words.{AreRefused, IsTied, ShowsTie, ShowTies}
 use Rattle.cxx_overload.proofs.Contests.{apart, below_there, chosen_by_verdict, eqb_same, missed, there_below, viable_numbered, wins_of}
+
+-- ---- no sequence
+
+pub unconverted : (graph : CxxGraph) (other : CxxSequence) → (order_between graph no_sequence other ≡ Same) × (order_between graph other no_sequence ≡ Same)
+unconverted graph (by_standard one) = (refl, refl)
+unconverted graph by_ellipsis = (refl, refl)
+unconverted graph no_sequence = (refl, refl)
 
 -- ---- the chosen one
 

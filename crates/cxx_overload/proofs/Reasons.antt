@@ -1,19 +1,19 @@
 -- Why a candidate is viable or not, in words.
 use Rattle.std.proofs.Common.{◌≡◌, ◌≢◌, ℕ, zero, suc, ◌+◌, ◌-◌, ◌<◌, ◌≤◌, Bool, true, false, not, cond, nat_lt, ◌&&◌, List, [], ◌∷◌, length, Option, Some, None, Ok, Err, refl, sym, ◌∙◌, ap, subst, ◌⊎◌, inl, inr, arith}
-use Rattle.std.specs.List.{slice_get}
+use Rattle.std.specs.List.{cons_option, slice_get}
 use Rattle.std.proofs.lemmas.Bool.{ltb-true, cases_order}
 use Rattle.cxx_model.specs.declared.evidence.Reason.{Reason}
 use Rattle.cxx_model.specs.declared.evidence.Reason.TheVariants as reason
-use Rattle.cxx_model.specs.declared.overload.Outcome.TheVariants.{NotViable}
 use Rattle.cxx_model.specs.Facts.Declarations.{CxxGraph}
 use Rattle.cxx_model.specs.Types.Trees.{CxxType}
 use Rattle.cxx_meaning.specs.Conversions.Asking.{Asked, ◌>>=◌}
 use Rattle.cxx_meaning.specs.Conversions.Standard.{CxxOperand, CxxStandard, standard_sequence}
 use Rattle.cxx_overload.specs.Asking.{joined}
 use Rattle.cxx_overload.specs.Candidates.{CxxCandidate}
+use Rattle.cxx_overload.specs.Objects.{is_nonstatic, object_parameter}
 use Rattle.cxx_overload.specs.Sequences.{CxxSequence, by_standard, by_ellipsis, no_sequence, behind, found_sequence, sequence_beyond, sequence_of, sequences_of}
-use Rattle.cxx_overload.specs.Viability.{Rated, by_count, by_sequences, first_without, rated_one}
-use Rattle.cxx_overload.specs.Words.{CanBeCalled, Holds, IsConverted, IsFirstReason, IsNotConverted, IsOutcome, order_number}
+use Rattle.cxx_overload.specs.Viability.{Rated, by_call, by_count, by_found, by_object, by_sequences, first_without, put_aside, rated_one}
+use Rattle.cxx_overload.specs.Words.{CanBeCalled, Holds, IsConverted, IsFirstReason, IsNotConverted, IsObjectNotConverted, IsObjectPassed, IsOutcome, PassesObject, order_number, place_of}
 use Rattle.cxx_overload.proofs.Contests.{below_there, there_below}
 
 -- ---- the parameters from an index on
@@ -162,27 +162,75 @@ Enough operands candidate = length candidate.parameters ≤ length operands + ca
 abbrev NotMore : List CxxOperand → CxxCandidate → Type 0
 NotMore operands candidate = candidate.ellipsis ≡ false → length operands ≤ length candidate.parameters
 
-few_first : (graph : CxxGraph) (operands : List CxxOperand) (candidate : CxxCandidate) → length operands < length candidate.parameters - candidate.defaults → IsFirstReason graph operands candidate reason.TooFewArguments
-few_first graph operands candidate less = record { holds = omega (arith, less); first = λ other h. omega arith }
+few_first : (graph : CxxGraph) (object : Option CxxOperand) (operands : List CxxOperand) (candidate : CxxCandidate) → length operands < length candidate.parameters - candidate.defaults → IsFirstReason graph object operands candidate reason.TooFewArguments
+few_first graph object operands candidate less = record { holds = omega (arith, less); first = λ other h. omega arith }
 
-later_than_few : (graph : CxxGraph) (operands : List CxxOperand) (candidate : CxxCandidate) → Enough operands candidate → (other : Reason) → Holds graph operands candidate other → 1 ≤ order_number other
-later_than_few graph operands candidate enough reason.TooFewArguments h = absurd (omega (arith, enough, h))
-later_than_few graph operands candidate enough reason.TooManyArguments h = omega arith
-later_than_few graph operands candidate enough (reason.NoConversion zero) h = absurd h
-later_than_few graph operands candidate enough (reason.NoConversion (suc k)) h = omega arith
-later_than_few graph operands candidate enough _ h = absurd h
+later_than_few : (graph : CxxGraph) (object : Option CxxOperand) (operands : List CxxOperand) (candidate : CxxCandidate) → Enough operands candidate → (other : Reason) → Holds graph object operands candidate other → 1 ≤ order_number other
+later_than_few graph object operands candidate enough reason.TooFewArguments h = absurd (omega (arith, enough, h))
+later_than_few graph object operands candidate enough reason.TooManyArguments h = omega arith
+later_than_few graph object operands candidate enough reason.ObjectNoConversion h = omega arith
+later_than_few graph object operands candidate enough (reason.NoConversion zero) h = absurd h
+later_than_few graph object operands candidate enough (reason.NoConversion (suc k)) h = omega arith
+later_than_few graph object operands candidate enough _ h = absurd h
 
-later_than_many : (graph : CxxGraph) (operands : List CxxOperand) (candidate : CxxCandidate) (index : ℕ) → Enough operands candidate → NotMore operands candidate → ((k : ℕ) → k < index → IsNotConverted graph operands candidate.parameters k → ⊥) → (other : Reason) → Holds graph operands candidate other → 2 + suc index ≤ order_number other
-later_than_many graph operands candidate index enough most earlier reason.TooFewArguments h = absurd (omega (arith, enough, h))
-later_than_many graph operands candidate index enough most earlier reason.TooManyArguments h = (let least = most h.0 in absurd (omega (arith, least, h.1)))
-later_than_many graph operands candidate index enough most earlier (reason.NoConversion zero) h = absurd h
-later_than_many graph operands candidate index enough most earlier (reason.NoConversion (suc k)) h = by (cases_order k index)
+later_than_count : (graph : CxxGraph) (object : Option CxxOperand) (operands : List CxxOperand) (candidate : CxxCandidate) → Enough operands candidate → NotMore operands candidate → (other : Reason) → Holds graph object operands candidate other → 2 ≤ order_number other
+later_than_count graph object operands candidate enough most reason.TooFewArguments h = absurd (omega (arith, enough, h))
+later_than_count graph object operands candidate enough most reason.TooManyArguments h = (let least = most h.0 in absurd (omega (arith, least, h.1)))
+later_than_count graph object operands candidate enough most reason.ObjectNoConversion h = omega arith
+later_than_count graph object operands candidate enough most (reason.NoConversion zero) h = absurd h
+later_than_count graph object operands candidate enough most (reason.NoConversion (suc k)) h = omega arith
+later_than_count graph object operands candidate enough most _ h = absurd h
+
+later_than_object : (graph : CxxGraph) (object : Option CxxOperand) (operands : List CxxOperand) (candidate : CxxCandidate) (index : ℕ) → Enough operands candidate → NotMore operands candidate → (IsObjectNotConverted graph object candidate → ⊥) → ((k : ℕ) → k < index → IsNotConverted graph operands candidate.parameters k → ⊥) → (other : Reason) → Holds graph object operands candidate other → 2 + suc index ≤ order_number other
+later_than_object graph object operands candidate index enough most passes earlier reason.TooFewArguments h = absurd (omega (arith, enough, h))
+later_than_object graph object operands candidate index enough most passes earlier reason.TooManyArguments h = (let least = most h.0 in absurd (omega (arith, least, h.1)))
+later_than_object graph object operands candidate index enough most passes earlier reason.ObjectNoConversion h = absurd (passes h)
+later_than_object graph object operands candidate index enough most passes earlier (reason.NoConversion zero) h = absurd h
+later_than_object graph object operands candidate index enough most passes earlier (reason.NoConversion (suc k)) h = by (cases_order k index)
   where
     by : (k ≡ index) ⊎ ((k < index) ⊎ (index < k)) → 2 + suc index ≤ 2 + suc k
     by (inl same) = omega (arith, same)
     by (inr (inl less)) = absurd (earlier k less h)
     by (inr (inr more)) = omega (arith, more)
-later_than_many graph operands candidate index enough most earlier _ h = absurd h
+later_than_object graph object operands candidate index enough most passes earlier _ h = absurd h
+
+-- ---- the object
+
+-- what stands before the sequences of the arguments
+abbrev StandsFirst : CxxGraph → Option CxxOperand → CxxCandidate → Option CxxSequence → Type 0
+StandsFirst graph None candidate None = Unit {0}
+StandsFirst graph (Some object) candidate (Some one) = IsObjectPassed graph object candidate (one ∷ [])
+StandsFirst graph _ candidate _ = ⊥
+
+at_place : (graph : CxxGraph) (object : Option CxxOperand) (candidate : CxxCandidate) (first : Option CxxSequence) (sequences : List CxxSequence) (index : ℕ) → StandsFirst graph object candidate first → slice_get (cons_option first sequences) (place_of object index) ≡ slice_get sequences index
+at_place graph None candidate None sequences index stands = refl
+at_place graph None candidate (Some one) sequences index stands = absurd stands
+at_place graph (Some object) candidate None sequences index stands = absurd stands
+at_place graph (Some object) candidate (Some one) sequences index stands = refl
+
+all_counted : (graph : CxxGraph) (object : Option CxxOperand) (operands : List CxxOperand) (candidate : CxxCandidate) (first : Option CxxSequence) (sequences : List CxxSequence) → StandsFirst graph object candidate first → length sequences ≡ length operands → length (cons_option first sequences) ≡ length (cons_option object operands)
+all_counted graph None operands candidate None sequences stands same = same
+all_counted graph None operands candidate (Some one) sequences stands same = absurd stands
+all_counted graph (Some object) operands candidate None sequences stands same = absurd stands
+all_counted graph (Some object) operands candidate (Some one) sequences stands same = omega (arith, same)
+
+passes_object : (graph : CxxGraph) (object : Option CxxOperand) (candidate : CxxCandidate) (first : Option CxxSequence) (sequences : List CxxSequence) → StandsFirst graph object candidate first → PassesObject graph object candidate (cons_option first sequences)
+passes_object graph None candidate first sequences stands = tt
+passes_object graph (Some object) candidate None sequences stands = absurd stands
+passes_object graph (Some object) candidate (Some one) sequences stands = record {
+  nonstatic = λ member. (let h = stands.nonstatic member in record { sequence = h.sequence; converts = h.converts; kept = h.kept });
+  otherwise = stands.otherwise;
+}
+
+not_both : (asked : Asked (Option CxxStandard)) (one : CxxStandard) → asked ≡ Ok (Some one) → asked ≡ Ok None → ⊥
+not_both asked one e f = absurd cc
+
+object_converted : (graph : CxxGraph) (object : Option CxxOperand) (candidate : CxxCandidate) (first : Option CxxSequence) → StandsFirst graph object candidate first → IsObjectNotConverted graph object candidate → ⊥
+object_converted graph None candidate first stands refused = absurd refused
+object_converted graph (Some object) candidate None stands refused = absurd stands
+object_converted graph (Some object) candidate (Some one) stands refused =
+    let h = stands.nonstatic refused.0 in
+    not_both (standard_sequence graph object (object_parameter object candidate.cv)) h.sequence h.converts refused.1
 
 -- ---- outcomes
 
@@ -209,15 +257,19 @@ ellipsis_by : (ellipsis : Bool) (sequences : List CxxSequence) (index : ℕ) →
 ellipsis_by true sequences index at some = at
 ellipsis_by false sequences index at some = absurd (some at)
 
-can_be_called : (graph : CxxGraph) (operands : List CxxOperand) (candidate : CxxCandidate) (sequences : List CxxSequence) → Passed graph operands candidate sequences → Enough operands candidate → NotMore operands candidate → ((k : ℕ) → slice_get sequences k ≢ Some no_sequence) → CanBeCalled graph operands candidate sequences
-can_be_called graph operands candidate sequences is enough most some = record {
+can_be_called : (graph : CxxGraph) (object : Option CxxOperand) (operands : List CxxOperand) (candidate : CxxCandidate) (first : Option CxxSequence) (sequences : List CxxSequence) → StandsFirst graph object candidate first → Passed graph operands candidate sequences → Enough operands candidate → NotMore operands candidate → ((k : ℕ) → slice_get sequences k ≢ Some no_sequence) → CanBeCalled graph object operands candidate (cons_option first sequences)
+can_be_called graph object operands candidate first sequences stands is enough most some = record {
   enough = enough;
   not_more = most;
-  one_each = counted graph operands candidate.parameters candidate.ellipsis sequences is;
+  one_each = all_counted graph object operands candidate first sequences stands (counted graph operands candidate.parameters candidate.ellipsis sequences is);
+  object_so = passes_object graph object candidate first sequences stands;
   converted = λ index operand parameter passed met.
       let h = met_here graph operands candidate sequences index operand parameter is passed met in
-      converted_by graph operand parameter sequences index h.1.1.found h.1.1.asked (h.1.0 ∙ ap (λ s. Some s) h.1.1.is) (some index);
-  beyond = λ index inside past. ellipsis_by candidate.ellipsis sequences index (beyond_here graph operands candidate sequences index is inside past) (some index);
+      let place = at_place graph object candidate first sequences index stands in
+      converted_by graph operand parameter (cons_option first sequences) (place_of object index) h.1.1.found h.1.1.asked (place ∙ h.1.0 ∙ ap (λ s. Some s) h.1.1.is) (λ e. some index (sym place ∙ e));
+  beyond = λ index inside past.
+      let place = at_place graph object candidate first sequences index stands in
+      ellipsis_by candidate.ellipsis (cons_option first sequences) (place_of object index) (place ∙ beyond_here graph operands candidate sequences index is inside past) (λ e. some index (sym place ∙ e));
 }
 
 nothing_found : (graph : CxxGraph) (operand : CxxOperand) (parameter : CxxType) (found : Option CxxStandard) → standard_sequence graph operand parameter ≡ Ok found → found_sequence found ≡ no_sequence → standard_sequence graph operand parameter ≡ Ok None
@@ -260,43 +312,61 @@ has_none graph operands candidate sequences index is not =
     answers : (asked : Asked (Option CxxStandard)) (found : Option CxxStandard) → asked ≡ Ok found → asked ≡ Ok None → found ≡ None
     answers asked found e f = cc
 
-by_found : (graph : CxxGraph) (operands : List CxxOperand) (candidate : CxxCandidate) (sequences : List CxxSequence) (o : Option ℕ) → Passed graph operands candidate sequences → Enough operands candidate → NotMore operands candidate → first_without 1 sequences ≡ o → IsOutcome graph operands candidate (by_sequences candidate sequences o).sequences (by_sequences candidate sequences o).outcome
-by_found graph operands candidate sequences None is enough most e = can_be_called graph operands candidate sequences is enough most (without_none 1 sequences e)
-by_found graph operands candidate sequences (Some position) is enough most e =
+put_aside_is : (graph : CxxGraph) (object : Option CxxOperand) (operands : List CxxOperand) (candidate : CxxCandidate) (why : Reason) (one : Rated) → IsFirstReason graph object operands candidate why → put_aside candidate why ≡ one → IsOutcome graph object operands candidate one.sequences one.outcome
+put_aside_is graph object operands candidate why one first same = subst (λ (r : Rated). IsOutcome graph object operands candidate r.sequences r.outcome) same first
+
+by_missing : (graph : CxxGraph) (object : Option CxxOperand) (operands : List CxxOperand) (candidate : CxxCandidate) (first : Option CxxSequence) (sequences : List CxxSequence) (o : Option ℕ) → StandsFirst graph object candidate first → Passed graph operands candidate sequences → Enough operands candidate → NotMore operands candidate → first_without 1 sequences ≡ o → IsOutcome graph object operands candidate (by_sequences candidate first sequences o).sequences (by_sequences candidate first sequences o).outcome
+by_missing graph object operands candidate first sequences None stands is enough most e = can_be_called graph object operands candidate first sequences stands is enough most (without_none 1 sequences e)
+by_missing graph object operands candidate first sequences (Some position) stands is enough most e =
     let h = without_some 1 position sequences e in
     let at : position ≡ suc h.before = (let c = h.counted_so in omega (arith, c)) in
-    subst (λ p. IsFirstReason graph operands candidate (reason.NoConversion p)) (sym at)
+    subst (λ p. IsFirstReason graph object operands candidate (reason.NoConversion p)) (sym at)
     (record {
       holds = not_converted graph operands candidate sequences h.before is most h.missing;
-      first = later_than_many graph operands candidate h.before enough most (λ k less not. h.earlier k less (has_none graph operands candidate sequences k is not));
+      first = later_than_object graph object operands candidate h.before enough most (object_converted graph object candidate first stands) (λ k less not. h.earlier k less (has_none graph operands candidate sequences k is not));
     })
 
-by_asked : (graph : CxxGraph) (operands : List CxxOperand) (candidate : CxxCandidate) (asked : Asked (List CxxSequence)) (one : Rated) → sequences_of graph operands candidate.parameters candidate.ellipsis ≡ asked → Enough operands candidate → NotMore operands candidate → (asked >>= λ sequences. Ok (by_sequences candidate sequences (first_without 1 sequences))) ≡ Ok one → IsOutcome graph operands candidate one.sequences one.outcome
-by_asked graph operands candidate (Ok sequences) one is enough most e =
-    let same : by_sequences candidate sequences (first_without 1 sequences) ≡ one = cc in
-    subst (λ (r : Rated). IsOutcome graph operands candidate r.sequences r.outcome) same (by_found graph operands candidate sequences (first_without 1 sequences) is enough most refl)
-by_asked graph operands candidate (Err class) one is enough most e = absurd cc
+by_asked : (graph : CxxGraph) (object : Option CxxOperand) (operands : List CxxOperand) (candidate : CxxCandidate) (first : Option CxxSequence) (asked : Asked (List CxxSequence)) (one : Rated) → StandsFirst graph object candidate first → sequences_of graph operands candidate.parameters candidate.ellipsis ≡ asked → Enough operands candidate → NotMore operands candidate → (asked >>= λ sequences. Ok (by_sequences candidate first sequences (first_without 1 sequences))) ≡ Ok one → IsOutcome graph object operands candidate one.sequences one.outcome
+by_asked graph object operands candidate first (Ok sequences) one stands is enough most e =
+    let same : by_sequences candidate first sequences (first_without 1 sequences) ≡ one = cc in
+    subst (λ (r : Rated). IsOutcome graph object operands candidate r.sequences r.outcome) same (by_missing graph object operands candidate first sequences (first_without 1 sequences) stands is enough most refl)
+by_asked graph object operands candidate first (Err class) one stands is enough most e = absurd cc
 
-put_aside_is : (graph : CxxGraph) (operands : List CxxOperand) (candidate : CxxCandidate) (why : Reason) (one : Rated) → IsFirstReason graph operands candidate why → by_count graph operands candidate (Some why) ≡ Ok one → IsOutcome graph operands candidate one.sequences one.outcome
-put_aside_is graph operands candidate why one first e =
-    let same : record { candidate = candidate; outcome = NotViable why; sequences = [] } ≡ one = cc in
-    subst (λ (r : Rated). IsOutcome graph operands candidate r.sequences r.outcome) same first
+by_standard_sequence : (graph : CxxGraph) (object : CxxOperand) (operands : List CxxOperand) (candidate : CxxCandidate) (asked : Asked (Option CxxStandard)) (one : Rated) → is_nonstatic candidate.member ≡ true → standard_sequence graph object (object_parameter object candidate.cv) ≡ asked → Enough operands candidate → NotMore operands candidate → (asked >>= by_found graph operands candidate) ≡ Ok one → IsOutcome graph (Some object) operands candidate one.sequences one.outcome
+by_standard_sequence graph object operands candidate (Ok None) one member is enough most e =
+    put_aside_is graph (Some object) operands candidate reason.ObjectNoConversion one (record { holds = (member, is); first = later_than_count graph (Some object) operands candidate enough most }) cc
+by_standard_sequence graph object operands candidate (Ok (Some found)) one member is enough most e =
+    by_asked graph (Some object) operands candidate (Some (by_standard found)) (sequences_of graph operands candidate.parameters candidate.ellipsis) one
+    (record { nonstatic = λ m. record { sequence = found; converts = is; kept = refl }; otherwise = λ m. absurd cc })
+    refl enough most e
+by_standard_sequence graph object operands candidate (Err class) one member is enough most e = absurd cc
 
-pub outcome_is : (graph : CxxGraph) (operands : List CxxOperand) (candidate : CxxCandidate) (one : Rated) → rated_one graph operands candidate ≡ Ok one → IsOutcome graph operands candidate one.sequences one.outcome
+by_member : (graph : CxxGraph) (object : CxxOperand) (operands : List CxxOperand) (candidate : CxxCandidate) (member : Bool) (one : Rated) → is_nonstatic candidate.member ≡ member → Enough operands candidate → NotMore operands candidate → by_object graph object operands candidate member ≡ Ok one → IsOutcome graph (Some object) operands candidate one.sequences one.outcome
+by_member graph object operands candidate true one member enough most e = by_standard_sequence graph object operands candidate (standard_sequence graph object (object_parameter object candidate.cv)) one member refl enough most e
+by_member graph object operands candidate false one member enough most e =
+    by_asked graph (Some object) operands candidate (Some no_sequence) (sequences_of graph operands candidate.parameters candidate.ellipsis) one
+    (record { nonstatic = λ m. absurd cc; otherwise = λ m. refl })
+    refl enough most e
+
+called : (graph : CxxGraph) (object : Option CxxOperand) (operands : List CxxOperand) (candidate : CxxCandidate) (one : Rated) → Enough operands candidate → NotMore operands candidate → by_call graph object operands candidate ≡ Ok one → IsOutcome graph object operands candidate one.sequences one.outcome
+called graph None operands candidate one enough most e = by_asked graph None operands candidate None (sequences_of graph operands candidate.parameters candidate.ellipsis) one tt refl enough most e
+called graph (Some object) operands candidate one enough most e = by_member graph object operands candidate (is_nonstatic candidate.member) one refl enough most e
+
+pub outcome_is : (graph : CxxGraph) (object : Option CxxOperand) (operands : List CxxOperand) (candidate : CxxCandidate) (one : Rated) → rated_one graph object operands candidate ≡ Ok one → IsOutcome graph object operands candidate one.sequences one.outcome
 unfolding rated_one
-outcome_is graph operands candidate one e =
+outcome_is graph object operands candidate one e =
     by (nat_lt (length operands) (length candidate.parameters - candidate.defaults)) (not candidate.ellipsis && nat_lt (length candidate.parameters) (length operands)) refl refl e
   where
-    by : (few many : Bool) → nat_lt (length operands) (length candidate.parameters - candidate.defaults) ≡ few → (not candidate.ellipsis && nat_lt (length candidate.parameters) (length operands)) ≡ many → by_count graph operands candidate (cond few (Some reason.TooFewArguments) (cond many (Some reason.TooManyArguments) None)) ≡ Ok one → IsOutcome graph operands candidate one.sequences one.outcome
-    by true many few_is many_is e = put_aside_is graph operands candidate reason.TooFewArguments one (few_first graph operands candidate (ltb-true (length operands) (length candidate.parameters - candidate.defaults) few_is)) e
+    by : (few many : Bool) → nat_lt (length operands) (length candidate.parameters - candidate.defaults) ≡ few → (not candidate.ellipsis && nat_lt (length candidate.parameters) (length operands)) ≡ many → by_count graph object operands candidate (cond few (Some reason.TooFewArguments) (cond many (Some reason.TooManyArguments) None)) ≡ Ok one → IsOutcome graph object operands candidate one.sequences one.outcome
+    by true many few_is many_is e = put_aside_is graph object operands candidate reason.TooFewArguments one (few_first graph object operands candidate (ltb-true (length operands) (length candidate.parameters - candidate.defaults) few_is)) cc
     by false true few_is many_is e =
         let h = both (not candidate.ellipsis) (nat_lt (length candidate.parameters) (length operands)) many_is in
         let least = no_less (length operands) (length candidate.parameters - candidate.defaults) few_is in
-        put_aside_is graph operands candidate reason.TooManyArguments one
-        (record { holds = (unsaid candidate.ellipsis h.0, ltb-true (length candidate.parameters) (length operands) h.1); first = later_than_few graph operands candidate (omega (arith, least)) })
-        e
+        put_aside_is graph object operands candidate reason.TooManyArguments one
+        (record { holds = (unsaid candidate.ellipsis h.0, ltb-true (length candidate.parameters) (length operands) h.1); first = later_than_few graph object operands candidate (omega (arith, least)) })
+        cc
     by false false few_is many_is e =
         let least = no_less (length operands) (length candidate.parameters - candidate.defaults) few_is in
-        by_asked graph operands candidate (sequences_of graph operands candidate.parameters candidate.ellipsis) one refl (omega (arith, least))
+        called graph object operands candidate one (omega (arith, least))
         (λ said. no_less (length candidate.parameters) (length operands) (neither_more candidate.ellipsis (nat_lt (length candidate.parameters) (length operands)) many_is said))
         e

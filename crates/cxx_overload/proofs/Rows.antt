@@ -4,9 +4,10 @@ use Rattle.cxx_model.specs.declared.base.Base.TheVariants as base
 use Rattle.cxx_model.specs.declared.evidence.Evidence.{Evidence}
 use Rattle.cxx_model.specs.declared.evidence.Evidence.TheVariants.{DoesNotBeat, Refused}
 use Rattle.cxx_model.specs.declared.evidence.Reason.{Reason}
-use Rattle.cxx_model.specs.declared.evidence.Reason.TheVariants.{TooFewArguments, TooManyArguments, NoConversion}
+use Rattle.cxx_model.specs.declared.evidence.Reason.TheVariants.{TooFewArguments, TooManyArguments, NoConversion, ObjectNoConversion}
 use Rattle.cxx_model.specs.declared.evidence.Shown.TheVariants.{Declared as ShownAt}
 use Rattle.cxx_model.specs.declared.facts.Access.TheVariants.{Public}
+use Rattle.cxx_model.specs.declared.facts.MemberKind.{MemberKind}
 use Rattle.cxx_model.specs.declared.facts.MemberKind.TheVariants as member
 use Rattle.cxx_model.specs.declared.facts.ScopeKind.TheVariants as kind
 use Rattle.cxx_model.specs.declared.fault.FaultText.{FaultText}
@@ -19,7 +20,7 @@ use Rattle.cxx_model.specs.Choice.Better.{is_better}
 use Rattle.cxx_model.specs.Facts.Declarations as facts
 use Rattle.cxx_model.specs.Facts.Declarations.{CxxFact, CxxGraph, Declares, unnamed}
 use Rattle.cxx_model.specs.Stops.{Answer, Faulty, Limited}
-use Rattle.cxx_model.specs.Types.Trees.{CxxType, CxxTypes, fundamental, enumeration, pointer_to, reference_to, array_of, function_of, qualified, no_types, type_then, number_bound}
+use Rattle.cxx_model.specs.Types.Trees.{CxxType, CxxTypes, fundamental, class_type, enumeration, pointer_to, reference_to, array_of, function_of, qualified, no_types, type_then, number_bound}
 use Rattle.cxx_meaning.specs.Conversions.Enumerations.{promoted}
 use Rattle.cxx_meaning.specs.Conversions.Order.{is_proper_part, is_no_pointer_to_bool, way_of_pointers, way_of_classes, way_of, is_shorter, is_nearer, has_nearer_class, is_less_qualified, refers_to_less, is_bound_to_less, order_of}
 use Rattle.cxx_meaning.specs.Conversions.Standard.{CxxOperand, standard_sequence, steps_between, steps_of_reference, steps_by_relation, steps_of_unrelated, steps_of_related, related, related_kinds, steps_of_value, steps_by_kinds, steps_to_class, steps_to_scalar, class_step, value_step, steps_of_kinds, steps_of_pointer, steps_of_enumeration, steps_of_arithmetic, is_text, step_of_enumeration, steps_of_pointers, pointer_to_other, pointer_to_class}
@@ -130,7 +131,7 @@ abbrev is_refused : ℕ → Reason → Evidence
 is_refused one reason = Refused (ShownAt one here) reason
 
 abbrev Means : List Declares → List CxxOperand → Row → Type 0
-Means declarations arguments row = row_by (decided here arguments graph (declared_from 3 declarations)) ≡ row
+Means declarations arguments row = row_by (decided here None arguments graph (declared_from 3 declarations)) ≡ row
 
 -- 13.3.3: of two neither is better
 abbrev Ties : List Declares → List CxxOperand → Type 0
@@ -318,3 +319,60 @@ row_35 = refl
 row_36 : Means (f (int ∷ long ∷ []) ∷ f (long ∷ int ∷ []) ∷ f (int ∷ int ∷ []) ∷ []) (rvalue int ∷ rvalue int ∷ []) (Calls 3)
 unfolding standard_sequence steps_between steps_of_reference steps_by_relation steps_of_unrelated steps_of_related related related_kinds steps_of_value steps_by_kinds steps_to_class steps_to_scalar class_step value_step steps_of_kinds steps_of_pointer steps_of_enumeration steps_of_arithmetic is_text step_of_enumeration steps_of_pointers pointer_to_other pointer_to_class promoted is_proper_part is_no_pointer_to_bool way_of_pointers way_of_classes way_of is_shorter is_nearer has_nearer_class is_less_qualified refers_to_less is_bound_to_less order_of is_better candidates candidates_within rated_one rated chosen refusals ties choice decided
 row_36 = refl
+
+-- ---- calls with an object (13.3.1)
+
+abbrev const_cv : Cv
+const_cv = record { is_const = true; is_volatile = false }
+
+-- struct S { .. };
+abbrev an_s : CxxType
+an_s = class_type 0
+
+-- `int f(..);` in the class, with some words behind the parameter list
+abbrev method : MemberKind → Cv → List CxxType → Declares
+method kind words parameters = facts.function (function_of int (types_of parameters) false words) kind (record { is_virtual = false; is_pure = false; is_explicit = false; is_implicit = false }) 0 None
+
+abbrev MeansOf : CxxOperand → List Declares → List CxxOperand → Row → Type 0
+MeansOf object declarations arguments row = row_by (decided here (Some object) arguments graph (declared_from 3 declarations)) ≡ row
+
+abbrev TiesOf : CxxOperand → List Declares → List CxxOperand → Type 0
+TiesOf object declarations arguments = MeansOf object declarations arguments (Broken says.AmbiguousCall (loses 1 2 ∷ loses 2 1 ∷ []))
+
+abbrev NoneFitsOf : CxxOperand → List Declares → List CxxOperand → List Evidence → Type 0
+NoneFitsOf object declarations arguments lines = MeansOf object declarations arguments (Broken says.NoViableFunction lines)
+
+-- 13.3.3.2: `int f(); int f() const;`, for an object that is not const
+row_37 : MeansOf (lvalue an_s) (method member.Nonstatic plain [] ∷ method member.Nonstatic const_cv [] ∷ []) [] (Calls 1)
+unfolding standard_sequence steps_between steps_of_reference steps_by_relation steps_of_unrelated steps_of_related related related_kinds steps_of_value steps_by_kinds steps_to_class steps_to_scalar class_step value_step steps_of_kinds steps_of_pointer steps_of_enumeration steps_of_arithmetic is_text step_of_enumeration steps_of_pointers pointer_to_other pointer_to_class promoted is_proper_part is_no_pointer_to_bool way_of_pointers way_of_classes way_of is_shorter is_nearer has_nearer_class is_less_qualified refers_to_less is_bound_to_less order_of is_better candidates candidates_within rated_one rated chosen refusals ties choice decided
+row_37 = refl
+
+-- the same for one that is
+row_38 : MeansOf (lvalue (const_of an_s)) (method member.Nonstatic plain [] ∷ method member.Nonstatic const_cv [] ∷ []) [] (Calls 2)
+unfolding standard_sequence steps_between steps_of_reference steps_by_relation steps_of_unrelated steps_of_related related related_kinds steps_of_value steps_by_kinds steps_to_class steps_to_scalar class_step value_step steps_of_kinds steps_of_pointer steps_of_enumeration steps_of_arithmetic is_text step_of_enumeration steps_of_pointers pointer_to_other pointer_to_class promoted is_proper_part is_no_pointer_to_bool way_of_pointers way_of_classes way_of is_shorter is_nearer has_nearer_class is_less_qualified refers_to_less is_bound_to_less order_of is_better candidates candidates_within rated_one rated chosen refusals ties choice decided
+row_38 = refl
+
+-- 13.3.1: `int f();`, for an object that is const
+row_39 : NoneFitsOf (lvalue (const_of an_s)) (method member.Nonstatic plain [] ∷ []) [] (is_refused 1 ObjectNoConversion ∷ [])
+unfolding standard_sequence steps_between steps_of_reference steps_by_relation steps_of_unrelated steps_of_related related related_kinds steps_of_value steps_by_kinds steps_to_class steps_to_scalar class_step value_step steps_of_kinds steps_of_pointer steps_of_enumeration steps_of_arithmetic is_text step_of_enumeration steps_of_pointers pointer_to_other pointer_to_class promoted is_proper_part is_no_pointer_to_bool way_of_pointers way_of_classes way_of is_shorter is_nearer has_nearer_class is_less_qualified refers_to_less is_bound_to_less order_of is_better candidates candidates_within rated_one rated chosen refusals ties choice decided
+row_39 = refl
+
+-- 13.3.1: any object will do for a static member function
+row_40 : MeansOf (lvalue (const_of an_s)) (method member.Static plain (int ∷ []) ∷ method member.Nonstatic plain (int ∷ []) ∷ []) (rvalue int ∷ []) (Calls 1)
+unfolding standard_sequence steps_between steps_of_reference steps_by_relation steps_of_unrelated steps_of_related related related_kinds steps_of_value steps_by_kinds steps_to_class steps_to_scalar class_step value_step steps_of_kinds steps_of_pointer steps_of_enumeration steps_of_arithmetic is_text step_of_enumeration steps_of_pointers pointer_to_other pointer_to_class promoted is_proper_part is_no_pointer_to_bool way_of_pointers way_of_classes way_of is_shorter is_nearer has_nearer_class is_less_qualified refers_to_less is_bound_to_less order_of is_better candidates candidates_within rated_one rated chosen refusals ties choice decided
+row_40 = refl
+
+-- 13.3.3: the object tells no static member function from another function
+row_41 : TiesOf (lvalue an_s) (method member.Static plain (long ∷ []) ∷ method member.Nonstatic plain (double ∷ []) ∷ []) (rvalue int ∷ [])
+unfolding standard_sequence steps_between steps_of_reference steps_by_relation steps_of_unrelated steps_of_related related related_kinds steps_of_value steps_by_kinds steps_to_class steps_to_scalar class_step value_step steps_of_kinds steps_of_pointer steps_of_enumeration steps_of_arithmetic is_text step_of_enumeration steps_of_pointers pointer_to_other pointer_to_class promoted is_proper_part is_no_pointer_to_bool way_of_pointers way_of_classes way_of is_shorter is_nearer has_nearer_class is_less_qualified refers_to_less is_bound_to_less order_of is_better candidates candidates_within rated_one rated chosen refusals ties choice decided
+row_41 = refl
+
+-- 13.3.3: `int f(int) const; int f(long);`, where the object speaks for the second and the argument for the first
+row_42 : TiesOf (lvalue an_s) (method member.Nonstatic const_cv (int ∷ []) ∷ method member.Nonstatic plain (long ∷ []) ∷ []) (rvalue int ∷ [])
+unfolding standard_sequence steps_between steps_of_reference steps_by_relation steps_of_unrelated steps_of_related related related_kinds steps_of_value steps_by_kinds steps_to_class steps_to_scalar class_step value_step steps_of_kinds steps_of_pointer steps_of_enumeration steps_of_arithmetic is_text step_of_enumeration steps_of_pointers pointer_to_other pointer_to_class promoted is_proper_part is_no_pointer_to_bool way_of_pointers way_of_classes way_of is_shorter is_nearer has_nearer_class is_less_qualified refers_to_less is_bound_to_less order_of is_better candidates candidates_within rated_one rated chosen refusals ties choice decided
+row_42 = refl
+
+-- 13.3.2: the count of arguments comes first, then the object, then the arguments; the object is not counted
+row_43 : NoneFitsOf (lvalue (const_of an_s)) (method member.Nonstatic plain (int ∷ int ∷ []) ∷ method member.Nonstatic plain (ptr int ∷ []) ∷ method member.Nonstatic const_cv (ptr int ∷ []) ∷ method member.Static plain [] ∷ []) (rvalue int ∷ []) (is_refused 1 TooFewArguments ∷ is_refused 2 ObjectNoConversion ∷ is_refused 3 (NoConversion 1) ∷ is_refused 4 TooManyArguments ∷ [])
+unfolding standard_sequence steps_between steps_of_reference steps_by_relation steps_of_unrelated steps_of_related related related_kinds steps_of_value steps_by_kinds steps_to_class steps_to_scalar class_step value_step steps_of_kinds steps_of_pointer steps_of_enumeration steps_of_arithmetic is_text step_of_enumeration steps_of_pointers pointer_to_other pointer_to_class promoted is_proper_part is_no_pointer_to_bool way_of_pointers way_of_classes way_of is_shorter is_nearer has_nearer_class is_less_qualified refers_to_less is_bound_to_less order_of is_better candidates candidates_within rated_one rated chosen refusals ties choice decided
+row_43 = refl

@@ -1,8 +1,10 @@
 -- The functions that a call may mean (13.3.1).
 use Rattle.std.specs.Prelude.{ℕ, suc, Bool, if◌then◌else◌, nat_eq, nat_lt, List, [], ◌∷◌, length, Option, Some, None, Ok, Err}
+use Rattle.cxx_model.specs.declared.facts.MemberKind.{MemberKind}
 use Rattle.cxx_model.specs.declared.limits.TheConstants as limits
 use Rattle.cxx_model.specs.declared.place.Place.{Place}
 use Rattle.cxx_model.specs.declared.stop.LimitKind.TheVariants as kind
+use Rattle.cxx_model.specs.declared.types.Cv.{Cv}
 use Rattle.cxx_model.specs.Facts.Declarations as facts
 use Rattle.cxx_model.specs.Facts.Declarations.{Declares}
 use Rattle.cxx_model.specs.Stops.{Answer, Limited}
@@ -15,6 +17,9 @@ pub record CxxCandidate : Type 0 where
   -- its first declaration
   pub number : ℕ
   pub place : Place
+  -- how it stands to a class, and the words behind its parameter list (9.3)
+  pub member : MemberKind
+  pub cv : Cv
   pub result : CxxType
   pub parameters : List CxxType
   -- 8.3.5: further arguments may follow
@@ -41,13 +46,13 @@ defaults_behind number count (one ∷ others) = defaults_behind number (defaults
 
 -- ---- candidates
 
-abbrev pub candidate_by : ℕ → ℕ → Place → ℕ → CxxType → Option CxxCandidate
-candidate_by position number place defaults (function_of result parameters ellipsis cv) = Some (record { position = position; number = number; place = place; result = result; parameters = each_type parameters; ellipsis = ellipsis; defaults = defaults })
-candidate_by position number place defaults _ = None
+abbrev pub candidate_by : ℕ → ℕ → Place → MemberKind → ℕ → CxxType → Option CxxCandidate
+candidate_by position number place member defaults (function_of result parameters ellipsis cv) = Some (record { position = position; number = number; place = place; member = member; cv = cv; result = result; parameters = each_type parameters; ellipsis = ellipsis; defaults = defaults })
+candidate_by position number place member defaults _ = None
 
 -- a function, by its first declaration, and the declarations behind it
 abbrev pub candidate_by_what : ℕ → ℕ → Place → Declares → List Numbered → Option CxxCandidate
-candidate_by_what position number place (facts.function of kind flags defaults None) others = candidate_by position number place (defaults_behind number defaults others) of
+candidate_by_what position number place (facts.function of kind flags defaults None) others = candidate_by position number place kind (defaults_behind number defaults others) of
 candidate_by_what position number place _ others = None
 
 abbrev pub candidate_of : ℕ → Numbered → List Numbered → Option CxxCandidate

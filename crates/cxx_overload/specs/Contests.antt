@@ -1,5 +1,5 @@
 -- The viable functions of a call as a contest, in which the better one beats the other (13.3.3).
-use Rattle.std.specs.Prelude.{ℕ, ◌+◌, ◌-◌, ◌*◌, Bool, false, List, length, map, Option, Some, None}
+use Rattle.std.specs.Prelude.{ℕ, ◌+◌, ◌-◌, ◌*◌, Bool, false, List, length, map, Option, Some, None, IfSome}
 use Rattle.std.specs.List.{All, slice_get}
 use Rattle.std.specs.Option.{option_map}
 use Rattle.cxx_model.specs.declared.evidence.Evidence.{Evidence}
@@ -15,9 +15,10 @@ use Rattle.cxx_model.specs.declared.sequence.Operand.{Operand}
 use Rattle.cxx_overload.specs.Choices.{CxxChoice, chosen_one, none_viable, ambiguous, shown, tie}
 use Rattle.cxx_overload.specs.Viability.{Rated as RatedMeant}
 use Rattle.cxx_overload.specs.declared.contender.Contender.{Contender}
+use Rattle.cxx_overload.specs.declared.object.Object.{Object}
 use Rattle.cxx_overload.specs.declared.champion.Choice.{Choice}
 use Rattle.cxx_overload.specs.declared.champion.Choice.TheVariants as choice
-use Rattle.cxx_overload.specs.Views.{candidate_at, row_at, AreOperandsBelow, IsCandidateBelow}
+use Rattle.cxx_overload.specs.Views.{candidate_at, met, passed, row_at, AreOperandsBelow, IsCandidateBelow, IsObject}
 
 abbrev pub wins_between : {F : Type 0} → (F → F → Bool) → Option F → Option F → Bool
 wins_between beats (Some one) (Some two) = beats one two
@@ -40,26 +41,27 @@ member_at contenders (Some place) = slice_get contenders place
 
 -- ---- what the values of the code stand for
 
-abbrev pub contender_at : List CxxType → List Operand → Contender → RatedMeant
-contender_at types operands one = record { candidate = candidate_at types one.candidate; outcome = IsViable; sequences = row_at types operands one.candidate.parameters.now one.conversions.now }
+abbrev pub contender_at : List CxxType → Option Object → List Operand → Contender → RatedMeant
+contender_at types object operands one = record { candidate = candidate_at types one.candidate; outcome = IsViable; sequences = row_at types (passed object operands) (met object one.candidate) one.conversions.now }
 
-abbrev pub contenders_at : List CxxType → List Operand → List Contender → List RatedMeant
-contenders_at types operands all = map (contender_at types operands) all
+abbrev pub contenders_at : List CxxType → Option Object → List Operand → List Contender → List RatedMeant
+contenders_at types object operands all = map (contender_at types object operands) all
 
 -- the numbers of its types are below a count
 pub record IsContenderBelow (count : ℕ) (one : Contender) : Type 0 where
   pub candidate : IsCandidateBelow count one.candidate
 
 -- what comparing two contenders asks
-pub record IsReady (graph : Graph) (types : List CxxType) (operands : List Operand) (members : List Contender) : Type 0 where
+pub record IsReady (graph : Graph) (types : List CxxType) (object : Option Object) (operands : List Operand) (members : List Contender) : Type 0 where
   pub fitted : Fitted graph types
+  pub object_below : IfSome object (IsObject types)
   pub operands_below : AreOperandsBelow (length types) operands
   pub below : All (IsContenderBelow (length types)) members
 
-abbrev pub choice_at : List CxxType → List Operand → Choice → CxxChoice
-choice_at types operands (choice.Chosen one) = chosen_one (contender_at types operands one)
-choice_at types operands (choice.NoneViable evidence) = none_viable evidence
-choice_at types operands (choice.Ambiguous evidence) = ambiguous evidence
+abbrev pub choice_at : List CxxType → Option Object → List Operand → Choice → CxxChoice
+choice_at types object operands (choice.Chosen one) = chosen_one (contender_at types object operands one)
+choice_at types object operands (choice.NoneViable evidence) = none_viable evidence
+choice_at types object operands (choice.Ambiguous evidence) = ambiguous evidence
 
 -- the numbers of the types of the chosen one are below a count
 abbrev pub IsChoiceBelow : ℕ → Choice → Type 0

@@ -30,7 +30,7 @@ abbrev pub with_defaults : ℕ → ℕ → CxxCandidate → CxxCandidate
 with_defaults first defaults one = if nat_eq first one.number then record one { defaults = defaults } else one
 
 abbrev pub seen_by : List CxxCandidate → ℕ → Place → Declares → List CxxCandidate
-seen_by found number place (facts.function of kind flags defaults None) = with_candidate found (candidate_by (length found + 1) number place defaults of)
+seen_by found number place (facts.function of kind flags defaults None) = with_candidate found (candidate_by (length found + 1) number place kind defaults of)
 seen_by found number place (facts.function of kind flags defaults (Some first)) = map (with_defaults first.0 defaults) found
 seen_by found number place _ = found
 

@@ -1,5 +1,6 @@
 -- Which function a call means, among all functions of one name (13.3), as long as there are no classes.
 pub mod Candidates
+pub mod Objects
 pub mod Sequences
 pub mod Viability
 pub mod Choices

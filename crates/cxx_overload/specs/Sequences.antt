@@ -1,8 +1,10 @@
 -- Implicit conversion sequences of arguments, and how two of them stand to each other (13.3.3.1, 13.3.3.2), where no
 -- class is asked for a conversion.
-use Rattle.std.specs.Prelude.{Bool, true, false, List, [], ◌∷◌, Option, Some, None, Ok}
+use Rattle.std.specs.Prelude.{Bool, true, false, not, ◌&&◌, List, [], ◌∷◌, Option, Some, None, Ok}
+use Rattle.std.specs.List.{list_any}
 use Rattle.cxx_model.specs.declared.sequence.Order.{Order}
 use Rattle.cxx_model.specs.declared.sequence.Order.TheVariants.{Better, Worse, Same}
+use Rattle.cxx_model.specs.Choice.Better.{is_better_order, is_worse_order}
 use Rattle.cxx_model.specs.Facts.Declarations.{CxxGraph}
 use Rattle.cxx_model.specs.Types.Trees.{CxxType}
 use Rattle.cxx_meaning.specs.Conversions.Asking.{Asked, ◌>>=◌}
@@ -52,3 +54,7 @@ order_between graph (by_standard one) (by_standard two) = order_of graph one two
 order_between graph (by_standard one) by_ellipsis = Better
 order_between graph by_ellipsis (by_standard two) = Worse
 order_between graph _ _ = Same
+
+-- 13.3.3: Of two functions whose sequences compare so, operand by operand, the first is better.
+abbrev pub is_better_by : List Order → Bool
+is_better_by orders = not (list_any is_worse_order orders) && list_any is_better_order orders

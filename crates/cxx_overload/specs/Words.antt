@@ -1,10 +1,10 @@
 -- The choice of a function in words (13.3.2, 13.3.3).
-use Rattle.std.specs.Prelude.{◌≡◌, ◌≢◌, ◌≤◌, ◌<◌, ◌+◌, ℕ, zero, suc, false, List, [], ◌∷◌, length, Some, None, Ok}
-use Rattle.std.specs.List.{slice_get}
+use Rattle.std.specs.Prelude.{◌≡◌, ◌≢◌, ◌≤◌, ◌<◌, ◌+◌, ℕ, zero, suc, true, false, List, [], ◌∷◌, length, Option, Some, None, Ok}
+use Rattle.std.specs.List.{cons_option, slice_get}
 use Rattle.cxx_model.specs.declared.evidence.Evidence.{Evidence}
 use Rattle.cxx_model.specs.declared.evidence.Evidence.TheVariants.{DoesNotBeat, Refused}
 use Rattle.cxx_model.specs.declared.evidence.Reason.{Reason}
-use Rattle.cxx_model.specs.declared.evidence.Reason.TheVariants.{TooFewArguments, TooManyArguments, NoConversion}
+use Rattle.cxx_model.specs.declared.evidence.Reason.TheVariants.{TooFewArguments, TooManyArguments, NoConversion, ObjectNoConversion}
 use Rattle.cxx_model.specs.declared.overload.Outcome.{Outcome}
 use Rattle.cxx_model.specs.declared.overload.Outcome.TheVariants.{Viable, NotViable}
 use Rattle.cxx_model.specs.Choice.Better.{IsBest}
@@ -13,7 +13,8 @@ use Rattle.cxx_model.specs.Types.Trees.{CxxType}
 use Rattle.cxx_meaning.specs.Conversions.Standard.{CxxOperand, CxxStandard, standard_sequence}
 use Rattle.cxx_overload.specs.Candidates.{CxxCandidate}
 use Rattle.cxx_overload.specs.Choices.{beats, position_of, shown}
-use Rattle.cxx_overload.specs.Sequences.{CxxSequence, by_standard, by_ellipsis}
+use Rattle.cxx_overload.specs.Objects.{is_nonstatic, object_parameter}
+use Rattle.cxx_overload.specs.Sequences.{CxxSequence, by_standard, by_ellipsis, no_sequence}
 use Rattle.cxx_overload.specs.Viability.{Rated}
 
 -- ---- viable functions
@@ -26,44 +27,67 @@ pub record IsNotConverted (graph : CxxGraph) (operands : List CxxOperand) (param
   pub met : slice_get parameters index ≡ Some parameter
   pub refused : standard_sequence graph operand parameter ≡ Ok None
 
--- 13.3.2: why a function is not viable; arguments are counted from 1
-abbrev pub Holds : CxxGraph → List CxxOperand → CxxCandidate → Reason → Type 0
-Holds graph operands candidate TooFewArguments = length operands + candidate.defaults < length candidate.parameters
-Holds graph operands candidate TooManyArguments = (candidate.ellipsis ≡ false) × (length candidate.parameters < length operands)
-Holds graph operands candidate (NoConversion zero) = ⊥
-Holds graph operands candidate (NoConversion (suc index)) = IsNotConverted graph operands candidate.parameters index
-Holds graph operands candidate _ = ⊥
+-- the object of a call is not converted to the implicit object parameter of a nonstatic member function
+abbrev pub IsObjectNotConverted : CxxGraph → Option CxxOperand → CxxCandidate → Type 0
+IsObjectNotConverted graph None candidate = ⊥
+IsObjectNotConverted graph (Some object) candidate = (is_nonstatic candidate.member ≡ true) × (standard_sequence graph object (object_parameter object candidate.cv) ≡ Ok None)
 
--- the order of reasons; among arguments the first counts
+-- 13.3.2: why a function is not viable; arguments are counted from 1, without the object
+abbrev pub Holds : CxxGraph → Option CxxOperand → List CxxOperand → CxxCandidate → Reason → Type 0
+Holds graph object operands candidate TooFewArguments = length operands + candidate.defaults < length candidate.parameters
+Holds graph object operands candidate TooManyArguments = (candidate.ellipsis ≡ false) × (length candidate.parameters < length operands)
+Holds graph object operands candidate ObjectNoConversion = IsObjectNotConverted graph object candidate
+Holds graph object operands candidate (NoConversion zero) = ⊥
+Holds graph object operands candidate (NoConversion (suc index)) = IsNotConverted graph operands candidate.parameters index
+Holds graph object operands candidate _ = ⊥
+
+-- the order of reasons; the object comes before the arguments, and among these the first counts
 abbrev pub order_number : Reason → ℕ
 order_number TooFewArguments = 0
 order_number TooManyArguments = 1
+order_number ObjectNoConversion = 2
 order_number (NoConversion position) = 2 + position
 order_number _ = 0
 
 -- it holds, and no earlier one does
-pub record IsFirstReason (graph : CxxGraph) (operands : List CxxOperand) (candidate : CxxCandidate) (reason : Reason) : Type 0 where
-  pub holds : Holds graph operands candidate reason
-  pub first : (other : Reason) → Holds graph operands candidate other → order_number reason ≤ order_number other
+pub record IsFirstReason (graph : CxxGraph) (object : Option CxxOperand) (operands : List CxxOperand) (candidate : CxxCandidate) (reason : Reason) : Type 0 where
+  pub holds : Holds graph object operands candidate reason
+  pub first : (other : Reason) → Holds graph object operands candidate other → order_number reason ≤ order_number other
 
--- an argument is converted to the parameter that it meets, by a sequence
+-- an operand is converted to the parameter that it meets, by the sequence at a place
 pub record IsConverted (graph : CxxGraph) (operand : CxxOperand) (parameter : CxxType) (sequences : List CxxSequence) (index : ℕ) : Type 0 where
   pub sequence : CxxStandard
   pub converts : standard_sequence graph operand parameter ≡ Ok (Some sequence)
   pub kept : slice_get sequences index ≡ Some (by_standard sequence)
 
--- 13.3.2: a function to which the arguments can be passed, and the sequences that do
-pub record CanBeCalled (graph : CxxGraph) (operands : List CxxOperand) (candidate : CxxCandidate) (sequences : List CxxSequence) : Type 0 where
+-- 13.3.1: The object of a call is converted to the implicit object parameter of a nonstatic member function. It is not
+-- compared where the function is static, or no member.
+pub record IsObjectPassed (graph : CxxGraph) (object : CxxOperand) (candidate : CxxCandidate) (sequences : List CxxSequence) : Type 0 where
+  pub nonstatic : is_nonstatic candidate.member ≡ true → IsConverted graph object (object_parameter object candidate.cv) sequences 0
+  pub otherwise : is_nonstatic candidate.member ≡ false → slice_get sequences 0 ≡ Some no_sequence
+
+abbrev pub PassesObject : CxxGraph → Option CxxOperand → CxxCandidate → List CxxSequence → Type 0
+PassesObject graph None candidate sequences = Unit {0}
+PassesObject graph (Some object) candidate sequences = IsObjectPassed graph object candidate sequences
+
+-- where the sequence of the argument with an index stands: the object comes before the arguments
+abbrev pub place_of : Option CxxOperand → ℕ → ℕ
+place_of None index = index
+place_of (Some object) index = suc index
+
+-- 13.3.2: a function to which the object and the arguments can be passed, and the sequences that do
+pub record CanBeCalled (graph : CxxGraph) (object : Option CxxOperand) (operands : List CxxOperand) (candidate : CxxCandidate) (sequences : List CxxSequence) : Type 0 where
   pub enough : length candidate.parameters ≤ length operands + candidate.defaults
   pub not_more : candidate.ellipsis ≡ false → length operands ≤ length candidate.parameters
-  pub one_each : length sequences ≡ length operands
-  pub converted : (index : ℕ) (operand : CxxOperand) (parameter : CxxType) → slice_get operands index ≡ Some operand → slice_get candidate.parameters index ≡ Some parameter → IsConverted graph operand parameter sequences index
+  pub one_each : length sequences ≡ length (cons_option object operands)
+  pub object_so : PassesObject graph object candidate sequences
+  pub converted : (index : ℕ) (operand : CxxOperand) (parameter : CxxType) → slice_get operands index ≡ Some operand → slice_get candidate.parameters index ≡ Some parameter → IsConverted graph operand parameter sequences (place_of object index)
   -- what has no parameter meets the ellipsis
-  pub beyond : (index : ℕ) → index < length operands → length candidate.parameters ≤ index → slice_get sequences index ≡ Some by_ellipsis
+  pub beyond : (index : ℕ) → index < length operands → length candidate.parameters ≤ index → slice_get sequences (place_of object index) ≡ Some by_ellipsis
 
-abbrev pub IsOutcome : CxxGraph → List CxxOperand → CxxCandidate → List CxxSequence → Outcome → Type 0
-IsOutcome graph operands candidate sequences Viable = CanBeCalled graph operands candidate sequences
-IsOutcome graph operands candidate sequences (NotViable reason) = IsFirstReason graph operands candidate reason
+abbrev pub IsOutcome : CxxGraph → Option CxxOperand → List CxxOperand → CxxCandidate → List CxxSequence → Outcome → Type 0
+IsOutcome graph object operands candidate sequences Viable = CanBeCalled graph object operands candidate sequences
+IsOutcome graph object operands candidate sequences (NotViable reason) = IsFirstReason graph object operands candidate reason
 
 -- ---- what shows that no function is viable
 

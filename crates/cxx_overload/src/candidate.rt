@@ -12,7 +12,7 @@ ghost use Rattle.cxx_overload.specs.Views.{candidate_at, numbered_in, IsCandidat
 
 use cxx_graph::Graph;
 use cxx_model::limits::MOST_CANDIDATES;
-use cxx_model::{Entity, Fact, FactId, LimitKind, Place, Stop, TypeId, TypeNode};
+use cxx_model::{Cv, Entity, Fact, FactId, LimitKind, MemberKind, Place, Stop, TypeId, TypeNode};
 use cxx_types::TypeTable;
 use std::alloc::Global;
 
@@ -23,6 +23,10 @@ pub struct Candidate<'t> {
     pub position: u32,
     pub number: FactId,
     pub place: Place,
+    /// How it stands to a class.
+    pub member: MemberKind,
+    /// The words behind its parameter list (9.3).
+    pub cv: Cv,
     pub result: TypeId,
     pub parameters: &'t [TypeId],
     /// Whether further arguments may follow (8.3.5).
@@ -37,11 +41,12 @@ fn candidate_by<'t>(
     position: u32,
     number: FactId,
     place: Place,
+    member: MemberKind,
     defaults: u32,
     of: TypeId,
 ) -> Option<Candidate<'t>>
     requires { of.0 < length types.now }
-    ensures is { option_map (candidate_at types.now) result ≡ candidate_by_type position number.0 place defaults (type_at types.now of.0) }
+    ensures is { option_map (candidate_at types.now) result ≡ candidate_by_type position number.0 place member defaults (type_at types.now of.0) }
     ensures below { IfSome result (IsCandidateBelow (length types.now)) }
 {
     match types.node(of) {
@@ -49,11 +54,13 @@ fn candidate_by<'t>(
             result,
             parameters,
             ellipsis,
-            ..
+            cv,
         } => Some(Candidate {
             position,
             number,
             place,
+            member,
+            cv: *cv,
             result: *result,
             parameters: parameters.as_slice(),
             ellipsis: *ellipsis,
@@ -131,12 +138,13 @@ fn see_fact<'t>(
     match fact.what {
         Entity::Function {
             of,
+            member,
             defaults,
             first: None,
             ..
         } => {
             let position = all.len() as u32 + 1;
-            let candidate = candidate_by(types, position, number, fact.place, defaults, of);
+            let candidate = candidate_by(types, position, number, fact.place, member, defaults, of);
             add(all, types, candidate)
         }
         Entity::Function {

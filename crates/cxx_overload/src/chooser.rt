@@ -1,6 +1,6 @@
 //! Who is asked which function a call means.
 
-ghost use Rattle.std.specs.Prelude.{◌≡◌, ◌≤◌, [], List, length, Option, Some, None, is_some, IfOk, OnErr, OnOk};
+ghost use Rattle.std.specs.Prelude.{◌≡◌, ◌≤◌, [], List, length, Option, Some, None, is_some, IfOk, IfSome, OnErr, OnOk};
 ghost use Rattle.std.specs.Option.{option_copied};
 ghost use Rattle.cxx_model.specs.declared.limits.TheConstants as limits;
 ghost use Rattle.cxx_model.specs.declared.place.Place.{Place as PlaceOfText};
@@ -10,9 +10,10 @@ ghost use Rattle.cxx_model.specs.Stops.{Gives};
 ghost use Rattle.cxx_overload.specs.Calls.{decided};
 ghost use Rattle.cxx_overload.specs.Decisions.{decision_at, IsDecisionBelow};
 ghost use Rattle.cxx_overload.specs.Told.{told_more};
-ghost use Rattle.cxx_overload.specs.Views.{numbered_in, operands_at, AreOperandsBelow};
+ghost use Rattle.cxx_overload.specs.Views.{numbered_in, object_at, operands_at, passed, AreOperandsBelow, IsObject};
 
 use crate::decision::{Decision, decide};
+use crate::object::Object;
 use cxx_graph::Graph;
 use cxx_model::{FactId, Operand, Place, Stop};
 use cxx_types::TypeTable;
@@ -24,21 +25,24 @@ pub trait Chooser {
     // The places at which it was asked and answered, in order, where it tells them.
     ghost told: { Self → Option (List PlaceOfText) };
 
-    /// Which function a call at a place means, by its arguments and the declarations `found` of its name.
+    /// Which function a call at a place means, by its object, where it has one, its arguments and the declarations
+    /// `found` of its name.
     fn choose<'t>(
         &mut self,
         alloc: Global,
         graph: &Graph,
         types: &'t TypeTable,
         place: Place,
+        object: Option<Object>,
         operands: &[Operand],
         found: &[FactId],
     ) -> Result<Decision<'t>, Stop>
         requires few { length operands.now ≤ limits.MOST_ARGUMENTS }
+        requires object { IfSome object (IsObject types.now) }
         requires operands { AreOperandsBelow (length types.now) operands.now }
         requires fitted { Fitted graph.now types.now }
-        ensures is { Gives (decision_at types.now place operands.now) result (decided place (operands_at types.now operands.now) (graph_at types.now graph.now) (numbered_in (graph_at types.now graph.now) found.now)) }
-        ensures below { IfOk result (IsDecisionBelow (length types.now) (length operands.now)) }
+        ensures is { Gives (decision_at types.now place object operands.now) result (decided place (object_at types.now object) (operands_at types.now operands.now) (graph_at types.now graph.now) (numbered_in (graph_at types.now graph.now) found.now)) }
+        ensures below { IfOk result (IsDecisionBelow (length types.now) (length (passed object operands.now))) }
         ensures asked { OnOk result (told self.new ≡ told_more place (told self.old)) }
         ensures stays { OnErr result (told self.new ≡ told self.old) };
 }
@@ -56,10 +60,11 @@ impl Chooser for Champion {
         graph: &Graph,
         types: &'t TypeTable,
         place: Place,
+        object: Option<Object>,
         operands: &[Operand],
         found: &[FactId],
     ) -> Result<Decision<'t>, Stop> {
-        decide(alloc, graph, types, place, operands, found)
+        decide(alloc, graph, types, place, object, operands, found)
     }
 }
 
@@ -104,10 +109,11 @@ impl Chooser for Recorder {
         graph: &Graph,
         types: &'t TypeTable,
         place: Place,
+        object: Option<Object>,
         operands: &[Operand],
         found: &[FactId],
     ) -> Result<Decision<'t>, Stop> {
-        let decision = decide(alloc, graph, types, place, operands, found)?;
+        let decision = decide(alloc, graph, types, place, object, operands, found)?;
         self.places.push(place)?;
         Ok(decision)
     }
@@ -131,15 +137,16 @@ impl Chooser for Choosing {
         graph: &Graph,
         types: &'t TypeTable,
         place: Place,
+        object: Option<Object>,
         operands: &[Operand],
         found: &[FactId],
     ) -> Result<Decision<'t>, Stop> {
         match self {
             Choosing::Champion(champion) => {
-                champion.choose(alloc, graph, types, place, operands, found)
+                champion.choose(alloc, graph, types, place, object, operands, found)
             }
             Choosing::Recorder(recorder) => {
-                recorder.choose(alloc, graph, types, place, operands, found)
+                recorder.choose(alloc, graph, types, place, object, operands, found)
             }
         }
     }

@@ -5,20 +5,21 @@ ghost use Rattle.std.specs.List.{All};
 ghost use Rattle.cxx_overload.specs.Choices.{refusal as refusal_of, refusals as refusals_of, shown as shown_of};
 ghost use Rattle.cxx_overload.specs.Viability.{is_viable, viable as viable_of};
 ghost use Rattle.cxx_overload.specs.Contests.{contender_at, contenders_at, IsContenderBelow};
-ghost use Rattle.cxx_overload.specs.Views.{candidate_at, rated_at, ratings_at, with_option, AreRatingsBelow, IsRatedBelow};
+ghost use Rattle.cxx_overload.specs.Views.{candidate_at, passed, rated_at, ratings_at, with_option, AreRatingsBelow, IsRatedBelow};
 
 use crate::candidate::Candidate;
 use crate::conversion::Conversion;
+use crate::object::Object;
 use crate::rating::{Rated, Ratings};
 use cxx_model::{Evidence, EvidenceList, Operand, Outcome, Shown};
 use cxx_types::TypeTable;
 use std::alloc::{AllocError, Global};
 
-/// A viable candidate, and how the arguments are converted to its parameters.
+/// A viable candidate, and how the object and the arguments are converted to its parameters.
 #[derive(Clone, Copy)]
 pub struct Contender<'r, 't> {
     pub candidate: Candidate<'t>,
-    /// One for each argument, and what stands behind them.
+    /// One for the object, where the call has one, one for each argument, and what stands behind them.
     pub conversions: &'r [Conversion],
 }
 
@@ -34,15 +35,17 @@ pub(crate) fn push_some<T: Drop>(items: &mut Vec<T>, item: Option<T>) -> Result<
 
 fn contender_of<'r, 't>(
     types: &TypeTable,
+    object: Option<Object>,
     operands: &[Operand],
     conversions: &'r [Conversion],
     one: &Rated<'t>,
 ) -> Option<Contender<'r, 't>>
-    requires { IsRatedBelow (length types.now) (length operands.now) (length conversions.now) one.now }
-    ensures is { option_map (contender_at types.now operands.now) result ≡ (if is_viable (rated_at types.now operands.now conversions.now one.now).outcome then Some (rated_at types.now operands.now conversions.now one.now) else None) }
+    requires { IsRatedBelow (length types.now) (length (passed object operands.now)) (length conversions.now) one.now }
+    ensures is { option_map (contender_at types.now object operands.now) result ≡ (if is_viable (rated_at types.now object operands.now conversions.now one.now).outcome then Some (rated_at types.now object operands.now conversions.now one.now) else None) }
     ensures below { IfSome result (IsContenderBelow (length types.now)) }
 {
     let _ = types;
+    let _ = object;
     let _ = operands;
     match one.outcome {
         Outcome::Viable => Some(Contender {
@@ -57,17 +60,21 @@ fn contender_of<'r, 't>(
 pub fn contenders<'r, 't>(
     alloc: Global,
     types: &TypeTable,
+    object: Option<Object>,
     operands: &[Operand],
     ratings: &'r Ratings<'t>,
 ) -> Result<Vec<Contender<'r, 't>>, AllocError>
-    requires { AreRatingsBelow (length types.now) (length operands.now) ratings.now }
-    ensures viable { IfOk result (λ found. contenders_at types.now operands.now found.items ≡ viable_of (ratings_at types.now operands.now ratings.now)) }
+    requires { AreRatingsBelow (length types.now) (length (passed object operands.now)) ratings.now }
+    ensures viable { IfOk result (λ found. contenders_at types.now object operands.now found.items ≡ viable_of (ratings_at types.now object operands.now ratings.now)) }
     ensures below { IfOk result (λ found. All (IsContenderBelow (length types.now)) found.items) }
 {
     let conversions = ratings.conversions.as_slice();
     let mut found = Vec::new(alloc);
     for one in &ratings.all {
-        push_some(&mut found, contender_of(types, operands, conversions, one))?;
+        push_some(
+            &mut found,
+            contender_of(types, object, operands, conversions, one),
+        )?;
     }
     Ok(found)
 }
@@ -81,12 +88,14 @@ pub(crate) fn shown(types: &TypeTable, candidate: &Candidate) -> Shown
 
 fn refusal(
     types: &TypeTable,
+    object: Option<Object>,
     operands: &[Operand],
     conversions: &[Conversion],
     one: &Rated,
 ) -> Option<Evidence>
-    ensures { result ≡ refusal_of (rated_at types.now operands.now conversions.now one.now) }
+    ensures { result ≡ refusal_of (rated_at types.now object operands.now conversions.now one.now) }
 {
+    let _ = object;
     let _ = operands;
     let _ = conversions;
     match one.outcome {
@@ -102,15 +111,19 @@ fn refusal(
 pub fn refusals(
     alloc: Global,
     types: &TypeTable,
+    object: Option<Object>,
     operands: &[Operand],
     ratings: &Ratings,
 ) -> Result<EvidenceList, AllocError>
-    ensures { IfOk result (λ evidence. evidence ≡ refusals_of (ratings_at types.now operands.now ratings.now)) }
+    ensures { IfOk result (λ evidence. evidence ≡ refusals_of (ratings_at types.now object operands.now ratings.now)) }
 {
     let conversions = ratings.conversions.as_slice();
     let mut evidence = Vec::new(alloc);
     for one in &ratings.all {
-        push_some(&mut evidence, refusal(types, operands, conversions, one))?;
+        push_some(
+            &mut evidence,
+            refusal(types, object, operands, conversions, one),
+        )?;
     }
     Ok(EvidenceList::from_vec(evidence))
 }

@@ -1,18 +1,19 @@
 //! Which of two functions is better for the arguments (13.3.3).
 
-ghost use Rattle.std.specs.Prelude.{◌≡◌, ◌<◌, length};
-ghost use Rattle.cxx_model.specs.Choice.Better.{is_better as is_better_function, is_better_order, is_worse_order};
+ghost use Rattle.std.specs.Prelude.{◌≡◌, ◌<◌, [], ◌∷◌, length, Some};
+ghost use Rattle.cxx_model.specs.Choice.Better.{compared, is_better_order, is_worse_order};
 ghost use Rattle.cxx_model.specs.Facts.Declarations.{graph_at};
 ghost use Rattle.cxx_model.specs.Facts.Fitted.{Fitted};
 ghost use Rattle.cxx_model.specs.Types.Numbers.{AreTypesBelow};
 ghost use Rattle.cxx_standard.specs.Views.{Computes};
-ghost use Rattle.cxx_overload.specs.Sequences.{order_between as order_of_sequences};
-ghost use Rattle.cxx_overload.specs.Views.{row_at, sequence_at, sequence_found, standard_at, AreOperandsBelow, IsSequenceFoundBelow};
+ghost use Rattle.cxx_overload.specs.Sequences.{is_better_by, order_between as order_of_sequences};
+ghost use Rattle.cxx_overload.specs.Views.{parameter_for, passed, row_at, sequence_at, sequence_found, standard_at, AreOperandsBelow, IsObject, IsSequenceFoundBelow};
 
 use crate::conversion::{Conversion, behind};
+use crate::object::{Object, parameter_of};
 use cxx_graph::Graph;
 use cxx_meaning::SequenceSteps;
-use cxx_model::{Operand, Order, OutOfMemory, Sequence, StandardSequence, TypeId};
+use cxx_model::{Cv, Operand, Order, OutOfMemory, Sequence, StandardSequence, TypeId};
 use cxx_standard::compare;
 use cxx_types::TypeTable;
 use std::alloc::Global;
@@ -63,6 +64,21 @@ pub(crate) fn sequence(
     }
 }
 
+/// How the object of a call is converted, for a function with some words behind its parameter list.
+pub(crate) fn sequence_of_object(
+    types: &TypeTable,
+    object: Object,
+    conversion: Conversion,
+    cv: Cv,
+) -> Sequence
+    requires { IsObject types.now object }
+    ensures is { sequence_found types.now result ≡ sequence_at types.now object.operand conversion (parameter_for object cv ∷ []) }
+    ensures below { IsSequenceFoundBelow (length types.now) result }
+{
+    let parameters = [parameter_of(types, object, cv)];
+    sequence(types, object.operand, conversion, &parameters)
+}
+
 /// How one sequence stands to another (13.3.3.2).
 fn order_between(
     alloc: Global,
@@ -88,9 +104,10 @@ fn order_between(
 
 // ---- functions
 
-/// How the arguments of a call are converted to the parameters of a function.
+/// How the operands of a call are converted to the parameters of a function with some words behind its parameter list.
 #[derive(Clone, Copy)]
 pub(crate) struct Row<'r> {
+    pub cv: Cv,
     pub parameters: &'r [TypeId],
     pub conversions: &'r [Conversion],
 }
@@ -137,13 +154,14 @@ fn is_better(order: Order) -> bool
     }
 }
 
-/// Whether the first function is better than the second: no argument has a worse sequence, and some argument has a
-/// better one.
-#[tactic(auto, using(crate::proofs::Loops::verdict_more, crate::proofs::Loops::verdict_worse, crate::proofs::Converting::types_behind), unfolding(cxx_model::specs::Choice::Better::is_better))]
+/// Whether the first function is better than the second: no operand has a worse sequence, and some operand has a better
+/// one. It is known how those of what stands before the arguments compare.
+#[tactic(auto, using(crate::proofs::Loops::verdict_more, crate::proofs::Loops::verdict_worse, crate::proofs::Converting::types_behind))]
 pub(crate) fn is_better_function(
     alloc: Global,
     graph: &Graph,
     types: &TypeTable,
+    before: Order,
     operands: &[Operand],
     one: Row,
     two: Row,
@@ -152,9 +170,12 @@ pub(crate) fn is_better_function(
     requires ones { AreTypesBelow (length types.now) (one.parameters).now }
     requires twos { AreTypesBelow (length types.now) (two.parameters).now }
     requires fitted { Fitted graph.now types.now }
-    ensures { Computes result (is_better_function (order_of_sequences (graph_at types.now graph.now)) (row_at types.now operands.now (one.entry).parameters.now (one.entry).conversions.now) (row_at types.now operands.now (two.entry).parameters.now (two.entry).conversions.now)) }
+    ensures { Computes result (is_better_by (before ∷ compared (order_of_sequences (graph_at types.now graph.now)) (row_at types.now operands.now (one.entry).parameters.now (one.entry).conversions.now) (row_at types.now operands.now (two.entry).parameters.now (two.entry).conversions.now))) }
 {
-    let mut has_better = false;
+    if is_worse(before) {
+        return Ok(false);
+    }
+    let mut has_better = is_better(before);
     let mut left = operands;
     let (mut ones, mut by_ones) = (one.parameters, one.conversions);
     let (mut twos, mut by_twos) = (two.parameters, two.conversions);
@@ -175,4 +196,41 @@ pub(crate) fn is_better_function(
         (twos, by_twos) = (behind(twos), other_twos);
     }
     Ok(has_better)
+}
+
+/// The same in a call with an object.
+pub(crate) fn is_better_of_object(
+    alloc: Global,
+    graph: &Graph,
+    types: &TypeTable,
+    object: Object,
+    operands: &[Operand],
+    one: Row,
+    two: Row,
+) -> Result<bool, OutOfMemory>
+    requires object { IsObject types.now object }
+    requires operands { AreOperandsBelow (length types.now) operands.now }
+    requires ones { AreTypesBelow (length types.now) (one.parameters).now }
+    requires twos { AreTypesBelow (length types.now) (two.parameters).now }
+    requires fitted { Fitted graph.now types.now }
+    ensures { Computes result (is_better_by (compared (order_of_sequences (graph_at types.now graph.now)) (row_at types.now (passed (Some object) operands.now) (parameter_for object (one.entry).cv ∷ (one.entry).parameters.now) (one.entry).conversions.now) (row_at types.now (passed (Some object) operands.now) (parameter_for object (two.entry).cv ∷ (two.entry).parameters.now) (two.entry).conversions.now))) }
+{
+    let [by_one, ones @ ..] = one.conversions else {
+        return Ok(false);
+    };
+    let [by_two, twos @ ..] = two.conversions else {
+        return Ok(false);
+    };
+    let first = sequence_of_object(types, object, *by_one, one.cv);
+    let second = sequence_of_object(types, object, *by_two, two.cv);
+    let before = order_between(alloc, graph, types, &first, &second)?;
+    let one = Row {
+        conversions: ones,
+        ..one
+    };
+    let two = Row {
+        conversions: twos,
+        ..two
+    };
+    is_better_function(alloc, graph, types, before, operands, one, two)
 }

@@ -6,10 +6,13 @@ use Rattle.std.proofs.lemmas.Option.{slice_get-map}
 use Rattle.std.proofs.lemmas.List.{append-nil, length-map}
 use Rattle.cxx_model.specs.declared.tree.Node.{Node}
 use Rattle.cxx_model.specs.declared.types.TreeId.{TreeId}
+use Rattle.cxx_model.specs.Facts.Declarations.{type_of_option}
+use Rattle.cxx_model.specs.Types.Trees.{CxxType}
 use Rattle.cxx_page.specs.Sides.{closed, opened}
+use Rattle.cxx_reading.specs.Plain.{target_or}
 use Rattle.cxx_reading.specs.Trees.{in_turn}
 use Rattle.cxx_reading.specs.Words.{close_word, keyword_word, open_word, Tags, within, Word}
-use Rattle.cxx_tree.specs.Arena.{label_at, number_of_option, tree_in, tree_over, trees_in, AreTreesBelow}
+use Rattle.cxx_tree.specs.Arena.{label_at, number_of_option, path_of_option, tree_in, tree_over, trees_in, AreTreesBelow}
 use Rattle.cxx_tree.specs.Held.{Held, trees}
 use Rattle.cxx_phrase_text.specs.declared.form.Form.{Form}
 use Rattle.cxx_phrase_text.specs.declared.form.Form.TheVariants as form
@@ -17,7 +20,7 @@ use Rattle.cxx_phrase_text.specs.declared.form.Standing.{Standing}
 use Rattle.cxx_phrase_text.specs.Forms.{form_of}
 use Rattle.cxx_phrase_text.specs.Listed.{listed_words}
 use Rattle.cxx_phrase_text.specs.Named.{trees_of, type_for, NamedState}
-use Rattle.cxx_phrase_text.specs.Phrases.{arguments, braced, callee_words, call_words, cast_keyword, cast_words, element, elements, is_braced, is_comma, is_one_string, is_primary, last_part, part, phrase_as, phrase_of, phrase_or_nothing, phrases, Phrase}
+use Rattle.cxx_phrase_text.specs.Phrases.{arguments, braced, callee_words, call_words, cast_keyword, cast_words, element, elements, is_braced, is_by_name, is_comma, is_one_string, is_primary, last_part, part, phrase_as, phrase_of, phrase_or_nothing, phrases, Phrase}
 use Rattle.cxx_phrase_text.specs.Written.{brace_parts, call_parts, cast_parts, element_at, elements_at, operand_at, phrase_at, phrase_found, phrase_in, phrases_at, zero_parts}
 use Rattle.cxx_phrase_text.proofs.Casting.{cast_is, zero_is}
 use Rattle.cxx_phrase_text.proofs.Listing.{all_listed}
@@ -97,14 +100,14 @@ module _ (named : NamedState) where
   elements_are : (parts : List TreeId) → elements_at named parts ≡ elements (phrases_at named parts)
   elements_are parts = sym (all_listed (map element (phrases_at named parts)) ∙ ap (listed_words true) (listed parts))
 
-  arguments_are : (target : Option ℕ) (parts : List TreeId) → elements_at named (arguments target parts) ≡ elements (arguments target (phrases_at named parts))
-  arguments_are (Some number) parts = elements_are parts
-  arguments_are None [] = refl
-  arguments_are None (one ∷ parts) = elements_are parts
+  arguments_are : (by_name : Bool) (parts : List TreeId) → elements_at named (arguments by_name parts) ≡ elements (arguments by_name (phrases_at named parts))
+  arguments_are true parts = elements_are parts
+  arguments_are false [] = refl
+  arguments_are false (one ∷ parts) = elements_are parts
 
-  pub call_is : (target : Option ℕ) (parts : List TreeId) → call_parts named target parts ≡ call_words named.name target (phrases_at named parts)
+  pub call_is : (of : Option CxxType) (number : ℕ) (by_name : Bool) (parts : List TreeId) → call_parts named of number by_name parts ≡ call_words named.tags named.name of number by_name (phrases_at named parts)
   unfolding call_parts
-  call_is target parts = ap (λ (ws : List Word). callee_words named.name target (phrases_at named parts) ++ (open_word ∷ (ws ++ close_word ∷ []))) (arguments_are target parts)
+  call_is of number by_name parts = ap (λ (ws : List Word). callee_words named.tags named.name of number by_name (phrases_at named parts) ++ (open_word ∷ (ws ++ close_word ∷ []))) (arguments_are by_name parts)
 
   braces_are : (parts : List TreeId) (b : Bool) → b ≡ true → brace_parts named parts ≡ (braced b (phrases_at named parts)).words
   unfolding brace_parts
@@ -122,10 +125,14 @@ module _ (named : NamedState) where
       let here : tree_in (trees_of named) number.0 ≡ tree_over named.held.types (trees_of named) node = subst (λ (h : Held). tree_in (trees h) number.0 ≡ tree_over h.types (trees h) node) same is in
       ap (λ (p : Phrase). p.words) (phrase_is node number form here it)
 
-  pub form_call : (node : Node) (f : Form) (parts : List TreeId) → f ≡ form.Call → parts ≡ node.children → call_parts named (number_of_option node.target) parts ≡ (phrase_in named f node).words
-  form_call node f parts same are =
-      call_is (number_of_option node.target) parts
-      ∙ ap (λ (ns : List TreeId). call_words named.name (number_of_option node.target) (phrases_at named ns)) are
+  pub form_call : (node : Node) (f : Form) (by_name : Bool) (parts : List TreeId) → f ≡ form.Call → by_name ≡ is_by_name (path_of_option node.path) → parts ≡ node.children
+      → call_parts named (type_of_option named.held.types node.of) (target_or (number_of_option node.target)) by_name parts ≡ (phrase_in named f node).words
+  form_call node f by_name parts same by are =
+      let of : Option CxxType = type_of_option named.held.types node.of in
+      let number : ℕ = target_or (number_of_option node.target) in
+      call_is of number by_name parts
+      ∙ ap (λ (b : Bool). call_words named.tags named.name of number b (phrases_at named parts)) by
+      ∙ ap (λ (ns : List TreeId). call_words named.tags named.name of number (is_by_name (path_of_option node.path)) (phrases_at named ns)) are
       ∙ sym (ap (λ (g : Form). (phrase_in named g node).words) same)
 
   pub form_zero : (node : Node) (f : Form) → f ≡ form.Zero → zero_parts named.tags (type_for named node.of) ≡ (phrase_in named f node).words

@@ -8,7 +8,7 @@ use Rattle.cxx_reading.specs.Declarators.{no_cv}
 use Rattle.cxx_reading.specs.Trees.{CxxTree, Label, tree_of}
 use Rattle.cxx_reading.specs.Words.{Tags, line_text}
 use Rattle.cxx_phrase_text.specs.Calls.{calls_in}
-use Rattle.cxx_phrase_text.specs.Phrases.{initializer_words, phrase_words}
+use Rattle.cxx_phrase_text.specs.Phrases.{initializer_words, phrase_words, pointed_words}
 
 -- ---- trees
 
@@ -51,11 +51,32 @@ abbrev grouped : CxxTree → CxxTree
 grouped tree = tree_of (record (label 39 []) { operand = tree.label.operand }) (tree ∷ [])
 
 -- 5.2
+abbrev called : ℕ → ℕ → Label
+called number target = record (label 40 []) { target = Some target; call = Some number }
+
+abbrev by_name : Label → Label
+by_name from = record from { path = Some (record { global = false; parts = [] }) }
+
 abbrev call : ℕ → ℕ → List CxxTree → CxxTree
-call number target arguments = tree_of (record (label 40 []) { target = Some target; call = Some number }) arguments
+call number target arguments = tree_of (by_name (called number target)) arguments
+
+-- 9.4
+abbrev static_call : CxxType → ℕ → ℕ → List CxxTree → CxxTree
+static_call class number target arguments = tree_of (of_type class (by_name (called number target))) arguments
 
 abbrev through : List CxxTree → CxxTree
 through parts = tree_of (label 40 []) parts
+
+-- 5.2.5
+abbrev member_of : ℕ → ℕ → CxxTree → CxxTree
+member_of production target object = tree_of (of_type (class_type 0) (by_name (record (label production (codes "(")) { target = Some target }))) (object ∷ [])
+
+-- a call of a member of an object, and of one of what a pointer points to
+abbrev member_call : ℕ → ℕ → CxxTree → List CxxTree → CxxTree
+member_call number target object arguments = tree_of (called number target) (member_of 42 target object ∷ arguments)
+
+abbrev arrow_call : ℕ → ℕ → CxxTree → List CxxTree → CxxTree
+arrow_call number target pointer arguments = tree_of (called number target) (member_of 43 target pointer ∷ arguments)
 
 abbrev zero_of : CxxType → CxxTree
 zero_of of = tree_of (of_type of (label 41 [])) []
@@ -170,6 +191,30 @@ call_through_a_name = refl
 call_of_what_a_call_gives : text ((through ((call 0 3 ([])) ∷ b ∷ []))) ≡ codes "g__4()(b__2)\n"
 call_of_what_a_call_gives = refl
 
+-- 9.4
+static_function_behind_its_class : text (static_call (class_type 0) 0 2 (literal (codes "1") ∷ b ∷ [])) ≡ codes "C::f__3(1, b__2)\n"
+static_function_behind_its_class = refl
+
+sum_of_static_functions : text (infix_ (codes "+") (static_call (class_type 0) 0 2 []) (prefix (codes "-") (static_call (class_type 0) 1 3 []))) ≡ codes "C::f__3() + (-C::g__4())\n"
+sum_of_static_functions = refl
+
+-- 5.2.5
+function_of_an_object : text (member_call 0 2 a (literal (codes "1") ∷ [])) ≡ codes "a__1.f__3(1)\n"
+function_of_an_object = refl
+
+function_of_what_is_pointed_to : text (arrow_call 0 2 a (literal (codes "1") ∷ [])) ≡ codes "(*a__1).f__3(1)\n"
+unfolding pointed_words
+function_of_what_is_pointed_to = refl
+
+function_without_arguments : text (prefix (codes "!") (member_call 0 2 (prefix (codes "*") a) [])) ≡ codes "!(*a__1).f__3()\n"
+function_without_arguments = refl
+
+function_of_what_a_function_gives : text (member_call 2 3 (member_call 0 2 a (b ∷ [])) (assigned (codes ",") a (call 1 2 []) ∷ [])) ≡ codes "a__1.f__3(b__2).g__4((a__1, f__3()))\n"
+function_of_what_a_function_gives = refl
+
+call_of_a_pointer_of_an_object : text (through (member_of 42 1 a ∷ literal (codes "1") ∷ [])) ≡ codes "a__1.b__2(1)\n"
+call_of_a_pointer_of_an_object = refl
+
 call_of_an_element : text ((through ((subscript a (literal (codes "1"))) ∷ b ∷ []))) ≡ codes "a__1[1](b__2)\n"
 call_of_an_element = refl
 
@@ -264,6 +309,12 @@ arguments_stand_before = refl
 
 calls_through_pointers_are_none : calls_in (through (call 0 3 [] ∷ call 1 3 [] ∷ [])) ≡ 0 ∷ 1 ∷ []
 calls_through_pointers_are_none = refl
+
+objects_and_arguments_stand_before : calls_in (member_call 2 2 (call 0 3 []) (call 1 3 [] ∷ b ∷ [])) ≡ 0 ∷ 1 ∷ 2 ∷ []
+objects_and_arguments_stand_before = refl
+
+pointers_stand_before : calls_in (arrow_call 3 2 (member_call 0 3 a []) (member_call 2 3 b (static_call (class_type 0) 1 3 [] ∷ []) ∷ [])) ≡ 0 ∷ 1 ∷ 2 ∷ 3 ∷ []
+pointers_stand_before = refl
 
 calls_in_sizes_are_none : calls_in (infix_ (codes "+") (size (codes "4UL") (call 0 3 [])) (call 1 3 [])) ≡ 1 ∷ []
 calls_in_sizes_are_none = refl

@@ -10,7 +10,7 @@ use Rattle.cxx_phrase_text.specs.declared.form.Form.{Form}
 use Rattle.cxx_phrase_text.specs.declared.form.Form.TheVariants as form
 use Rattle.cxx_phrase_text.specs.Apart.{BeginsApart, EndsApart, StandsApart}
 use Rattle.cxx_phrase_text.specs.Forms.{form_of}
-use Rattle.cxx_phrase_text.specs.Phrases.{arguments, braced, call_words, callee_words, cast_keyword, cast_words, dot_word, elements, infix_standing, infix_word, is_braced, is_class, is_one_string, is_primary, last_part, member_words, named_words, operand, part, phrase_as, phrase_of, phrases, Phrase, pointed_words, prefix_word, scope_words, spells_comma, subscript_words}
+use Rattle.cxx_phrase_text.specs.Phrases.{arguments, braced, call_words, callee_words, cast_keyword, cast_words, dot_word, elements, infix_standing, infix_word, is_braced, is_by_name, is_class, is_one_string, is_primary, last_part, member_words, named_words, operand, part, phrase_as, phrase_of, phrases, Phrase, pointed_words, prefix_word, scope_words, spells_comma, subscript_words}
 
 -- ---- runs of words
 
@@ -66,16 +66,17 @@ named_apart tags name (Some of) number =
       ends = ends_append scope (name_word (name number)) [] refl;
     }
 
-callee_apart : (name : ℕ → List ℕ) (target : Option ℕ) (parts : List Phrase) → AreApart parts → StandsApart (callee_words name target parts)
-callee_apart name (Some number) parts all = record { begins = refl; ends = refl }
-callee_apart name None parts all = operand_apart (part parts 0) (part_apart parts 0 all)
+callee_apart : (tags : Tags) (name : ℕ → List ℕ) (of : Option CxxType) (number : ℕ) (by_name : Bool) (parts : List Phrase) → AreApart parts → StandsApart (callee_words tags name of number by_name parts)
+callee_apart tags name of number true parts all = named_apart tags name of number
+callee_apart tags name of number false parts all = operand_apart (part parts 0) (part_apart parts 0 all)
 
-call_apart : (name : ℕ → List ℕ) (target : Option ℕ) (parts : List Phrase) → AreApart parts → StandsApart (call_words name target parts)
-call_apart name target parts all =
-    let inner : List Word = elements (arguments target parts) in
+call_apart : (tags : Tags) (name : ℕ → List ℕ) (of : Option CxxType) (number : ℕ) (by_name : Bool) (parts : List Phrase) → AreApart parts → StandsApart (call_words tags name of number by_name parts)
+call_apart tags name of number by_name parts all =
+    let callee : List Word = callee_words tags name of number by_name parts in
+    let inner : List Word = elements (arguments by_name parts) in
     record {
-      begins = begins_append (callee_words name target parts) (open_word ∷ (inner ++ close_word ∷ [])) (callee_apart name target parts all).begins refl;
-      ends = ends_append (callee_words name target parts) open_word (inner ++ close_word ∷ []) (ends_append (open_word ∷ inner) close_word [] refl);
+      begins = begins_append callee (open_word ∷ (inner ++ close_word ∷ [])) (callee_apart tags name of number by_name parts all).begins refl;
+      ends = ends_append callee open_word (inner ++ close_word ∷ []) (ends_append (open_word ∷ inner) close_word [] refl);
     }
 
 cast_apart : (tags : Tags) (keyword : List ℕ) (of : CxxType) (inner : List Word) → StandsApart (cast_words tags keyword of inner)
@@ -121,7 +122,7 @@ unfolding IsApart
 form_apart form.Spelled tags name label is_text parts all = λ is. record { begins = refl; ends = refl }
 form_apart form.Name tags name label is_text parts all = λ is. named_apart tags name label.of (target_or label.target)
 form_apart form.Parenthesis tags name label is_text parts all = part_apart parts 0 all
-form_apart form.Call tags name label is_text parts all = λ is. call_apart name label.target parts all
+form_apart form.Call tags name label is_text parts all = λ is. call_apart tags name label.of (target_or label.target) (is_by_name label.path) parts all
 form_apart form.Zero tags name label is_text parts all = λ is. cast_apart tags (codes "static_cast") (type_or_void label.of) (keyword_word (codes "0") ∷ [])
 form_apart form.Member tags name label is_text parts all = λ is. member_apart name label.target (operand (part parts 0)) (operand_apart (part parts 0) (part_apart parts 0 all))
 form_apart form.Arrow tags name label is_text parts all = λ is. member_apart name label.target (pointed_words parts) (pointed_apart parts)

@@ -11,7 +11,7 @@ use Rattle.cxx_meaning.specs.Conversions.Standard.{CxxOperand}
 use Rattle.cxx_reading.specs.declared.role.Role.TheVariants as role
 use Rattle.cxx_reading.specs.Declarators.{no_cv}
 use Rattle.cxx_reading.specs.Plain.{is_empty, target_or, type_or_void}
-use Rattle.cxx_reading.specs.Trees.{CxxTree, CxxTrees, no_trees, tree_then, Label}
+use Rattle.cxx_reading.specs.Trees.{CxxPath, CxxTree, CxxTrees, no_trees, tree_then, Label}
 use Rattle.cxx_reading.specs.Words.{Word, Tags, keyword_word, name_word, open_word, close_word, open_bracket_word, close_bracket_word, comma_word, less_word, greater_word, separated, within, declared}
 use Rattle.cxx_phrase_text.specs.declared.form.Form.{Form}
 use Rattle.cxx_phrase_text.specs.declared.form.Form.TheVariants as form
@@ -90,17 +90,22 @@ named_words tags name of number = scope_words tags (type_or_void of) (has_class 
 
 -- ---- calls (5.2.2)
 
+-- Whether a function is called by its name alone (13.3.1.1.1), and not as a member of an object or through a pointer.
+abbrev pub is_by_name : Option CxxPath → Bool
+is_by_name None = false
+is_by_name (Some path) = true
+
 -- The function that is named, and else the expression that gives it.
-abbrev pub callee_words : (ℕ → List ℕ) → Option ℕ → List Phrase → List Word
-callee_words name (Some number) parts = name_word (name number) ∷ []
-callee_words name None parts = operand (part parts 0)
+abbrev pub callee_words : Tags → (ℕ → List ℕ) → Option CxxType → ℕ → Bool → List Phrase → List Word
+callee_words tags name of number true parts = named_words tags name of number
+callee_words tags name of number false parts = operand (part parts 0)
 
-abbrev pub arguments : {A : Type 0} → Option ℕ → List A → List A
-arguments (Some number) parts = parts
-arguments None parts = drop 1 parts
+abbrev pub arguments : {A : Type 0} → Bool → List A → List A
+arguments true parts = parts
+arguments false parts = drop 1 parts
 
-abbrev pub call_words : (ℕ → List ℕ) → Option ℕ → List Phrase → List Word
-call_words name target parts = callee_words name target parts ++ (open_word ∷ (elements (arguments target parts) ++ close_word ∷ []))
+abbrev pub call_words : Tags → (ℕ → List ℕ) → Option CxxType → ℕ → Bool → List Phrase → List Word
+call_words tags name of number is_by_name parts = callee_words tags name of number is_by_name parts ++ (open_word ∷ (elements (arguments is_by_name parts) ++ close_word ∷ []))
 
 -- ---- casts (5.2.3, 5.2.9 to 5.2.11)
 
@@ -216,7 +221,7 @@ abbrev pub phrase_as : Form → Tags → (ℕ → List ℕ) → Label → Bool �
 phrase_as form.Spelled tags name label is_one_string parts = primary (keyword_word label.spelling ∷ [])
 phrase_as form.Name tags name label is_one_string parts = primary (named_words tags name label.of (target_or label.target))
 phrase_as form.Parenthesis tags name label is_one_string parts = part parts 0
-phrase_as form.Call tags name label is_one_string parts = primary (call_words name label.target parts)
+phrase_as form.Call tags name label is_one_string parts = primary (call_words tags name label.of (target_or label.target) (is_by_name label.path) parts)
 phrase_as form.Zero tags name label is_one_string parts = primary (zero_words tags (type_or_void label.of))
 phrase_as form.Member tags name label is_one_string parts = primary (member_words name label.target (operand (part parts 0)))
 phrase_as form.Arrow tags name label is_one_string parts = primary (member_words name label.target (pointed_words parts))

@@ -1,5 +1,5 @@
 -- Expressions by their numbers, part by part as they are written.
-use Rattle.std.specs.Prelude.{ℕ, true, List, [], ◌∷◌, ◌++◌, map, codes, Option}
+use Rattle.std.specs.Prelude.{ℕ, Bool, true, List, [], ◌∷◌, ◌++◌, map, codes, Option}
 use Rattle.std.specs.Option.{option_map}
 use Rattle.cxx_model.specs.declared.tree.Node.{Node}
 use Rattle.cxx_model.specs.declared.types.TreeId.{TreeId}
@@ -59,8 +59,8 @@ zero_parts tags of = cast_front tags (codes "static_cast") of ++ (keyword_word (
 unfoldable pub cast_parts : Tags → List ℕ → CxxType → List Word → List Word
 cast_parts tags keyword of inner = cast_front tags keyword of ++ (inner ++ close_word ∷ [])
 
-unfoldable pub call_parts : NamedState → Option ℕ → List TreeId → List Word
-call_parts named target parts = callee_words named.name target (phrases_at named parts) ++ (open_word ∷ (elements_at named (arguments target parts) ++ close_word ∷ []))
+unfoldable pub call_parts : NamedState → Option CxxType → ℕ → Bool → List TreeId → List Word
+call_parts named of number is_by_name parts = callee_words named.tags named.name of number is_by_name (phrases_at named parts) ++ (open_word ∷ (elements_at named (arguments is_by_name parts) ++ close_word ∷ []))
 
 unfoldable pub brace_parts : NamedState → List TreeId → List Word
 brace_parts named parts = keyword_word (codes "{") ∷ (elements_at named parts ++ keyword_word (codes "}") ∷ [])

@@ -7,7 +7,7 @@ ghost use Rattle.cxx_phrase_text.specs.Named.{trees_of};
 ghost use Rattle.cxx_phrase_text.specs.Written.{phrase_at, phrase_in};
 
 use crate::form::{Form, form_of};
-use crate::lists::{write_braces, write_call};
+use crate::lists::{is_by_name, write_braces, write_call};
 use crate::members::{write_arrow, write_member};
 use crate::names::{Names, write_named};
 use crate::operands::write_part;
@@ -62,7 +62,15 @@ fn write_form<N: Names>(
         Form::Spelled => page.word(Role::Alone, spelling),
         Form::Name => write_named(names, page, node.of, node.target),
         Form::Parenthesis => write_part(names, page, parts, 0, number),
-        Form::Call => write_call(names, page, node.target, parts, number),
+        Form::Call => write_call(
+            names,
+            page,
+            node.of,
+            node.target,
+            is_by_name(node),
+            parts,
+            number,
+        ),
         Form::Zero => write_zero(names, page, node.of),
         Form::Member => write_member(names, page, node.target, parts, number),
         Form::Arrow => write_arrow(names, page, node.target, parts, number),

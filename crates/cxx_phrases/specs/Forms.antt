@@ -1,6 +1,7 @@
 -- The trees of expressions as they are read, before it is asked what they mean.
-use Rattle.std.specs.Prelude.{ℕ, List, [], ◌∷◌, ◌++◌, Option, Some, codes}
+use Rattle.std.specs.Prelude.{ℕ, Bool, true, false, List, [], ◌∷◌, ◌++◌, Option, Some, codes}
 use Rattle.cxx_model.specs.declared.place.Place.{Place}
+use Rattle.cxx_model.specs.declared.punct.TheConstants as punct
 use Rattle.cxx_model.specs.declared.token.TokenKind.{TokenKind}
 use Rattle.cxx_model.specs.declared.token.TokenKind.TheVariants.{Text}
 use Rattle.cxx_model.specs.Types.Trees.{CxxType}
@@ -8,6 +9,7 @@ use Rattle.cxx_phrases.specs.Productions as phrase
 use Rattle.cxx_reading.specs.Labels.{label_from}
 use Rattle.cxx_reading.specs.Productions as production
 use Rattle.cxx_reading.specs.Reads.{Ahead, kind_ahead, word_ahead}
+use Rattle.cxx_reading.specs.Tokens.{is_punct}
 use Rattle.cxx_reading.specs.Trees.{CxxPath, CxxTree, last_part, tree_of}
 use Rattle.cxx_strings.specs.SideBySide.{side_by_side}
 
@@ -44,9 +46,18 @@ functional_tree of arguments from to = tree_of (record (label_from phrase.functi
 abbrev pub subscript_tree : Place → CxxTree → CxxTree → Ahead → Ahead → CxxTree
 subscript_tree place object index from to = tree_of (record (label_from phrase.subscript [] from to) { place = place }) (object ∷ index ∷ [])
 
--- 5.2.5: a member of an object, or of what is pointed to; its place is that of the operator
+-- 5.2.2: the spelling of a name behind which the bracket of arguments stands, or does not
+abbrev pub bracket_word : Bool → List ℕ
+bracket_word true = codes "("
+bracket_word false = []
+
+abbrev pub called_word : Ahead → List ℕ
+called_word to = bracket_word (is_punct punct.LEFT_PARENTHESIS (kind_ahead to))
+
+-- 5.2.5: a member of an object, or of what is pointed to; its place is that of the operator, and the spelling tells whether it
+-- is called
 abbrev pub member_tree : ℕ → Place → CxxPath → CxxTree → Ahead → Ahead → CxxTree
-member_tree number place path object from to = tree_of (record (label_from number [] from to) { place = place; path = Some path }) (object ∷ [])
+member_tree number place path object from to = tree_of (record (label_from number (called_word to) from to) { place = place; path = Some path }) (object ∷ [])
 
 -- 5.2.6
 abbrev pub step_tree : List ℕ → Place → CxxTree → Ahead → Ahead → CxxTree

@@ -12,8 +12,8 @@ ghost use Rattle.cxx_tree.specs.Held.{meaning, tree, type_of};
 use crate::lists::{one_tree, three_trees, two_trees, with_tree};
 use crate::phrases::Phrases;
 use crate::production;
-use cxx_cursor::{Cursor, joined, last_place, node_from, push};
-use cxx_model::{Listed, Path, Place, Stop, Text, TokenKind, TreeId, TreeIdList, TypeId};
+use cxx_cursor::{Cursor, is_punct, joined, last_place, node_from, push};
+use cxx_model::{Listed, Path, Place, Stop, Text, TokenKind, TreeId, TreeIdList, TypeId, punct};
 use cxx_strings::side_by_side;
 use cxx_tree::State;
 use std::alloc::{AllocError, Global};
@@ -171,6 +171,17 @@ pub(crate) fn subscript_asked<P: Phrases>(
     phrases.whole(state, node)
 }
 
+// What a name is spelled with behind which the bracket of arguments stands (5.2.2).
+fn called_word(to: &Cursor<'_>) -> &'static [u8]
+    ensures { result.now ≡ form.called_word to.now }
+{
+    if is_punct(punct::LEFT_PARENTHESIS, to.kind()) {
+        b"("
+    } else {
+        b""
+    }
+}
+
 /// A member of an object, or of what is pointed to, by its name and the place of the operator (5.2.5).
 #[tactic(auto, using(cxx_cursor::proofs::Kept::later_trans, cxx_cursor::proofs::Kept::later_refl, crate::proofs::Kept::tree_kept, crate::proofs::Kept::tree_later))]
 pub(crate) fn selected_asked<P: Phrases>(
@@ -187,7 +198,7 @@ pub(crate) fn selected_asked<P: Phrases>(
     requires object { IsTreeKnown state.old object }
     ensures { IsAsked tree IsTreeKnown state.old state.new result ((P.asks phrases.now).whole (form.member_tree number place (path_at path) (tree state.old object) from.now to.now) (meaning state.old)) }
 {
-    let spelling = Listed::new(from.alloc());
+    let spelling = Text::from_slice(from.alloc(), called_word(to))?;
     let children = one_tree(from.alloc(), object)?;
     let mut node = node_from(number, spelling, from, to, children);
     node.place = place;

@@ -76,8 +76,12 @@ x = named 2
 abbrev y : CxxTree
 y = named 3
 
+-- the call of a function with a number, by its name
+abbrev call_as : ℕ → ℕ → List CxxTree → CxxTree
+call_as number target arguments = tree_of (record (label 40 []) { path = Some (record { global = false; parts = [] }); target = Some target; call = Some number }) arguments
+
 abbrev call : ℕ → List CxxTree → CxxTree
-call target arguments = tree_of (record (label 40 []) { target = Some target; call = Some 0 }) arguments
+call target arguments = call_as 0 target arguments
 
 abbrev f : CxxTree
 f = call 0 []
@@ -331,7 +335,7 @@ returned_nothing = refl
 
 -- the call f() with a number
 abbrev numbered : ℕ → CxxTree
-numbered n = tree_of (record (label 40 []) { target = Some 0; call = Some n }) []
+numbered n = call_as n 0 []
 
 abbrev numbers : CxxTree → List ℕ
 numbers tree = map (λ call. call.number) (statement_calls declared tree)
@@ -382,6 +386,6 @@ unfolding statement_calls
 calls_of_a_do = refl
 
 -- { static int x = g(f()), h(); extern int y; typedef int T; }, where g(f()) has the number 1
-calls_of_objects : numbers (block (declaration (codes "static") (object 2 (tree_of (record (label 40 []) { target = Some 1; call = Some 1 }) (numbered 0 ∷ [])) ∷ declarator [] 0 (function_of int no_types false no_cv) [] ∷ []) ∷ declaration (codes "extern") (declarator (codes "extern") 6 int [] ∷ []) ∷ a_typedef ∷ [])) ≡ 0 ∷ 1 ∷ []
+calls_of_objects : numbers (block (declaration (codes "static") (object 2 (call_as 1 1 (numbered 0 ∷ [])) ∷ declarator [] 0 (function_of int no_types false no_cv) [] ∷ []) ∷ declaration (codes "extern") (declarator (codes "extern") 6 int [] ∷ []) ∷ a_typedef ∷ [])) ≡ 0 ∷ 1 ∷ []
 unfolding statement_calls
 calls_of_objects = refl

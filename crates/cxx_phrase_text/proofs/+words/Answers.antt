@@ -64,7 +64,7 @@ expressions::write_initial-returns-then-is_braced g t c =
 pub expressions::write_form-returns-in-Call : goal.expressions::write_form-returns-in-Call
 expressions::write_form-returns-in-Call g t c =
     subst (λ (ws : List Word). Writes c.write_call.result c.write_call.new.page (put ws c.args.page.now))
-    (form_call (g.N.Names.named c.args.names.now) c.args.node.now c.args.form c.as_slice-parts.result.now c.in-Call.is c.as_slice-parts.ensures) c.write_call.ensures
+    (form_call (g.N.Names.named c.args.names.now) c.args.node.now c.args.form c.is_by_name.result c.as_slice-parts.result.now c.in-Call.is c.is_by_name.ensures c.as_slice-parts.ensures) c.write_call.ensures
 
 pub expressions::write_form-returns-in-Zero : goal.expressions::write_form-returns-in-Zero
 expressions::write_form-returns-in-Zero g t c =

@@ -1,4 +1,4 @@
-use Rattle.cxx_initialize.proofs.Parts.{node_held}
+use Rattle.cxx_expr.proofs.NodeKept.{node_held}
 use Rattle.cxx_initialize.proofs.written.only_part.Goals as goal
 
 pub only_child-requires : goal.only_child-requires

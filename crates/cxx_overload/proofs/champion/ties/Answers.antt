@@ -11,7 +11,7 @@ pub loop-place-preserved : goal.loop-place-preserved
 loop-place-preserved g c =
     let types = c.args.types.now in
     let graph = graph_at types c.args.graph.now in
-    let all = contenders_at types c.args.operands.now c.args.viable.now in
+    let all = contenders_at types c.args.object c.args.operands.now c.args.viable.now in
     let inside : c.loop-place.place < length all = grind (arith, common_steps) in
     record {
       same =

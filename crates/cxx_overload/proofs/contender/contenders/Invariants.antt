@@ -7,6 +7,6 @@ use Rattle.cxx_overload.proofs.contender.contenders.Given as goal
 
 abbrev pub invariant-loop-one : goal.invariant-loop-one
 invariant-loop-one l = record {
-  same : contenders_at l.types l.operands l.found.items ++ viable (map (rated_at l.types l.operands l.conversions) (drop l.one-index l.ratings.all.items)) ≡ viable (map (rated_at l.types l.operands l.conversions) l.ratings.all.items);
+  same : contenders_at l.types l.object l.operands l.found.items ++ viable (map (rated_at l.types l.object l.operands l.conversions) (drop l.one-index l.ratings.all.items)) ≡ viable (map (rated_at l.types l.object l.operands l.conversions) l.ratings.all.items);
   below : All (IsContenderBelow (length l.types)) l.found.items;
 }

@@ -1,5 +1,5 @@
 use Rattle.std.proofs.Common.{◌≡◌, take}
-use Rattle.cxx_initialize.proofs.copies.copy_parts.Given as goal
+use Rattle.cxx_expr.proofs.copies.copy_parts.Given as goal
 
 abbrev pub invariant-loop-part : goal.invariant-loop-part
 invariant-loop-part l = l.copies ≡ take l.part-index l.parts

@@ -1,8 +1,13 @@
-//! Copies of nodes, with other children and another type.
+//! Copies of nodes.
 
-ghost use Rattle.std.specs.Prelude.{◌≡◌, Some, IfOk};
+ghost use Rattle.std.specs.Prelude.{◌≡◌, ◌<◌, length, Some, IfOk};
+ghost use Rattle.cxx_tree.specs.Held.{tree, trees};
+ghost use Rattle.cxx_expr.specs.Nodes.{IsNodeHeld, node_tree};
 
-use cxx_model::{Listed, Node, Path, PathPart, PathPartList, Text, TreeIdList, TypeId, Word};
+use cxx_model::{
+    Listed, Node, Path, PathPart, PathPartList, Text, TreeId, TreeIdList, TypeId, Word,
+};
+use cxx_tree::State;
 use std::alloc::{AllocError, Global};
 
 fn copy_arguments(
@@ -51,15 +56,10 @@ fn copy_path(alloc: Global, path: &Option<Path>) -> Result<Option<Path>, AllocEr
     }
 }
 
-/// A copy of a node, with another type, over other children.
-pub fn node_over(
-    alloc: Global,
-    node: &Node,
-    of: TypeId,
-    children: TreeIdList,
-) -> Result<Node, AllocError>
-    ensures { IfOk result (λ copy. copy ≡ record node.now { of = Some of; children = children }) }
+fn copy_node(alloc: Global, node: &Node) -> Result<Node, AllocError>
+    ensures { IfOk result (λ copy. copy ≡ node.now) }
 {
+    let children = TreeIdList::from_slice(alloc, node.children.as_slice())?;
     let path = copy_path(alloc, &node.path)?;
     let spelling = Text::from_slice(alloc, node.spelling.as_slice())?;
     Ok(Node {
@@ -71,9 +71,42 @@ pub fn node_over(
         place: node.place,
         path,
         operand: node.operand,
-        of: Some(of),
+        of: node.of,
         target: node.target,
         call: node.call,
         spelling,
     })
+}
+
+/// A copy of a node, with another type, over other children.
+pub fn node_over(
+    alloc: Global,
+    node: &Node,
+    of: TypeId,
+    children: TreeIdList,
+) -> Result<Node, AllocError>
+    ensures { IfOk result (λ copy. copy ≡ record node.now { of = Some of; children = children }) }
+{
+    let mut copy = copy_node(alloc, node)?;
+    copy.of = Some(of);
+    copy.children = children;
+    Ok(copy)
+}
+
+fn copy_held(alloc: Global, state: &State, node: &Node) -> Result<Node, AllocError>
+    requires { IsNodeHeld state.now node.now }
+    ensures is { IfOk result (λ copy. node_tree state.now copy ≡ node_tree state.now node.now) }
+    ensures held { IfOk result (IsNodeHeld state.now) }
+{
+    let _ = state;
+    copy_node(alloc, node)
+}
+
+/// A copy of the node of a tree.
+pub fn node_of(alloc: Global, state: &State, number: TreeId) -> Result<Node, AllocError>
+    requires { number.0 < length (trees state.now) }
+    ensures is { IfOk result (λ copy. node_tree state.now copy ≡ tree state.now number) }
+    ensures held { IfOk result (IsNodeHeld state.now) }
+{
+    copy_held(alloc, state, state.node(number))
 }

@@ -1,6 +1,0 @@
-use Rattle.cxx_expr.proofs.Kept.{later_trans}
-use Rattle.cxx_expr.proofs.NodeKept.{node_later}
-use Rattle.cxx_called.proofs.members.selected_among.Goals as goal
-
-pub selected_tree-requires-clause-node : goal.selected_tree-requires-clause-node
-selected_tree-requires-clause-node g c = node_later _ _ _ (later_trans _ _ _ c.selected_by.ensures.later c.bound.ensures.later) c.requires.node
