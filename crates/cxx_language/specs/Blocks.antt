@@ -17,7 +17,7 @@ use Rattle.cxx_reading.specs.State.{CxxState}
 use Rattle.cxx_reading.specs.Syntax.{declarator_at}
 use Rattle.cxx_reading.specs.Tokens.{is_punct, is_keyword, refused}
 use Rattle.cxx_reading.specs.Trees.{CxxTree, tree_of}
-use Rattle.cxx_reading.specs.Units.{complete_object, Said, Listed, specifiers_tree, declarator_tree, name_in, declared_fits, declared_synonym, declarator_ended, give_trees, no_declarators, nothing_declared, said_by, simple_tree, synonym_ended}
+use Rattle.cxx_reading.specs.Units.{complete_object, Said, Listed, specifiers_tree, declarator_tree, name_in, declared_fits, declarator_ended, give_trees, no_declarators, nothing_declared, said_by, simple_tree, synonym_ended}
 use Rattle.cxx_declare.specs.Functions.{declare_function}
 use Rattle.cxx_phrases.specs.Initializers.{Initializer, copy_at}
 use Rattle.cxx_phrases.specs.Phrases.{Phrases, Inner}
@@ -26,6 +26,7 @@ use Rattle.cxx_expr.specs.Operands.{object_operand}
 use Rattle.cxx_expr.specs.Questions.{Questions}
 use Rattle.cxx_statements.specs.Productions as production
 use Rattle.cxx_language.specs.Asked.{answers, asked, inner_at, phrases_at}
+use Rattle.cxx_language.specs.Synonyms.{bare_synonym}
 use Rattle.cxx_language.specs.Made.{defined_object}
 use Rattle.cxx_language.specs.Known.{note_known, type_known}
 use Rattle.cxx_language.specs.Objects.{begins_initializer, initializer_tree, some_elements}
@@ -54,7 +55,7 @@ local_extern said from declarator = do
 
 abbrev pub locally_declared : ℕ → Said → Ahead → Declarator → Reads CxxState CxxTree
 locally_declared room said from declarator =
-    if said.is_typedef then declared_synonym said declarator from else (
+    if said.is_typedef then bare_synonym said declarator from else (
     if is_function_type (declared_type declarator.layers said.of) then local_function said from declarator else (
     if said.is_extern then local_extern said from declarator else
     defined_object room said declarator from))

@@ -26,11 +26,12 @@ use Rattle.cxx_reading.specs.Syntax.{declarator_at}
 use Rattle.cxx_declare.specs.Outside.{stand_in}
 use Rattle.cxx_reading.specs.Tokens.{begins_name, is_plain_name, is_punct, is_keyword, is_name, not_built, path_taken, punct_taken, refused, token_in}
 use Rattle.cxx_reading.specs.Trees.{CxxPath, CxxTree, last_part, tree_of}
-use Rattle.cxx_reading.specs.Units.{Said, Listed, declarator_ended, declarator_tree, declared_fits, declared_synonym, give_trees, is_const_type, is_incomplete, is_unbounded, name_in, no_declarators, nothing_declared, said_by, simple_tree, specifiers_tree}
+use Rattle.cxx_reading.specs.Units.{Said, Listed, declarator_ended, declarator_tree, declared_fits, give_trees, is_const_type, is_incomplete, is_unbounded, name_in, no_declarators, nothing_declared, said_by, simple_tree, specifiers_tree}
 use Rattle.cxx_declare.specs.Bases.{BaseOf, declare_base}
 use Rattle.cxx_declare.specs.ClassDefinitions.{begin_class, begin_unnamed, declare_member, end_class}
 use Rattle.cxx_language.specs.Asked.{asked, inner_at}
 use Rattle.cxx_language.specs.Bodies.{standing}
+use Rattle.cxx_language.specs.Synonyms.{bare_synonym}
 use Rattle.cxx_language.specs.Values.{member_value}
 
 -- ---- the head
@@ -129,7 +130,7 @@ data_member room label said declarator from = do
 unfoldable pub synonym_member : Said → Declarator → Ahead → Reads CxxState CxxTree
 synonym_member said declarator from = do
   fits ← declared_fits said declarator
-  declared_synonym said declarator from
+  bare_synonym said declarator from
 
 unfoldable pub declared_member : ℕ → Access → Said → Declarator → Ahead → Reads CxxState CxxTree
 declared_member room label said declarator from state ahead =

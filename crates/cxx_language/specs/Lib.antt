@@ -7,6 +7,7 @@ pub mod Noting
 pub mod Parts
 pub mod Objects
 pub mod Made
+pub mod Synonyms
 pub mod Spaces
 pub mod Blocks
 pub mod Statements

@@ -22,7 +22,7 @@ use Rattle.cxx_reading.specs.State.{CxxState, first_state}
 use Rattle.cxx_reading.specs.Syntax.{declarator_at}
 use Rattle.cxx_reading.specs.Tokens.{is_punct, is_keyword, is_end, no_declaration, refused}
 use Rattle.cxx_reading.specs.Trees.{CxxTree, tree_of}
-use Rattle.cxx_reading.specs.Units.{CxxReading, Said, Listed, read_as, part_added, specifiers_tree, declarator_tree, name_in, declared_fits, declared_synonym, ends_declarator, one_tree, declarator_ended, with_declarator, give_trees, no_declarators, nothing_declared, said_by, empty_tree, another_ahead, linkages_passed, linkage_list, linked_tree, inside_step}
+use Rattle.cxx_reading.specs.Units.{CxxReading, Said, Listed, read_as, part_added, specifiers_tree, declarator_tree, name_in, declared_fits, ends_declarator, one_tree, declarator_ended, with_declarator, give_trees, no_declarators, nothing_declared, said_by, empty_tree, another_ahead, linkages_passed, linkage_list, linked_tree, inside_step}
 use Rattle.cxx_declare.specs.Functions.{declare_function}
 use Rattle.cxx_statements.specs.Productions as statement
 use Rattle.cxx_language.specs.Asked.{asked, inner_at}
@@ -30,6 +30,7 @@ use Rattle.cxx_language.specs.Bodies.{function_body, standing}
 use Rattle.cxx_language.specs.Classes.{declaration_specifiers}
 use Rattle.cxx_language.specs.Made.{defined_object, extern_object}
 use Rattle.cxx_language.specs.Spaces.{namespace_at, using_at}
+use Rattle.cxx_language.specs.Synonyms.{bare_synonym}
 
 -- ---- one declarator (8, 8.5)
 
@@ -68,7 +69,7 @@ declared_function room said is_first declarator from = do
 -- 3.3.1: a name is declared once its declarator is complete, before what follows is looked at
 abbrev pub declared_by : ℕ → Said → Bool → Ahead → Declarator → Reads CxxState Declares
 declared_by room said is_first from declarator =
-    if said.is_typedef then declared_synonym said declarator from >>= alone else (
+    if said.is_typedef then bare_synonym said declarator from >>= alone else (
     if is_function_type (declared_type declarator.layers said.of) then declared_function room said is_first declarator from else (
     if said.is_extern then extern_object room said declarator from >>= alone else
     defined_object room said declarator from >>= alone))

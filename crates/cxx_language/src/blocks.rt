@@ -36,7 +36,7 @@ impl<D: Declares> Reader<'_, D> {
         ensures { IsRead tree IsTreeKnown state.old state.new cursor.new result (definition.locally_declared self.now.room (said_of state.old said) from.now (declarator_of state.old declarator) (meaning state.old) cursor.old) }
     {
         if said.is_typedef {
-            return self.declared_synonym(state, cursor, said, from, declarator, of);
+            return self.bare_synonym(state, cursor, said, from, declarator, of);
         }
         if is_function_type(state.types(), of) {
             return self.local_function(state, cursor, said, from, declarator, of);

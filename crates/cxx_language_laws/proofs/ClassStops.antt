@@ -29,7 +29,7 @@ use Rattle.cxx_language_laws.proofs.Asked.{kinds_tell}
 use Rattle.cxx_language_laws.proofs.Bases.{bases_stop}
 use Rattle.cxx_language_laws.proofs.Both.{both_tell}
 use Rattle.cxx_language_laws.proofs.ClassBegins.{begin_tells, end_tells, member_tells, unnamed_tells, member_is_there}
-use Rattle.cxx_language_laws.proofs.Declared.{declared_synonym_tells, declarator_ended_tells, give_trees_tells, nothing_tells}
+use Rattle.cxx_language_laws.proofs.Declared.{bare_synonym_tells, declarator_ended_tells, give_trees_tells, nothing_tells}
 use Rattle.cxx_language_laws.proofs.DeclaratorsStop.{declarator_stops, specifiers_stop, fits_stops}
 use Rattle.cxx_language_laws.proofs.Later.{IsLater, grown_later, grown_same, later_is_kept, later_is_quiet, same_calls}
 use Rattle.cxx_language_laws.proofs.Opened.{InSpace, round_grown, stands_in}
@@ -62,7 +62,7 @@ fits_tells said declarator state ahead = if_in (is_refused (refused_in declarato
 
 synonym_member_tells : (said : Said) (declarator : Declarator) (from : Ahead) → Tells IsLater Quietly (synonym_member said declarator from)
 unfolding synonym_member
-synonym_member_tells said declarator from state ahead = then_in later_is_quiet (fits_tells said declarator state ahead) (λ fits. declared_synonym_tells said declarator from)
+synonym_member_tells said declarator from state ahead = then_in later_is_quiet (fits_tells said declarator state ahead) (λ fits. bare_synonym_tells said declarator from)
 
 -- the value of a member in its class
 value_stops : (room : ℕ) (name : Lexeme) (of : CxxType) (number : ℕ) (state : CxxState) (ahead : Ahead) → HasNumber number state → Stops (a_member_value room name of number) state ahead (constant_part room name of number state ahead)

@@ -34,7 +34,7 @@ use Rattle.cxx_language_laws.specs.Stopping.{BeginsBody, Gives, Initializes, IsL
 use Rattle.cxx_language_laws.specs.Told.{EndsIn}
 use Rattle.cxx_language_laws.proofs.Begun.{Begun, Brings, HaveBegun, brings, brings_none, declarator_has_begun, own_has_begun}
 use Rattle.cxx_language_laws.proofs.ClassStops.{all_specifiers_stop}
-use Rattle.cxx_language_laws.proofs.Declared.{declared_synonym_tells, declarator_ended_tells, give_trees_tells, linkages_tell, linked_tree_tells, no_declaration_tells, nothing_tells, one_tree_tells}
+use Rattle.cxx_language_laws.proofs.Declared.{bare_synonym_tells, declarator_ended_tells, give_trees_tells, linkages_tell, linked_tree_tells, no_declaration_tells, nothing_tells, one_tree_tells}
 use Rattle.cxx_language_laws.proofs.DeclaratorsStop.{agrees_stops, defined_part_stops, extern_part_stops, fits_stops, member_stops, which_reads}
 use Rattle.cxx_language_laws.proofs.Later.{IsLater, declared_is_there, defined_is_there, define_later_tells, define_tells, function_answer_tells, grown_later, grown_same, later_is_kept, same_calls, later_is_quiet, object_tells}
 use Rattle.cxx_language_laws.proofs.Opened.{InSpace, open_space_tells, open_unnamed_tells, space_closed}
@@ -173,7 +173,7 @@ defined_object_stops held room said so_far declarator from state between ahead r
 declared_by_stops : {kept : CxxState → CxxState → Type 0} → IsHeld kept → (room : ℕ) (said : Said) (so_far : Listed) (from : Ahead) (declarator : Declarator) (state between : CxxState) (ahead rest : Ahead) → Gives (declarator_of room naming.Qualified) state ahead declarator between rest → HaveBegun between declarator.layers → kept state between → EndsIn ahead.tokens rest.tokens
     → InsideBy kept (some_declarators room said so_far) state ahead (declared_by room said so_far.is_first from declarator between rest)
 declared_by_stops held room said so_far from declarator state between ahead rest is begun later stands =
-    which_reads said.is_typedef _ _ between rest (λ synonym. calm_held held later stands (then_in later_is_quiet (declared_synonym_tells said declarator from between rest) alone_tells)) (λ no_synonym.
+    which_reads said.is_typedef _ _ between rest (λ synonym. calm_held held later stands (then_in later_is_quiet (bare_synonym_tells said declarator from between rest) alone_tells)) (λ no_synonym.
     which_reads (is_function_type (declared_type declarator.layers said.of)) _ _ between rest (λ function. declared_function_stops held room said so_far declarator from state between ahead rest is begun no_synonym function later stands) (λ no_function.
     let leads : LeadsOn room said so_far declarator state ahead between rest = λ number after initializes begins. to_initializer is no_synonym no_function initializes begins in
     which_reads said.is_extern _ _ between rest (λ is_extern. then_held held (extern_object_stops held room said so_far declarator from state between ahead rest is_extern leads later stands) alone_tells)

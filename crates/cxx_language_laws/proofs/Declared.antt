@@ -15,6 +15,7 @@ use Rattle.cxx_reading.specs.State.{CxxState}
 use Rattle.cxx_reading.specs.Tokens.{is_punct, begins_unbuilt, form_of_keyword, form_of_kind, no_declaration}
 use Rattle.cxx_reading.specs.Trees.{CxxTree}
 use Rattle.cxx_reading.specs.Units.{complete_object, is_incomplete, is_made_of_class, is_unbounded, declarator_tree, name_in as name_of_declarator, is_const_type, uninitialized, ends_declarator, one_tree, synonym_ended, declared_synonym, with_declarator, declarator_ended, give_trees, is_some_storage, nothing_declared, is_linkage, is_language, linkage_step, linkages_passed, linkage_tree, linked_tree, Said, Listed}
+use Rattle.cxx_language.specs.Synonyms.{bare_synonym, no_words_behind}
 use Rattle.cxx_language_laws.proofs.Later.{IsLater, later_is_quiet, synonym_tells}
 use Rattle.cxx_language_laws.proofs.Tells.{IsTold, saying, nothing, Quietly, Tells, quiet_in, if_in, past_in, then_in, ask_in, same_in, next_in, repeat_tells, looked_in, give_in}
 use Rattle.cxx_language_laws.proofs.TellsSyntax.{quiet_if}
@@ -34,9 +35,17 @@ pub synonym_ended_tells : Tells IsLater Quietly synonym_ended
 unfolding synonym_ended
 synonym_ended_tells state ahead = if_in (ends_declarator (kind_ahead ahead)) (same_in later_is_quiet (tt) state ahead) (quiet_in later_is_quiet refl)
 
-pub declared_synonym_tells : (said : Said) (declarator : Declarator) (from : Ahead) → Tells IsLater Quietly (declared_synonym said declarator from)
+declared_synonym_tells : (said : Said) (declarator : Declarator) (from : Ahead) → Tells IsLater Quietly (declared_synonym said declarator from)
 unfolding declared_synonym
 declared_synonym_tells said declarator from state ahead = then_in later_is_quiet (ask_in ahead (synonym_tells (name_of_declarator declarator) (declared_type declarator.layers said.of) state ahead)) (λ number state ahead. then_in later_is_quiet (synonym_ended_tells state ahead) (λ ended state ahead. then_in later_is_quiet (looked_in later_is_quiet state ahead) (λ to. give_in later_is_quiet (declarator_tree false (name_of_declarator declarator) (declared_type declarator.layers said.of) number declarator.parts from to))))
+
+no_words_tells : (declarator : Declarator) → Tells IsLater Quietly (no_words_behind declarator)
+unfolding no_words_behind
+no_words_tells declarator state ahead = if_in (declarator.cv.is_const || declarator.cv.is_volatile) (quiet_in later_is_quiet refl) (same_in later_is_quiet tt state ahead)
+
+pub bare_synonym_tells : (said : Said) (declarator : Declarator) (from : Ahead) → Tells IsLater Quietly (bare_synonym said declarator from)
+unfolding bare_synonym
+bare_synonym_tells said declarator from state ahead = then_in later_is_quiet (no_words_tells declarator state ahead) (λ bare. declared_synonym_tells said declarator from)
 
 pub declarator_ended_tells : (so_far : Listed) (tree : CxxTree) → Tells IsLater Quietly (declarator_ended so_far tree)
 unfolding declarator_ended

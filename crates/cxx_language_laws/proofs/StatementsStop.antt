@@ -31,7 +31,7 @@ use Rattle.cxx_language_laws.specs.Stopping.{BeginsFor, Enters, Gives, HasCondit
 use Rattle.cxx_language_laws.specs.Told.{EndsIn}
 use Rattle.cxx_language_laws.proofs.Asked.{constant_tells, phrases_tell}
 use Rattle.cxx_language_laws.proofs.Both.{both_tell}
-use Rattle.cxx_language_laws.proofs.Declared.{declared_synonym_tells, declarator_ended_tells, give_trees_tells, nothing_tells}
+use Rattle.cxx_language_laws.proofs.Declared.{bare_synonym_tells, declarator_ended_tells, give_trees_tells, nothing_tells}
 use Rattle.cxx_language_laws.proofs.DeclaratorsStop.{declarator_stops, defined_part_stops, fits_stops, specifiers_stop, which_reads}
 use Rattle.cxx_language_laws.proofs.Later.{IsLater, defined_is_there, define_tells, later_is_kept, later_is_quiet}
 use Rattle.cxx_language_laws.proofs.Lists.{entered_behind, left, left_later}
@@ -73,7 +73,7 @@ local_object_stops room said so_far declarator from state between ahead rest is 
 locally_stops : (room : ℕ) (said : Said) (so_far : Listed) (from : Ahead) (declarator : Declarator) (state between : CxxState) (ahead rest : Ahead) → Gives (declarator_of room naming.Required) state ahead declarator between rest → IsLater state between → EndsIn ahead.tokens rest.tokens
     → Inside (some_local_declarators room said so_far) state ahead (locally_declared room said from declarator between rest)
 locally_stops room said so_far from declarator state between ahead rest is later stands =
-    which_reads said.is_typedef _ _ between rest (λ synonym. calm_from later stands (declared_synonym_tells said declarator from between rest)) (λ no_synonym.
+    which_reads said.is_typedef _ _ between rest (λ synonym. calm_from later stands (bare_synonym_tells said declarator from between rest)) (λ no_synonym.
     which_reads (is_function_type (declared_type declarator.layers said.of)) _ _ between rest (λ function. calm_from later stands (local_function_tells said from declarator between rest)) (λ no_function.
     which_reads said.is_extern _ _ between rest (λ is_extern. calm_from later stands (local_extern_tells said from declarator between rest))
     (λ no_extern. local_object_stops room said so_far declarator from state between ahead rest is no_synonym no_function no_extern later stands)))

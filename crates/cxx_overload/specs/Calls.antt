@@ -62,7 +62,7 @@ decided_by place object operands all (chosen_one one) = Ok (record { meant = one
 decided_by place object operands all (none_viable evidence) = Err (call_fault place says.NoViableFunction evidence)
 decided_by place object operands all (ambiguous evidence) = Err (call_fault place says.AmbiguousCall evidence)
 
--- a class is not read yet
+-- a class that has to be complete is not
 abbrev pub decided_rated : Place → Option CxxOperand → List CxxOperand → CxxGraph → Result (List Rated) ClassId → Answer CxxDecision
 decided_rated place object operands graph (Ok all) = decided_by place object operands all (choice graph all)
 decided_rated place object operands graph (Err class) = Err (not_built_at place)

@@ -48,7 +48,7 @@ pub record TooMany (declared : List Numbered) (why : Stopped) : Type 0 where
   pub many : limits.MOST_CANDIDATES < length (candidates declared)
   pub why_is : why ≡ Limited kind.Candidates
 
--- a class has to be complete first, which is not read yet
+-- a class has to be complete first
 pub record NeedsClass (place : Place) (object : Option CxxOperand) (operands : List CxxOperand) (graph : CxxGraph) (declared : List Numbered) (why : Stopped) : Type 0 where
   pub class : ClassId
   pub needed : rated graph object operands (candidates declared) ≡ Err class

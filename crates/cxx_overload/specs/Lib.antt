@@ -1,4 +1,4 @@
--- Which function a call means, among all functions of one name (13.3), as long as there are no classes.
+-- Which function a call means, among all functions of one name (13.3), behind an object or with none.
 pub mod Candidates
 pub mod Objects
 pub mod Sequences

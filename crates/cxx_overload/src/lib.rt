@@ -1,4 +1,4 @@
-//! Which function a call means (13.3), over a graph and a table of types, as long as there are no classes.
+//! Which function a call means (13.3), over a graph and a table of types, behind an object or with none.
 //!
 //! `candidates` takes the functions from the declarations that lookup found, `rate` asks how the object, where there is one,
 //! and the arguments are converted to the parameters of each and whether it is viable, and `choose` gives the best viable

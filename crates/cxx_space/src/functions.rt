@@ -82,7 +82,7 @@ impl<D: Defines> Space<'_, D> {
             room: self.room,
         };
         if said.is_typedef {
-            let number = reader.declared_synonym(state, cursor, said, from, declarator, of)?;
+            let number = reader.bare_synonym(state, cursor, said, from, declarator, of)?;
             return Ok(alone(number));
         }
         if is_function_type(state.types(), of) {

@@ -2,7 +2,8 @@
 
 ghost use Rattle.std.specs.Prelude.{◌≡◌, ◌<◌, length};
 ghost use Rattle.cxx_language.specs.Classes as definition;
-ghost use Rattle.cxx_reading.specs.Units.{declared_synonym, name_in};
+ghost use Rattle.cxx_language.specs.Synonyms.{bare_synonym};
+ghost use Rattle.cxx_reading.specs.Units.{name_in};
 ghost use Rattle.cxx_language.specs.Values.{member_value};
 ghost use Rattle.cxx_reading.specs.Declarators.{no_cv};
 ghost use Rattle.cxx_space.specs.Classes.{IsMemberDeclared, fitting_member, member_ended, member_kept, members_at};
@@ -269,14 +270,14 @@ impl<D: Defines> Space<'_, D> {
     ) -> Result<TreeId, Stop>
         requires said { IsSaid state.old said }
         requires declarator { IsDeclarator state.old declarator }
-        ensures { IsRead tree IsTreeKnown state.old state.new cursor.now result (declared_synonym (said_of state.old said) (declarator_of state.old declarator) from.now (meaning state.old) cursor.now) }
+        ensures { IsRead tree IsTreeKnown state.old state.new cursor.now result (bare_synonym (said_of state.old said) (declarator_of state.old declarator) from.now (meaning state.old) cursor.now) }
     {
         let reader = Reader {
             declares: self.declares,
             room: self.room,
         };
         match declared(state, declarator.layers.as_slice(), said.of) {
-            Ok(of) => reader.declared_synonym(state, cursor, said, from, declarator, of),
+            Ok(of) => reader.bare_synonym(state, cursor, said, from, declarator, of),
             Err(_) => Err(Stop::OutOfMemory),
         }
     }
