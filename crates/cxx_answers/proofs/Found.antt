@@ -152,19 +152,19 @@ local_meant held seen numbers answer same is =
 
 -- ---- functions of classes
 
-pub put_off_more : (is_plain : Bool) (types : List CxxType) (facts : List Fact) (number : FactId) (numbers : List FactId)
-    → names_put_off is_plain (looked_up types facts (number ∷ numbers)) ≡ (names_put_off is_plain (looked_up types facts (number ∷ [])) || names_put_off is_plain (looked_up types facts numbers))
-put_off_more is_plain types facts number numbers = by (slice_get facts number.0)
+pub put_off_more : (types : List CxxType) (facts : List Fact) (number : FactId) (numbers : List FactId)
+    → names_put_off (looked_up types facts (number ∷ numbers)) ≡ (names_put_off (looked_up types facts (number ∷ [])) || names_put_off (looked_up types facts numbers))
+put_off_more types facts number numbers = by (slice_get facts number.0)
   where
-    by : (o : Option Fact) → names_put_off is_plain (seen_by types number (looked_up types facts numbers) o) ≡ (names_put_off is_plain (seen_by types number [] o) || names_put_off is_plain (looked_up types facts numbers))
+    by : (o : Option Fact) → names_put_off (seen_by types number (looked_up types facts numbers) o) ≡ (names_put_off (seen_by types number [] o) || names_put_off (looked_up types facts numbers))
     by None = refl
-    by (Some fact) = or_again (is_function_put_off is_plain (declares_at types fact.what)) (names_put_off is_plain (looked_up types facts numbers))
+    by (Some fact) = or_again (is_function_put_off (declares_at types fact.what)) (names_put_off (looked_up types facts numbers))
 
-pub put_off_meant : (held : Held) (seen : Graph) (is_plain : Bool) (numbers : List FactId) (answer : Bool) → seen ≡ held.graph → ((types : List CxxType) → answer ≡ names_put_off is_plain (looked_up types seen.facts numbers)) → answer ≡ names_put_off is_plain (numbered held numbers)
+pub put_off_meant : (held : Held) (seen : Graph) (numbers : List FactId) (answer : Bool) → seen ≡ held.graph → ((types : List CxxType) → answer ≡ names_put_off (looked_up types seen.facts numbers)) → answer ≡ names_put_off (numbered held numbers)
 unfolding meaning
-put_off_meant held seen is_plain numbers answer same is =
-    subst (λ (g : Graph). answer ≡ names_put_off is_plain (numbered_in (graph_at held.types g) numbers)) same
-    (is held.types ∙ ap (names_put_off is_plain) (sym (looked_same held.types seen numbers)))
+put_off_meant held seen numbers answer same is =
+    subst (λ (g : Graph). answer ≡ names_put_off (numbered_in (graph_at held.types g) numbers)) same
+    (is held.types ∙ ap names_put_off (sym (looked_same held.types seen numbers)))
 
 -- ---- the object that a condition declares
 

@@ -71,20 +71,23 @@ abbrev pub names_tested : Option ℕ → ℕ → List Numbered → Bool
 names_tested tested scope [] = false
 names_tested tested scope (one ∷ others) = is_tested tested scope one || names_tested tested scope others
 
--- 9.3: Whether a declaration is that of a function of a class which a name may not mean yet: one that belongs to an object, and
--- any where the name has no qualifiers.
-abbrev pub is_put_off : Bool → MemberKind → Bool
-is_put_off is_plain member_kind.Free = false
-is_put_off is_plain member_kind.Static = is_plain
-is_put_off is_plain _ = true
+-- 9.3: whether a declaration is that of a function which belongs to an object of its class, which a name with qualifiers may
+-- not mean yet
+abbrev pub is_put_off : MemberKind → Bool
+is_put_off member_kind.Free = false
+is_put_off member_kind.Static = false
+is_put_off _ = true
 
-abbrev pub is_function_put_off : Bool → Declares → Bool
-is_function_put_off is_plain (facts.function of kind flags defaults first) = is_put_off is_plain kind
-is_function_put_off is_plain _ = false
+abbrev pub is_function_put_off : Declares → Bool
+is_function_put_off (facts.function of kind flags defaults first) = is_put_off kind
+is_function_put_off _ = false
 
-abbrev pub names_put_off : Bool → List Numbered → Bool
-names_put_off is_plain [] = false
-names_put_off is_plain (one ∷ others) = is_function_put_off is_plain one.fact.what || names_put_off is_plain others
+abbrev pub names_put_off : List Numbered → Bool
+names_put_off [] = false
+names_put_off (one ∷ others) = is_function_put_off one.fact.what || names_put_off others
+
+abbrev pub is_not_built : Bool → List Numbered → Bool
+is_not_built is_plain all = not is_plain && names_put_off all
 
 -- 8.3.6: a default argument means no local object. 6.5.3: What a `for` does behind each turn does not name the object that its
 -- condition declares, which stands in the scope of the `for` itself.
@@ -92,7 +95,7 @@ abbrev pub name_meant : CxxPath → List Numbered → Asks CxxState (List Number
 name_meant path all state =
     if state.in_default && names_local state.graph all then Err (fault (last_part path.parts).place says.OperandsDoNotFit) else (
     if state.in_step && names_tested state.tested state.here.scope all then Err (fault (last_part path.parts).place (says.LeftOut form.ConditionNameInStep)) else (
-    if names_put_off (is_plain_path path) all then Err (not_built_at (last_part path.parts).place) else
+    if is_not_built (is_plain_path path) all then Err (not_built_at (last_part path.parts).place) else
     Ok (all, state)))
 
 -- 3.4: what it may mean is told apart

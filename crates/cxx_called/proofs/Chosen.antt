@@ -1,6 +1,9 @@
 -- What a name means and what a call means stay the same while the state grows.
-use Rattle.std.specs.Prelude.{◌≡◌, List}
+use Rattle.std.specs.Prelude.{◌≡◌, List, length, Option, Some, None, refl}
 use Rattle.std.proofs.Common.{ap, ◌∙◌}
+use Rattle.cxx_model.specs.declared.types.TypeId.{TypeId}
+use Rattle.cxx_model.specs.Facts.Declarations.{type_of_option}
+use Rattle.cxx_model.specs.Facts.Fitted.{IsTypeNumberBelow}
 use Rattle.cxx_model.specs.Types.Numbers.{type_at}
 use Rattle.cxx_model.specs.Types.Trees.{CxxType}
 use Rattle.cxx_tree.specs.Held.{Held}
@@ -32,3 +35,12 @@ chosen_kept old new chosen later ok =
     let make : List CxxType → CxxType → CxxChosen = λ ts t. record { target = chosen.target.0; parameters = ts; result = t; ellipsis = chosen.ellipsis; number = chosen.number } in
     ap (λ ts. make ts (type_at new.types chosen.result.0)) (types_kept old new chosen.parameters later ok.parameters)
     ∙ ap (λ t. make (types_in old.types chosen.parameters) t) (later.types.same chosen.result.0 ok.result)
+
+-- the type of an object, where there is one
+pub object_later : (old new : Held) (object : Option TypeId) → Later old new → IsTypeNumberBelow (length old.types) object → IsTypeNumberBelow (length new.types) object
+object_later old new None later ok = tt
+object_later old new (Some of) later ok = type_later old new of later ok
+
+pub object_kept : (old new : Held) (object : Option TypeId) → Later old new → IsTypeNumberBelow (length old.types) object → type_of_option new.types object ≡ type_of_option old.types object
+object_kept old new None later ok = refl
+object_kept old new (Some of) later ok = (let make : CxxType → Option CxxType = λ t. Some t in ap make (later.types.same of.0 ok))

@@ -2,6 +2,7 @@
 use Rattle.std.specs.Prelude.{ℕ, ◌≡◌, ◌<◌, ◌≤◌, ◌+◌, List, [], ◌∷◌, ◌++◌, length, Some, None, refl}
 use Rattle.std.proofs.Common.{ap, sym, subst, ◌∙◌, append_assoc, get_or, drop}
 use Rattle.std.proofs.lemmas.List.{append-nil, at_drop_more, at_drop_all}
+use Rattle.cxx_model.specs.declared.place.Place.{Place}
 use Rattle.cxx_model.specs.declared.sequence.Operand.{Operand}
 use Rattle.cxx_model.specs.declared.tree.Node.{Node}
 use Rattle.cxx_model.specs.declared.types.FactId.{FactId}
@@ -17,8 +18,9 @@ use Rattle.cxx_tree.proofs.Graphs.{length_facts}
 use Rattle.cxx_tree.specs.Arena.{label_at}
 use Rattle.cxx_tree.specs.Held.{Held, meaning, tree, trees, type_of}
 use Rattle.cxx_tree.specs.Later.{Later}
+use Rattle.cxx_called.specs.Tails.{object_question}
 use Rattle.cxx_called.specs.Views.{asked_of}
-use Rattle.cxx_expr.specs.Calls.{bare_word, is_bare, member_question, question}
+use Rattle.cxx_expr.specs.Calls.{bare_word, is_bare, question}
 use Rattle.cxx_expr.specs.Making.{AreTreesHeld, trees_held}
 use Rattle.cxx_expr.specs.Names.{word_in}
 use Rattle.cxx_expr.specs.Operands.{judged, judged_each, object_operand}
@@ -88,11 +90,11 @@ question_is q old mid node functions arguments operands same is =
     ap (λ (s : CxxState). q.call (make (numbered_in s.graph functions) (operands_in mid.types operands)) s) same
     ∙ ap (λ os. q.call (make (numbered old functions) os) (meaning old)) is
 
--- the same of a call of a member, whose object has a type
-pub member_question_is : (q : Questions) (old mid : Held) (callee : Node) (of : TypeId) (functions : List FactId) (arguments : List TreeId) (operands : List Operand) → of.0 < length old.types → Later old mid → meaning mid ≡ meaning old → operands_in mid.types operands ≡ judged_each q (trees_held old arguments) (meaning old) →
-    q.call (asked_of mid (word_in (label_at mid.types callee)).place (type_of mid of) functions operands) (meaning mid) ≡ q.call (member_question q (label_at old.types callee) (type_of old of) (numbered old functions) (trees_held old arguments) (meaning old)) (meaning old)
-member_question_is q old mid callee of functions arguments operands there later same is =
-    let make : List Numbered → CxxType → List CxxOperand → CxxQuestion = λ fs t os. record { place = (word_in (label_at old.types callee)).place; word = None; functions = fs; object = Some (object_operand t); operands = os } in
+-- the same of a call that has an object
+pub object_question_is : (q : Questions) (old mid : Held) (place : Place) (of : TypeId) (functions : List FactId) (arguments : List TreeId) (operands : List Operand) → of.0 < length old.types → Later old mid → meaning mid ≡ meaning old → operands_in mid.types operands ≡ judged_each q (trees_held old arguments) (meaning old) →
+    q.call (asked_of mid place (type_of mid of) functions operands) (meaning mid) ≡ q.call (object_question q place (type_of old of) (numbered old functions) (trees_held old arguments) (meaning old)) (meaning old)
+object_question_is q old mid place of functions arguments operands there later same is =
+    let make : List Numbered → CxxType → List CxxOperand → CxxQuestion = λ fs t os. record { place = place; word = None; functions = fs; object = Some (object_operand t); operands = os } in
     ap (λ (s : CxxState). q.call (make (numbered_in s.graph functions) (type_of mid of) (operands_in mid.types operands)) s) same
     ∙ ap (λ t. q.call (make (numbered old functions) t (operands_in mid.types operands)) (meaning old)) (type_kept old mid of later there)
     ∙ ap (λ os. q.call (make (numbered old functions) (type_of old of) os) (meaning old)) is

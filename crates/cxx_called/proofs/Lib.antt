@@ -1,3 +1,4 @@
+mod Based
 mod Called
 mod Chosen
 mod Declared

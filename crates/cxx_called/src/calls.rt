@@ -1,34 +1,34 @@
 //! Calls (5.2.2).
 
-ghost use Rattle.std.specs.Prelude.{◌≡◌, ◌<◌, ◌-◌, [], length, IfOk, Some};
+ghost use Rattle.std.specs.Prelude.{ℕ, List, ◌≡◌, ◌<◌, ◌-◌, [], length, IfOk, Some};
 ghost use Rattle.cxx_model.specs.Facts.Declarations.{declares_at, type_of_option};
 ghost use Rattle.cxx_model.specs.Facts.Fitted.{IsTypeNumberBelow};
+ghost use Rattle.cxx_model.specs.Facts.Graph.{IsClassNumberInRange};
 ghost use Rattle.cxx_model.specs.Stops.{Faulty};
-ghost use Rattle.cxx_model.specs.Types.Trees.{class_type};
+ghost use Rattle.cxx_model.specs.Types.Numbers.{type_at};
+ghost use Rattle.cxx_model.specs.Types.Trees.{CxxType, class_type};
 ghost use Rattle.cxx_meaning.specs.Lookups.Wanted as wanted;
 ghost use Rattle.cxx_tree.specs.Answered.{IsAnswered};
 ghost use Rattle.cxx_reading.specs.Plain.{target_or};
+ghost use Rattle.cxx_this.specs.This.{class_or_none};
 ghost use Rattle.cxx_tree.specs.Arena.{label_at, number_of_option, path_at};
 ghost use Rattle.cxx_tree.specs.Held.{Held, meaning, tree, trees, type_of};
 ghost use Rattle.cxx_expr.specs.Calls as definition;
-ghost use Rattle.cxx_expr.specs.Members.{class_of_object as class_of_object_by};
-ghost use Rattle.cxx_expr.specs.Operands.{object_operand};
 ghost use Rattle.cxx_expr.specs.Making.{AddsOperand, AreTreesHeld, Gathers, GrowsOperands, GrowsTree, IsTreeKnown, trees_held};
 ghost use Rattle.cxx_expr.specs.Names as names;
 ghost use Rattle.cxx_expr.specs.Nodes.{IsNodeHeld, node_tree};
 ghost use Rattle.cxx_expr.specs.Operands as operands_of;
 ghost use Rattle.cxx_expr.specs.Views.{AreFactsKnown, AreOperandsBelow, IsChosen, chosen_of, numbered, question_of};
 ghost use Rattle.cxx_expr.specs.declared.production.TheConstants as production;
-ghost use Rattle.cxx_called.specs.Members.{class_of_option};
 ghost use Rattle.cxx_called.specs.Tails as tails;
-ghost use Rattle.cxx_called.specs.Tails.{IsFirstSplit, first_split};
+ghost use Rattle.cxx_called.specs.Tails.{GrowsNode, IsFirstSplit, first_split};
 ghost use Rattle.cxx_called.specs.Views.{asked_of, IsFoundBelow, IsSignatureBelow, found_signature, signature_at};
 
+use crate::bases::based;
 use crate::facts::{fact_at, is_function, values_among};
-use crate::members::{class_of_object, declared_member};
-use crate::names::{
-    declared, is_plain, means_object, named, no_path, place_in, type_of_class, word_in,
-};
+use crate::implied::{named_here, object_for, object_tree};
+use crate::members::{class_of_type, declared_member};
+use crate::names::{declared, is_plain, means_object, no_path, place_in, type_of_class, word_in};
 use crate::signatures::{Signature, called_signature, fits_count};
 use cxx_expr::conditional::is_of_class;
 use cxx_expr::converting::{convert_each, push};
@@ -37,10 +37,10 @@ use cxx_expr::nodes::given_over;
 use cxx_expr::operands::{judged, operand_of, result_operand};
 use cxx_expr::operators::{listed_one, misshapen, no_fit};
 use cxx_expr::production::{ARROW, MEMBER, NAME};
-use cxx_expr::{Chosen, Questions, is_function_at, node_of, static_class};
+use cxx_expr::{Chosen, Questions, class_of_scope, is_function_at, node_of, static_class};
 use cxx_model::{
     ClassId, ConstantKind, Entity, FactId, Fault, FaultText, Listed, Node, Operand, OperandList,
-    Path, Place, Stop, TreeId, TreeIdList, TypeId,
+    Path, Place, ScopeId, Stop, Text, TreeId, TreeIdList, TypeId,
 };
 use cxx_tree::State;
 use std::alloc::{AllocError, Global};
@@ -547,7 +547,7 @@ fn value_call<Q: Questions>(
 {
     let last = behind_called(state, &node, arguments);
     let (name, call) = apart(alloc, node, last);
-    let callee = named(alloc, questions, state, name, all)?;
+    let callee = named_here(alloc, questions, state, name, all)?;
     through(alloc, questions, state, call, callee, arguments)
 }
 
@@ -613,8 +613,13 @@ fn called_first<Q: Questions>(
     match values {
         [] => called_none(alloc, questions, state, node, all, arguments),
         [one, ..] => {
-            if is_called(state, fact_at(state, *one).what) {
-                function_call(alloc, questions, state, node, values, arguments)
+            let fact = fact_at(state, *one);
+            let (scope, what) = (fact.scope, fact.what);
+            if is_called(state, what) {
+                let class = class_called(state, &node, scope);
+                functions_called(
+                    alloc, questions, state, node, values, arguments, scope, class,
+                )
             } else {
                 value_call(alloc, questions, state, node, all, arguments)
             }
@@ -693,11 +698,11 @@ fn calls_member(state: &State, callee: TreeId) -> bool
     is_selection(node.production) && names_function(state, node.target)
 }
 
-// Which function the call of a member means.
-fn asked_member<Q: Questions>(
+// Which function a call means that has an object.
+fn asked_of_object<Q: Questions>(
     questions: &Q,
     state: &mut State,
-    callee: &Node,
+    place: Place,
     of: TypeId,
     functions: &[FactId],
     operands: OperandList,
@@ -706,18 +711,38 @@ fn asked_member<Q: Questions>(
     requires of { of.0 < length (state.old).types }
     requires functions { AreFactsKnown state.old functions.now }
     requires operands { AreOperandsBelow (length (state.old).types) operands }
-    ensures { IsAnswered chosen_of IsChosen state.old state.new result ((Q.asks questions.now).call (asked_of state.old (names.word_in (label_at (state.old).types callee.now)).place (type_of state.old of) functions.now operands) (meaning state.old)) }
+    ensures { IsAnswered chosen_of IsChosen state.old state.new result ((Q.asks questions.now).call (asked_of state.old place (type_of state.old of) functions.now operands) (meaning state.old)) }
 {
     let object = Operand {
         of,
         lvalue: true,
         constant: ConstantKind::No,
     };
-    questions.call_member(state, place_in(callee), object, functions, operands)
+    questions.call_member(state, place, object, functions, operands)
 }
 
 // The question of such a call, by what its arguments give.
-#[tactic(auto, using(cxx_expr::proofs::Kept::later_trans, crate::proofs::Judged::member_question_is, crate::proofs::Judged::facts_known, cxx_expr::proofs::Kept::type_later, cxx_expr::proofs::Kept::type_kept))]
+#[tactic(auto, using(cxx_expr::proofs::Kept::later_trans, crate::proofs::Judged::object_question_is, crate::proofs::Judged::facts_known, cxx_expr::proofs::Kept::type_later, cxx_expr::proofs::Kept::type_kept))]
+fn object_question<Q: Questions>(
+    alloc: Global,
+    questions: &Q,
+    state: &mut State,
+    place: Place,
+    of: TypeId,
+    functions: &[FactId],
+    arguments: &[TreeId],
+) -> Result<Chosen, Stop>
+    requires ready { Q.is_ready questions.now }
+    requires of { of.0 < length (state.old).types }
+    requires functions { AreFactsKnown state.old functions.now }
+    requires arguments { AreTreesHeld state.old arguments.now }
+    ensures { IsAnswered chosen_of IsChosen state.old state.new result ((Q.asks questions.now).call (tails.object_question (Q.asks questions.now) place (type_of state.old of) (numbered state.old functions.now) (trees_held state.old arguments.now) (meaning state.old)) (meaning state.old)) }
+{
+    let operands = judged_each(alloc, questions, state, arguments)?;
+    asked_of_object(questions, state, place, of, functions, operands)
+}
+
+// The question of a call of a member.
 fn member_question<Q: Questions>(
     alloc: Global,
     questions: &Q,
@@ -733,8 +758,15 @@ fn member_question<Q: Questions>(
     requires arguments { AreTreesHeld state.old arguments.now }
     ensures { IsAnswered chosen_of IsChosen state.old state.new result ((Q.asks questions.now).call (definition.member_question (Q.asks questions.now) (label_at (state.old).types callee.now) (type_of state.old of) (numbered state.old functions.now) (trees_held state.old arguments.now) (meaning state.old)) (meaning state.old)) }
 {
-    let operands = judged_each(alloc, questions, state, arguments)?;
-    asked_member(questions, state, callee, of, functions, operands)
+    object_question(
+        alloc,
+        questions,
+        state,
+        place_in(callee),
+        of,
+        functions,
+        arguments,
+    )
 }
 
 // What is called, once it is known which function that is.
@@ -804,7 +836,7 @@ fn member_converted<Q: Questions>(
     member_call_tree(state, node, place, chosen, parts)
 }
 
-// Once the function is noted.
+// Once the function is noted, and its object is that of its class.
 #[tactic(auto, using(cxx_expr::proofs::Kept::later_trans, cxx_expr::proofs::NodeKept::node_later, cxx_expr::proofs::NodeKept::node_kept, cxx_expr::proofs::Kept::trees_later, cxx_expr::proofs::Kept::trees_kept, crate::proofs::Chosen::chosen_later, crate::proofs::Chosen::chosen_kept))]
 fn member_meant<Q: Questions>(
     alloc: Global,
@@ -829,29 +861,57 @@ fn member_meant<Q: Questions>(
     )
 }
 
-// What the call is once it is known which function it means.
-#[tactic(auto, using(cxx_expr::proofs::Kept::later_trans, cxx_expr::proofs::NodeKept::node_later, cxx_expr::proofs::NodeKept::node_kept, cxx_expr::proofs::Kept::trees_later, cxx_expr::proofs::Kept::trees_kept, crate::proofs::Chosen::chosen_later, crate::proofs::Chosen::chosen_kept), unfolding(cxx_expr::specs::Calls::member_chosen))]
+// Once the function is noted: one of a base is called for that base of the object.
+#[tactic(auto, using(cxx_expr::proofs::Kept::later_trans, cxx_expr::proofs::NodeKept::node_later, cxx_expr::proofs::NodeKept::node_kept, cxx_expr::proofs::Kept::trees_later, cxx_expr::proofs::Kept::trees_kept, crate::proofs::Chosen::chosen_later, crate::proofs::Chosen::chosen_kept), unfolding(crate::specs::Tails::member_based))]
+fn member_based<Q: Questions>(
+    alloc: Global,
+    questions: &Q,
+    state: &mut State,
+    node: Node,
+    callee: Node,
+    of: TypeId,
+    arguments: &[TreeId],
+    chosen: &Chosen,
+) -> Result<TreeId, Stop>
+    requires ready { Q.is_ready questions.now }
+    requires node { IsNodeHeld state.old node }
+    requires callee { IsNodeHeld state.old callee }
+    requires of { of.0 < length (state.old).types }
+    requires arguments { AreTreesHeld state.old arguments.now }
+    requires chosen { IsChosen state.old chosen.now }
+    ensures { IsAnswered tree IsTreeKnown state.old state.new result (tails.member_based (Q.asks questions.now) (node_tree state.old node) (node_tree state.old callee) (type_of state.old of) (trees_held state.old arguments.now) (chosen_of state.old chosen.now) (meaning state.old)) }
+{
+    let over = based(alloc, questions, state, callee, of, chosen.target)?;
+    member_meant(alloc, questions, state, node, over, arguments, chosen)
+}
+
+// What the call is once it is known which function it means, given the type of the object.
+#[tactic(auto, using(cxx_expr::proofs::Kept::later_trans, cxx_expr::proofs::NodeKept::node_later, cxx_expr::proofs::NodeKept::node_kept, cxx_expr::proofs::Kept::trees_later, cxx_expr::proofs::Kept::trees_kept, cxx_expr::proofs::Kept::type_later, cxx_expr::proofs::Kept::type_kept, crate::proofs::Chosen::chosen_later, crate::proofs::Chosen::chosen_kept), unfolding(cxx_expr::specs::Calls::member_chosen, crate::specs::Tails::member_based))]
 fn member_chosen<Q: Questions>(
     alloc: Global,
     questions: &Q,
     state: &mut State,
     node: Node,
     callee: Node,
+    of: TypeId,
     arguments: &[TreeId],
     chosen: Chosen,
 ) -> Result<TreeId, Stop>
     requires ready { Q.is_ready questions.now }
     requires node { IsNodeHeld state.old node }
     requires callee { IsNodeHeld state.old callee }
+    requires of { of.0 < length (state.old).types }
     requires arguments { AreTreesHeld state.old arguments.now }
     requires chosen { IsChosen state.old chosen }
-    ensures { IsAnswered tree IsTreeKnown state.old state.new result (definition.member_chosen (Q.asks questions.now) (node_tree state.old node) (node_tree state.old callee) (trees_held state.old arguments.now) (chosen_of state.old chosen) (meaning state.old)) }
+    ensures { IsAnswered tree IsTreeKnown state.old state.new result (definition.member_chosen (Q.asks questions.now) (node_tree state.old node) (node_tree state.old callee) (type_of state.old of) (trees_held state.old arguments.now) (chosen_of state.old chosen) (meaning state.old)) }
 {
     questions.bound(state, place_in(&callee), chosen.target)?;
-    member_meant(alloc, questions, state, node, callee, arguments, &chosen)
+    member_based(
+        alloc, questions, state, node, callee, of, arguments, &chosen,
+    )
 }
 
-#[tactic(auto, using(cxx_expr::proofs::Kept::later_trans, cxx_expr::proofs::NodeKept::node_later, cxx_expr::proofs::NodeKept::node_kept, cxx_expr::proofs::Kept::trees_later, cxx_expr::proofs::Kept::trees_kept), unfolding(cxx_expr::specs::Calls::member_function_call))]
+#[tactic(auto, using(cxx_expr::proofs::Kept::later_trans, cxx_expr::proofs::NodeKept::node_later, cxx_expr::proofs::NodeKept::node_kept, cxx_expr::proofs::Kept::trees_later, cxx_expr::proofs::Kept::trees_kept, cxx_expr::proofs::Kept::type_later, cxx_expr::proofs::Kept::type_kept), unfolding(cxx_expr::specs::Calls::member_function_call))]
 fn member_function_call<Q: Questions>(
     alloc: Global,
     questions: &Q,
@@ -871,7 +931,7 @@ fn member_function_call<Q: Questions>(
     ensures { IsAnswered tree IsTreeKnown state.old state.new result (definition.member_function_call (Q.asks questions.now) (node_tree state.old node) (node_tree state.old callee) (type_of state.old of) (trees_held state.old arguments.now) (numbered state.old functions.now) (meaning state.old)) }
 {
     let chosen = member_question(alloc, questions, state, &callee, of, functions, arguments)?;
-    member_chosen(alloc, questions, state, node, callee, arguments, chosen)
+    member_chosen(alloc, questions, state, node, callee, of, arguments, chosen)
 }
 
 // The members with the name that is called.
@@ -939,18 +999,6 @@ fn member_in<Q: Questions>(
 }
 
 // The class of the object is that of the type of what is called.
-fn class_called(state: &State, of: TypeId) -> Option<ClassId>
-    requires { of.0 < length (state.now).types }
-    ensures { class_of_option result ≡ class_of_object_by (object_operand (type_of state.now of)) }
-{
-    let object = Operand {
-        of,
-        lvalue: true,
-        constant: ConstantKind::No,
-    };
-    class_of_object(state, object)
-}
-
 #[tactic(auto, using(cxx_expr::proofs::Kept::later_refl))]
 fn member_of<Q: Questions>(
     alloc: Global,
@@ -968,7 +1016,7 @@ fn member_of<Q: Questions>(
     requires arguments { AreTreesHeld state.old arguments.now }
     ensures { IsAnswered tree IsTreeKnown state.old state.new result (definition.member_typed (Q.asks questions.now) (node_tree state.old node) (node_tree state.old callee) (trees_held state.old arguments.now) (Some (type_of state.old of)) (meaning state.old)) }
 {
-    match class_called(state, of) {
+    match class_of_type(state, of) {
         None => Err(Stop::Fault(misshapen(alloc, node.start)?)),
         Some(class) => member_in(alloc, questions, state, node, callee, of, arguments, class),
     }
@@ -1014,6 +1062,251 @@ fn member_call<Q: Questions>(
 {
     let callee = node_of(alloc, state, callee)?;
     member_typed(alloc, questions, state, node, callee, arguments)
+}
+
+// ---- a call of a member by its name alone (13.3.1.1.1 p3)
+
+// The type of the object: that of `*this`, where it has the members, and else of one that is made up.
+fn implied_type(class: TypeId, object: Option<TypeId>) -> TypeId
+    ensures is { (types : List CxxType) → type_at types result.0 ≡ definition.implied_type (type_at types class.0) (type_of_option types object) }
+    ensures below { (count : ℕ) → class.0 < count → IsTypeNumberBelow count object → result.0 < count }
+{
+    match object {
+        Some(of) => of,
+        None => class,
+    }
+}
+
+// The types of the arguments find nothing besides (3.4.2).
+fn implied_question<Q: Questions>(
+    alloc: Global,
+    questions: &Q,
+    state: &mut State,
+    node: &Node,
+    of: TypeId,
+    functions: &[FactId],
+    arguments: &[TreeId],
+) -> Result<Chosen, Stop>
+    requires ready { Q.is_ready questions.now }
+    requires of { of.0 < length (state.old).types }
+    requires functions { AreFactsKnown state.old functions.now }
+    requires arguments { AreTreesHeld state.old arguments.now }
+    ensures { IsAnswered chosen_of IsChosen state.old state.new result ((Q.asks questions.now).call (definition.implied_question (Q.asks questions.now) (label_at (state.old).types node.now) (numbered state.old functions.now) (type_of state.old of) (trees_held state.old arguments.now) (meaning state.old)) (meaning state.old)) }
+{
+    object_question(
+        alloc, questions, state, node.place, of, functions, arguments,
+    )
+}
+
+// A name over an object, as `.` would select it to be called.
+fn selected_callee(
+    alloc: Global,
+    state: &State,
+    name: Node,
+    of: TypeId,
+    object: TreeId,
+) -> Result<Node, AllocError>
+    requires name { IsNodeHeld state.now name }
+    requires of { of.0 < length (state.now).types }
+    requires object { object.0 < length (trees state.now) }
+    ensures is { IfOk result (λ callee. node_tree state.now callee ≡ tails.selected_callee (label_at (state.now).types name) (type_of state.now of) (tree state.now object)) }
+    ensures held { IfOk result (IsNodeHeld state.now) }
+{
+    let _ = state;
+    let mut callee = name;
+    callee.production = MEMBER;
+    callee.spelling = Text::from_slice(alloc, b"(")?;
+    callee.of = Some(of);
+    callee.children = listed_one(alloc, object)?;
+    Ok(callee)
+}
+
+// What is called.
+#[tactic(auto, using(cxx_expr::proofs::Kept::later_trans, cxx_expr::proofs::NodeKept::node_later, cxx_expr::proofs::Kept::type_later, crate::proofs::Called::implied_callee_is))]
+fn implied_callee(alloc: Global, state: &mut State, name: Node, of: TypeId) -> Result<Node, Stop>
+    requires name { IsNodeHeld state.old name }
+    requires of { of.0 < length (state.old).types }
+    ensures { GrowsNode state.old state.new result (definition.implied_callee (node_tree state.old name).label (type_of state.old of)) }
+{
+    let object = object_tree(alloc, state, &name, of)?;
+    Ok(selected_callee(alloc, state, name, of, object)?)
+}
+
+// A function that belongs to an object is called for `*this`.
+#[tactic(auto, using(cxx_expr::proofs::Kept::later_trans, cxx_expr::proofs::NodeKept::node_later, cxx_expr::proofs::NodeKept::node_kept, cxx_expr::proofs::Kept::trees_later, cxx_expr::proofs::Kept::trees_kept, cxx_expr::proofs::Kept::type_later, cxx_expr::proofs::Kept::type_kept, crate::proofs::Chosen::chosen_later, crate::proofs::Chosen::chosen_kept))]
+fn implied_of<Q: Questions>(
+    alloc: Global,
+    questions: &Q,
+    state: &mut State,
+    node: Node,
+    arguments: &[TreeId],
+    of: TypeId,
+    chosen: Chosen,
+) -> Result<TreeId, Stop>
+    requires ready { Q.is_ready questions.now }
+    requires node { IsNodeHeld state.old node }
+    requires arguments { AreTreesHeld state.old arguments.now }
+    requires of { of.0 < length (state.old).types }
+    requires chosen { IsChosen state.old chosen }
+    ensures { IsAnswered tree IsTreeKnown state.old state.new result (definition.implied_member (Q.asks questions.now) (node_tree state.old node) (trees_held state.old arguments.now) (Some (type_of state.old of)) (chosen_of state.old chosen) (meaning state.old)) }
+{
+    let last = behind_called(state, &node, arguments);
+    let (name, call) = apart(alloc, node, last);
+    let callee = implied_callee(alloc, state, name, of)?;
+    member_chosen(alloc, questions, state, call, callee, of, arguments, chosen)
+}
+
+// One that belongs to an object is not called without one.
+#[tactic(auto, using(cxx_expr::proofs::Kept::later_refl))]
+fn implied_member<Q: Questions>(
+    alloc: Global,
+    questions: &Q,
+    state: &mut State,
+    node: Node,
+    arguments: &[TreeId],
+    object: Option<TypeId>,
+    chosen: Chosen,
+) -> Result<TreeId, Stop>
+    requires ready { Q.is_ready questions.now }
+    requires node { IsNodeHeld state.old node }
+    requires arguments { AreTreesHeld state.old arguments.now }
+    requires object { IsTypeNumberBelow (length (state.old).types) object }
+    requires chosen { IsChosen state.old chosen }
+    ensures { IsAnswered tree IsTreeKnown state.old state.new result (definition.implied_member (Q.asks questions.now) (node_tree state.old node) (trees_held state.old arguments.now) (type_of_option (state.old).types object) (chosen_of state.old chosen) (meaning state.old)) }
+{
+    match object {
+        None => Err(Stop::Fault(no_fit(alloc, node.place)?)),
+        Some(of) => implied_of(alloc, questions, state, node, arguments, of, chosen),
+    }
+}
+
+// Whether what a call means is no static member of a class (9.4).
+fn is_of_object(state: &State, target: FactId) -> bool
+    ensures { result ≡ operands_of.is_none (names.static_class (meaning state.now).graph target.0) }
+{
+    match static_class(state, target) {
+        Some(_) => false,
+        None => true,
+    }
+}
+
+// For a static function the object says nothing (9.4).
+#[tactic(auto, unfolding(cxx_expr::specs::Calls::implied_chosen))]
+fn implied_chosen<Q: Questions>(
+    alloc: Global,
+    questions: &Q,
+    state: &mut State,
+    node: Node,
+    arguments: &[TreeId],
+    object: Option<TypeId>,
+    chosen: Chosen,
+) -> Result<TreeId, Stop>
+    requires ready { Q.is_ready questions.now }
+    requires node { IsNodeHeld state.old node }
+    requires arguments { AreTreesHeld state.old arguments.now }
+    requires object { IsTypeNumberBelow (length (state.old).types) object }
+    requires chosen { IsChosen state.old chosen }
+    ensures { IsAnswered tree IsTreeKnown state.old state.new result (definition.implied_chosen (Q.asks questions.now) (node_tree state.old node) (trees_held state.old arguments.now) (type_of_option (state.old).types object) (chosen_of state.old chosen) (meaning state.old)) }
+{
+    if is_of_object(state, chosen.target) {
+        implied_member(alloc, questions, state, node, arguments, object, chosen)
+    } else {
+        chosen_call(alloc, questions, state, node, arguments, chosen)
+    }
+}
+
+// Given the class of the functions, and the object that they have.
+#[tactic(auto, using(cxx_expr::proofs::Kept::later_trans, cxx_expr::proofs::NodeKept::node_later, cxx_expr::proofs::NodeKept::node_kept, cxx_expr::proofs::Kept::trees_later, cxx_expr::proofs::Kept::trees_kept, crate::proofs::Chosen::object_later, crate::proofs::Chosen::object_kept), unfolding(cxx_expr::specs::Calls::implied_call))]
+fn implied_call<Q: Questions>(
+    alloc: Global,
+    questions: &Q,
+    state: &mut State,
+    node: Node,
+    functions: &[FactId],
+    arguments: &[TreeId],
+    class: TypeId,
+    object: Option<TypeId>,
+) -> Result<TreeId, Stop>
+    requires ready { Q.is_ready questions.now }
+    requires node { IsNodeHeld state.old node }
+    requires functions { AreFactsKnown state.old functions.now }
+    requires arguments { AreTreesHeld state.old arguments.now }
+    requires class { class.0 < length (state.old).types }
+    requires object { IsTypeNumberBelow (length (state.old).types) object }
+    ensures { IsAnswered tree IsTreeKnown state.old state.new result (definition.implied_call (Q.asks questions.now) (node_tree state.old node) (numbered state.old functions.now) (trees_held state.old arguments.now) (type_of state.old class) (type_of_option (state.old).types object) (meaning state.old)) }
+{
+    let of = implied_type(class, object);
+    let chosen = implied_question(alloc, questions, state, &node, of, functions, arguments)?;
+    implied_chosen(alloc, questions, state, node, arguments, object, chosen)
+}
+
+// ---- functions by their name
+
+// The class of functions; behind qualifiers these are static ones, which are called without an object (9.3, 9.4).
+#[tactic(auto, unfolding(cxx_this::specs::This::class_at))]
+fn class_called(state: &State, node: &Node, scope: ScopeId) -> Option<ClassId>
+    ensures is { class_or_none result ≡ definition.class_called (meaning state.now).graph (label_at (state.now).types node.now) scope.0 }
+    ensures there { IsClassNumberInRange (state.now).graph result }
+{
+    if is_plain(node) {
+        class_of_scope(state, scope)
+    } else {
+        None
+    }
+}
+
+// Functions of a class are called for `*this`, where that has them.
+#[tactic(auto, using(cxx_expr::proofs::Kept::later_trans, cxx_expr::proofs::NodeKept::node_later, cxx_expr::proofs::NodeKept::node_kept, cxx_expr::proofs::Kept::trees_later, cxx_expr::proofs::Kept::trees_kept, cxx_expr::proofs::Kept::type_later, cxx_expr::proofs::Kept::type_kept, crate::proofs::Judged::facts_known))]
+fn class_call<Q: Questions>(
+    alloc: Global,
+    questions: &Q,
+    state: &mut State,
+    node: Node,
+    functions: &[FactId],
+    arguments: &[TreeId],
+    scope: ScopeId,
+    class: ClassId,
+) -> Result<TreeId, Stop>
+    requires ready { Q.is_ready questions.now }
+    requires node { IsNodeHeld state.old node }
+    requires functions { AreFactsKnown state.old functions.now }
+    requires arguments { AreTreesHeld state.old arguments.now }
+    requires class { class.0 < length (state.old).graph.classes }
+    ensures { IsAnswered tree IsTreeKnown state.old state.new result (definition.functions_called (Q.asks questions.now) (node_tree state.old node) (numbered state.old functions.now) (trees_held state.old arguments.now) scope.0 (Some (class_type class.0)) (meaning state.old)) }
+{
+    let of = type_of_class(state, class)?;
+    let object = object_for(alloc, state, scope)?;
+    implied_call(
+        alloc, questions, state, node, functions, arguments, of, object,
+    )
+}
+
+// Given the class in whose scope the first of them stands, where there is one.
+fn functions_called<Q: Questions>(
+    alloc: Global,
+    questions: &Q,
+    state: &mut State,
+    node: Node,
+    functions: &[FactId],
+    arguments: &[TreeId],
+    scope: ScopeId,
+    class: Option<ClassId>,
+) -> Result<TreeId, Stop>
+    requires ready { Q.is_ready questions.now }
+    requires node { IsNodeHeld state.old node }
+    requires functions { AreFactsKnown state.old functions.now }
+    requires arguments { AreTreesHeld state.old arguments.now }
+    requires class { IsClassNumberInRange (state.old).graph class }
+    ensures { IsAnswered tree IsTreeKnown state.old state.new result (definition.functions_called (Q.asks questions.now) (node_tree state.old node) (numbered state.old functions.now) (trees_held state.old arguments.now) scope.0 (class_or_none class) (meaning state.old)) }
+{
+    match class {
+        None => function_call(alloc, questions, state, node, functions, arguments),
+        Some(class) => {
+            class_call(
+                alloc, questions, state, node, functions, arguments, scope, class,
+            )
+        }
+    }
 }
 
 // ---- both

@@ -1,11 +1,11 @@
 //! Members of objects, and of what is pointed to (5.2.5).
 
-ghost use Rattle.std.specs.Prelude.{◌≡◌, ◌<◌, [], List, Some, Ok, length, true};
+ghost use Rattle.std.specs.Prelude.{◌≡◌, ◌<◌, [], Some, Ok, length, true};
 ghost use Rattle.cxx_builtin.specs.Built.{IsBuiltBelow, built_at};
 ghost use Rattle.cxx_model.specs.Facts.Declarations.{declares_at};
 ghost use Rattle.cxx_model.specs.Facts.Fitted.{IsEntityBelow};
-ghost use Rattle.cxx_model.specs.Types.Trees.{CxxType};
-ghost use Rattle.cxx_standard.specs.Views.{kind_at, operand_at};
+ghost use Rattle.cxx_model.specs.Facts.Graph.{IsClassNumberInRange};
+ghost use Rattle.cxx_standard.specs.Views.{IsKindInRange, kind_at, operand_at};
 ghost use Rattle.cxx_tree.specs.Answered.{IsAnswered};
 ghost use Rattle.cxx_tree.specs.Arena.{label_at};
 ghost use Rattle.cxx_tree.specs.Held.{meaning, tree, trees, type_of};
@@ -13,7 +13,7 @@ ghost use Rattle.cxx_expr.specs.Making.{AreTreesHeld, GrowsOperand, GrowsTree, I
 ghost use Rattle.cxx_expr.specs.Members as definition;
 ghost use Rattle.cxx_expr.specs.Names.{path_in, word_in as word_in_label};
 ghost use Rattle.cxx_expr.specs.Nodes.{IsNodeHeld, node_tree};
-ghost use Rattle.cxx_expr.specs.Operands.{is_of_class as is_of_class_tree};
+ghost use Rattle.cxx_expr.specs.Operands.{is_of_class as is_of_class_tree, object_operand};
 ghost use Rattle.cxx_expr.specs.Views.{AreFactsKnown, numbered};
 ghost use Rattle.cxx_called.specs.Members.{class_of_option};
 ghost use Rattle.cxx_called.specs.Views.{IsMeant, IsOfThere, means_of};
@@ -29,31 +29,54 @@ use cxx_expr::nodes::{given_over, only_child};
 use cxx_expr::operands::operand_of;
 use cxx_expr::operators::{listed_one, meaning_of, misshapen, no_fit, operands_one};
 use cxx_expr::production::NAME;
-use cxx_expr::{Questions, class_of_scope, is_function_at};
+use cxx_expr::{Questions, is_function_at};
+use cxx_graph::Graph;
 use cxx_model::{
-    ClassId, ConstantKind, Cv, Entity, FactId, FactList, Listed, MemberKind, Node, Operand,
-    ScopeId, Stop, TreeId, TreeIdList, TypeId, TypeNode, punct,
+    ClassId, ConstantKind, Cv, Entity, FactId, FactList, Listed, MemberKind, Node, Operand, Stop,
+    TreeId, TreeIdList, TypeId, TypeNode, punct,
 };
 use cxx_standard::{TypeKind, cv_of, kind_of};
 use cxx_tree::State;
+use cxx_types::TypeTable;
 use std::alloc::Global;
 
 // ---- the class of an object
 
-fn class_in(kind: TypeKind) -> Option<ClassId>
-    ensures { (types : List CxxType) → class_of_option result ≡ definition.class_in (kind_at types kind) }
+// The class that a kind of types is.
+fn class_in(graph: &Graph, types: &TypeTable, kind: TypeKind) -> Option<ClassId>
+    requires { IsKindInRange graph.now (kind_at types.now kind) }
+    ensures is { class_of_option result ≡ definition.class_in (kind_at types.now kind) }
+    ensures there { IsClassNumberInRange graph.now result }
 {
+    let _ = graph;
+    let _ = types;
     match kind {
         TypeKind::Class(class) => Some(class),
         _ => None,
     }
 }
 
-pub(crate) fn class_of_object(state: &State, operand: Operand) -> Option<ClassId>
+fn class_of_object(state: &State, operand: Operand) -> Option<ClassId>
     requires { operand.of.0 < length (state.now).types }
-    ensures { class_of_option result ≡ definition.class_of_object (operand_at (state.now).types operand) }
+    ensures is { class_of_option result ≡ definition.class_of_object (operand_at (state.now).types operand) }
+    ensures there { IsClassNumberInRange (state.now).graph result }
 {
-    class_in(kind_of(state.graph(), state.types(), operand.of))
+    let kind = kind_of(state.graph(), state.types(), operand.of);
+    class_in(state.graph(), state.types(), kind)
+}
+
+/// The class of the objects of a type.
+pub(crate) fn class_of_type(state: &State, of: TypeId) -> Option<ClassId>
+    requires { of.0 < length (state.now).types }
+    ensures is { class_of_option result ≡ definition.class_of_object (object_operand (type_of state.now of)) }
+    ensures there { IsClassNumberInRange (state.now).graph result }
+{
+    let object = Operand {
+        of,
+        lvalue: true,
+        constant: ConstantKind::No,
+    };
+    class_of_object(state, object)
 }
 
 // ---- what a member gives
@@ -155,24 +178,6 @@ fn means_data(
     Ok(means_object(state, target, of))
 }
 
-// Whether a class is the one that a scope belongs to (9.2).
-fn same_class(one: Option<ClassId>, two: Option<ClassId>) -> bool
-    ensures { result ≡ definition.same_class (class_of_option one) two }
-{
-    match (one, two) {
-        (Some(one), Some(two)) => one.0 == two.0,
-        _ => false,
-    }
-}
-
-fn is_own_scope(state: &State, object: Operand, scope: ScopeId) -> bool
-    requires { object.of.0 < length (state.now).types }
-    ensures { result ≡ definition.is_own_scope (meaning state.now).graph (operand_at (state.now).types object) scope.0 }
-{
-    let own = class_of_object(state, object);
-    same_class(own, class_of_scope(state, scope))
-}
-
 // Whether arguments in brackets follow (5.2.2).
 fn is_called(node: &Node) -> bool
     ensures { result ≡ definition.is_called (label_at [] node.now) }
@@ -183,7 +188,7 @@ fn is_called(node: &Node) -> bool
     }
 }
 
-// A function of the class, which is meant by what is called.
+// A function, which is meant by what is called (9.3).
 #[tactic(auto, using(cxx_expr::proofs::Kept::later_refl))]
 fn selected_function(
     alloc: Global,
@@ -208,14 +213,13 @@ fn selected_first(
     state: &mut State,
     node: &Node,
     object: Operand,
-    scope: ScopeId,
     number: FactId,
     what: Entity,
 ) -> Result<Meant, Stop>
     requires object { object.of.0 < length (state.old).types }
     requires below { IsEntityBelow (length (state.old).types) what }
     requires there { IsOfThere (state.old).graph what }
-    ensures { IsAnswered means_of IsMeant state.old state.new result (definition.selected_first (word_in_label (label_at (state.old).types node.now)) (definition.is_called (label_at (state.old).types node.now)) (operand_at (state.old).types object) (meaning state.old).graph (meaning state.old).here.enumeration scope.0 number.0 (declares_at (state.old).types what) (meaning state.old)) }
+    ensures { IsAnswered means_of IsMeant state.old state.new result (definition.selected_first (word_in_label (label_at (state.old).types node.now)) (definition.is_called (label_at (state.old).types node.now)) (operand_at (state.old).types object) (meaning state.old).graph (meaning state.old).here.enumeration number.0 (declares_at (state.old).types what) (meaning state.old)) }
 {
     match what {
         Entity::Object {
@@ -237,8 +241,8 @@ fn selected_first(
             value,
         } => means_enumerator(state, number, list, value),
         Entity::Function { of, first, .. } => {
-            let is_meant = is_called(node) && is_own_scope(state, object, scope);
-            selected_function(alloc, state, node, first_or(number, first), of, is_meant)
+            let target = first_or(number, first);
+            selected_function(alloc, state, node, target, of, is_called(node))
         }
         _ => Err(Stop::Fault(not_built_at(alloc, place_in(node))?)),
     }
@@ -261,9 +265,8 @@ fn selected_value(
     match values {
         [] => Err(Stop::Fault(no_value(alloc, state, node, all)?)),
         [one, ..] => {
-            let fact = fact_at(state, *one);
-            let (scope, what) = (fact.scope, fact.what);
-            selected_first(alloc, state, node, object, scope, *one, what)
+            let what = fact_at(state, *one).what;
+            selected_first(alloc, state, node, object, *one, what)
         }
     }
 }
@@ -398,9 +401,9 @@ pub(crate) fn declared_member<Q: Questions>(
     }
 }
 
-// A name that has these declarations as a member, given the object and the parts of the tree.
+/// A name that has these declarations as a member, given the object and the parts of the tree.
 #[tactic(auto, using(cxx_expr::proofs::Kept::later_refl, cxx_expr::proofs::Kept::later_trans, cxx_expr::proofs::NodeKept::node_later, cxx_expr::proofs::NodeKept::node_kept, cxx_expr::proofs::Kept::operand_kept, cxx_expr::proofs::Kept::trees_later, cxx_expr::proofs::Kept::trees_kept))]
-fn selected_among<Q: Questions>(
+pub(crate) fn selected_among<Q: Questions>(
     alloc: Global,
     questions: &Q,
     state: &mut State,

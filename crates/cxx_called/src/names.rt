@@ -272,25 +272,6 @@ pub(crate) fn means_object(state: &State, target: FactId, own: TypeId) -> Meant
     }
 }
 
-#[tactic(auto, using(cxx_expr::proofs::Kept::later_refl))]
-fn means_function(
-    alloc: Global,
-    state: &mut State,
-    place: Place,
-    target: FactId,
-    own: TypeId,
-    all: &[FactId],
-) -> Result<Meant, Stop>
-    requires own { own.0 < length (state.old).types }
-    requires all { AreFactsKnown state.old all.now }
-    ensures { IsAnswered means_of IsMeant state.old state.new result (definition.means_function place (meaning state.old).graph target.0 (type_of state.old own) (numbered state.old all.now) (meaning state.old)) }
-{
-    if are_one_function(state, target, all) {
-        return Ok(means_object(state, target, own));
-    }
-    Err(Stop::Fault(several_at(alloc, place)?))
-}
-
 /// Whether a member belongs to an object of its class (9.4).
 pub(crate) fn is_nonstatic(member: MemberKind) -> bool
     ensures { result ≡ definition.is_nonstatic member }
@@ -320,6 +301,27 @@ fn means_object_by(
     Ok(means_object(state, target, own))
 }
 
+// A function that belongs to an object of its class is not named without one (9.3).
+#[tactic(auto, using(cxx_expr::proofs::Kept::later_refl))]
+fn means_function(
+    alloc: Global,
+    state: &mut State,
+    place: Place,
+    member: MemberKind,
+    target: FactId,
+    own: TypeId,
+    all: &[FactId],
+) -> Result<Meant, Stop>
+    requires own { own.0 < length (state.old).types }
+    requires all { AreFactsKnown state.old all.now }
+    ensures { IsAnswered means_of IsMeant state.old state.new result (definition.means_function place (meaning state.old).graph member target.0 (type_of state.old own) (numbered state.old all.now) (meaning state.old)) }
+{
+    if are_one_function(state, target, all) {
+        return means_object_by(alloc, state, place, member, target, own);
+    }
+    Err(Stop::Fault(several_at(alloc, place)?))
+}
+
 #[tactic(auto, using(cxx_expr::proofs::Kept::later_refl))]
 fn means_first(
     alloc: Global,
@@ -345,8 +347,14 @@ fn means_first(
             number: list,
             value,
         } => means_enumerator(state, number, list, value),
-        Entity::Function { of, first, .. } => {
-            means_function(alloc, state, place, first_or(number, first), of, all)
+        Entity::Function {
+            of,
+            member,
+            first,
+            ..
+        } => {
+            let target = first_or(number, first);
+            means_function(alloc, state, place, member, target, of, all)
         }
         _ => Err(Stop::Fault(several_at(alloc, place)?)),
     }
@@ -445,7 +453,7 @@ fn named_tree(alloc: Global, state: &mut State, node: Node, meant: Meant) -> Res
     }
 }
 
-/// A name that has these declarations, as an expression.
+/// A name that has these declarations, as an expression without an object.
 #[tactic(auto, using(cxx_expr::proofs::Kept::later_refl, cxx_expr::proofs::Kept::later_trans, cxx_expr::proofs::NodeKept::node_later, cxx_expr::proofs::NodeKept::node_kept, crate::proofs::Chosen::means_later, crate::proofs::Chosen::means_kept), unfolding(cxx_expr::specs::Names::named))]
 pub(crate) fn named<Q: Questions>(
     alloc: Global,
@@ -481,21 +489,4 @@ pub(crate) fn declared<Q: Questions>(
             questions.name(state, &path)
         }
     }
-}
-
-/// A name as an expression (5.1): what it means, which is noted. It stops as the questions do, where the name is not
-/// declared or means no value (3.3.7), and where it means several functions (13.4).
-#[tactic(auto, using(cxx_expr::proofs::Kept::later_refl, cxx_expr::proofs::Kept::later_trans, cxx_expr::proofs::NodeKept::node_later, cxx_expr::proofs::NodeKept::node_kept), unfolding(cxx_expr::specs::Names::name))]
-pub fn name<Q: Questions>(
-    alloc: Global,
-    questions: &Q,
-    state: &mut State,
-    node: Node,
-) -> Result<TreeId, Stop>
-    requires ready { Q.is_ready questions.now }
-    requires node { IsNodeHeld state.old node }
-    ensures { IsAnswered tree IsTreeKnown state.old state.new result (definition.name (Q.asks questions.now) (node_tree state.old node) (meaning state.old)) }
-{
-    let all = declared(alloc, questions, state, &node)?;
-    named(alloc, questions, state, node, all.as_slice())
 }

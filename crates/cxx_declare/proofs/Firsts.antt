@@ -57,13 +57,13 @@ first_function_by of (one ∷ others) = ap (λ r. if is_same_function of one.fac
 
 -- ---- declarations that are there, with a name
 
-record IsNamedAt (types : List CxxType) (all : List Fact) (word : List ℕ) (one : Numbered) : Type 0 where
-  fact : Fact
-  at : slice_get all one.number ≡ Some fact
-  seen : one.fact ≡ fact_at types fact
-  named : fact.name ≡ name.Spelled word
+pub record IsNamedAt (types : List CxxType) (all : List Fact) (word : List ℕ) (one : Numbered) : Type 0 where
+  pub fact : Fact
+  pub at : slice_get all one.number ≡ Some fact
+  pub seen : one.fact ≡ fact_at types fact
+  pub named : fact.name ≡ name.Spelled word
 
-abbrev AreNamed : List CxxType → List Fact → List ℕ → List Numbered → Type 0
+abbrev pub AreNamed : List CxxType → List Fact → List ℕ → List Numbered → Type 0
 AreNamed types all word [] = Unit {0}
 AreNamed types all word (one ∷ others) = IsNamedAt types all word one × AreNamed types all word others
 
@@ -198,7 +198,7 @@ function_earlier held of word all (Some k) ok is =
     let one = first_earlier held.types held.graph.facts (is_same_function of) word all k ok (sym (first_function_by of all) ∙ sym is) in
     function_pair held.types of held.graph word k one.other one.at one.named one.other.what refl one.kind
 
-declared_here : (held : Held) (scope : ℕ) (word : List ℕ) → AreNamed held.types held.graph.facts word (declared_in (meaning held).graph scope (spelled word))
+pub declared_here : (held : Held) (scope : ℕ) (word : List ℕ) → AreNamed held.types held.graph.facts word (declared_in (meaning held).graph scope (spelled word))
 unfolding meaning declared_in
 declared_here held scope word = declared_named held.types held.graph.facts scope word zero held.graph.facts (λ i. (let p : 0 + i ≡ i = omega arith in ap (slice_get held.graph.facts) p))
 

@@ -14,4 +14,6 @@ pub mod Linkage
 pub mod Listing
 pub mod Making
 pub mod Firsts
+pub mod Redeclared
 pub mod Spacing
+pub mod Worded

@@ -94,6 +94,11 @@ IsEarlierObject held word first = IsEntityInRange held.graph (named word (object
 abbrev pub IsEarlierFunction : Held → List ℕ → Option FactId → Type 0
 IsEarlierFunction held word first = IsEntityInRange held.graph (named word (function_first a_type 0 first)) (function_first a_type 0 first)
 
+-- 9.3: a function with a name that is declared again has a type of the table, and an earlier declaration
+abbrev pub IsAgain : Held → List ℕ → Entity → Type 0
+IsAgain held word (entity.Function of member flags defaults first) = (of.0 < length held.types) × IsEarlierFunction held word first
+IsAgain held word _ = ⊥
+
 -- ---- what is declared
 
 -- what was declared has an answer that is not asked

@@ -1,6 +1,7 @@
 //! How names are declared in the state of a reading, and what is asked of its declarations (3.3, 3.4, 3.5, 7.2, 8.3).
 #![tactic(auto)]
 
+mod again;
 mod asks;
 mod bases;
 mod bodies;
@@ -19,6 +20,7 @@ mod spaces;
 mod usings;
 mod values;
 
+pub use again::declare_again;
 pub use asks::{elaborated, kind, kind_of_name, type_named, type_of_name};
 pub use bases::{BaseOf, declare_base};
 pub use bodies::{begin_body, end_body};

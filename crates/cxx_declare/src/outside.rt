@@ -196,8 +196,8 @@ fn any_agrees(state: &State, is_typedef: bool, of: TypeId, numbers: &[FactId]) -
     false
 }
 
-// Where no member agrees, given where the first of the entities stands that the name means.
-fn stop_at(state: &State, place: Place, word: &[u8], first: Option<Place>) -> Stop
+/// Where no member agrees, given where the first of the entities stands that the name means.
+pub(crate) fn stop_at(state: &State, place: Place, word: &[u8], first: Option<Place>) -> Stop
     ensures { IsStop (disagreeing place word.now first) result }
 {
     match conflicting(state.alloc(), place, word, first.unwrap_or(place)) {
@@ -232,9 +232,9 @@ fn region_in(scope: ScopeId, class: Option<ClassId>) -> Region
     }
 }
 
-// Where the members of the namespace or the class are looked up in which the reader stands.
+/// Where the members of the namespace or the class are looked up in which the reader stands.
 #[tactic(auto, unfolding(cxx_tree::specs::Held::meaning))]
-fn region_of_members(state: &State) -> Region
+pub(crate) fn region_of_members(state: &State) -> Region
     ensures { result ≡ members.region_in (meaning state.now).here.scope (class_of_here_of (meaning state.now)) }
 {
     region_in(state.scope(), class_of_here(state))

@@ -11,7 +11,9 @@ use cxx_graph::Graph;
 use cxx_initialize::initialize;
 use cxx_knot::{read_declarator, read_initializer, read_specifiers};
 use cxx_language::{Declares, constant_value};
-use cxx_model::{Entity, FactId, Node, OutOfMemory, Path, Place, ScopeId, Stop, TreeId, TypeId};
+use cxx_model::{
+    Cv, Entity, FactId, Node, OutOfMemory, Path, Place, ScopeId, Stop, TreeId, TypeId,
+};
 use cxx_phrases::Initializer;
 use cxx_reading::{Naming, SpecifierPlace};
 use cxx_tree::State;
@@ -113,6 +115,16 @@ impl Declares for Declaring {
         of: TypeId,
     ) -> Result<FactId, Stop> {
         declare::declare_function(state, list, name.place, name.spelling.as_slice(), of)
+    }
+
+    fn declare_again(
+        &self,
+        state: &mut State,
+        name: &NameToken,
+        cv: Cv,
+        of: TypeId,
+    ) -> Result<FactId, Stop> {
+        declare::declare_again(state, name.place, name.spelling.as_slice(), cv, of)
     }
 
     fn declare_object(

@@ -8,12 +8,13 @@ ghost use Rattle.cxx_expr.specs.Nodes.{IsNodeHeld, node_tree};
 
 use crate::brackets::parenthesis;
 use crate::open::{is_any_open, without_operand};
+use crate::this::this;
 use cxx_called::{arrow, call, name, selected};
 use cxx_expr::conditional::conditional;
 use cxx_expr::operators::misshapen;
 use cxx_expr::production::{
     ARROW, ASSIGNMENT, BINARY, CALL, CAST, CONDITIONAL, FUNCTIONAL_CAST, LITERAL, MEMBER, NAME,
-    PARENTHESIS, PREFIX, SIZE, STEP, SUBSCRIPT,
+    PARENTHESIS, PREFIX, SIZE, STEP, SUBSCRIPT, THIS,
 };
 use cxx_expr::{Questions, binary, cast, functional, literal, prefix, size, step, subscript};
 use cxx_model::{Node, Stop, TreeId};
@@ -48,6 +49,8 @@ fn operated<Q: Questions>(
         conditional(alloc, questions, state, node)
     } else if node.production == ASSIGNMENT {
         binary(alloc, questions, state, node)
+    } else if node.production == THIS {
+        this(alloc, state, node)
     } else {
         Err(Stop::Fault(misshapen(alloc, node.start)?))
     }

@@ -5,6 +5,7 @@ mod asking;
 mod brackets;
 mod elaborating;
 mod open;
+mod this;
 
 pub use asking::whole;
 pub use elaborating::elaborate;

@@ -37,12 +37,14 @@ use Rattle.cxx_reading.specs.Seen.{Numbered, declared_in}
 use Rattle.cxx_reading.specs.State.{CxxState, first_state}
 use Rattle.cxx_reading.specs.Trees.{CxxPath, CxxTree, CxxTrees, Label, in_turn, no_trees, tree_of, tree_then}
 use Rattle.cxx_subobjects.specs.Paths.{base_paths, subobjects}
+use Rattle.cxx_this.specs.This.{class_at}
 use Rattle.cxx_expr.specs.Asking.{then_asked}
 use Rattle.cxx_expr.specs.Bases.{is_only_base, one_base}
 use Rattle.cxx_expr.specs.Calls as calls
 use Rattle.cxx_expr.specs.Casts as cast
 use Rattle.cxx_expr.specs.Converting.{convert, convert_at, convert_each, convert_known, convert_more}
 use Rattle.cxx_expr.specs.Elaborating.{by_production, elaborate, parenthesis}
+use Rattle.cxx_expr.specs.Implied as implied
 use Rattle.cxx_expr.specs.Initializing as initial
 use Rattle.cxx_expr.specs.Literals as literals
 use Rattle.cxx_expr.specs.Names as names
@@ -296,7 +298,7 @@ shown_of (Ok one) = Ok (by one.0)
 shown_of (Err why) = Err why
 
 unfoldable pub gives : CxxTree → Answer (List ℕ)
-unfolding names.static_class elaborate by_production parenthesis judged judged_beside judged_to convert convert_at convert_known convert_more convert_each one_base is_only_base literals.literal literals.operand_of_literal literals.is_text literals.text_operand literals.text_length literal_type literal_value spelling_of word_kind number_kind operator literal hash slash percent keywords alternatives operators digraphs names.name names.named names.meant_by declared_in operators_of.operator_in operators_of.built operators_of.unconverted operators_of.own_meaning operators_of.prefix operators_of.prefix_asked operators_of.prefix_built operators_of.step operators_of.step_built operators_of.operand_beside operators_of.binary_by operators_of.binary_asked operators_of.binary_built operators_of.conditional operators_of.conditional_built operators_of.arms_built operators_of.arms cast.explicit cast.explicit_found cast.explicit_built cast.static_cast_of cast.static_found cast.static_built cast.constant cast.reinterpreted cast.cast_as cast.cast cast.zero cast.functional sizes.type_of_operand sizes.measured sizes.size size_of object_extent class_in extent_of calls.fallbacks calls.chosen_call calls.function_call calls.through_signature calls.through calls.value_call calls.called calls.name_call calls.call usual promoted follow is_stepped steps_to before after unary_by unary_family_result unary_result beside_integer subscripted added_to built.added distance subtracted compared_pointers compared_by assigned binary_by compound_on compound compound_result family_result binary_result built.built_in_result shared_pointers arms_of_arithmetic arms_of_enumeration arms_of_pointer arms_of_void arms_of conditional.conditional casts.const_cast casts.goes_down casts.static_pointers casts.static_kinds casts.static_objects casts.static_only casts.static_unless casts.static_cast casts.reinterpret_cast casts.cast_operand casts.added casts.between casts.cast_between casts.cast_by_two casts.cast_else casts.cast_unless casts.cast is_complete_object common_other common_pointer is_text is_pending is_derived subobjects base_paths pointer_to_class class_step steps_to_class pointer_to_other steps_of_pointers step_of_enumeration steps_of_arithmetic steps_of_enumeration steps_of_pointer steps_of_kinds value_step steps_to_scalar steps_by_kinds steps_of_value related_kinds related steps_of_related steps_of_unrelated steps_by_relation steps_of_reference steps_between standard_sequence digits calls.fallback_more cast.several
+unfolding names.static_class elaborate by_production parenthesis judged judged_beside judged_to convert convert_at convert_known convert_more convert_each one_base is_only_base literals.literal literals.operand_of_literal literals.is_text literals.text_operand literals.text_length literal_type literal_value spelling_of word_kind number_kind operator literal hash slash percent keywords alternatives operators digraphs implied.name implied.named_here class_at names.named names.meant_by declared_in operators_of.operator_in operators_of.built operators_of.unconverted operators_of.own_meaning operators_of.prefix operators_of.prefix_asked operators_of.prefix_built operators_of.step operators_of.step_built operators_of.operand_beside operators_of.binary_by operators_of.binary_asked operators_of.binary_built operators_of.conditional operators_of.conditional_built operators_of.arms_built operators_of.arms cast.explicit cast.explicit_found cast.explicit_built cast.static_cast_of cast.static_found cast.static_built cast.constant cast.reinterpreted cast.cast_as cast.cast cast.zero cast.functional sizes.type_of_operand sizes.measured sizes.size size_of object_extent class_in extent_of calls.fallbacks calls.chosen_call calls.function_call calls.through_signature calls.through calls.value_call calls.called calls.name_call calls.call usual promoted follow is_stepped steps_to before after unary_by unary_family_result unary_result beside_integer subscripted added_to built.added distance subtracted compared_pointers compared_by assigned binary_by compound_on compound compound_result family_result binary_result built.built_in_result shared_pointers arms_of_arithmetic arms_of_enumeration arms_of_pointer arms_of_void arms_of conditional.conditional casts.const_cast casts.goes_down casts.static_pointers casts.static_kinds casts.static_objects casts.static_only casts.static_unless casts.static_cast casts.reinterpret_cast casts.cast_operand casts.added casts.between casts.cast_between casts.cast_by_two casts.cast_else casts.cast_unless casts.cast is_complete_object common_other common_pointer is_text is_pending is_derived subobjects base_paths pointer_to_class class_step steps_to_class pointer_to_other steps_of_pointers step_of_enumeration steps_of_arithmetic steps_of_enumeration steps_of_pointer steps_of_kinds value_step steps_to_scalar steps_by_kinds steps_of_value related_kinds related steps_of_related steps_of_unrelated steps_by_relation steps_of_reference steps_between standard_sequence digits calls.fallback_more cast.several
 gives tree = shown_of (elaborated (in_turn (tree ∷ [])) state)
 
 -- ---- initializers
@@ -319,5 +321,5 @@ text_of (Ok one) = Ok one.0
 text_of (Err why) = Err why
 
 unfoldable pub begins : CxxType → CxxTree → Answer (List ℕ)
-unfolding names.static_class initial.initialize initial.array_whole initial.value_whole initial.part elaborate by_production parenthesis judged judged_beside judged_to convert convert_at convert_known convert_more convert_each one_base is_only_base literals.literal literals.operand_of_literal literals.is_text literals.text_operand literals.text_length literal_type literal_value spelling_of word_kind number_kind operator literal hash slash percent keywords alternatives operators digraphs names.name names.named names.meant_by declared_in operators_of.operator_in operators_of.built operators_of.unconverted operators_of.own_meaning operators_of.prefix operators_of.prefix_asked operators_of.prefix_built operators_of.step operators_of.step_built operators_of.operand_beside operators_of.binary_by operators_of.binary_asked operators_of.binary_built operators_of.conditional operators_of.conditional_built operators_of.arms_built operators_of.arms cast.explicit cast.explicit_found cast.explicit_built cast.static_cast_of cast.static_found cast.static_built cast.constant cast.reinterpreted cast.cast_as cast.cast cast.zero cast.functional sizes.type_of_operand sizes.measured sizes.size size_of object_extent class_in extent_of calls.fallbacks calls.chosen_call calls.function_call calls.through_signature calls.through calls.value_call calls.called calls.name_call calls.call usual promoted follow is_stepped steps_to before after unary_by unary_family_result unary_result beside_integer subscripted added_to built.added distance subtracted compared_pointers compared_by assigned binary_by compound_on compound compound_result family_result binary_result built.built_in_result shared_pointers arms_of_arithmetic arms_of_enumeration arms_of_pointer arms_of_void arms_of conditional.conditional casts.const_cast casts.goes_down casts.static_pointers casts.static_kinds casts.static_objects casts.static_only casts.static_unless casts.static_cast casts.reinterpret_cast casts.cast_operand casts.added casts.between casts.cast_between casts.cast_by_two casts.cast_else casts.cast_unless casts.cast is_complete_object common_other common_pointer is_text is_pending is_derived subobjects base_paths pointer_to_class class_step steps_to_class pointer_to_other steps_of_pointers step_of_enumeration steps_of_arithmetic steps_of_enumeration steps_of_pointer steps_of_kinds value_step steps_to_scalar steps_by_kinds steps_of_value related_kinds related steps_of_related steps_of_unrelated steps_by_relation steps_of_reference steps_between standard_sequence digits calls.fallback_more cast.several
+unfolding names.static_class initial.initialize initial.array_whole initial.value_whole initial.part elaborate by_production parenthesis judged judged_beside judged_to convert convert_at convert_known convert_more convert_each one_base is_only_base literals.literal literals.operand_of_literal literals.is_text literals.text_operand literals.text_length literal_type literal_value spelling_of word_kind number_kind operator literal hash slash percent keywords alternatives operators digraphs implied.name implied.named_here class_at names.named names.meant_by declared_in operators_of.operator_in operators_of.built operators_of.unconverted operators_of.own_meaning operators_of.prefix operators_of.prefix_asked operators_of.prefix_built operators_of.step operators_of.step_built operators_of.operand_beside operators_of.binary_by operators_of.binary_asked operators_of.binary_built operators_of.conditional operators_of.conditional_built operators_of.arms_built operators_of.arms cast.explicit cast.explicit_found cast.explicit_built cast.static_cast_of cast.static_found cast.static_built cast.constant cast.reinterpreted cast.cast_as cast.cast cast.zero cast.functional sizes.type_of_operand sizes.measured sizes.size size_of object_extent class_in extent_of calls.fallbacks calls.chosen_call calls.function_call calls.through_signature calls.through calls.value_call calls.called calls.name_call calls.call usual promoted follow is_stepped steps_to before after unary_by unary_family_result unary_result beside_integer subscripted added_to built.added distance subtracted compared_pointers compared_by assigned binary_by compound_on compound compound_result family_result binary_result built.built_in_result shared_pointers arms_of_arithmetic arms_of_enumeration arms_of_pointer arms_of_void arms_of conditional.conditional casts.const_cast casts.goes_down casts.static_pointers casts.static_kinds casts.static_objects casts.static_only casts.static_unless casts.static_cast casts.reinterpret_cast casts.cast_operand casts.added casts.between casts.cast_between casts.cast_by_two casts.cast_else casts.cast_unless casts.cast is_complete_object common_other common_pointer is_text is_pending is_derived subobjects base_paths pointer_to_class class_step steps_to_class pointer_to_other steps_of_pointers step_of_enumeration steps_of_arithmetic steps_of_enumeration steps_of_pointer steps_of_kinds value_step steps_to_scalar steps_by_kinds steps_of_value related_kinds related steps_of_related steps_of_unrelated steps_by_relation steps_of_reference steps_between standard_sequence digits calls.fallback_more cast.several
 begins of tree = text_of (then_asked (parts_read (in_turn (tree ∷ [])) state) (first_text of))

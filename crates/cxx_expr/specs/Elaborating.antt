@@ -8,9 +8,9 @@ use Rattle.cxx_expr.specs.declared.production.TheConstants as production
 use Rattle.cxx_expr.specs.Asking.{give}
 use Rattle.cxx_expr.specs.Calls.{call}
 use Rattle.cxx_expr.specs.Casts.{cast, functional, last_of}
+use Rattle.cxx_expr.specs.Implied.{name, this}
 use Rattle.cxx_expr.specs.Literals.{literal}
 use Rattle.cxx_expr.specs.Members.{arrow, selected}
-use Rattle.cxx_expr.specs.Names.{name}
 use Rattle.cxx_expr.specs.Operands.{any_open, given_over, is_none, only}
 use Rattle.cxx_expr.specs.Operators.{binary, conditional, misshapen, prefix, step, subscript}
 use Rattle.cxx_expr.specs.Questions.{Questions}
@@ -55,8 +55,9 @@ operated q tree state =
     if nat_eq tree.label.production production.PREFIX then prefix q tree state else (
     if nat_eq tree.label.production production.BINARY then binary q tree state else (
     if nat_eq tree.label.production production.CONDITIONAL then conditional q tree state else (
-    if nat_eq tree.label.production production.ASSIGNMENT then binary q tree state else
-    misshapen tree state)))))))
+    if nat_eq tree.label.production production.ASSIGNMENT then binary q tree state else (
+    if nat_eq tree.label.production production.THIS then this tree state else
+    misshapen tree state))))))))
 
 unfoldable pub by_production : Questions → CxxTree → Asks CxxState CxxTree
 by_production q tree state =

@@ -10,6 +10,7 @@ pub mod Casts
 pub mod SizesOf
 pub mod Calls
 pub mod Members
+pub mod Implied
 pub mod Elaborating
 pub mod Initializing
 pub mod Views

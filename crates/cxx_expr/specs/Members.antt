@@ -4,7 +4,6 @@ use Rattle.cxx_model.specs.declared.fault.FaultText.TheVariants as says
 use Rattle.cxx_model.specs.declared.facts.MemberKind.{MemberKind}
 use Rattle.cxx_model.specs.declared.punct.TheConstants as punct
 use Rattle.cxx_model.specs.declared.sequence.ConstantKind.TheVariants as constant
-use Rattle.cxx_model.specs.declared.types.ClassId.{ClassId}
 use Rattle.cxx_model.specs.declared.types.Cv.{Cv}
 use Rattle.cxx_model.specs.Facts.Declarations as facts
 use Rattle.cxx_model.specs.Facts.Declarations.{CxxGraph, Declares}
@@ -14,7 +13,6 @@ use Rattle.cxx_model.specs.Types.Trees.{CxxType, reference_to, with_cv}
 use Rattle.cxx_meaning.specs.Conversions.BuiltIn.{CxxBuiltIn, built_in_result}
 use Rattle.cxx_meaning.specs.Conversions.Kinds.{CxxKind, of_class, cv_of, kind_of}
 use Rattle.cxx_meaning.specs.Conversions.Standard.{CxxOperand}
-use Rattle.cxx_meaning.specs.Lookups.Member.{class_of_scope}
 use Rattle.cxx_reading.specs.Initializers.{operand_of}
 use Rattle.cxx_reading.specs.Reads.{Asks}
 use Rattle.cxx_reading.specs.Seen.{Numbered}
@@ -61,28 +59,20 @@ abbrev pub means_data : CxxGraph → CxxOperand → ℕ → MemberKind → Bool 
 means_data graph object target kind is_mutable of =
     if is_nonstatic kind then means_lent object target is_mutable of else means_object graph target of
 
--- 9.2: whether a class is the one that a scope belongs to
-abbrev pub same_class : Option ℕ → Option ClassId → Bool
-same_class (Some n) (Some class) = nat_eq n class.0
-same_class _ _ = false
-
-abbrev pub is_own_scope : CxxGraph → CxxOperand → ℕ → Bool
-is_own_scope graph object scope = same_class (class_of_object object) (class_of_scope graph.facts (record { 0 = scope }))
-
--- 9.3: A function of the class is meant by what is called. One that is not called, and one of a base, are not read yet.
+-- 9.3: A function is meant by what is called. One that is not called is not read yet.
 abbrev pub selected_function : CxxPathPart → CxxGraph → ℕ → CxxType → Bool → Asks CxxState Means
 selected_function part graph target of true = give (means_object graph target of)
 selected_function part graph target of false = stop (not_built_at part.place)
 
-abbrev pub selected_first : CxxPathPart → Bool → CxxOperand → CxxGraph → Option ℕ → ℕ → ℕ → Declares → Asks CxxState Means
-selected_first part called object graph list scope number (facts.object of kind is_mutable value first) = give (means_data graph object (first_or number first) kind is_mutable of)
-selected_first part called object graph list scope number (facts.enumerator n value) = give (means_enumerator list number n value)
-selected_first part called object graph list scope number (facts.function of kind flags defaults first) = selected_function part graph (first_or number first) of (called && is_own_scope graph object scope)
-selected_first part called object graph list scope number _ = stop (not_built_at part.place)
+abbrev pub selected_first : CxxPathPart → Bool → CxxOperand → CxxGraph → Option ℕ → ℕ → Declares → Asks CxxState Means
+selected_first part called object graph list number (facts.object of kind is_mutable value first) = give (means_data graph object (first_or number first) kind is_mutable of)
+selected_first part called object graph list number (facts.enumerator n value) = give (means_enumerator list number n value)
+selected_first part called object graph list number (facts.function of kind flags defaults first) = selected_function part graph (first_or number first) of called
+selected_first part called object graph list number _ = stop (not_built_at part.place)
 
 abbrev pub selected_value : CxxPathPart → Bool → CxxOperand → List Numbered → List Numbered → Asks CxxState Means
 selected_value part called object all [] state = Err (no_value_at part all)
-selected_value part called object all (one ∷ others) state = selected_first part called object state.graph state.here.enumeration one.fact.scope one.number one.fact.what state
+selected_value part called object all (one ∷ others) state = selected_first part called object state.graph state.here.enumeration one.number one.fact.what state
 
 -- what a name means that has these declarations as a member of an object's class, given whether it is called
 unfoldable pub selected_by : CxxPathPart → Bool → CxxOperand → List Numbered → Asks CxxState Means

@@ -140,9 +140,6 @@ is_function_fact (Some fact) = declares_function fact.what
 unfoldable pub is_function_at : CxxGraph → ℕ → Bool
 is_function_at graph target = is_function_fact (slice_get graph.facts target)
 
-abbrev pub means_function : Place → CxxGraph → ℕ → CxxType → List Numbered → Asks CxxState Means
-means_function place graph target own all state = if are_one_function target all then Ok (means_object graph target own, state) else Err (several_at place)
-
 abbrev pub is_nonstatic : MemberKind → Bool
 is_nonstatic member.Nonstatic = true
 is_nonstatic _ = false
@@ -152,10 +149,14 @@ abbrev pub means_object_by : Place → Bool → Means → Asks CxxState Means
 means_object_by place true means = stop (fault place says.OperandsDoNotFit)
 means_object_by place false means = give means
 
+abbrev pub means_function : Place → CxxGraph → MemberKind → ℕ → CxxType → List Numbered → Asks CxxState Means
+means_function place graph kind target own all state =
+    if are_one_function target all then means_object_by place (is_nonstatic kind) (means_object graph target own) state else Err (several_at place)
+
 abbrev pub means_first : Place → CxxGraph → Option ℕ → List Numbered → ℕ → Declares → Asks CxxState Means
 means_first place graph list all number (facts.object of kind is_mutable value first) = means_object_by place (is_nonstatic kind) (means_object graph (first_or number first) of)
 means_first place graph list all number (facts.enumerator n value) = give (means_enumerator list number n value)
-means_first place graph list all number (facts.function of kind flags defaults first) = means_function place graph (first_or number first) of all
+means_first place graph list all number (facts.function of kind flags defaults first) = means_function place graph kind (first_or number first) of all
 means_first place graph list all number _ = stop (several_at place)
 
 abbrev pub means_value : CxxPathPart → Place → List Numbered → List Numbered → Asks CxxState Means
@@ -227,14 +228,9 @@ named_tree label means class = tree_of (record label { of = class; operand = Som
 abbrev pub named_as : Label → Means → Asks CxxState CxxTree
 named_as label means state = Ok (named_tree label means (static_class state.graph means.target), state)
 
--- A name that has these declarations, as an expression: what it means, which is noted.
+-- A name that has these declarations, as an expression without an object: what it means, which is noted.
 unfoldable pub named : Questions → Label → List Numbered → Asks CxxState CxxTree
 named q label all = do
   means ← meant_by (word_in label) label.place all
   noted ← q.bound label.place means.target
   named_as label means
-
-unfoldable pub name : Questions → CxxTree → Asks CxxState CxxTree
-name q tree = do
-  all ← q.name (path_in tree.label)
-  named q tree.label all

@@ -6,6 +6,9 @@ pub const INITIALIZER: u8 = 22;
 /// 2.13, 5.1
 pub const LITERAL: u8 = 34;
 
+/// 5.1, 9.3.2: `this`
+pub const THIS: u8 = 35;
+
 /// 5.1: a name without qualifiers
 pub const NAME: u8 = 36;
 

@@ -17,10 +17,10 @@ use Rattle.cxx_statement_text.specs.Statements.{open_brace}
 use Rattle.cxx_tree.specs.Held.{Held, tree}
 use Rattle.cxx_form.specs.declared.book.Book.{Book}
 use Rattle.cxx_form.specs.Books.{facts_of, graph_of, names_of}
-use Rattle.cxx_form.specs.Definitions.{definition_words, ellipsis_words, first_of_declarator, function_first, function_first_by, has_ellipsis, head_words, object_type, object_type_by, parameter_words, result_of, type_of_declarator}
+use Rattle.cxx_form.specs.Definitions.{definition_words, ellipsis_words, first_of_declarator, function_first, function_first_by, function_name_words, has_ellipsis, head_words, object_type, object_type_by, parameter_words, result_of, type_of_declarator, words_behind}
 use Rattle.cxx_form.specs.Lines.{numbers_in}
 use Rattle.cxx_form.specs.Order.{body_of, declarator_of, is_named, parameters_of}
-use Rattle.cxx_form.specs.Parts.{definition_parts, dots_behind, head_at, head_of, is_none, list_at, name_if, named_list, parameter_at}
+use Rattle.cxx_form.specs.Parts.{definition_parts, dots_behind, head_at, head_of, is_none, list_at, name_if, named_list, parameter_at, worded_list}
 use Rattle.cxx_form.specs.Views.{facts_in}
 use Rattle.cxx_form.proofs.Defining.{found_is, parameters_of_list}
 use Rattle.cxx_form.proofs.Listing.{both_listed}
@@ -73,11 +73,12 @@ no_function held number is = sym (ap (function_first number) (found_is held numb
 
 -- ---- the whole
 
-pub head_is : (book : Book) (one : CxxTree) (row : List FactId) → numbers_in row ≡ parameters_of (facts_of book) one → head_of book (declarator_of one) row ≡ head_words (names_of book) (facts_of book) one
-unfolding head_at named_list
+pub head_is : (book : Book) (one : CxxTree) (row : List FactId) → numbers_in row ≡ parameters_of (facts_of book) one → head_of book (declarator_of one) row ≡ head_words (names_of book) (graph_of book) one
+unfolding head_at named_list worded_list
 head_is book one row are =
     let of : CxxType = type_of_declarator (declarator_of one) in
-    let name : List Word → List Word = λ ws. declared (names_of book).tags no_cv (result_of of) (name_word ((names_of book).name_of (first_of_declarator (facts_of book) (declarator_of one))) ∷ ws) ++ open_brace ∷ [] in
+    let first : ℕ = first_of_declarator (facts_of book) (declarator_of one) in
+    let name : List Word → List Word = λ ws. declared (names_of book).tags no_cv (result_of of) (function_name_words (names_of book) (graph_of book) first ++ (ws ++ words_behind (facts_of book) first)) ++ open_brace ∷ [] in
     ap name (list_is book row (has_ellipsis of) ∙ ap (λ (ns : List ℕ). open_word ∷ (separated (map (parameter_words (names_of book) (facts_of book)) ns ++ ellipsis_words (has_ellipsis of)) ++ close_word ∷ [])) are)
 
 pub definition_is : (book : Book) (number : TreeId) (declarator body : Option TreeId) (row : List FactId) → option_map (tree book.state.now) declarator ≡ declarator_of (tree book.state.now number) → option_map (tree book.state.now) body ≡ body_of (tree book.state.now number) → numbers_in row ≡ parameters_of_list book.state.now (option_map (tree book.state.now) body)

@@ -1,5 +1,6 @@
 pub mod Calling
 pub mod CallLines
+pub mod Classing
 pub mod Defining
 pub mod Derived
 pub mod InTrees

@@ -22,7 +22,7 @@ use Rattle.cxx_phrase_text.specs.Phrases.{pointed_words}
 use Rattle.cxx_statement_text.specs.Calls.{statement_calls}
 use Rattle.cxx_statement_text.specs.Statements.{body_lines}
 use Rattle.cxx_form.specs.Called.{function_text, functions_from, targets}
-use Rattle.cxx_form.specs.Definitions.{definition_words}
+use Rattle.cxx_form.specs.Definitions.{class_declaring, definition_words}
 use Rattle.cxx_form.specs.Order.{lines, names_of_text, text_order}
 use Rattle.cxx_form.specs.Text.{printed_calls, text_by}
 
@@ -135,7 +135,7 @@ one_named =
     reading (list_in 0 ∷ object_in 1 (spelled (codes "a")) int ∷ object_in 1 unnamed char ∷ function (codes "f") of ∷ body_in 1 4 ∷ []) (defined_as 4 of 5 (returns (named 2) ∷ []) ∷ [])
 
 names_of_parameters : text one_named ≡ codes "int f__1(int, char);\nint f__1(int a__2, char) {\n  return a__2;\n}\n"
-unfolding names_of_text text_order lines text_name printed_name stem definition_words body_lines digits
+unfolding names_of_text text_order lines text_name printed_name stem definition_words class_declaring body_lines digits
 names_of_parameters = refl
 
 -- int h() { for (int i = 0; i; i) { int j = i; } return h(); }
@@ -146,7 +146,7 @@ with_locals =
     (defined_as 2 of 3 (for_ (declares (object 5 literal ∷ [])) (named 5) (named 5) (block (declares (object 7 (named 5) ∷ []) ∷ [])) ∷ returns (call 0 2 []) ∷ []) ∷ [])
 
 locals_of_a_for : text with_locals ≡ codes "int h__1();\nint h__1() {\n  for (int i__2 = 0; i__2; i__2) {\n    int j__3 = i__2;\n  }\n  return h__1();\n}\n"
-unfolding names_of_text text_order lines text_name printed_name stem definition_words body_lines digits
+unfolding names_of_text text_order lines text_name printed_name stem definition_words class_declaring body_lines digits
 locals_of_a_for = refl
 
 calls_of_a_body : printed_calls with_locals ≡ record { number = 0; target = 2 } ∷ []
@@ -162,7 +162,7 @@ in_order =
     (simple (declarator 2 p [] ∷ []) ∷ defined_as 4 q 5 [] ∷ simple (object 6 literal ∷ []) ∷ defined_as 8 p 9 (expression (call 0 4 []) ∷ []) ∷ [])
 
 definitions_in_order : text in_order ≡ codes "void p__1(...);\nvoid q__2();\nint x__3 = 0;\nvoid q__2() {\n}\nvoid p__1(...) {\n  q__2();\n}\n"
-unfolding static_class names_of_text text_order lines text_name printed_name stem definition_words body_lines digits
+unfolding static_class names_of_text text_order lines text_name printed_name stem definition_words class_declaring body_lines digits
 definitions_in_order = refl
 
 -- int (*r(int a))(char) { return 0; }
@@ -172,7 +172,7 @@ returns_a_pointer =
     reading (list_in 0 ∷ object_in 1 (spelled (codes "a")) int ∷ function (codes "r") of ∷ body_in 1 3 ∷ []) (defined_as 3 of 4 (returns literal ∷ []) ∷ [])
 
 result_round_the_list : text returns_a_pointer ≡ codes "int (*r__1(int))(char);\nint (*r__1(int a__2))(char) {\n  return 0;\n}\n"
-unfolding names_of_text text_order lines text_name printed_name stem definition_words body_lines digits
+unfolding names_of_text text_order lines text_name printed_name stem definition_words class_declaring body_lines digits
 result_round_the_list = refl
 
 -- struct S { int a; char *b; } *p; void g();
@@ -280,9 +280,28 @@ with_calls_of_members =
 
 calls_of_functions_of_a_class : text with_calls_of_members
     ≡ codes "struct S__1;\nstruct S__1 {\n  int f__2(int) const;\n  static int f__3();\n};\nint h__4(S__1 *);\nint h__4(S__1 *p__5) {\n  return (*p__5).f__2(S__1::f__3()) + (*p__5).f__2(0);\n}\n"
-unfolding pointed_words names_of_text text_order lines text_name printed_name stem definition_words body_lines digits
+unfolding pointed_words names_of_text text_order lines text_name printed_name stem definition_words class_declaring body_lines digits
 calls_of_functions_of_a_class = refl
 
 functions_of_a_class_by_their_numbers : functions_from with_calls_of_members (targets with_calls_of_members) ≡ codes "int f__3();\nint f__2(int) const;\nint f__2(int) const;\n"
 unfolding function_text targets printed_calls statement_calls names_of_text text_order lines text_name printed_name stem digits
 functions_of_a_class_by_their_numbers = refl
+
+-- struct S { int f(int) const; static int g(); }; int S::f(int a) const { return a; } int S::g() { return 0; }
+abbrev with_functions_outside : CxxState
+with_functions_outside =
+    let struct : ClassId = record { 0 = 0 } in
+    let one : CxxType = function_of int (type_then int no_types) false const in
+    let other : CxxType = function_type int no_types in
+    let all : List CxxFact =
+    class_begun struct (codes "S") 1
+    ++ list_in 1 ∷ object_in 2 unnamed int ∷ member_here (codes "f") (facts.function one member.Nonstatic flags 0 None) ∷ list_in 1 ∷ member_here (codes "g") (facts.function other member.Static flags 0 None)
+    ∷ class_ended struct 1 ∷ list_in 1 ∷ object_in 4 (spelled (codes "a")) int ∷ member_here (codes "f") (facts.function one member.Nonstatic flags 0 (Some (record { 0 = 6 }))) ∷ body_in 4 12
+    ∷ list_in 1 ∷ member_here (codes "g") (facts.function other member.Static flags 0 (Some (record { 0 = 8 }))) ∷ body_in 6 15 ∷ [] in
+    let class : CxxTree = tree_of (label 8 []) (class_tree (simple (declarator 6 one [] ∷ []) ∷ simple (declarator 8 other [] ∷ []) ∷ []) ∷ []) in
+    let read : CxxState = reading all (class ∷ defined_as 12 one 13 (returns (named 11) ∷ []) ∷ defined_as 15 other 16 (returns literal ∷ []) ∷ []) in
+    record read { graph = record { facts = read.graph.facts; classes = None ∷ []; patterns = [] } }
+
+functions_outside_of_their_class : text with_functions_outside ≡ codes "struct S__1;\nstruct S__1 {\n  int f__2(int) const;\n  static int g__3();\n};\nint S__1::f__2(int a__4) const {\n  return a__4;\n}\nint S__1::g__3() {\n  return 0;\n}\n"
+unfolding names_of_text text_order lines text_name printed_name stem definition_words class_declaring body_lines digits
+functions_outside_of_their_class = refl

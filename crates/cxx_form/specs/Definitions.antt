@@ -10,8 +10,10 @@ use Rattle.cxx_constant.specs.Constants.{CxxValue, constant}
 use Rattle.cxx_reading.specs.Declarators.{no_cv}
 use Rattle.cxx_reading.specs.Plain.{NamesOfText, type_or_void}
 use Rattle.cxx_reading.specs.Trees.{CxxTree}
-use Rattle.cxx_reading.specs.Words.{Word, name_word, open_word, close_word, one_word, separated, declared}
+use Rattle.cxx_reading.specs.Words.{Word, name_word, open_word, close_word, cv_words, one_word, separated, declared}
+use Rattle.cxx_expr.specs.Names.{class_if, declares_function}
 use Rattle.cxx_phrase_text.specs.Calls.{CallOfText}
+use Rattle.cxx_phrase_text.specs.Phrases.{named_words}
 use Rattle.cxx_statement_text.specs.Calls.{statement_calls}
 use Rattle.cxx_statement_text.specs.Objects.{Scene}
 use Rattle.cxx_statement_text.specs.Statements.{Lines, body_lines, close_brace, open_brace}
@@ -72,9 +74,30 @@ abbrev pub list_words : NamesOfText → List CxxFact → CxxTree → List Word
 list_words names all tree =
     open_word ∷ (separated (map (parameter_words names all) (parameters_of all tree) ++ ellipsis_words (has_ellipsis (type_of_declarator (declarator_of tree)))) ++ close_word ∷ [])
 
-abbrev pub head_words : NamesOfText → List CxxFact → CxxTree → List Word
-head_words names all tree =
-    declared names.tags no_cv (result_of (type_of_declarator (declarator_of tree))) (name_word (names.name_of (first_of_declarator all (declarator_of tree))) ∷ list_words names all tree) ++ open_brace ∷ []
+-- 9.3: the class that declares a function, where one does
+abbrev pub class_of_function : CxxGraph → Option CxxFact → Option CxxType
+class_of_function graph None = None
+class_of_function graph (Some fact) = class_if graph fact.scope (declares_function fact.what)
+
+unfoldable pub class_declaring : CxxGraph → ℕ → Option CxxType
+class_declaring graph number = class_of_function graph (slice_get graph.facts number)
+
+-- 9.3.1: the words behind the parameters of a function
+abbrev pub words_of_type : CxxType → List Word
+words_of_type (function_of result parameters ellipsis cv) = cv_words cv
+words_of_type of = []
+
+-- by its first declaration
+abbrev pub words_behind : List CxxFact → ℕ → List Word
+words_behind all number = words_of_type (object_type (slice_get all number))
+
+-- a function of a class stands behind its class (9.3)
+abbrev pub function_name_words : NamesOfText → CxxGraph → ℕ → List Word
+function_name_words names graph number = named_words names.tags names.name_of (class_declaring graph number) number
+
+abbrev pub head_words : NamesOfText → CxxGraph → CxxTree → List Word
+head_words names graph tree =
+    declared names.tags no_cv (result_of (type_of_declarator (declarator_of tree))) (function_name_words names graph (first_of_declarator graph.facts (declarator_of tree)) ++ (list_words names graph.facts tree ++ words_behind graph.facts (first_of_declarator graph.facts (declarator_of tree)))) ++ open_brace ∷ []
 
 -- ---- the body
 
@@ -92,7 +115,7 @@ inner_lines names graph (Some body) = body_lines (scene_with names graph) 1 body
 
 -- the definition of a function, line by line
 unfoldable pub definition_words : NamesOfText → CxxGraph → CxxTree → Lines
-definition_words names graph tree = head_words names graph.facts tree ∷ (inner_lines names graph (body_of tree) ++ (close_brace ∷ []) ∷ [])
+definition_words names graph tree = head_words names graph tree ∷ (inner_lines names graph (body_of tree) ++ (close_brace ∷ []) ∷ [])
 
 -- ---- its calls
 

@@ -25,7 +25,7 @@ use Rattle.cxx_form.specs.declared.book.Book.{Book}
 use Rattle.cxx_form.specs.Books.{facts_of, graph_of, names_of, trees_of, type_for}
 use Rattle.cxx_form.specs.declared.lines.Line.{Line}
 use Rattle.cxx_form.specs.Lines.{line_at}
-use Rattle.cxx_form.specs.Definitions.{ellipsis_words, first_of_declarator, has_ellipsis, inner_lines, parameter_words, result_of, type_of_declarator}
+use Rattle.cxx_form.specs.Definitions.{ellipsis_words, first_of_declarator, function_name_words, has_ellipsis, inner_lines, parameter_words, result_of, type_of_declarator, words_behind}
 use Rattle.cxx_form.specs.Text.{base_words, class_end, class_front, class_key_of, initializer_words, initializers_in, member_if_first, member_lines, value_of_again, words_on}
 
 abbrev pub is_none : {A : Type 0} → List A → Bool
@@ -145,9 +145,13 @@ dots_behind is_first ellipsis = listed_words is_first (ellipsis_words ellipsis)
 unfoldable pub list_at : Book → List FactId → Bool → List Word
 list_at book row ellipsis = open_word ∷ (listed_words true (map (parameter_at book) row) ++ (dots_behind (is_none row) ellipsis ++ close_word ∷ []))
 
--- the name of a function, with its parameters
+-- the parameters of a function, with the words behind them
+unfoldable pub worded_list : Book → FactId → List FactId → Bool → List Word
+worded_list book number row ellipsis = list_at book row ellipsis ++ words_behind (facts_of book) number.0
+
+-- the name of a function, with its class (9.3), and with its parameters
 unfoldable pub named_list : Book → FactId → List FactId → Bool → List Word
-named_list book number row ellipsis = name_word ((names_of book).name_of number.0) ∷ list_at book row ellipsis
+named_list book number row ellipsis = function_name_words (names_of book) (graph_of book) number.0 ++ worded_list book number row ellipsis
 
 unfoldable pub head_at : Book → CxxType → FactId → List FactId → Bool → List Word
 head_at book result number row ellipsis = declared (names_of book).tags no_cv result (named_list book number row ellipsis) ++ open_brace ∷ []

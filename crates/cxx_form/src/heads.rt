@@ -16,15 +16,15 @@ ghost use Rattle.cxx_tree.specs.Held.{tree, trees};
 ghost use Rattle.cxx_form.specs.Books.{names_of, type_for, IsBook};
 ghost use Rattle.cxx_form.specs.Definitions as definitions;
 ghost use Rattle.cxx_form.specs.Parts as parts;
-ghost use Rattle.cxx_form.specs.Parts.{dots_behind, head_at, list_at, named_list, parameter_at};
+ghost use Rattle.cxx_form.specs.Parts.{dots_behind, head_at, list_at, named_list, parameter_at, worded_list};
 ghost use Rattle.cxx_form.specs.Views.{facts_in};
 
+use crate::behind::write_words_behind;
 use crate::book::Book;
 use crate::facts::find;
 use crate::names::is_named;
-use crate::words::{
-    write_alone, write_back, write_comma_unless, write_declared, write_front, write_name,
-};
+use crate::outside::write_function_name;
+use crate::words::{write_alone, write_back, write_comma_unless, write_declared, write_front};
 use cxx_model::{Entity, FactId, TreeId, TypeId, TypeNode};
 use cxx_page::{Page, PlainFault};
 use cxx_reading::Role;
@@ -170,8 +170,24 @@ fn write_list(
 
 // ---- the function
 
-// Writes the name of a function and its list.
-#[tactic(auto, using(cxx_page::proofs::Put::put_more), unfolding(crate::specs::Parts::named_list))]
+// Writes the list of parameters, and the words behind it (9.3.1).
+#[tactic(auto, using(cxx_page::proofs::Put::put_append), unfolding(crate::specs::Parts::worded_list))]
+fn write_worded_list(
+    book: &Book<'_>,
+    page: &mut Page,
+    number: FactId,
+    numbers: &[FactId],
+    ellipsis: bool,
+) -> Result<(), PlainFault>
+    requires { IsBook book.now }
+    ensures { Writes result page.new (put (worded_list book.now number numbers.now ellipsis) page.old) }
+{
+    write_list(book, page, numbers, ellipsis)?;
+    write_words_behind(book, page, number)
+}
+
+// Writes the name of a function with its class, and its list.
+#[tactic(auto, using(cxx_page::proofs::Put::put_append), unfolding(crate::specs::Parts::named_list))]
 fn write_named_list(
     book: &Book<'_>,
     page: &mut Page,
@@ -182,8 +198,8 @@ fn write_named_list(
     requires { IsBook book.now }
     ensures { Writes result page.new (put (named_list book.now number numbers.now ellipsis) page.old) }
 {
-    write_name(book, page, number)?;
-    write_list(book, page, numbers, ellipsis)
+    write_function_name(book, page, number)?;
+    write_worded_list(book, page, number, numbers, ellipsis)
 }
 
 // Writes them, and what stands behind them by the type of the result.

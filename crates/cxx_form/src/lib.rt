@@ -9,11 +9,13 @@
 #![tactic(auto)]
 
 mod bases;
+mod behind;
 mod book;
 mod called;
 mod calls;
 mod classes;
 mod constants;
+mod declaring;
 mod defined;
 mod definitions;
 mod enumerations;

@@ -1,4 +1,4 @@
-//! The names of static members that are defined outside of their classes (9.4.2).
+//! The names of members that are defined outside of their classes (9.3, 9.4.2).
 ghost use Rattle.std.specs.Prelude.{[], ◌∷◌, ◌++◌, length};
 ghost use Rattle.cxx_model.specs.Facts.Fitted.{IsTypeNumberBelow};
 ghost use Rattle.cxx_model.specs.Facts.Graph.{IsClassNumberInRange};
@@ -11,10 +11,12 @@ ghost use Rattle.cxx_reading.specs.Declarators.{no_cv};
 ghost use Rattle.cxx_reading.specs.Plain.{type_or_void};
 ghost use Rattle.cxx_reading.specs.Words.{declared};
 ghost use Rattle.cxx_form.specs.Books.{graph_of, names_of, type_for, IsBook};
+ghost use Rattle.cxx_form.specs.Definitions.{function_name_words};
 
 use crate::bases::write_class;
 use crate::book::Book;
-use crate::words::{write_front, write_named};
+use crate::declaring::class_declaring;
+use crate::words::{write_front, write_name, write_named};
 use cxx_expr::static_class;
 use cxx_model::{ClassId, FactId, TypeId};
 use cxx_page::{Page, PlainFault};
@@ -69,4 +71,19 @@ pub(crate) fn write_declared_outside(
     let class = static_class(book.state, number);
     write_front(book, page, of)?;
     write_scoped(book, page, of, class, number)
+}
+
+/// Writes the name of a function, behind its class where it is a member (9.3).
+#[tactic(auto, using(cxx_page::proofs::Put::put_append), unfolding(cxx_tree::specs::Held::meaning))]
+pub(crate) fn write_function_name(
+    book: &Book<'_>,
+    page: &mut Page,
+    number: FactId,
+) -> Result<(), PlainFault>
+    requires { IsBook book.now }
+    ensures { Writes result page.new (put (function_name_words (names_of book.now) (graph_of book.now) number.0) page.old) }
+{
+    let class = class_declaring(book.state, number);
+    write_scope(book, page, class)?;
+    write_name(book, page, number)
 }

@@ -30,7 +30,8 @@ pub(crate) fn write_comma_unless(page: &mut Page, is_first: bool) -> Result<(), 
     page.word(Role::Follows, b",")
 }
 
-fn no_cv() -> Cv
+/// No cv words (3.9.3).
+pub(crate) fn no_cv() -> Cv
     ensures { result ≡ no_cv_of }
 {
     Cv {

@@ -1,5 +1,5 @@
 -- The reading of a unit with expressions: its declarations in order (3.5, clause 7).
-use Rattle.std.specs.Prelude.{ℕ, zero, suc, nat_eq, Bool, true, false, ◌&&◌, ◌||◌, if◌then◌else◌, List, [], ◌∷◌, ◌++◌, Option, Some, None}
+use Rattle.std.specs.Prelude.{ℕ, zero, suc, nat_eq, Bool, true, false, not, ◌&&◌, ◌||◌, if◌then◌else◌, List, [], ◌∷◌, ◌++◌, Option, Some, None}
 use Rattle.cxx_model.specs.declared.fault.FaultText.TheVariants as says
 use Rattle.cxx_model.specs.declared.fault.LeftOut.TheVariants as form
 use Rattle.cxx_model.specs.declared.keyword.TheConstants as keyword
@@ -13,11 +13,11 @@ use Rattle.cxx_model.specs.Types.Trees.{CxxType}
 use Rattle.cxx_reading.specs.declared.specifier.Naming.TheVariants as naming
 use Rattle.cxx_reading.specs.Declarators.{Specifiers, Declarator, declared_type, is_function_type, own_parameters}
 use Rattle.cxx_reading.specs.Labels.{label_from}
-use Rattle.cxx_declare.specs.Outside.{agree_here, stand_in}
+use Rattle.cxx_declare.specs.Outside.{agree_here, declare_again, stand_in}
 use Rattle.cxx_answers.specs.Defaults.{is_some_class}
 use Rattle.cxx_reading.specs.Declaring.{class_of_here}
 use Rattle.cxx_reading.specs.Productions as production
-use Rattle.cxx_reading.specs.Reads.{Reads, Ahead, Turn, More, Done, ◌>>=◌, got, give, ask, fault_at, limited, looked, kind_ahead, place_ahead, count_ahead, behind, repeat}
+use Rattle.cxx_reading.specs.Reads.{Reads, Asks, Ahead, Turn, More, Done, ◌>>=◌, got, give, ask, fault_at, limited, looked, kind_ahead, place_ahead, count_ahead, behind, repeat}
 use Rattle.cxx_reading.specs.State.{CxxState, first_state}
 use Rattle.cxx_reading.specs.Syntax.{declarator_at}
 use Rattle.cxx_reading.specs.Tokens.{is_punct, is_keyword, is_end, no_declaration, refused}
@@ -59,9 +59,19 @@ function_ended room is_first declarator of number state ahead =
     if ends_declarator (kind_ahead ahead) then got [] state ahead else
     not_ended room is_first (name_in declarator) of number (own_parameters declarator.layers) state ahead
 
+-- whether the reader stands in the scope of a class, one of whose members is declared outside of it
+abbrev pub stands_in_class : CxxState → Bool
+stands_in_class state = is_some_class (class_of_here state)
+
+-- 9.3: where it does, the function is one of the class
+unfoldable pub function_declared : Said → Declarator → Asks CxxState ℕ
+function_declared said declarator state =
+    if stands_in_class state then declare_again (name_in declarator) declarator.cv (declared_type declarator.layers said.of) state else
+    declare_function (own_parameters declarator.layers) (name_in declarator) (declared_type declarator.layers said.of) state
+
 unfoldable pub declared_function : ℕ → Said → Bool → Declarator → Ahead → Reads CxxState Declares
 declared_function room said is_first declarator from = do
-  number ← ask (declare_function (own_parameters declarator.layers) (name_in declarator) (declared_type declarator.layers said.of))
+  number ← ask (function_declared said declarator)
   to ← looked
   body ← function_ended room is_first declarator (declared_type declarator.layers said.of) number
   give (record { tree = declarator_tree said.is_extern (name_in declarator) (declared_type declarator.layers said.of) number declarator.parts from to; body = body })
@@ -74,16 +84,14 @@ declared_by room said is_first from declarator =
     if said.is_extern then extern_object room said declarator from >>= alone else
     defined_object room said declarator from >>= alone))
 
--- 9.3: a function of the class in whose scope the reader stands is not declared outside of it yet
-abbrev pub stands_in_class : CxxState → Bool
-stands_in_class state = is_some_class (class_of_here state)
-
+-- 9.3: whether a function of the class in whose scope the reader stands is declared; whether the class has declared it is asked
+-- when that is
 abbrev pub is_function_outside : Said → Declarator → CxxState → Bool
-is_function_outside said declarator state = is_function_type (declared_type declarator.layers said.of) && stands_in_class state
+is_function_outside said declarator state = not said.is_typedef && (is_function_type (declared_type declarator.layers said.of) && stands_in_class state)
 
 abbrev pub outside_agrees : Said → Declarator → Reads CxxState (Unit {0})
 outside_agrees said declarator state ahead =
-    if is_function_outside said declarator state then fault_at (name_in declarator).place says.NotBuilt state ahead else
+    if is_function_outside said declarator state then got tt state ahead else
     ask (agree_here said.is_typedef (name_in declarator) (declared_type declarator.layers said.of)) state ahead
 
 -- 8.3: what has qualifiers was declared before

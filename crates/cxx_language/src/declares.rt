@@ -27,7 +27,7 @@ ghost use Rattle.cxx_tree.specs.Arena.{path_at};
 ghost use Rattle.cxx_tree.specs.Held.{meaning, tree, trees, type_of};
 
 use cxx_cursor::{Cursor, Declarator, NameToken, Specifiers, Spelled};
-use cxx_model::{FactId, Node, OutOfMemory, Path, Place, ScopeId, Stop, TreeId, TypeId};
+use cxx_model::{Cv, FactId, Node, OutOfMemory, Path, Place, ScopeId, Stop, TreeId, TypeId};
 use cxx_phrases::Initializer;
 use cxx_reading::{Naming, SpecifierPlace};
 use cxx_tree::State;
@@ -120,6 +120,18 @@ pub trait Declares {
     ) -> Result<FactId, Stop>
         requires { of.0 < length (state.old).types }
         ensures { IsAsked fact_number AnyKnown state.old state.new result (declare_function (scope_of_option list) (name_at name.now) (type_of state.old of) (meaning state.old)) };
+
+    /// A function of the class in whose scope the reader stands, which is declared again (9.3), with the words behind its
+    /// parameters.
+    fn declare_again(
+        &self,
+        state: &mut State,
+        name: &NameToken,
+        cv: Cv,
+        of: TypeId,
+    ) -> Result<FactId, Stop>
+        requires { of.0 < length (state.old).types }
+        ensures { IsAsked fact_number AnyKnown state.old state.new result (members.declare_again (name_at name.now) cv (type_of state.old of) (meaning state.old)) };
 
     /// An object that is declared, and not defined (3.1).
     fn declare_object(

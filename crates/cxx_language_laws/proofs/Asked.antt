@@ -32,19 +32,21 @@ use Rattle.cxx_reading.specs.Tokens.{begins_name, behind_name, is_whole_name, pa
 use Rattle.cxx_reading.specs.Trees.{CxxPath, CxxPathPart, CxxTree, children_of, each_tree, in_turn, is_plain_path, last_part, Label}
 use Rattle.cxx_tree.specs.Defaults.{first_given, within_default}
 use Rattle.cxx_tree.specs.Uses.{with_use}
-use Rattle.cxx_expr.specs.Calls.{bare_word, is_bare, member_question}
+use Rattle.cxx_expr.specs.Calls.{bare_word, class_called, implied_type, is_bare, member_question}
+use Rattle.cxx_this.specs.This.{class_at}
+use Rattle.cxx_expr.specs.Implied.{object_for}
 use Rattle.cxx_expr.specs.Members.{class_of_object}
 use Rattle.cxx_expr.specs.Names.{is_none_left, part_or, path_in, values_among, word_in}
 use Rattle.cxx_expr.specs.Operands.{object_operand}
 use Rattle.cxx_expr.specs.Elaborating.{elaborate}
 use Rattle.cxx_language.specs.Answers.{asking}
-use Rattle.cxx_answers.specs.Answers.{associated_functions, bound_here, call_here, constant_by, constant_here, fallback_by, fallback_here, fresh_among, is_held, meant_in, name_here, name_in_region, name_meant, names_local, names_put_off, names_tested, questions, scope_of_giver, size_here, word_or_none}
+use Rattle.cxx_answers.specs.Answers.{associated_functions, bound_here, call_here, constant_by, constant_here, fallback_by, fallback_here, fresh_among, is_held, is_not_built, meant_in, name_here, name_in_region, name_meant, names_local, names_tested, questions, scope_of_giver, size_here, word_or_none}
 use Rattle.cxx_answers.specs.Defaults.{begin_default, end_default, is_list_of_class, offered_as}
 use Rattle.cxx_answers.specs.Members.{has_begun, in_state, member_found as member_answered, member_here}
 use Rattle.cxx_language.specs.Asked.{answers, asked, inner_at, phrases_at}
 use Rattle.cxx_language_laws.specs.Best.{IsClear, asked_word, functions_by_types, values_besides, values_of}
-use Rattle.cxx_language_laws.specs.Told.{HasNoValue, IsFoundClear, IsMemberCall, IsOfObject, of_object, of_pointed, IsSelector, IsSoughtCalled, IsSoughtMember, IsUnitCall, IsUnitCallOf, IsUnitSelected, called, called_by_types, declared_then, member_part, nothing_in, operands, place_of_call, selected_part, twofold_called, twofold_member, unknown_call, unknown_called, unknown_member}
-use Rattle.cxx_language_laws.proofs.CallsTell.{NothingTold, asked_for, call_asked_tells, member_asked_tells}
+use Rattle.cxx_language_laws.specs.Told.{AreImpliedCalled, HasNoValue, IsFoundClear, IsMemberCall, IsOfObject, of_object, of_pointed, IsSelector, IsSoughtCalled, IsSoughtMember, IsUnitCall, IsUnitCallOf, IsUnitSelected, called, called_by_types, declared_then, member_part, nothing_in, operands, place_of_call, selected_part, twofold_called, twofold_member, unknown_call, unknown_called, unknown_member}
+use Rattle.cxx_language_laws.proofs.CallsTell.{NothingTold, asked_for, call_asked_tells, implied_asked_tells, member_asked_tells}
 use Rattle.cxx_language_laws.proofs.Classed.{class_tells}
 use Rattle.cxx_language_laws.proofs.Later.{IsLater, by_answer, later_same, later_is_kept, later_is_quiet, calmly, turned, parameter_answer_tells, enumeration_answer_tells, enumerator_answer_tells, enumerated_tells, kind_tells, type_tells}
 use Rattle.cxx_language_laws.proofs.Lists.{listed_tells}
@@ -61,7 +63,7 @@ use Rattle.cxx_language_laws.proofs.TellsDefaults.{OffersTell}
 use Rattle.cxx_language_laws.proofs.TellsExpressions.{plain_tells, name_tells, call_tells, through_call_tells, member_tells, arrow_tells}
 use Rattle.cxx_language_laws.proofs.TellsKnot.{type_id_tells}
 use Rattle.cxx_language_laws.proofs.TellsMembers.{MemberTells, MembersTell}
-use Rattle.cxx_language_laws.proofs.TellsNames.{AskedOf, CalledTells, IsAskedSo, NameTells, UnknownUnasked}
+use Rattle.cxx_language_laws.proofs.TellsNames.{AskedFor, AskedImplied, AskedOf, CalledTells, IsAskedSo, NameTells, UnknownUnasked}
 
 -- ---- the types of names behind `enum`
 
@@ -160,7 +162,7 @@ meant_so : (path : CxxPath) (state : CxxState) (where_ : Region) → MeansRegion
 meant_so path state where_ means clear =
     if_named (state.in_default && names_local state.graph (meant_there path state where_)) (not_named (fault (last_part path.parts).place says.OperandsDoNotFit) refl) (
     if_named (state.in_step && names_tested state.tested state.here.scope (meant_there path state where_)) (not_named (fault (last_part path.parts).place (says.LeftOut form.ConditionNameInStep)) refl) (
-    if_named (names_put_off (is_plain_path path) (meant_there path state where_)) (not_named (not_built_at (last_part path.parts).place) refl) (named_so where_ means clear)))
+    if_named (is_not_built (is_plain_path path) (meant_there path state where_)) (not_named (not_built_at (last_part path.parts).place) refl) (named_so where_ means clear)))
 
 region_so : (path : CxxPath) (state : CxxState) (where_ : Region) → MeansRegion path state where_ → NamedSo path state (name_in_region path where_ state)
 region_so path state where_ means = by (sought_there path state where_) refl (clear_or state.graph (last_part path.parts) (sought_there path state where_))
@@ -358,15 +360,56 @@ nothing_told state ahead room call later clear from is_so nothing =
 word_of_call : {room : ℕ} {state : CxxState} {ahead : Ahead} (call : IsUnitCall room state ahead) (from : Ahead) → bare_word (is_bare (tree_of_call call from).label) (word_in (tree_of_call call from).label).word ≡ asked_word call.is_open (called call)
 word_of_call call from = ap (λ (part : CxxPathPart). bare_word (is_bare (tree_of_call call from).label) part.word) (word_is (called call).parts) ∙ word_asked call.is_open (called call)
 
+-- by its name
+asked_by_name : (state : CxxState) (ahead rest : Ahead) (room : ℕ) (call : IsUnitCall room state ahead) → IsLater state call.at → (from : Ahead) (clear : IsFoundClear call)
+    → AskedFor IsLater (ToldSince state ahead) answers (tree_of_call call from) call.arguments (meant_there (called call) call.at clear.where_) (values_of call.at.graph clear.where_ (name_in (called call))) call.at rest
+unfolding questions
+asked_by_name state ahead rest room call later from clear asked =
+    subst (λ (word : Option (List ℕ)). ToldBy IsLater (ToldSince state ahead) call.at rest (call_here (record (asked_for call clear) { word = word }) call.at)) (sym (word_of_call call from))
+    (call_asked_tells state ahead rest room call clear (λ why told later. told) (nothing_told state ahead room call later clear from asked))
+
+-- where it has no qualifiers and stands in a class
+plain_in_class : (graph : CxxGraph) (label : Label) (scope : ℕ) (class : CxxType) → class_called graph label scope ≡ Some class → (is_plain_path (path_in label) ≡ true) × (class_at graph scope ≡ Some class)
+plain_in_class graph label scope class e = by (is_plain_path (path_in label)) e
+  where
+    by : (b : Bool) → (if b then class_at graph scope else None) ≡ Some class → (b ≡ true) × (class_at graph scope ≡ Some class)
+    by true e = (refl, e)
+    by false e = absurd cc
+
+-- 13.3.1.1.1 p3: by its name alone, where that means functions of a class
+asked_implied_so : (state : CxxState) (ahead rest : Ahead) (room : ℕ) (call : IsUnitCall room state ahead) (from : Ahead) (clear : IsFoundClear call)
+    → AskedImplied IsLater (ToldSince state ahead) answers (tree_of_call call from) call.arguments (values_of call.at.graph clear.where_ (name_in (called call))) call.at rest
+unfolding questions object_for
+asked_implied_so state ahead rest room call from clear one others class are in_class =
+    implied_asked_tells state ahead rest room call (object_operand (implied_type class (object_for call.at one.fact.scope))) (one ∷ others) implied (λ why told later. told)
+  where
+    plain : (is_plain_path (called call) ≡ true) × (class_at call.at.graph one.fact.scope ≡ Some class)
+    plain = plain_in_class call.at.graph (tree_of_call call from).label one.fact.scope class in_class
+
+    implied : AreImpliedCalled call (object_operand (implied_type class (object_for call.at one.fact.scope))) (one ∷ others)
+    implied = record {
+      is_plain = plain.0;
+      where_ = clear.where_;
+      qualifies = clear.qualifies;
+      clear = clear.clear;
+      are = sym are;
+      one = one;
+      others = others;
+      first = refl;
+      class = class;
+      of_class = plain.1;
+      is_object = refl;
+    }
+
 asked_by : (state : CxxState) (ahead rest : Ahead) (room : ℕ) (call : IsUnitCall room state ahead) → IsLater state call.at → (from : Ahead) (one : List Numbered × CxxState) → AreDeclared call (tree_of_call call from).label one
     → AskedOf IsLater (ToldSince state ahead) answers (tree_of_call call from) call.arguments one.0 one.1 rest
-unfolding questions
 asked_by state ahead rest room call later from one e =
     let so = one_is (called call) call.at one (names_so (called call) call.at) e in
     let clear : IsFoundClear call = record { where_ = so.where_; qualifies = so.means; clear = so.clear } in
-    subst (λ (x : List Numbered × CxxState). AskedOf IsLater (ToldSince state ahead) answers (tree_of_call call from) call.arguments x.0 x.1 rest) so.is (λ asked.
-    subst (λ (word : Option (List ℕ)). ToldBy IsLater (ToldSince state ahead) call.at rest (call_here (record (asked_for call clear) { word = word }) call.at)) (sym (word_of_call call from))
-    (call_asked_tells state ahead rest room call clear (λ why told later. told) (nothing_told state ahead room call later clear from asked)))
+    subst (λ (x : List Numbered × CxxState). AskedOf IsLater (ToldSince state ahead) answers (tree_of_call call from) call.arguments x.0 x.1 rest) so.is (record {
+      by_name = asked_by_name state ahead rest room call later from clear;
+      implied = asked_implied_so state ahead rest room call from clear;
+    })
 
 asked_of : (state : CxxState) (ahead rest : Ahead) (room : ℕ) (call : IsUnitCall room state ahead) → IsLater state call.at → (from : Ahead) (one : List Numbered × CxxState) → AreDeclared call (tree_of_call call from).label one
     → AskedOf IsLater (ToldSince state ahead) answers (tree_of_call call from) (children_of (tree_of_call call from)) one.0 one.1 rest

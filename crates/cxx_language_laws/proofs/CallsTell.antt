@@ -20,6 +20,7 @@ use Rattle.cxx_reading.specs.Paths.{name_in}
 use Rattle.cxx_reading.specs.Reads.{Ahead}
 use Rattle.cxx_reading.specs.Seen.{Numbered}
 use Rattle.cxx_reading.specs.State.{CxxState, CxxCall}
+use Rattle.cxx_reading.specs.Trees.{CxxPath}
 use Rattle.cxx_expr.specs.Names.{path_in}
 use Rattle.cxx_expr.specs.Operands.{object_operand}
 use Rattle.cxx_expr.specs.Questions.{CxxQuestion}
@@ -31,8 +32,8 @@ use Rattle.cxx_overload.specs.Sequences.{CxxSequence, by_standard, no_sequence, 
 use Rattle.cxx_overload.specs.Viability.{Rated, by_arguments, by_call, by_count, by_found, by_object, by_sequences, first_without, rated, rated_one}
 use Rattle.cxx_overload.specs.Words.{IsOutcome}
 use Rattle.cxx_answers.specs.Answers.{call_here, called_as, decided_among, functions_of_call, word_or_none}
-use Rattle.cxx_language_laws.specs.Best.{AreMembers, IsBestCall, IsRatedSo, MayMean, asked_word, values_of}
-use Rattle.cxx_language_laws.specs.Told.{IsChoiceFault, IsFoundClear, IsMemberCall, IsUnitCall, called, declared_then, meant, member_operands, member_part, operands, place_of_call, ambiguous_call, ambiguous_member, no_viable_function, no_viable_member}
+use Rattle.cxx_language_laws.specs.Best.{AreImpliedIn, AreMembers, IsBestCall, IsRatedSo, MayMean, asked_word, values_of}
+use Rattle.cxx_language_laws.specs.Told.{AreImpliedCalled, IsChoiceFault, IsFoundClear, IsMemberCall, IsUnitCall, called, declared_then, meant, member_operands, member_part, operands, place_of_call, ambiguous_call, ambiguous_implied, ambiguous_member, no_viable_function, no_viable_implied, no_viable_member}
 use Rattle.cxx_language_laws.proofs.Later.{IsLater, grown_same, each_widened}
 use Rattle.cxx_language_laws.proofs.QuestionsTell.{if_by}
 use Rattle.cxx_language_laws.proofs.Reached.{Told, reached_here, IsChosen}
@@ -199,12 +200,38 @@ call_asked_tells state ahead rest room call clear goes nothing = question_tells 
   tied_is = λ fault tied. ambiguous_call room call clear tied;
 })
 
--- ---- a call of a member (13.3.1.1.1)
+-- ---- a call with an object (13.3.1.1.1)
 
 -- the types of its arguments find no functions besides
 members_alone : (graph : CxxGraph) (scope : ℕ) (place : Place) (object : Option CxxOperand) (functions : List Numbered) (operands : List CxxOperand) → functions_of_call graph scope (record { place = place; word = None; functions = functions; object = object; operands = operands }) ≡ functions
 unfolding functions_of_call with_givers
 members_alone graph scope place object functions operands = append-nil functions
+
+-- ---- a call by a name alone that means functions of a class (13.3.1.1.1 p3)
+
+-- what is asked for it
+abbrev pub asked_implied : {room : ℕ} {before : CxxState} {ahead : Ahead} → IsUnitCall room before ahead → CxxOperand → List Numbered → CxxQuestion
+asked_implied call object functions = record { place = place_of_call call; word = None; functions = functions; object = Some object; operands = operands call }
+
+-- there is one
+some_implied : (graph : CxxGraph) (scope : ℕ) (path : CxxPath) (in_default : Bool) (object : CxxOperand) (functions : List Numbered) → AreImpliedIn graph scope path in_default object functions → functions ≡ [] → ⊥
+some_implied graph scope path in_default object functions implied none = by (sym none ∙ implied.first)
+  where
+    by : {one : Numbered} {others : List Numbered} → [] ≡ one ∷ others → ⊥
+    by e = cc
+
+-- in the state in which its arguments are read
+pub implied_asked_tells : {told : CxxState → Ahead → Stopped → Type 0} (state : CxxState) (ahead rest : Ahead) (room : ℕ) (call : IsUnitCall room state ahead) (object : CxxOperand) (functions : List Numbered) → AreImpliedCalled call object functions → ((why : Stopped) → Told state ahead why → told call.at rest why)
+    → ToldBy IsLater told call.at rest (call_here (asked_implied call object functions) call.at)
+implied_asked_tells state ahead rest room call object functions implied goes =
+    question_tells state ahead call.at rest (asked_implied call object functions) functions (members_alone call.at.graph call.at.here.scope (place_of_call call) (Some object) functions (operands call)) goes
+    (λ none. absurd (some_implied call.at.graph call.at.here.scope (called call) call.at.in_default object functions implied none)) (λ one others are. record {
+      may_mean = inr (record { scope = call.at.here.scope; path = called call; in_default = call.at.in_default; are = implied });
+      none_is = λ fault none. no_viable_implied room call object functions implied none;
+      tied_is = λ fault tied. ambiguous_implied room call object functions implied tied;
+    })
+
+-- ---- a call of a member
 
 -- what is asked for it
 abbrev pub asked_member : {room : ℕ} {before : CxxState} {ahead : Ahead} → IsMemberCall room before ahead → CxxType → List Numbered → CxxQuestion
@@ -215,7 +242,7 @@ pub member_asked_tells : {told : CxxState → Ahead → Stopped → Type 0} (sta
     → (functions ≡ [] → Told state ahead (undeclared_at (member_part is).place [])) → ((one : Numbered) (others : List Numbered) → functions ≡ one ∷ others → AreMembers (declared_then is) (object_operand of) (path_in is.call.callee.label) functions) → ToldBy IsLater told is.call.at rest (call_here (asked_member is of functions) is.call.at)
 member_asked_tells state ahead rest room is of functions typed goes nothing members =
     question_tells state ahead is.call.at rest (asked_member is of functions) functions (members_alone (declared_then is) is.call.at.here.scope (member_part is).place (Some (object_operand of)) functions (member_operands is)) goes nothing (λ one others e. record {
-      may_mean = record { path = path_in is.call.callee.label; are = members one others e };
+      may_mean = inl (record { path = path_in is.call.callee.label; are = members one others e });
       none_is = λ fault none. no_viable_member room is functions (record { of = of; typed = typed; are = members one others e }) none;
       tied_is = λ fault tied. ambiguous_member room is functions (record { of = of; typed = typed; are = members one others e }) tied;
     })

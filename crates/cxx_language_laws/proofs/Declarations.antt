@@ -21,7 +21,6 @@ use Rattle.cxx_reading.specs.Tokens.{is_keyword, is_name, is_punct, token_in}
 use Rattle.cxx_reading.specs.Labels.{label_from}
 use Rattle.cxx_reading.specs.Trees.{CxxTree, tree_of}
 use Rattle.cxx_reading.specs.Units.{specifiers_tree, declarator_tree, name_in as name_of_declarator, declared_fits, ends_declarator, is_incomplete, give_trees, no_declarators, said_by, empty_tree, another_ahead, linkages_passed, linkage_list, inside_step, Said, Listed}
-use Rattle.cxx_declare.specs.Functions.{declare_function}
 use Rattle.cxx_statements.specs.Productions as production
 use Rattle.cxx_statements.specs.Statements.{body_at}
 use Rattle.cxx_language.specs.Bodies.{complete_head, function_body, incomplete_among, result_of, whole_by, statements_within}
@@ -29,14 +28,14 @@ use Rattle.cxx_language.specs.Made.{defined_object, extern_object}
 use Rattle.cxx_language.specs.Objects.{begins_initializer}
 use Rattle.cxx_language.specs.Spaces.{behind_namespace, give_part, namespace_at, part_tree, space_opened, space_or_alias}
 use Rattle.cxx_language.specs.Statements.{parts_at}
-use Rattle.cxx_language.specs.Units.{Declares, alone, behind_list, declaration_at, declaration_by, declaration_tree, declarator_step, declarators_at, declarators_of, declared_by, declared_function, ended_behind, ended_by, function_ended, init_declarator_at, linkage_by, member_agrees, linkage_opened, linked_by, linked_one, not_ended, plain_declaration_at, simple_declaration_at}
+use Rattle.cxx_language.specs.Units.{Declares, alone, behind_list, declaration_at, declaration_by, declaration_tree, declarator_step, declarators_at, declarators_of, declared_by, declared_function, ended_behind, ended_by, function_declared, function_ended, init_declarator_at, linkage_by, member_agrees, linkage_opened, linked_by, linked_one, not_ended, plain_declaration_at, simple_declaration_at}
 use Rattle.cxx_language_laws.specs.Stopping.{BeginsBody, Gives, Initializes, IsLinked, IsNoSpace, Leads, OpensSpace, Part, a_body, a_declaration, a_namespace, a_simple_declaration, alias_name, an_initializer, begins_body, by_definition, by_extern, declarator_of, in_alias, in_declaration, in_declarator, in_space, next_declaration, opens_named, opens_unnamed, some_declarations, to_using, to_linked_using, to_linked_namespace, to_namespace, next_declarator, some_declarators, to_body, to_braces, to_declarators, to_initializer, to_linked, to_unlinked}
 use Rattle.cxx_language_laws.specs.Told.{EndsIn}
 use Rattle.cxx_language_laws.proofs.Begun.{Begun, Brings, HaveBegun, brings, brings_none, declarator_has_begun, own_has_begun}
 use Rattle.cxx_language_laws.proofs.ClassStops.{all_specifiers_stop}
-use Rattle.cxx_language_laws.proofs.Declared.{bare_synonym_tells, declarator_ended_tells, give_trees_tells, linkages_tell, linked_tree_tells, no_declaration_tells, nothing_tells, one_tree_tells}
+use Rattle.cxx_language_laws.proofs.Declared.{bare_synonym_tells, declarator_ended_tells, function_declared_tells, give_trees_tells, linkages_tell, linked_tree_tells, no_declaration_tells, nothing_tells, one_tree_tells}
 use Rattle.cxx_language_laws.proofs.DeclaratorsStop.{agrees_stops, defined_part_stops, extern_part_stops, fits_stops, member_stops, which_reads}
-use Rattle.cxx_language_laws.proofs.Later.{IsLater, declared_is_there, defined_is_there, define_later_tells, define_tells, function_answer_tells, grown_later, grown_same, later_is_kept, same_calls, later_is_quiet, object_tells}
+use Rattle.cxx_language_laws.proofs.Later.{IsLater, declared_is_there, defined_is_there, define_later_tells, define_tells, grown_later, grown_same, later_is_kept, same_calls, later_is_quiet, object_tells}
 use Rattle.cxx_language_laws.proofs.Opened.{InSpace, open_space_tells, open_unnamed_tells, space_closed}
 use Rattle.cxx_language_laws.proofs.Reached.{IsElsewhere, behind_by, behind_by_later, behind_later, count_more}
 use Rattle.cxx_language_laws.proofs.Scopes.{scope_is_there, scopes_at}
@@ -134,8 +133,7 @@ unfolding declared_function
 declared_function_stops held room said so_far declarator from state between ahead rest is begun no_synonym function later stands =
     let name = name_of_declarator declarator in
     let of = declared_type declarator.layers said.of in
-    let own = own_parameters declarator.layers in
-    asked_held held _ (declare_function own name of) (function_answer_tells own name of between rest) later (λ answer is_declared keeps later.
+    asked_held held _ (function_declared said declarator) (function_declared_tells said declarator between rest) later (λ answer is_declared keeps later.
     let more = count_more between answer.1 keeps.grown in
     then_held held (function_ended_stops held room so_far.is_first declarator of answer.0 answer.1 rest (λ list is_own. let there = own_has_begun between declarator.layers list begun is_own in omega (arith, there, more)) later stands
     (λ list is_first is_own brace less defined body is_more is_defined begins. leads_to_body room less said so_far declarator state between body.1 ahead rest is_more is_first is no_synonym function (begins_body list answer defined body is_own is_declared is_defined begins) brace))

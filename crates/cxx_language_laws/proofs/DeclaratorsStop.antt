@@ -99,8 +99,8 @@ pub agrees_stops : {B : Type 0} {kept : CxxState → CxxState → Type 0} {part 
 unfolding agree_here
 agrees_stops {B = B} {kept = kept} {part = part} {state = state} {ahead = ahead} said declarator go after rest stops = by declarator.is_qualified
   where
-    outside : (b : Bool) → InsideBy kept part state ahead (then_read (if b then fault_at (name_of_declarator declarator).place says.NotBuilt after rest else ask (agree_here said.is_typedef (name_of_declarator declarator) (declared_type declarator.layers said.of)) after rest) go)
-    outside true = tells_stop _ tt
+    outside : (b : Bool) → InsideBy kept part state ahead (then_read (if b then got tt after rest else ask (agree_here said.is_typedef (name_of_declarator declarator) (declared_type declarator.layers said.of)) after rest) go)
+    outside true = stops
     outside false = agreed_stops (name_of_declarator declarator) (members_here after (name_of_declarator declarator)) (any_agrees after.graph after.here.scope said.is_typedef (declared_type declarator.layers said.of) (members_here after (name_of_declarator declarator))) go after rest stops
 
     by : (b : Bool) → InsideBy kept part state ahead (then_read (if b then outside_agrees said declarator after rest else got tt after rest) go)

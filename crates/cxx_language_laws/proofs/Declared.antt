@@ -9,15 +9,17 @@ use Rattle.cxx_model.specs.declared.token.TokenKind.TheVariants.{Keyword}
 use Rattle.cxx_model.specs.Stops.{Stopped}
 use Rattle.cxx_model.specs.Text.Lexemes.{Lexeme}
 use Rattle.cxx_model.specs.Types.Trees.{CxxType}
-use Rattle.cxx_reading.specs.Declarators.{Declarator, declared_type, Specifiers, is_reference}
+use Rattle.cxx_reading.specs.Declarators.{Declarator, declared_type, Specifiers, is_reference, own_parameters}
 use Rattle.cxx_reading.specs.Reads.{Ahead, More, Done, give, count_ahead, kind_ahead, word_ahead, behind}
 use Rattle.cxx_reading.specs.State.{CxxState}
 use Rattle.cxx_reading.specs.Tokens.{is_punct, begins_unbuilt, form_of_keyword, form_of_kind, no_declaration}
 use Rattle.cxx_reading.specs.Trees.{CxxTree}
 use Rattle.cxx_reading.specs.Units.{complete_object, is_incomplete, is_made_of_class, is_unbounded, declarator_tree, name_in as name_of_declarator, is_const_type, uninitialized, ends_declarator, one_tree, synonym_ended, declared_synonym, with_declarator, declarator_ended, give_trees, is_some_storage, nothing_declared, is_linkage, is_language, linkage_step, linkages_passed, linkage_tree, linked_tree, Said, Listed}
 use Rattle.cxx_language.specs.Synonyms.{bare_synonym, no_words_behind}
-use Rattle.cxx_language_laws.proofs.Later.{IsLater, later_is_quiet, synonym_tells}
-use Rattle.cxx_language_laws.proofs.Tells.{IsTold, saying, nothing, Quietly, Tells, quiet_in, if_in, past_in, then_in, ask_in, same_in, next_in, repeat_tells, looked_in, give_in}
+use Rattle.cxx_language.specs.Units.{function_declared, stands_in_class}
+use Rattle.cxx_language_laws.proofs.Later.{IsLater, again_tells, function_answer_tells, later_is_quiet, synonym_tells}
+use Rattle.cxx_language_laws.proofs.QuestionsTell.{if_by}
+use Rattle.cxx_language_laws.proofs.Tells.{Answers, IsTold, saying, nothing, Quietly, Tells, quiet_in, if_in, past_in, then_in, ask_in, same_in, next_in, repeat_tells, looked_in, give_in}
 use Rattle.cxx_language_laws.proofs.TellsSyntax.{quiet_if}
 
 pub complete_tells : {told : CxxState → Ahead → Stopped → Type 0} → IsTold IsLater told → (name : Lexeme) (of : CxxType) → Tells IsLater told (complete_object name of)
@@ -38,6 +40,12 @@ synonym_ended_tells state ahead = if_in (ends_declarator (kind_ahead ahead)) (sa
 declared_synonym_tells : (said : Said) (declarator : Declarator) (from : Ahead) → Tells IsLater Quietly (declared_synonym said declarator from)
 unfolding declared_synonym
 declared_synonym_tells said declarator from state ahead = then_in later_is_quiet (ask_in ahead (synonym_tells (name_of_declarator declarator) (declared_type declarator.layers said.of) state ahead)) (λ number state ahead. then_in later_is_quiet (synonym_ended_tells state ahead) (λ ended state ahead. then_in later_is_quiet (looked_in later_is_quiet state ahead) (λ to. give_in later_is_quiet (declarator_tree false (name_of_declarator declarator) (declared_type declarator.layers said.of) number declarator.parts from to))))
+
+-- 9.3: a function, of the class where the reader stands in one
+pub function_declared_tells : (said : Said) (declarator : Declarator) → Answers IsLater Quietly (function_declared said declarator)
+unfolding function_declared
+function_declared_tells said declarator state ahead =
+    if_by (stands_in_class state) (again_tells (name_of_declarator declarator) declarator.cv (declared_type declarator.layers said.of) state ahead) (function_answer_tells (own_parameters declarator.layers) (name_of_declarator declarator) (declared_type declarator.layers said.of) state ahead)
 
 no_words_tells : (declarator : Declarator) → Tells IsLater Quietly (no_words_behind declarator)
 unfolding no_words_behind

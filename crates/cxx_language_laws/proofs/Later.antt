@@ -1,12 +1,15 @@
 -- What stops a question about declarations says nothing of them, and each answer keeps them, and the calls so far.
 use Rattle.std.proofs.Common.{arith, ◌≡◌, ℕ, suc, ◌+◌, ◌<◌, ◌≤◌, Bool, true, false, List, [], ◌∷◌, ◌++◌, length, Option, Some, None, Ok, Err, refl, sym, ap, subst, ◌∙◌}
-use Rattle.std.specs.Prelude.{if◌then◌else◌, ℤ, nat_eq, nat_lt}
+use Rattle.std.specs.Prelude.{if◌then◌else◌, ℤ, ◌&&◌, nat_eq, nat_lt}
 use Rattle.std.specs.List.{AllByRecursion, slice_get}
 use Rattle.std.proofs.lemmas.List.{append-nil, append_assoc, length-append}
-use Rattle.std.proofs.lemmas.Option.{slice_get_within}
+use Rattle.std.proofs.lemmas.Option.{same_Some, slice_get_within}
+use Rattle.cxx_model.specs.declared.lookup.Found.{Found}
+use Rattle.cxx_model.specs.declared.lookup.Found.TheVariants as looked
 use Rattle.cxx_model.specs.declared.place.Place.{Place}
 use Rattle.cxx_model.specs.declared.stop.LimitKind.TheVariants.{Facts}
 use Rattle.cxx_model.specs.declared.types.ClassId.{ClassId}
+use Rattle.cxx_model.specs.declared.types.Cv.{Cv}
 use Rattle.cxx_model.specs.declared.types.FactId.{FactId}
 use Rattle.cxx_model.specs.Facts.Conflicts.{scope_facts}
 use Rattle.cxx_model.specs.Facts.Declarations.{CxxFact, CxxGraph, CxxName, spelled}
@@ -16,15 +19,17 @@ use Rattle.cxx_model.specs.Text.Lexemes.{Lexeme}
 use Rattle.cxx_model.specs.Types.Integral.{one_holds}
 use Rattle.cxx_model.specs.Types.Trees.{CxxType}
 use Rattle.cxx_meaning.specs.Conversions.Enumerations.{values_in}
+use Rattle.cxx_meaning.specs.Lookups.Wanted.{any_name}
 use Rattle.cxx_reading.specs.Declaring.{class_of_here, free_in_class, free_object, with_fact, added, free, free_by, free_linked, declare, declare_linked_object, declare_synonym, declared_here, first_function, first_member_function, first_member_object, first_object, first_object_here, home_here, is_object, is_same_function, linked_as, linked_object_here, name_of, number_id, parameter_object, with_linked, word_of, declare_object, define_object, define_declared, undefined, undefined_by, defined_as, with_definition, declare_parameter, declare_enumeration, begun_as, declare_enumerator, declare_value, held, end_enumeration, kind_here, type_here, most_facts, fact_here, object_here, enumeration_count}
 use Rattle.cxx_reading.specs.Linked.{is_linked_as, is_space_at, linked_among, linked_in, sooner_fact}
-use Rattle.cxx_reading.specs.Paths.{space_in}
+use Rattle.cxx_reading.specs.Paths.{sought_in, space_in}
 use Rattle.cxx_reading.specs.Reads.{Ahead, Asks}
-use Rattle.cxx_reading.specs.Seen.{Numbered, declared_from, declared_in, declares_in, numbered_at, numbered_by}
+use Rattle.cxx_reading.specs.Seen.{Numbered, declared_from, declared_in, declares_in, fact_numbers, members_of, numbered_at, numbered_by, set_in}
 use Rattle.cxx_reading.specs.State.{CxxState, CxxCall, CxxGiven, CxxOffered}
 use Rattle.cxx_reading.specs.Trees.{CxxPath}
 use Rattle.cxx_reading.proofs.Keeps.{IsKept}
 use Rattle.cxx_tree.specs.Defaults.{with_given, without_offers}
+use Rattle.cxx_declare.specs.Outside.{again_among, again_fact, again_here, again_what, declare_again, declared_again, is_again, members_here}
 use Rattle.cxx_declare.specs.Functions.{declare_function, declare_with, free_if, function_by, given_as, is_linked_here, linked_if, given_before, not_given, not_given_by, offered_by, with_all_given}
 use Rattle.cxx_language_laws.specs.Best.{IsBestCall, AreBestCalls}
 use Rattle.cxx_language_laws.specs.Told.{IsGrown}
@@ -393,6 +398,36 @@ declare_with_tells linked name of first offers state ahead there =
 pub function_answer_tells : (list : Option ℕ) (name : Lexeme) (of : CxxType) → Answers IsLater Quietly (declare_function list name of)
 unfolding declare_function
 function_answer_tells list name of state ahead = declare_with_tells (is_linked_here state) name of (first_member_function state (home_here state) (spelled name.spelling) of) (offered_by list state.offered) state ahead (member_function_there state (home_here state) (spelled name.spelling) of)
+
+-- ---- functions of a class that are declared again (9.3)
+
+-- what is declared again is a function with an earlier declaration
+record IsAgain (state : CxxState) (what : facts.Declares) : Type 0 where
+  no_space : space_in what ≡ None
+  sound : IsSound state.graph.facts what
+
+again_so : (state : CxxState) (cv : Cv) (of : CxxType) (number : ℕ) (what : facts.Declares) → number < length state.graph.facts → is_again cv of what ≡ true → IsAgain state (again_what number what)
+again_so state cv of number (facts.function other kind flags defaults first) there is = record { no_space = refl; sound = there }
+again_so state cv of number _ there is = absurd cc
+
+again_one : (state : CxxState) (cv : Cv) (of : CxxType) (all : List Numbered) → AreThere (length state.graph.facts) all → (what : facts.Declares) → again_among cv of all ≡ Some what → IsAgain state what
+again_one state cv of [] are what e = absurd cc
+again_one state cv of (first ∷ others) are what e = by (is_again cv of first.fact.what) refl e (λ later. again_one state cv of others are.1 what later)
+  where
+    by : (b : Bool) → is_again cv of first.fact.what ≡ b → (if b then Some (again_what first.number first.fact.what) else again_among cv of others) ≡ Some what → (again_among cv of others ≡ Some what → IsAgain state what) → IsAgain state what
+    by true is e later = subst (IsAgain state) (same_Some (again_what first.number first.fact.what) what e) (again_so state cv of first.number first.fact.what are.0 is)
+    by false is e later = later e
+
+declared_again_tells : (name : Lexeme) (all : List Numbered) (found : Option facts.Declares) (state : CxxState) (ahead : Ahead) → ((what : facts.Declares) → found ≡ Some what → IsAgain state what) → ToldBy IsLater Quietly state ahead (declared_again name all found state)
+declared_again_tells name all (Some what) state ahead again = let is = again what refl in added_tells (again_fact state name what) state ahead refl (may_be_added state (again_fact state name what) is.no_space is.sound)
+declared_again_tells name [] None state ahead again = quietly state ahead _ refl
+declared_again_tells name (one ∷ others) None state ahead again = quietly state ahead _ refl
+
+pub again_tells : (name : Lexeme) (cv : Cv) (of : CxxType) → Answers IsLater Quietly (declare_again name cv of)
+unfolding declare_again
+again_tells name cv of state ahead =
+    declared_again_tells name (members_here state name) (again_here state name cv of) state ahead
+    (again_one state cv of (declared_in state.graph state.here.scope (spelled name.spelling)) (declared_there state.graph state.here.scope (spelled name.spelling)))
 
 pub parameter_answer_tells : (name : Option Lexeme) (place : Place) (of : CxxType) → Answers IsLater Quietly (declare_parameter name place of)
 unfolding declare_parameter

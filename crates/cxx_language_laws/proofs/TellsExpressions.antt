@@ -15,12 +15,14 @@ use Rattle.cxx_reading.specs.State.{CxxState}
 use Rattle.cxx_reading.specs.Trees.{CxxPath, CxxTree, children_of, each_tree, in_turn}
 use Rattle.cxx_phrases.specs.Forms.{name_tree, call_tree, called_tree, member_tree}
 use Rattle.cxx_phrases.specs.Productions as phrase
+use Rattle.cxx_this.specs.This.{this_object}
 use Rattle.cxx_expr.specs.declared.production.TheConstants as production
 use Rattle.cxx_expr.specs.Calls.{call, calls_member, expression_call}
 use Rattle.cxx_expr.specs.Elaborating.{bracketed, over_one, parenthesis, expressions_in, without_operand, operated, by_production, elaborate}
 use Rattle.cxx_expr.specs.Initializing.{array_braces, array_from, array_part, array_whole, array_with, as_copy, bound_by, braces_part, element_in, elements, has_room, initialize, initialized, is_braces, is_made_of_class, is_nothing, is_text_for, list_part, nothing_by, one_less, one_of, part, text_count, text_in, text_part, text_whole, value_part, value_whole, wants_value, whole_by}
 use Rattle.cxx_expr.specs.Members.{arrow, class_of_object, selected}
-use Rattle.cxx_expr.specs.Names.{name, path_in}
+use Rattle.cxx_expr.specs.Implied.{name, this, this_by}
+use Rattle.cxx_expr.specs.Names.{path_in}
 use Rattle.cxx_expr.specs.Operands.{any_open, only}
 use Rattle.cxx_expr.specs.Questions.{Questions}
 use Rattle.cxx_language_laws.proofs.PhrasesTell.{IsPlain, is_named}
@@ -40,6 +42,15 @@ bracketed_tells is tree (Some one) = give_by is (over_one tree one)
 parenthesis_tells : {kept : CxxState → CxxState → Type 0} {told : CxxState → Ahead → Stopped → Type 0} → IsTold kept told → (tree : CxxTree) → Answers kept told (parenthesis tree)
 unfolding parenthesis
 parenthesis_tells is tree = bracketed_tells is tree (only (children_of tree))
+
+-- 9.3.2
+this_by_tells : {kept : CxxState → CxxState → Type 0} {told : CxxState → Ahead → Stopped → Type 0} → IsTold kept told → (tree : CxxTree) (object : Option CxxType) → Answers kept told (this_by tree object)
+this_by_tells is tree None state ahead = quiet_by is refl
+this_by_tells is tree (Some of) state ahead = give_by is _ state ahead
+
+this_tells : {kept : CxxState → CxxState → Type 0} {told : CxxState → Ahead → Stopped → Type 0} → IsTold kept told → (tree : CxxTree) → Answers kept told (this tree)
+unfolding this
+this_tells is tree state ahead = this_by_tells is tree (this_object state) state ahead
 
 -- it is no name, no call, and no member of an object
 neither : (one two : Bool) → (one || two) ≡ false → (one ≡ false) × (two ≡ false)
@@ -68,8 +79,9 @@ operated_tells is q tree plain state ahead =
     if_by (nat_eq tree.label.production production.PREFIX) (prefix_tells is q tree state ahead) (
     if_by (nat_eq tree.label.production production.BINARY) (binary_tells is q tree _ state ahead) (
     if_by (nat_eq tree.label.production production.CONDITIONAL) (conditional_tells is q tree state ahead) (
-    if_by (nat_eq tree.label.production production.ASSIGNMENT) (binary_tells is q tree _ state ahead)
-    (misshapen_tells is tree state ahead))))))))
+    if_by (nat_eq tree.label.production production.ASSIGNMENT) (binary_tells is q tree _ state ahead) (
+    if_by (nat_eq tree.label.production production.THIS) (this_tells is tree state ahead)
+    (misshapen_tells is tree state ahead)))))))))
 
 by_production_tells : {kept : CxxState → CxxState → Type 0} {told : CxxState → Ahead → Stopped → Type 0} → IsTold kept told → {q : Questions} → QuestionsTell kept told q → (tree : CxxTree) → IsPlain tree → Answers kept told (by_production q tree)
 unfolding by_production

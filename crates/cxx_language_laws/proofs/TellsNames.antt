@@ -1,6 +1,7 @@
 -- What names and calls keep of the state, and what stops them.
 use Rattle.std.proofs.Common.{◌≡◌, refl, sym, ap, subst, ◌∙◌}
 use Rattle.std.specs.Prelude.{Bool, true, false, if◌then◌else◌, ℕ, zero, suc, ◌+◌, ◌-◌, List, [], ◌∷◌, ◌++◌, length, Option, Some, None, Ok, Err}
+use Rattle.cxx_model.specs.declared.facts.MemberKind.{MemberKind}
 use Rattle.cxx_model.specs.declared.place.Place.{Place}
 use Rattle.cxx_model.specs.Facts.Declarations as facts
 use Rattle.cxx_model.specs.Facts.Declarations.{CxxGraph, Declares}
@@ -13,30 +14,32 @@ use Rattle.cxx_meaning.specs.Lookups.Wanted.{is_function}
 use Rattle.cxx_reading.specs.Reads.{Ahead}
 use Rattle.cxx_reading.specs.Seen.{Numbered}
 use Rattle.cxx_reading.specs.State.{CxxState}
-use Rattle.cxx_reading.specs.Trees.{CxxPath, CxxPathPart, CxxTree, Label}
-use Rattle.cxx_expr.specs.Calls.{fallback_more, fallbacks, chosen_as, chosen_tree, chosen_call, is_bare, question, function_call, Signature, fits_count, through_tree, through_signature, through_counted, no_callee, through_by, signature_by, through, called_label, without_name, value_call, is_asked_for, called_first, called, name_call}
+use Rattle.cxx_reading.specs.Trees.{CxxPath, CxxPathPart, CxxTree, Label, is_plain_path, tree_of}
+use Rattle.cxx_expr.specs.Calls.{class_called, functions_called, implied_call, implied_callee, implied_chosen, implied_member, implied_question, implied_type, fallback_more, fallbacks, chosen_as, chosen_tree, chosen_call, is_bare, question, function_call, Signature, fits_count, through_tree, through_signature, through_counted, no_callee, through_by, signature_by, through, called_label, without_name, value_call, is_asked_for, called_first, called, name_call}
+use Rattle.cxx_expr.specs.Implied.{member_label, member_named, named_by, named_here, object_for, object_of_first, object_tree}
 use Rattle.cxx_expr.specs.Names.{Means, are_one_function, is_nonstatic, means_enumerator, means_first, means_function, means_object, means_object_by, means_value, meant_by, named, named_tree, path_in, static_class, values_among, word_in}
-use Rattle.cxx_expr.specs.Operands.{is_of_class}
+use Rattle.cxx_expr.specs.Operands.{is_none, is_of_class, object_operand}
 use Rattle.cxx_expr.specs.Questions.{CxxChosen, Questions}
 use Rattle.cxx_reading.specs.Initializers.{operand_of}
 use Rattle.cxx_meaning.specs.Conversions.BuiltIn.{operand_kind}
 use Rattle.cxx_language_laws.proofs.QuestionsTell.{DefaultsTell, QuestionsTell, quiet_by, same_by, if_by, when_by, then_by, then_by_from, from_by, give_by}
 use Rattle.cxx_language_laws.proofs.Tells.{IsTold, IsQuiet, ToldBy, tells_refusal, Answers}
 use Rattle.cxx_language_laws.proofs.TellsConversions.{convert_each_tells}
+use Rattle.cxx_language_laws.proofs.TellsMembers.{member_chosen_tells, selected_among_tells}
 
 -- ---- names
-
-means_function_tells : {kept : CxxState → CxxState → Type 0} {told : CxxState → Ahead → Stopped → Type 0} → IsTold kept told → (place : Place) (graph : CxxGraph) (target : ℕ) (own : CxxType) (all : List Numbered) → Answers kept told (means_function place graph target own all)
-means_function_tells is place graph target own all state ahead = if_by (are_one_function target all) (same_by is (means_object graph target own) state ahead) (quiet_by is refl)
 
 means_object_tells : {kept : CxxState → CxxState → Type 0} {told : CxxState → Ahead → Stopped → Type 0} → IsTold kept told → (place : Place) (needs_object : Bool) (means : Means) → Answers kept told (means_object_by place needs_object means)
 means_object_tells is place true means state ahead = quiet_by is refl
 means_object_tells is place false means state ahead = give_by is means state ahead
 
+means_function_tells : {kept : CxxState → CxxState → Type 0} {told : CxxState → Ahead → Stopped → Type 0} → IsTold kept told → (place : Place) (graph : CxxGraph) (kind : MemberKind) (target : ℕ) (own : CxxType) (all : List Numbered) → Answers kept told (means_function place graph kind target own all)
+means_function_tells is place graph kind target own all state ahead = if_by (are_one_function target all) (means_object_tells is place (is_nonstatic kind) (means_object graph target own) state ahead) (quiet_by is refl)
+
 means_first_tells : {kept : CxxState → CxxState → Type 0} {told : CxxState → Ahead → Stopped → Type 0} → IsTold kept told → (place : Place) (graph : CxxGraph) (list : Option ℕ) (all : List Numbered) (number : ℕ) (what : Declares) → Answers kept told (means_first place graph list all number what)
 means_first_tells is place graph list all number (facts.object of kind is_mutable value first) state ahead = means_object_tells is place (is_nonstatic kind) (means_object graph (first_or number first) of) state ahead
 means_first_tells is place graph list all number (facts.enumerator n value) state ahead = give_by is (means_enumerator list number n value) state ahead
-means_first_tells is place graph list all number (facts.function of kind flags defaults first) state ahead = means_function_tells is place graph (first_or number first) of all state ahead
+means_first_tells is place graph list all number (facts.function of kind flags defaults first) state ahead = means_function_tells is place graph kind (first_or number first) of all state ahead
 means_first_tells is place graph list all number _ state ahead = quiet_by is refl
 
 -- a name that has no declarations at all is told of
@@ -48,6 +51,21 @@ means_value_tells is part place all (one ∷ others) state ahead unknown = means
 pub named_tells : {kept : CxxState → CxxState → Type 0} {told : CxxState → Ahead → Stopped → Type 0} → IsTold kept told → {q : Questions} → QuestionsTell kept told q → (label : Label) (all : List Numbered) (state : CxxState) (ahead : Ahead) → (all ≡ [] → told state ahead (undeclared_at (word_in label).place (word_in label).word)) → ToldBy kept told state ahead (named q label all state)
 unfolding named meant_by
 named_tells is asks label all state ahead unknown = then_by is (means_value_tells is (word_in label) label.place all (values_among state.graph all) state ahead unknown) (λ means state ahead. then_by is (asks.bound label.place means.target state ahead) (λ noted state ahead. same_by is (named_tree label means (static_class state.graph means.target)) state ahead))
+
+-- ---- members of `*this` (9.3.1)
+
+member_named_tells : {kept : CxxState → CxxState → Type 0} {told : CxxState → Ahead → Stopped → Type 0} → IsTold kept told → {q : Questions} → QuestionsTell kept told q → (label : Label) (all : List Numbered) (of : CxxType) (state : CxxState) (ahead : Ahead) → (all ≡ [] → told state ahead (undeclared_at (word_in label).place (word_in label).word)) → ToldBy kept told state ahead (member_named q label all of state)
+unfolding member_named
+member_named_tells is asks label all of state ahead unknown =
+    if_by (is_plain_path (path_in label)) (selected_among_tells is asks (tree_of (member_label label []) []) (object_operand of) (object_tree label of ∷ []) all state ahead unknown) (quiet_by is refl)
+
+named_by_tells : {kept : CxxState → CxxState → Type 0} {told : CxxState → Ahead → Stopped → Type 0} → IsTold kept told → {q : Questions} → QuestionsTell kept told q → (label : Label) (all : List Numbered) (object : Option CxxType) (state : CxxState) (ahead : Ahead) → (all ≡ [] → told state ahead (undeclared_at (word_in label).place (word_in label).word)) → ToldBy kept told state ahead (named_by q label all object state)
+named_by_tells is asks label all None state ahead unknown = named_tells is asks label all state ahead unknown
+named_by_tells is asks label all (Some of) state ahead unknown = member_named_tells is asks label all of state ahead unknown
+
+pub named_here_tells : {kept : CxxState → CxxState → Type 0} {told : CxxState → Ahead → Stopped → Type 0} → IsTold kept told → {q : Questions} → QuestionsTell kept told q → (label : Label) (all : List Numbered) (state : CxxState) (ahead : Ahead) → (all ≡ [] → told state ahead (undeclared_at (word_in label).place (word_in label).word)) → ToldBy kept told state ahead (named_here q label all state)
+unfolding named_here
+named_here_tells is asks label all state ahead unknown = named_by_tells is asks label all (object_of_first state (values_among state.graph all)) state ahead unknown
 
 -- ---- what is called by an expression
 
@@ -97,9 +115,19 @@ abbrev pub IsAskedSo : Label → List Numbered → List Numbered → Type 0
 IsAskedSo label all [] = is_asked_for label all ≡ true
 IsAskedSo label all (one ∷ others) = Unit {0}
 
--- what is asked of the called name, where it has these declarations
-abbrev pub AskedOf : (CxxState → CxxState → Type 0) → (CxxState → Ahead → Stopped → Type 0) → Questions → CxxTree → List CxxTree → List Numbered → CxxState → Ahead → Type 0
-AskedOf kept told q tree arguments all state ahead = IsAskedSo tree.label all (values_among state.graph all) → ToldBy kept told state ahead (q.call (question q tree.label (values_among state.graph all) arguments state) state)
+-- what is asked of the called name, where it has these values
+abbrev pub AskedFor : (CxxState → CxxState → Type 0) → (CxxState → Ahead → Stopped → Type 0) → Questions → CxxTree → List CxxTree → List Numbered → List Numbered → CxxState → Ahead → Type 0
+AskedFor kept told q tree arguments all values state ahead = IsAskedSo tree.label all values → ToldBy kept told state ahead (q.call (question q tree.label values arguments state) state)
+
+-- 13.3.1.1.1 p3: the same where these are functions of a class
+abbrev pub AskedImplied : (CxxState → CxxState → Type 0) → (CxxState → Ahead → Stopped → Type 0) → Questions → CxxTree → List CxxTree → List Numbered → CxxState → Ahead → Type 0
+AskedImplied kept told q tree arguments values state ahead =
+    (one : Numbered) (others : List Numbered) (class : CxxType) → values ≡ one ∷ others → class_called state.graph tree.label one.fact.scope ≡ Some class → ToldBy kept told state ahead (q.call (implied_question q tree.label (one ∷ others) (implied_type class (object_for state one.fact.scope)) arguments state) state)
+
+-- both, where it has these declarations
+pub record AskedOf (kept : CxxState → CxxState → Type 0) (told : CxxState → Ahead → Stopped → Type 0) (q : Questions) (tree : CxxTree) (arguments : List CxxTree) (all : List Numbered) (state : CxxState) (ahead : Ahead) : Type 0 where
+  pub by_name : AskedFor kept told q tree arguments all (values_among state.graph all) state ahead
+  pub implied : AskedImplied kept told q tree arguments (values_among state.graph all) state ahead
 
 -- what is told of a called name in brackets or with qualifiers that has no declarations
 abbrev pub UnknownUnasked : (CxxState → Ahead → Stopped → Type 0) → Label → List Numbered → CxxState → Ahead → Type 0
@@ -107,19 +135,39 @@ UnknownUnasked told label all state ahead = all ≡ [] → is_bare label ≡ fal
 
 value_call_tells : {kept : CxxState → CxxState → Type 0} {told : CxxState → Ahead → Stopped → Type 0} → IsTold kept told → {q : Questions} → QuestionsTell kept told q → (tree : CxxTree) (all : List Numbered) (arguments : List CxxTree) (state : CxxState) (ahead : Ahead) → (all ≡ [] → told state ahead (undeclared_at (word_in tree.label).place (word_in tree.label).word)) → ToldBy kept told state ahead (value_call q tree all arguments state)
 unfolding value_call
-value_call_tells is {q = q} asks tree all arguments state ahead unknown = then_by is (named_tells is asks (called_label tree.label arguments) all state ahead unknown) (λ callee. through_tells is q (without_name tree) callee arguments)
+value_call_tells is {q = q} asks tree all arguments state ahead unknown = then_by is (named_here_tells is asks (called_label tree.label arguments) all state ahead unknown) (λ callee. through_tells is q (without_name tree) callee arguments)
 
 function_call_tells : {kept : CxxState → CxxState → Type 0} {told : CxxState → Ahead → Stopped → Type 0} → IsTold kept told → {q : Questions} → QuestionsTell kept told q → (tree : CxxTree) → DefaultsTell kept told q (path_in tree.label) → (functions : List Numbered) (arguments : List CxxTree) (state : CxxState) (ahead : Ahead) → ToldBy kept told state ahead (q.call (question q tree.label functions arguments state) state) → ToldBy kept told state ahead (function_call q tree functions arguments state)
 unfolding function_call
 function_call_tells is asks tree defaults functions arguments state ahead answered = then_by is answered (chosen_call_tells is asks tree defaults arguments)
 
+-- 9.3, 9.4: a function that belongs to an object has one
+implied_member_tells : {kept : CxxState → CxxState → Type 0} {told : CxxState → Ahead → Stopped → Type 0} → IsTold kept told → {q : Questions} → QuestionsTell kept told q → (tree : CxxTree) (arguments : List CxxTree) (object : Option CxxType) (chosen : CxxChosen) → Answers kept told (implied_member q tree arguments object chosen)
+implied_member_tells is asks tree arguments None chosen state ahead = quiet_by is refl
+implied_member_tells is asks tree arguments (Some of) chosen state ahead = member_chosen_tells is asks (without_name tree) (implied_callee (called_label tree.label arguments) of) of arguments chosen state ahead
+
+implied_chosen_tells : {kept : CxxState → CxxState → Type 0} {told : CxxState → Ahead → Stopped → Type 0} → IsTold kept told → {q : Questions} → QuestionsTell kept told q → (tree : CxxTree) → DefaultsTell kept told q (path_in tree.label) → (arguments : List CxxTree) (object : Option CxxType) (chosen : CxxChosen) → Answers kept told (implied_chosen q tree arguments object chosen)
+unfolding implied_chosen
+implied_chosen_tells is asks tree defaults arguments object chosen state ahead =
+    if_by (is_none (static_class state.graph chosen.target)) (implied_member_tells is asks tree arguments object chosen state ahead) (chosen_call_tells is asks tree defaults arguments chosen state ahead)
+
+implied_call_tells : {kept : CxxState → CxxState → Type 0} {told : CxxState → Ahead → Stopped → Type 0} → IsTold kept told → {q : Questions} → QuestionsTell kept told q → (tree : CxxTree) → DefaultsTell kept told q (path_in tree.label) → (functions : List Numbered) (arguments : List CxxTree) (class : CxxType) (object : Option CxxType) (state : CxxState) (ahead : Ahead)
+    → ToldBy kept told state ahead (q.call (implied_question q tree.label functions (implied_type class object) arguments state) state) → ToldBy kept told state ahead (implied_call q tree functions arguments class object state)
+unfolding implied_call
+implied_call_tells is asks tree defaults functions arguments class object state ahead answered = then_by is answered (implied_chosen_tells is asks tree defaults arguments object)
+
+functions_called_tells : {kept : CxxState → CxxState → Type 0} {told : CxxState → Ahead → Stopped → Type 0} → IsTold kept told → {q : Questions} → QuestionsTell kept told q → (tree : CxxTree) → DefaultsTell kept told q (path_in tree.label) → (functions : List Numbered) (arguments : List CxxTree) (scope : ℕ) (found : Option CxxType) (state : CxxState) (ahead : Ahead) → ToldBy kept told state ahead (q.call (question q tree.label functions arguments state) state)
+    → ((class : CxxType) → found ≡ Some class → ToldBy kept told state ahead (q.call (implied_question q tree.label functions (implied_type class (object_for state scope)) arguments state) state)) → ToldBy kept told state ahead (functions_called q tree functions arguments scope found state)
+functions_called_tells is asks tree defaults functions arguments scope None state ahead answered implied = function_call_tells is asks tree defaults functions arguments state ahead answered
+functions_called_tells is asks tree defaults functions arguments scope (Some class) state ahead answered implied = implied_call_tells is asks tree defaults functions arguments class (object_for state scope) state ahead (implied class refl)
+
 called_first_tells : {kept : CxxState → CxxState → Type 0} {told : CxxState → Ahead → Stopped → Type 0} → IsTold kept told → {q : Questions} → QuestionsTell kept told q → (tree : CxxTree) → DefaultsTell kept told q (path_in tree.label) → (all : List Numbered) (arguments : List CxxTree) (values : List Numbered) (state : CxxState) (ahead : Ahead) → values_among state.graph all ≡ values → UnknownUnasked told tree.label all state ahead
-    → (IsAskedSo tree.label all values → ToldBy kept told state ahead (q.call (question q tree.label values arguments state) state)) → ToldBy kept told state ahead (called_first q tree all arguments values state)
-called_first_tells is asks tree defaults all arguments [] state ahead are unknown answered =
+    → AskedFor kept told q tree arguments all values state ahead → AskedImplied kept told q tree arguments values state ahead → ToldBy kept told state ahead (called_first q tree all arguments values state)
+called_first_tells is asks tree defaults all arguments [] state ahead are unknown answered implied =
     when_by (is_asked_for tree.label all) (λ asked. function_call_tells is asks tree defaults [] arguments state ahead (answered asked))
     (λ not_asked. value_call_tells is asks tree all arguments state ahead (λ none. unknown none (subst (λ (some : List Numbered). is_asked_for tree.label some ≡ false) none not_asked)))
-called_first_tells is asks tree defaults all arguments (one ∷ others) state ahead are unknown answered =
-    if_by (is_function state.graph one.fact.what) (function_call_tells is asks tree defaults (one ∷ others) arguments state ahead (answered tt))
+called_first_tells is asks tree defaults all arguments (one ∷ others) state ahead are unknown answered implied =
+    if_by (is_function state.graph one.fact.what) (functions_called_tells is asks tree defaults (one ∷ others) arguments one.fact.scope (class_called state.graph tree.label one.fact.scope) state ahead (answered tt) (λ class of_class. implied one others class refl of_class))
     (value_call_tells is asks tree all arguments state ahead (λ none. absurd (no_one (ap (values_among state.graph) (sym none) ∙ are))))
   where
     no_one : [] ≡ one ∷ others → ⊥
@@ -128,7 +176,7 @@ called_first_tells is asks tree defaults all arguments (one ∷ others) state ah
 called_tells : {kept : CxxState → CxxState → Type 0} {told : CxxState → Ahead → Stopped → Type 0} → IsTold kept told → {q : Questions} → QuestionsTell kept told q → (tree : CxxTree) → DefaultsTell kept told q (path_in tree.label) → (arguments : List CxxTree) (all : List Numbered) (state : CxxState) (ahead : Ahead) → UnknownUnasked told tree.label all state ahead
     → AskedOf kept told q tree arguments all state ahead → ToldBy kept told state ahead (called q tree arguments all state)
 unfolding called
-called_tells is asks tree defaults arguments all state ahead unknown answered = called_first_tells is asks tree defaults all arguments (values_among state.graph all) state ahead refl unknown answered
+called_tells is asks tree defaults arguments all state ahead unknown answered = called_first_tells is asks tree defaults all arguments (values_among state.graph all) state ahead refl unknown answered.by_name answered.implied
 
 -- what is known of the answer to the question of a name
 pub record NameTells (kept : CxxState → CxxState → Type 0) (told : CxxState → Ahead → Stopped → Type 0) (q : Questions) (label : Label) (state : CxxState) (ahead : Ahead) : Type 0 where
@@ -145,5 +193,5 @@ pub name_call_tells : {kept : CxxState → CxxState → Type 0} {told : CxxState
 unfolding name_call
 name_call_tells is {q = q} asks tree defaults arguments state ahead name calls = then_by_from (called q tree arguments) name.answers (λ one is_so keeps. from_by is state one.1 ahead keeps (called_tells is asks tree defaults arguments one.0 one.1 ahead (name.unknown one is_so) (calls one is_so)))
 
-pub name_alone_tells : {kept : CxxState → CxxState → Type 0} {told : CxxState → Ahead → Stopped → Type 0} → IsTold kept told → {q : Questions} → QuestionsTell kept told q → (label : Label) (state : CxxState) (ahead : Ahead) → NameTells kept told q label state ahead → ToldBy kept told state ahead (then_asked (q.name (path_in label) state) (named q label))
-name_alone_tells is {q = q} asks label state ahead name = then_by_from (named q label) name.answers (λ one is_so keeps. from_by is state one.1 ahead keeps (named_tells is asks label one.0 one.1 ahead (name.unknown one is_so)))
+pub name_alone_tells : {kept : CxxState → CxxState → Type 0} {told : CxxState → Ahead → Stopped → Type 0} → IsTold kept told → {q : Questions} → QuestionsTell kept told q → (label : Label) (state : CxxState) (ahead : Ahead) → NameTells kept told q label state ahead → ToldBy kept told state ahead (then_asked (q.name (path_in label) state) (named_here q label))
+name_alone_tells is {q = q} asks label state ahead name = then_by_from (named_here q label) name.answers (λ one is_so keeps. from_by is state one.1 ahead keeps (named_here_tells is asks label one.0 one.1 ahead (name.unknown one is_so)))

@@ -11,10 +11,10 @@ use Rattle.cxx_model.specs.Stops.{Stopped}
 use Rattle.cxx_model.specs.Types.Trees.{CxxType, fundamental}
 use Rattle.cxx_phrases.specs.declared.level.Level.TheVariants as level
 use Rattle.cxx_phrases.specs.Arguments.{argument_ended, argument_step, arguments_over, some_arguments, arguments_behind, arguments_at}
-use Rattle.cxx_phrases.specs.Forms.{literal_tree, parenthesis_tree, functional_tree, cast_tree}
-use Rattle.cxx_phrases.specs.Operators.{is_literal, is_cast_word, base_of_kind, begins_expression}
+use Rattle.cxx_phrases.specs.Forms.{literal_tree, this_tree, parenthesis_tree, functional_tree, cast_tree}
+use Rattle.cxx_phrases.specs.Operators.{is_literal, is_cast_word, is_this, base_of_kind, begins_expression}
 use Rattle.cxx_phrases.specs.Phrases.{Phrases, Inner}
-use Rattle.cxx_phrases.specs.Primary.{literal_part, name_at, called_at, named_call, value_name_at, functional_cast, functional_at, type_name_at, named_by, named_at, word_at, cast_opened, cast_closed, cast_word_at, parenthesis_at, word_by, primary_at}
+use Rattle.cxx_phrases.specs.Primary.{literal_part, this_part, name_at, called_at, named_call, value_name_at, functional_cast, functional_at, type_name_at, named_by, named_at, word_at, cast_opened, cast_closed, cast_word_at, parenthesis_at, word_by, primary_at}
 use Rattle.cxx_reading.specs.Reads.{Ahead, More, Done, ask, got, then_read, kind_ahead, word_ahead, behind}
 use Rattle.cxx_reading.specs.Tokens.{begins_name, behind_name, is_punct, is_keyword, is_whole_name, kind_of_name, path_ahead}
 use Rattle.cxx_reading.specs.Trees.{CxxTree}
@@ -54,6 +54,11 @@ arguments_tell is {asks = a} asks inner state ahead = if_in (a.room == 0) (quiet
 literal_part_tells : {S : Type 0} {kept : S → S → Type 0} {told : S → Ahead → Stopped → Type 0} → IsTold kept told → {asks : Phrases S} {inner : Inner S} → PhrasesTell kept told asks inner → InnerTell kept told inner → Tells kept told (literal_part asks)
 unfolding literal_part
 literal_part_tells is asks inner state ahead = then_in is (looked_in is state ahead) (λ from state ahead. then_in is (taken_in is state ahead) (λ token state ahead. then_in is (looked_in is state ahead) (λ to state ahead. ask_in ahead (asks.whole (literal_tree from to) refl state ahead))))
+
+-- 9.3.2
+this_part_tells : {S : Type 0} {kept : S → S → Type 0} {told : S → Ahead → Stopped → Type 0} → IsTold kept told → {asks : Phrases S} {inner : Inner S} → PhrasesTell kept told asks inner → InnerTell kept told inner → Tells kept told (this_part asks)
+unfolding this_part
+this_part_tells is asks inner state ahead = then_in is (looked_in is state ahead) (λ from state ahead. then_in is (taken_in is state ahead) (λ token state ahead. then_in is (looked_in is state ahead) (λ to state ahead. ask_in ahead (asks.whole (this_tree from to) refl state ahead))))
 
 -- ---- names
 
@@ -140,5 +145,6 @@ unfolding primary_at
 primary_tells is asks inner state ahead =
     if_in (is_literal (kind_ahead ahead)) (literal_part_tells is asks inner state ahead) (
     when_in (begins_name ahead) (λ begins. named_tells is asks inner state ahead begins) (
-    if_in (is_cast_word (kind_ahead ahead)) (cast_word_tells is asks inner state ahead)
-    (word_by_tells is asks inner (base_of_kind (kind_ahead ahead)) state ahead)))
+    if_in (is_cast_word (kind_ahead ahead)) (cast_word_tells is asks inner state ahead) (
+    if_in (is_this (kind_ahead ahead)) (this_part_tells is asks inner state ahead)
+    (word_by_tells is asks inner (base_of_kind (kind_ahead ahead)) state ahead))))

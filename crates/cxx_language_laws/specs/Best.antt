@@ -1,5 +1,5 @@
 -- What holds of the calls of every whole reading, in the words of 13.3.
-use Rattle.std.specs.Prelude.{ℕ, ◌≡◌, Bool, ◌&&◌, if◌then◌else◌, List, ◌++◌, Option, Some, None, Ok}
+use Rattle.std.specs.Prelude.{ℕ, ◌≡◌, ◌⊎◌, Bool, true, ◌&&◌, if◌then◌else◌, List, ◌∷◌, ◌++◌, Option, Some, None, Ok}
 use Rattle.std.specs.List.{AllByRecursion}
 use Rattle.cxx_model.specs.declared.lookup.Found.{Found}
 use Rattle.cxx_model.specs.declared.lookup.Found.TheVariants as sought
@@ -7,6 +7,7 @@ use Rattle.cxx_model.specs.declared.lookup.MemberFound.TheVariants as member_fou
 use Rattle.cxx_model.specs.declared.types.FactId.{FactId}
 use Rattle.cxx_model.specs.Choice.Better.{IsBest}
 use Rattle.cxx_model.specs.Facts.Declarations.{CxxFact, CxxGraph, CxxName}
+use Rattle.cxx_model.specs.Types.Trees.{CxxType}
 use Rattle.cxx_meaning.specs.Conversions.Standard.{CxxOperand}
 use Rattle.cxx_meaning.specs.Lookups.Member.{member}
 use Rattle.cxx_meaning.specs.Lookups.Wanted.{any_name}
@@ -17,8 +18,12 @@ use Rattle.cxx_reading.specs.Seen.{Numbered, fact_numbers, numbered_at}
 use Rattle.cxx_reading.specs.State.{CxxState, CxxCall}
 use Rattle.cxx_reading.specs.Trees.{CxxPath, is_plain_path, last_part}
 use Rattle.cxx_reading.specs.Units.{CxxReading}
+use Rattle.cxx_this.specs.This.{class_at, this_in}
+use Rattle.cxx_expr.specs.Calls.{implied_type}
+use Rattle.cxx_expr.specs.Implied.{object_with}
 use Rattle.cxx_expr.specs.Members.{class_of_object}
 use Rattle.cxx_expr.specs.Names.{values_among}
+use Rattle.cxx_expr.specs.Operands.{object_operand}
 use Rattle.cxx_overload.specs.Calls.{call_of}
 use Rattle.cxx_overload.specs.Candidates.{candidates}
 use Rattle.cxx_overload.specs.Choices.{beats, position_of}
@@ -80,18 +85,48 @@ pub record AreOfObject (before : CxxGraph) (object : CxxOperand) (functions : Li
   pub path : CxxPath
   pub are : AreMembers before object path functions
 
--- 13.3.1.1.1: which functions a call may mean, with its object, where it has one, and its arguments
+-- 9.3.1, 13.3.1.1.1 p3: Some functions are those of a class that a name without qualifiers means in a scope, by whether a
+-- default argument stands there. Their object is that for which the function round the call is called, or one that is made up.
+pub record AreImpliedIn (before : CxxGraph) (scope : ℕ) (path : CxxPath) (in_default : Bool) (object : CxxOperand) (functions : List Numbered) : Type 0 where
+  -- 3.4.1: the name has no qualifiers
+  pub is_plain : is_plain_path path ≡ true
+  -- 3.4.1: where it is looked up, outward from the scope
+  pub where_ : Region
+  pub qualifies : region_of before scope path ≡ Ok where_
+  -- 3.4, 10.2: what is found of it there is clear
+  pub clear : IsClear (sought_in before any_name where_ (name_in path))
+  -- 3.3.7, 10.2: the functions are what it means there; the types of arguments find none besides (3.4.2)
+  pub are : functions ≡ values_of before where_ (name_in path)
+  -- 9.2: the first of them stands in the scope of a class
+  pub one : Numbered
+  pub others : List Numbered
+  pub first : functions ≡ one ∷ others
+  pub class : CxxType
+  pub of_class : class_at before one.fact.scope ≡ Some class
+  -- 9.3.2, 8.3.6, 13.3.1.1.1 p3: the object is `*this`, where the scope stands in the body of a function that has one, outside of
+  -- default arguments, and its class is that of the functions or derived from it; else it is one of the class of the functions
+  pub is_object : object ≡ object_operand (implied_type class (object_with before one.fact.scope (this_in before scope in_default)))
+
+-- the same in whatever scope, by whatever name
+pub record AreImplied (before : CxxGraph) (object : CxxOperand) (functions : List Numbered) : Type 0 where
+  pub scope : ℕ
+  pub path : CxxPath
+  pub in_default : Bool
+  pub are : AreImpliedIn before scope path in_default object functions
+
+-- 13.3.1.1.1: Which functions a call may mean, with its object, where it has one, and its arguments. The object stands before
+-- `.` or `->`, or the call is one by a name alone that means functions of a class.
 abbrev pub MayMean : CxxGraph → Option CxxOperand → List CxxOperand → List Numbered → Type 0
 MayMean before None operands functions = AreOfName before operands functions
-MayMean before (Some object) operands functions = AreOfObject before object functions
+MayMean before (Some object) operands functions = AreOfObject before object functions ⊎ AreImplied before object functions
 
 -- 13.3.2: a function can be called with the object and the arguments, or it is not viable for the first reason that holds
 abbrev pub IsRatedSo : CxxGraph → Option CxxOperand → List CxxOperand → Rated → Type 0
 IsRatedSo graph object operands one = IsOutcome graph object operands one.candidate one.sequences one.outcome
 
 -- The call means one of the functions that its name means among the declarations before it, or that the types of its
--- arguments find among them, or of the members of the class of its object: the one that is viable and better than every
--- other viable one.
+-- arguments find among them, or of the members of the class of its object, or of those of a class that its name alone means:
+-- the one that is viable and better than every other viable one.
 pub record IsBestCall (state : CxxState) (call : CxxCall) : Type 0 where
   -- what is declared before the call, and behind it
   pub before : CxxGraph

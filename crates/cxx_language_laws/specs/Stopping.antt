@@ -29,7 +29,6 @@ use Rattle.cxx_language.specs.Blocks.{condition_part, declared_condition_at, loc
 use Rattle.cxx_language.specs.Bodies.{result_of}
 use Rattle.cxx_language.specs.Classes.{BaseList, Head as ClassHead, Members, base_list, bases_in, bases_or_none, behind_bases, class_at, class_begins, declaration_specifiers, give_members, head_at, list_step, member_declaration_at, member_specifiers, member_step, is_mutable_member, type_of_member}
 use Rattle.cxx_language.specs.Objects.{begins_initializer, initialized_part}
-use Rattle.cxx_declare.specs.Functions.{declare_function}
 use Rattle.cxx_heads.specs.Heads.{is_declared_condition}
 use Rattle.cxx_statements.specs.declared.parts.Head.{Head}
 use Rattle.cxx_statements.specs.declared.parts.Head.TheVariants as head
@@ -39,7 +38,7 @@ use Rattle.cxx_statements.specs.Statements.{Around, CxxTarget, begins_no_object,
 use Rattle.cxx_language.specs.Asked.{answers, asked, inner_at, phrases_at}
 use Rattle.cxx_language.specs.Statements.{expression_for, parts_at, statement_head}
 use Rattle.cxx_language.specs.Spaces.{alias_at, namespace_at, using_at}
-use Rattle.cxx_language.specs.Units.{declaration_at, declarator_step, linkage_opened, simple_declaration_at}
+use Rattle.cxx_language.specs.Units.{declaration_at, declarator_step, function_declared, linkage_opened, simple_declaration_at}
 use Rattle.cxx_language.specs.Values.{constant_part, has_value}
 use Rattle.cxx_declare.specs.ClassDefinitions.{declare_member}
 
@@ -258,7 +257,7 @@ pub data Initializes (said : Said) (declarator : Declarator) (before : CxxState)
 -- its own list of parameters.
 pub data BeginsBody (said : Said) (declarator : Declarator) (before : CxxState) : CxxState → Type 0 where
   begins_body : (list : ℕ) (answer : ℕ × CxxState) (defined begun : Unit {0} × CxxState) → own_parameters declarator.layers ≡ Some list
-      → declare_function (own_parameters declarator.layers) (name_in declarator) (declared_type declarator.layers said.of) before ≡ Ok answer → define_declared (name_in declarator) answer.0 answer.1 ≡ Ok defined
+      → function_declared said declarator before ≡ Ok answer → define_declared (name_in declarator) answer.0 answer.1 ≡ Ok defined
       → begin_body list answer.0 (result_of (declared_type declarator.layers said.of)) defined.1 ≡ Ok begun → BeginsBody said declarator before begun.1
 
 -- 6.4, 6.5: a keyword behind which a condition stands in brackets

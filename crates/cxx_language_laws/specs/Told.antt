@@ -54,7 +54,7 @@ use Rattle.cxx_expr.specs.Operands.{built_operand, judged_each, object_operand}
 use Rattle.cxx_overload.specs.Decided.{NoneViable, IsAmbiguous}
 use Rattle.cxx_language.specs.Asked.{answers, inner_at, phrases_at}
 use Rattle.cxx_language.specs.Units.{declaration_at}
-use Rattle.cxx_language_laws.specs.Best.{AreMembers, IsClear, functions_by_types, values_of_call}
+use Rattle.cxx_language_laws.specs.Best.{AreImpliedIn, AreMembers, IsClear, functions_by_types, values_of_call}
 use Rattle.cxx_language_laws.specs.Stopping.{Gives, IsInnermost, Part, StopsWithin, a_declaration}
 
 -- ---- tokens
@@ -169,11 +169,18 @@ pub record AreMembersCalled {room : ℕ} {before : CxxState} {ahead : Ahead} (is
   pub typed : is.call.callee.label.of ≡ Some of
   pub are : AreMembers (declared_then is) (object_operand of) (path_in is.call.callee.label) functions
 
+-- 9.3.1, 13.3.1.1.1 p3: the called name has no qualifiers and means functions of a class where it stands, once its arguments are
+-- read, and they have an object
+abbrev pub AreImpliedCalled : {room : ℕ} {before : CxxState} {ahead : Ahead} → IsUnitCall room before ahead → CxxOperand → List Numbered → Type 0
+AreImpliedCalled call object functions = AreImpliedIn call.at.graph call.at.here.scope (called call) call.at.in_default object functions
+
 -- 13.3: A true fault of the call, with its evidence: no function that it may mean is viable, each for its reason, or some
 -- are and none is better than every other one.
 pub data IsChoiceFault (before : CxxState) (ahead : Ahead) (fault : Fault) : Type 0 where
   no_viable_function : (room : ℕ) (call : IsUnitCall room before ahead) (clear : IsFoundClear call) → NoneViable (place_of_call call) None (operands call) call.at.graph (meant call clear) (Faulty fault) → IsChoiceFault before ahead fault
   ambiguous_call : (room : ℕ) (call : IsUnitCall room before ahead) (clear : IsFoundClear call) → IsAmbiguous (place_of_call call) None (operands call) call.at.graph (meant call clear) (Faulty fault) → IsChoiceFault before ahead fault
+  no_viable_implied : (room : ℕ) (call : IsUnitCall room before ahead) (object : CxxOperand) (functions : List Numbered) → AreImpliedCalled call object functions → NoneViable (place_of_call call) (Some object) (operands call) call.at.graph functions (Faulty fault) → IsChoiceFault before ahead fault
+  ambiguous_implied : (room : ℕ) (call : IsUnitCall room before ahead) (object : CxxOperand) (functions : List Numbered) → AreImpliedCalled call object functions → IsAmbiguous (place_of_call call) (Some object) (operands call) call.at.graph functions (Faulty fault) → IsChoiceFault before ahead fault
   no_viable_member : (room : ℕ) (is : IsMemberCall room before ahead) (functions : List Numbered) (members : AreMembersCalled is functions) → NoneViable (member_part is).place (Some (object_operand members.of)) (member_operands is) (declared_then is) functions (Faulty fault) → IsChoiceFault before ahead fault
   ambiguous_member : (room : ℕ) (is : IsMemberCall room before ahead) (functions : List Numbered) (members : AreMembersCalled is functions) → IsAmbiguous (member_part is).place (Some (object_operand members.of)) (member_operands is) (declared_then is) functions (Faulty fault) → IsChoiceFault before ahead fault
 

@@ -16,8 +16,11 @@ ghost use Rattle.cxx_language_laws.specs.Told.{IsAmbiguousFault, IsChoiceText, I
 /// viable one (13.3.3). Its candidates are all functions that its name means where it stands (3.4.1, 7.3.4), or in the
 /// namespace or the class that its qualifiers mean (3.4.3), and, where it has no qualifiers and no brackets stand round it, those that
 /// the types of its arguments find besides (3.4.2). Those of a call of a member are all members of the class of the object with
-/// that name (5.2.5, 10.2, 13.3.1.1.1), and the object comes before the arguments. Each is viable or not for the first reason
-/// that holds (13.3.2), and what the call keeps of them is so.
+/// that name (5.2.5, 10.2, 13.3.1.1.1), and the object comes before the arguments. A call by a name alone that means functions of
+/// a class where it stands has an object too (9.3.1, 13.3.1.1.1): `*this`, where it stands in the body of a function that has one,
+/// outside of default arguments, and that is of the class or of one derived from it, and else one that is made up. Its
+/// candidates are what the name means and no others. Each is viable or not for the first reason that holds (13.3.2), and what
+/// the call keeps of them is so.
 pub fn each_call_is_best()
     ensures { (options : Options) (tokens : List Lexeme) (reading : CxxReading) → unit_reading options tokens ≡ Ok reading → EachCallIsBest reading }
 {}
@@ -28,8 +31,9 @@ pub fn each_call_is_best()
 /// From there on a state is reached that keeps what was declared, in the same scope, in one of parameters that begins later,
 /// or in the namespace or the class of a member that is declared outside of it (8.3, 9.4.2), and a call stands there with the last part of its
 /// name where the fault is. Once its arguments are read, none of the functions that it may mean is viable for them, or none
-/// is the best. The evidence has exactly a line for each candidate with its reason, or for each viable function with the
-/// first other one that it is not better than.
+/// is the best. Where the name has no qualifiers and means functions of a class, that is so for an object and the arguments:
+/// for `*this`, or for an object that is made up (9.3.1, 13.3.1.1.1). The evidence has exactly a line for each candidate with its
+/// reason, or for each viable function with the first other one that it is not better than.
 /// Or a function of the class of an object was read behind `.` or `->`, its arguments stand there, and the fault is where its
 /// name is. Once they are read, none of the members of the class with that name is viable for the object and the arguments, or
 /// none is the best (5.2.2, 13.3.1.1.1).

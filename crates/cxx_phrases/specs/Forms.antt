@@ -22,6 +22,10 @@ literal_text _ word = word
 abbrev pub literal_tree : Ahead → Ahead → CxxTree
 literal_tree from to = tree_of (label_from production.literal (literal_text (kind_ahead from) (word_ahead from)) from to) []
 
+-- 5.1, 9.3.2: `this`
+abbrev pub this_tree : Ahead → Ahead → CxxTree
+this_tree from to = tree_of (label_from phrase.this (word_ahead from) from to) []
+
 -- 5.1: its place is that of its last part
 abbrev pub name_tree : CxxPath → Ahead → Ahead → CxxTree
 name_tree path from to = tree_of (record (label_from phrase.name [] from to) { place = (last_part path.parts).place; path = Some path }) []

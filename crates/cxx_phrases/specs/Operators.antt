@@ -124,6 +124,11 @@ is_literal Text = true
 is_literal (Keyword n) = n == keyword.TRUE || n == keyword.FALSE
 is_literal _ = false
 
+-- 9.3.2
+unfoldable pub is_this : TokenKind → Bool
+is_this (Keyword n) = n == keyword.THIS
+is_this _ = false
+
 -- 5.2.9 to 5.2.11
 unfoldable pub is_cast_word : TokenKind → Bool
 is_cast_word (Keyword n) = n == keyword.STATIC_CAST || (n == keyword.CONST_CAST || n == keyword.REINTERPRET_CAST)

@@ -7,8 +7,8 @@ use Rattle.cxx_model.specs.declared.tree.Kind.TheVariants as kind
 use Rattle.cxx_model.specs.Types.Trees.{CxxType, fundamental}
 use Rattle.cxx_phrases.specs.declared.level.Level.TheVariants as level
 use Rattle.cxx_phrases.specs.Arguments.{arguments_at}
-use Rattle.cxx_phrases.specs.Forms.{literal_tree, name_tree, parenthesis_tree, call_tree, functional_tree, cast_tree}
-use Rattle.cxx_phrases.specs.Operators.{is_literal, is_cast_word, base_of_kind}
+use Rattle.cxx_phrases.specs.Forms.{literal_tree, name_tree, parenthesis_tree, call_tree, functional_tree, cast_tree, this_tree}
+use Rattle.cxx_phrases.specs.Operators.{is_literal, is_cast_word, is_this, base_of_kind}
 use Rattle.cxx_phrases.specs.Phrases.{Phrases, Inner}
 use Rattle.cxx_reading.specs.Constants.{no_expression}
 use Rattle.cxx_reading.specs.Reads.{Reads, Ahead, ◌>>=◌, give, ask, looked, taken, tokens, kind_ahead, word_ahead}
@@ -22,6 +22,14 @@ literal_part asks = do
   token ← taken
   to ← looked
   ask (asks.whole (literal_tree from to))
+
+-- 9.3.2
+unfoldable pub this_part : {S : Type 0} → Phrases S → Reads S CxxTree
+this_part asks = do
+  from ← looked
+  word ← taken
+  to ← looked
+  ask (asks.whole (this_tree from to))
 
 -- ---- names
 
@@ -135,5 +143,6 @@ unfoldable pub primary_at : {S : Type 0} → Phrases S → Inner S → Reads S C
 primary_at asks inner state ahead =
     if is_literal (kind_ahead ahead) then literal_part asks state ahead else (
     if begins_name ahead then named_at asks inner state ahead else (
-    if is_cast_word (kind_ahead ahead) then cast_word_at asks inner state ahead else
-    word_by asks inner (base_of_kind (kind_ahead ahead)) state ahead))
+    if is_cast_word (kind_ahead ahead) then cast_word_at asks inner state ahead else (
+    if is_this (kind_ahead ahead) then this_part asks state ahead else
+    word_by asks inner (base_of_kind (kind_ahead ahead)) state ahead)))

@@ -1,6 +1,10 @@
 -- The numbers of the productions of expressions that are not among those of declarations.
 use Rattle.std.specs.Prelude.{ℕ}
 
+-- 5.1, 9.3.2: `this`
+abbrev pub this : ℕ
+this = 35
+
 -- 5.1
 abbrev pub name : ℕ
 name = 36

@@ -45,6 +45,23 @@ pub(crate) fn literal_asked<P: Phrases>(
     phrases.whole(state, node)
 }
 
+/// `this` (5.1, 9.3.2).
+#[tactic(auto, using(cxx_cursor::proofs::Kept::later_trans, cxx_cursor::proofs::Kept::later_refl, crate::proofs::Kept::tree_kept, crate::proofs::Kept::tree_later))]
+pub(crate) fn this_asked<P: Phrases>(
+    phrases: &P,
+    state: &mut State,
+    from: &Cursor<'_>,
+    to: &Cursor<'_>,
+) -> Result<TreeId, Stop>
+    requires ready { P.is_ready phrases.now }
+    ensures { IsAsked tree IsTreeKnown state.old state.new result ((P.asks phrases.now).whole (form.this_tree from.now to.now) (meaning state.old)) }
+{
+    let spelling = Text::from_slice(from.alloc(), from.spelling())?;
+    let children = Listed::new(from.alloc());
+    let node = node_from(production::THIS, spelling, from, to, children);
+    phrases.whole(state, node)
+}
+
 /// A name that is not called (5.1).
 #[tactic(auto, using(cxx_cursor::proofs::Kept::later_trans, cxx_cursor::proofs::Kept::later_refl, crate::proofs::Kept::tree_kept, crate::proofs::Kept::tree_later))]
 pub(crate) fn name_asked<P: Phrases>(

@@ -134,6 +134,17 @@ pub(crate) fn is_literal(kind: TokenKind) -> bool
     }
 }
 
+/// Whether a token is `this` (9.3.2).
+#[tactic(auto, unfolding(crate::specs::Operators::is_this))]
+pub(crate) fn is_this(kind: TokenKind) -> bool
+    ensures { result ≡ definition.is_this kind }
+{
+    match kind {
+        TokenKind::Keyword(number) => number == keyword::THIS,
+        _ => false,
+    }
+}
+
 /// Whether a token is the word of a cast (5.2.9 to 5.2.11).
 #[tactic(auto, unfolding(crate::specs::Operators::is_cast_word))]
 pub(crate) fn is_cast_word(kind: TokenKind) -> bool

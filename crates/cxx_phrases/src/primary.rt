@@ -13,10 +13,11 @@ ghost use Rattle.cxx_tree.specs.Held.{meaning, tree, type_of};
 use crate::arguments::arguments_at;
 use crate::forms::{
     call_asked, cast_asked, functional_asked, literal_asked, name_asked, parenthesis_asked,
+    this_asked,
 };
 use crate::level::Level;
 use crate::names::kind_ahead;
-use crate::operators::{base_of_kind, is_cast_word, is_literal};
+use crate::operators::{base_of_kind, is_cast_word, is_literal, is_this};
 use crate::phrases::Phrases;
 use cxx_cursor::{Cursor, is_punct, no_expression};
 use cxx_model::{Base, Kind, Path, Stop, TreeId, TreeIdList, TypeId, punct};
@@ -35,6 +36,21 @@ fn literal_part<P: Phrases>(
     let from = cursor.mark();
     cursor.advance();
     literal_asked(phrases, state, &from, cursor)
+}
+
+// `this` (9.3.2).
+#[tactic(auto, using(cxx_cursor::proofs::Kept::later_trans, cxx_cursor::proofs::Kept::later_refl), unfolding(crate::specs::Primary::this_part))]
+fn this_part<P: Phrases>(
+    phrases: &P,
+    state: &mut State,
+    cursor: &mut Cursor<'_>,
+) -> Result<TreeId, Stop>
+    requires ready { P.is_ready phrases.now }
+    ensures { IsRead tree IsTreeKnown state.old state.new cursor.new result (definition.this_part (P.asks phrases.now) (meaning state.old) cursor.old) }
+{
+    let from = cursor.mark();
+    cursor.advance();
+    this_asked(phrases, state, &from, cursor)
 }
 
 // A name that is not called (5.1).
@@ -292,6 +308,9 @@ pub(crate) fn primary_at<P: Phrases>(
     }
     if is_cast_word(cursor.kind()) {
         return cast_word_at(phrases, state, cursor);
+    }
+    if is_this(cursor.kind()) {
+        return this_part(phrases, state, cursor);
     }
     match base_of_kind(cursor.kind()) {
         Some(base) => word_at(phrases, state, cursor, base),

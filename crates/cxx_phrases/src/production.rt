@@ -4,6 +4,8 @@ pub const INITIALIZER: u8 = 22;
 
 pub const LITERAL: u8 = 34;
 
+pub const THIS: u8 = 35;
+
 pub const NAME: u8 = 36;
 
 pub const PARENTHESIS: u8 = 39;

@@ -1,15 +1,16 @@
 -- A declarator that fits, and what stands behind that of a function, in a namespace that has begun, and behind specifications
 -- of linkage.
-use Rattle.std.specs.Prelude.{ℕ, Bool, ◌&&◌, if◌then◌else◌, List, [], Option}
+use Rattle.std.specs.Prelude.{ℕ, Bool, not, ◌&&◌, if◌then◌else◌, List, [], Option}
 use Rattle.cxx_model.specs.declared.fault.FaultText.TheVariants as says
 use Rattle.cxx_model.specs.declared.fault.LeftOut.TheVariants as form
 use Rattle.cxx_model.specs.declared.keyword.TheConstants as keyword
 use Rattle.cxx_model.specs.declared.punct.TheConstants as punct
+use Rattle.cxx_model.specs.declared.types.Cv.{Cv}
 use Rattle.cxx_model.specs.Text.Lexemes.{Lexeme}
 use Rattle.cxx_model.specs.Types.Trees.{CxxType}
 use Rattle.cxx_reading.specs.Declarators.{Declarator, is_function_type}
 use Rattle.cxx_reading.specs.Productions as production
-use Rattle.cxx_reading.specs.Reads.{Reads, Ahead, ◌>>=◌, got, give, ask, fault_at, looked, kind_ahead, place_ahead, taken}
+use Rattle.cxx_reading.specs.Reads.{Reads, Asks, Ahead, ◌>>=◌, got, give, ask, fault_at, looked, kind_ahead, place_ahead, taken}
 use Rattle.cxx_reading.specs.Spaces.{close_space}
 use Rattle.cxx_reading.specs.State.{CxxState}
 use Rattle.cxx_reading.specs.Syntax.{declarator_at}
@@ -17,7 +18,8 @@ use Rattle.cxx_reading.specs.Tokens.{is_punct, is_keyword, refused}
 use Rattle.cxx_reading.specs.Trees.{CxxTree}
 use Rattle.cxx_reading.specs.Units.{Said, declared_fits, ends_declarator, linkages_passed, one_tree}
 use Rattle.cxx_reading.specs.declared.specifier.Naming.TheVariants as naming
-use Rattle.cxx_declare.specs.Outside.{agree_here, stand_in}
+use Rattle.cxx_declare.specs.Functions.{declare_function}
+use Rattle.cxx_declare.specs.Outside.{agree_here, declare_again, stand_in}
 use Rattle.cxx_language.specs.Asked.{asked, inner_at}
 use Rattle.cxx_language.specs.Bodies.{function_body, standing}
 use Rattle.cxx_language.specs.Spaces.{give_part}
@@ -36,10 +38,17 @@ function_end room is_first name of number list state ahead =
     if ends_declarator (kind_ahead ahead) then got [] state ahead else
     not_ended room is_first name of number list state ahead
 
--- 8.3: what has qualifiers was declared before, given its type; a function of a class is not declared outside of it yet
+-- 9.3: a function is declared, given its type, with the scope of its list of parameters and the words behind it
+abbrev pub function_by : Option ℕ → Lexeme → Cv → CxxType → Asks CxxState ℕ
+function_by list name cv of state =
+    if stands_in_class state then declare_again name cv of state else
+    declare_function list name of state
+
+-- 8.3: what has qualifiers was declared before, given its type; whether a class has declared its function is asked when that is
+-- declared
 abbrev pub outside_by : Bool → Lexeme → CxxType → Reads CxxState (Unit {0})
 outside_by is_typedef name of state ahead =
-    if is_function_type of && stands_in_class state then fault_at name.place says.NotBuilt state ahead else
+    if not is_typedef && (is_function_type of && stands_in_class state) then got tt state ahead else
     ask (agree_here is_typedef name of) state ahead
 
 -- 8.3: what has qualifiers was declared before with the same type, as one step

@@ -13,13 +13,13 @@ ghost use Rattle.cxx_units.specs.Said.{IsDeclared, IsListed, IsListedTurn, IsSai
 use crate::bodies::{Declared, ended_by};
 use crate::space::{Defines, Space};
 use cxx_cursor::{Cursor, Declarator, NameToken, Specifiers, Turn, is_punct};
-use cxx_model::{FaultText, ScopeId, Stop, TreeIdList, TypeId, punct};
+use cxx_model::{ScopeId, Stop, TreeIdList, TypeId, punct};
 use cxx_reading::Naming;
 use cxx_syntax::declared;
 use cxx_tree::State;
 use cxx_units::ends::nothing_declared;
 use cxx_units::said::{Listed as ListedTrees, Said, said_by};
-use cxx_units::trees::{faulty, token_or};
+use cxx_units::trees::token_or;
 use cxx_units::types::is_function_type;
 use cxx_units::{declared_fits, no_declarators};
 
@@ -31,9 +31,9 @@ fn standing(state: &State) -> ScopeId
     state.scope()
 }
 
-// Whether the reader stands in the scope of a class (9.2).
+/// Whether the reader stands in the scope of a class (9.2).
 #[tactic(auto, unfolding(cxx_tree::specs::Held::meaning))]
-fn is_in_class(state: &State) -> bool
+pub(crate) fn is_in_class(state: &State) -> bool
     ensures { result ≡ units.stands_in_class (meaning state.now) }
 {
     match state.names().class_of_scope(state.graph(), state.scope()) {
@@ -43,7 +43,7 @@ fn is_in_class(state: &State) -> bool
 }
 
 impl<D: Defines> Space<'_, D> {
-    // The same with the name; a function of a class is not declared outside of it yet (9.3).
+    // The same with the name; whether a class has declared its function is asked when that is declared (9.3).
     #[tactic(auto, using(cxx_cursor::proofs::Kept::later_refl))]
     fn outside_agrees(
         &self,
@@ -56,9 +56,9 @@ impl<D: Defines> Space<'_, D> {
         requires { of.0 < length (state.now).types }
         ensures { IsRead itself AnyKnown state.now state.now cursor.now result (outside_by said.is_typedef (name_at name.now) (type_of state.now of) (meaning state.now) cursor.now) }
     {
-        if is_function_type(state.types(), of) && is_in_class(state) {
-            let fault = faulty(cursor.alloc(), name.place, FaultText::NotBuilt)?;
-            return Err(Stop::Fault(fault));
+        let _ = cursor;
+        if !said.is_typedef && (is_function_type(state.types(), of) && is_in_class(state)) {
+            return Ok(());
         }
         self.declares.agree_here(state, said.is_typedef, name, of)
     }

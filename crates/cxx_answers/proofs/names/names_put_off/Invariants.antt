@@ -5,4 +5,4 @@ use Rattle.cxx_answers.specs.Answers.{names_put_off}
 use Rattle.cxx_answers.proofs.names.names_put_off.Given as goal
 
 abbrev pub invariant-loop-number : goal.invariant-loop-number
-invariant-loop-number l = (types : List CxxType) → names_put_off l.is_plain (looked_up types l.graph.facts (drop l.number-index l.numbers)) ≡ names_put_off l.is_plain (looked_up types l.graph.facts l.numbers)
+invariant-loop-number l = (types : List CxxType) → names_put_off (looked_up types l.graph.facts (drop l.number-index l.numbers)) ≡ names_put_off (looked_up types l.graph.facts l.numbers)

@@ -1,0 +1,3 @@
+pub mod This
+pub mod Begun
+pub mod Made
