@@ -12,9 +12,10 @@ use Rattle.cxx_model.specs.Stops.{Answer, ◌>>=◌}
 use Rattle.cxx_model.specs.Text.Lexemes.{Lexeme}
 use Rattle.cxx_names.specs.Plain.{IsPlainFact}
 use Rattle.cxx_reading.specs.Classes.{reserved}
-use Rattle.cxx_reading.specs.Declaring.{added, free, no_flags}
+use Rattle.cxx_reading.specs.Declaring.{added, free}
 use Rattle.cxx_reading.specs.State.{CxxState}
-use Rattle.cxx_declare.specs.ClassDefinitions.{added_each, begun_as, class_end, ended_as, enter_class, enter_unnamed, member_kind}
+use Rattle.cxx_declare.specs.ClassDefinitions.{added_each, begun_as, class_end, ended_as, enter_class, enter_unnamed, flags_of, member_kind}
+use Rattle.cxx_declare.specs.declared.class_definitions.MemberWords.{MemberWords}
 use Rattle.cxx_declare.specs.Made.{added_defined, definable_by}
 use Rattle.cxx_tree.specs.Held.{Held}
 
@@ -62,6 +63,6 @@ ended_with all n place state = added_each all state >>= λ implied. class_comple
 -- ---- its members
 
 -- 9.2, 9.3: a function, where it is one, or else a data member
-abbrev pub member_entity : Bool → Bool → Bool → TypeId → Entity
-member_entity true is_static is_mutable of = entity.Function of (member_kind is_static) no_flags 0 None
-member_entity false is_static is_mutable of = entity.Object of (member_kind is_static) is_mutable None None
+abbrev pub member_entity : Bool → MemberWords → TypeId → Entity
+member_entity true words of = entity.Function of (member_kind words.is_static) (flags_of words) 0 None
+member_entity false words of = entity.Object of (member_kind words.is_static) words.is_mutable None None

@@ -1,7 +1,7 @@
 -- How a class is defined (clause 9): it begins, its members are declared one after another, and it ends.
-use Rattle.std.specs.Prelude.{ℕ, zero, Bool, true, false, List, [], ◌∷◌, length, Option, Some, None, Ok}
-use Rattle.cxx_model.specs.declared.facts.Access.{Access}
+use Rattle.std.specs.Prelude.{ℕ, zero, Bool, true, false, not, ◌&&◌, List, [], ◌∷◌, length, Option, Some, None, Ok}
 use Rattle.cxx_model.specs.declared.facts.Access.TheVariants.{Public}
+use Rattle.cxx_model.specs.declared.facts.FunctionFlags.{FunctionFlags}
 use Rattle.cxx_model.specs.declared.facts.MemberKind.{MemberKind}
 use Rattle.cxx_model.specs.declared.facts.MemberKind.TheVariants as member
 use Rattle.cxx_model.specs.declared.facts.ScopeKind.TheVariants as scope_kind
@@ -11,6 +11,7 @@ use Rattle.cxx_model.specs.Facts.Declarations.{CxxFact, Declares, spelled, unnam
 use Rattle.cxx_model.specs.Stops.{◌>>=◌}
 use Rattle.cxx_model.specs.Text.Lexemes.{Lexeme}
 use Rattle.cxx_model.specs.Types.Trees.{CxxType}
+use Rattle.cxx_declare.specs.declared.class_definitions.MemberWords.{MemberWords}
 use Rattle.cxx_implicit.specs.Members.{implicit_members}
 use Rattle.cxx_reading.specs.Classes.{ClassNamed, class_count, class_fact, class_id, first_class, reserved}
 use Rattle.cxx_reading.specs.Declarators.{is_function_type}
@@ -100,20 +101,24 @@ abbrev pub member_kind : Bool → MemberKind
 member_kind true = member.Static
 member_kind false = member.Nonstatic
 
+-- 10.3, 10.4: what belongs to no object is not virtual
+abbrev pub flags_of : MemberWords → FunctionFlags
+flags_of words = record no_flags { is_virtual = words.is_virtual && not words.is_static; is_pure = words.is_pure && not words.is_static }
+
 -- 9.2, 9.3: a function, where it is one, or else a data member
-abbrev pub member_by : Bool → Bool → Bool → CxxType → Declares
-member_by true is_static is_mutable of = facts.function of (member_kind is_static) no_flags zero None
-member_by false is_static is_mutable of = facts.object of (member_kind is_static) is_mutable None None
+abbrev pub member_by : Bool → MemberWords → CxxType → Declares
+member_by true words of = facts.function of (member_kind words.is_static) (flags_of words) zero None
+member_by false words of = facts.object of (member_kind words.is_static) words.is_mutable None None
 
-abbrev pub member_what : Bool → Bool → CxxType → Declares
-member_what is_static is_mutable of = member_by (is_function_type of) is_static is_mutable of
+abbrev pub member_what : MemberWords → CxxType → Declares
+member_what words of = member_by (is_function_type of) words of
 
--- 9.2, 9.4: a member, with the access of the label before it (11.1), whether it is static, and whether it is mutable (7.1.1)
-abbrev pub member_here : CxxState → Access → Bool → Bool → Lexeme → CxxType → CxxFact
-member_here state access is_static is_mutable name of = record { place = name.place; scope = state.here.scope; name = spelled name.spelling; access = access; what = member_what is_static is_mutable of }
+-- 9.2, 9.4: a member, with what the words before it say
+abbrev pub member_here : CxxState → MemberWords → Lexeme → CxxType → CxxFact
+member_here state words name of = record { place = name.place; scope = state.here.scope; name = spelled name.spelling; access = words.access; what = member_what words of }
 
-unfoldable pub declare_member : Access → Bool → Bool → Lexeme → CxxType → Asks CxxState ℕ
-declare_member access is_static is_mutable name of state = declare (member_here state access is_static is_mutable name of) name.spelling state
+unfoldable pub declare_member : MemberWords → Lexeme → CxxType → Asks CxxState ℕ
+declare_member words name of state = declare (member_here state words name of) name.spelling state
 
 -- ---- it ends
 

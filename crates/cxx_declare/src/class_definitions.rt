@@ -15,7 +15,6 @@ ghost use Rattle.cxx_declare.specs.ClassDefinitions as definition;
 ghost use Rattle.cxx_declare.specs.Classes.{IsNextClass};
 ghost use Rattle.cxx_declare.specs.Made.{IsReady, token, word_in};
 ghost use Rattle.cxx_reading.specs.Declarators.{is_function_type};
-ghost use Rattle.cxx_reading.specs.Declaring.{no_flags as without_flags};
 ghost use Rattle.cxx_tree.specs.Answered.{AnyKnown, IsAnswered, IsClassKnown, IsFactKnown, class_number, fact_number, itself};
 ghost use Rattle.cxx_tree.specs.Held.{meaning, type_of};
 
@@ -257,6 +256,21 @@ pub fn begin_unnamed(state: &mut State, is_union: bool, place: Place) -> Result<
 
 // ---- its members
 
+/// What is said of a member besides its name and its type.
+#[derive(Clone, Copy)]
+pub struct MemberWords {
+    /// By the label before it (11.1).
+    pub access: Access,
+    /// It belongs to no object of the class (9.4).
+    pub is_static: bool,
+    /// Of an object: no `const` of its class makes it one (7.1.1).
+    pub is_mutable: bool,
+    /// Of a function: the word `virtual` stands before it (10.3).
+    pub is_virtual: bool,
+    /// Of a function: `= 0` stands behind it (10.4).
+    pub is_pure: bool,
+}
+
 fn member_kind(is_static: bool) -> MemberKind
     ensures { result ≡ definition.member_kind is_static }
 {
@@ -267,13 +281,13 @@ fn member_kind(is_static: bool) -> MemberKind
     }
 }
 
-// None of what may stand before a function of a class is read yet (7.1.2).
-fn no_flags() -> FunctionFlags
-    ensures { result ≡ without_flags }
+// What belongs to no object is not virtual (10.3).
+fn flags_of(words: MemberWords) -> FunctionFlags
+    ensures { result ≡ definition.flags_of words }
 {
     FunctionFlags {
-        is_virtual: false,
-        is_pure: false,
+        is_virtual: words.is_virtual && !words.is_static,
+        is_pure: words.is_pure && !words.is_static,
         is_explicit: false,
         is_implicit: false,
     }
@@ -290,22 +304,22 @@ fn is_function(types: &TypeTable, of: TypeId) -> bool
 }
 
 // A function, where it is one, or else a data member (9.2, 9.3).
-fn member_entity(is_function: bool, is_static: bool, is_mutable: bool, of: TypeId) -> Entity
-    ensures { result ≡ member_entity is_function is_static is_mutable of }
+fn member_entity(is_function: bool, words: MemberWords, of: TypeId) -> Entity
+    ensures { result ≡ member_entity is_function words of }
 {
     if is_function {
         Entity::Function {
             of,
-            member: member_kind(is_static),
-            flags: no_flags(),
+            member: member_kind(words.is_static),
+            flags: flags_of(words),
             defaults: 0,
             first: None,
         }
     } else {
         Entity::Object {
             of,
-            member: member_kind(is_static),
-            is_mutable,
+            member: member_kind(words.is_static),
+            is_mutable: words.is_mutable,
             value: None,
             first: None,
         }
@@ -313,54 +327,49 @@ fn member_entity(is_function: bool, is_static: bool, is_mutable: bool, of: TypeI
 }
 
 // What a member with a type is.
-fn member_what(types: &TypeTable, is_static: bool, is_mutable: bool, of: TypeId) -> Entity
+fn member_what(types: &TypeTable, words: MemberWords, of: TypeId) -> Entity
     requires { of.0 < length types.now }
-    ensures { result ≡ member_entity (is_function_type (type_at types.now of.0)) is_static is_mutable of }
+    ensures { result ≡ member_entity (is_function_type (type_at types.now of.0)) words of }
 {
-    member_entity(is_function(types, of), is_static, is_mutable, of)
+    member_entity(is_function(types, of), words, of)
 }
 
 // The declaration of a member (9.2, 9.4).
 fn member_fact(
     state: &State,
-    access: Access,
-    is_static: bool,
-    is_mutable: bool,
+    words: MemberWords,
     place: Place,
     word: &[u8],
     of: TypeId,
 ) -> Result<Fact, AllocError>
     requires { of.0 < length (state.now).types }
-    ensures is { (kind : TokenKind) → IfOk result (λ fact. fact_at (state.now).types fact ≡ definition.member_here (meaning state.now) access is_static is_mutable (token kind place word.now) (type_of state.now of)) }
+    ensures is { (kind : TokenKind) → IfOk result (λ fact. fact_at (state.now).types fact ≡ definition.member_here (meaning state.now) words (token kind place word.now) (type_of state.now of)) }
     ensures ready { IfOk result (IsReady state.now) }
     ensures named { IfOk result (λ fact. fact.name ≡ Spelled word.now) }
 {
-    let what = member_what(state.types(), is_static, is_mutable, of);
+    let what = member_what(state.types(), words, of);
     let name = spelled(state.alloc(), word)?;
     Ok(Fact {
         place,
         scope: state.scope(),
         name,
-        access,
+        access: words.access,
         what,
     })
 }
 
-/// A member is declared (9.2), with the access of the label before it (11.1), whether it is static (9.4), and, where it is an
-/// object, whether it is mutable (7.1.1).
+/// A member is declared (9.2), with what is said of it besides its name and its type.
 pub fn declare_member(
     state: &mut State,
-    access: Access,
-    is_static: bool,
-    is_mutable: bool,
+    words: MemberWords,
     place: Place,
     word: &[u8],
     of: TypeId,
 ) -> Result<FactId, Stop>
     requires { of.0 < length (state.old).types }
-    ensures { (kind : TokenKind) → IsAnswered fact_number IsFactKnown state.old state.new result (definition.declare_member access is_static is_mutable (token kind place word.now) (type_of state.old of) (meaning state.old)) }
+    ensures { (kind : TokenKind) → IsAnswered fact_number IsFactKnown state.old state.new result (definition.declare_member words (token kind place word.now) (type_of state.old of) (meaning state.old)) }
 {
-    match member_fact(state, access, is_static, is_mutable, place, word, of) {
+    match member_fact(state, words, place, word, of) {
         Ok(fact) => declare(state, fact),
         Err(_) => Err(Stop::OutOfMemory),
     }

@@ -24,7 +24,7 @@ pub use again::declare_again;
 pub use asks::{elaborated, kind, kind_of_name, type_named, type_of_name};
 pub use bases::{BaseOf, declare_base};
 pub use bodies::{begin_body, end_body};
-pub use class_definitions::{begin_class, begin_unnamed, declare_member, end_class};
+pub use class_definitions::{MemberWords, begin_class, begin_unnamed, declare_member, end_class};
 pub use classes::class_here;
 pub use enumerations::{declare_enumeration, declare_enumerator, end_enumeration};
 pub use functions::declare_function;

@@ -13,12 +13,10 @@ use crate::declaring::Declaring;
 use cxx_body::{Phrasing, read_function_body};
 use cxx_cursor::{Cursor, NameToken, Spelled, is_punct};
 use cxx_declare as declare;
-use cxx_declare::BaseOf;
+use cxx_declare::{BaseOf, MemberWords};
 use cxx_heads::Head;
 use cxx_knot::{condition_ahead, head_ahead, read_phrase};
-use cxx_model::{
-    Access, ClassId, FactId, Form, Listed, Path, Place, ScopeId, Stop, TreeId, TypeId, punct,
-};
+use cxx_model::{ClassId, FactId, Form, Listed, Path, Place, ScopeId, Stop, TreeId, TypeId, punct};
 use cxx_phrases::{Initializer, Level};
 use cxx_space::Defines;
 use cxx_tree::State;
@@ -174,14 +172,12 @@ impl Defines for Declaring {
     fn declare_member(
         &self,
         state: &mut State,
-        access: Access,
-        is_static: bool,
-        is_mutable: bool,
+        words: MemberWords,
         name: &NameToken,
         of: TypeId,
     ) -> Result<FactId, Stop> {
         let word = name.spelling.as_slice();
-        declare::declare_member(state, access, is_static, is_mutable, name.place, word, of)
+        declare::declare_member(state, words, name.place, word, of)
     }
 
     #[tactic(auto, using(crate::proofs::Answering::asked, cxx_cursor::proofs::Kept::later_refl))]

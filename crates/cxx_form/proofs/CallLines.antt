@@ -3,23 +3,22 @@ use Rattle.std.proofs.Common.{◌≡◌, ℕ, ◌<◌, ◌≤◌, true, false, L
 use Rattle.std.specs.Prelude.{◌||◌, Bool}
 use Rattle.std.proofs.lemmas.Bool.{le-ltb, lt-ltb}
 use Rattle.cxx_model.specs.declared.limits.TheConstants as limits
+use Rattle.cxx_model.specs.Facts.Declarations.{graph_at}
 use Rattle.cxx_page.specs.declared.fault.PlainFault.{PlainFault}
 use Rattle.cxx_page.specs.declared.fault.PlainFault.TheVariants as fault
 use Rattle.cxx_page.specs.Sheets.{and_then, blank, put_line, put_lines, Sheet, Writes}
 use Rattle.cxx_phrase_text.specs.declared.calls.ListedCall.{ListedCall}
-use Rattle.cxx_reading.specs.Plain.{function_words}
 use Rattle.cxx_form.specs.Order.{names_of_text}
 use Rattle.cxx_reading.specs.Units.{CxxReading}
 use Rattle.cxx_reading.specs.Words.{line_text, Word}
 use Rattle.cxx_tree.specs.Held.{meaning, Held}
 use Rattle.cxx_form.specs.declared.book.Book.{Book}
-use Rattle.cxx_form.specs.Books.{facts_of, names_of}
+use Rattle.cxx_form.specs.Books.{graph_of, names_of}
 use Rattle.cxx_form.specs.declared.form.Printed.{Printed}
-use Rattle.cxx_form.specs.Called.{any_long, function_text, functions_from, functions_text, is_long, is_past_output, target_of, targets}
+use Rattle.cxx_form.specs.Called.{any_long, called_words, function_text, functions_from, functions_text, is_long, is_past_output, target_of, targets}
 use Rattle.cxx_form.specs.Names.{names_in}
 use Rattle.cxx_form.specs.Printed.{IsPrinted}
 use Rattle.cxx_form.specs.Text.{plain_text}
-use Rattle.cxx_form.specs.Views.{facts_in}
 use Rattle.cxx_form.proofs.Whole.{too_long, written_text}
 
 -- ---- one line
@@ -38,19 +37,19 @@ line_written words page written = written_text (words ∷ []) page (one_then wor
 line_long : (words : List Word) → put_line words blank ≡ None → limits.MOST_OUTPUT < length (line_text words)
 line_long words none = subst (λ (text : List ℕ). limits.MOST_OUTPUT < length text) (append-nil (line_text words)) (too_long (words ∷ []) (none_then words none))
 
-by_names : (held : Held) (number : ℕ) → line_text (function_words (names_in held) (facts_in held) number) ≡ function_text (meaning held) number
+by_names : (held : Held) (number : ℕ) → line_text (called_words (names_in held) (graph_at held.types held.graph) number) ≡ function_text (meaning held) number
 unfolding function_text names_of_text names_in meaning
 by_names held number = refl
 
-pub text_is : (book : Book) (number : ℕ) (page new : Sheet) → page ≡ blank → put_line (function_words (names_of book) (facts_of book) number) page ≡ Some new → new.text ≡ function_text (meaning book.state.now) number
+pub text_is : (book : Book) (number : ℕ) (page new : Sheet) → page ≡ blank → put_line (called_words (names_of book) (graph_of book) number) page ≡ Some new → new.text ≡ function_text (meaning book.state.now) number
 text_is book number page new is written =
-    line_written (function_words (names_of book) (facts_of book) number) new (ap (put_line (function_words (names_of book) (facts_of book) number)) (sym is) ∙ written)
+    line_written (called_words (names_of book) (graph_of book) number) new (ap (put_line (called_words (names_of book) (graph_of book) number)) (sym is) ∙ written)
     ∙ by_names book.state.now number
 
-pub line_over : (book : Book) (number : ℕ) (e : PlainFault) (page new : Sheet) → page ≡ blank → Writes (Err e) new (put_line (function_words (names_of book) (facts_of book) number) page) → e ≡ fault.Limit → limits.MOST_OUTPUT < length (function_text (meaning book.state.now) number)
+pub line_over : (book : Book) (number : ℕ) (e : PlainFault) (page new : Sheet) → page ≡ blank → Writes (Err e) new (put_line (called_words (names_of book) (graph_of book) number) page) → e ≡ fault.Limit → limits.MOST_OUTPUT < length (function_text (meaning book.state.now) number)
 line_over book number fault.Limit page new is written limit =
     subst (λ (text : List ℕ). limits.MOST_OUTPUT < length text) (by_names book.state.now number)
-    (line_long (function_words (names_of book) (facts_of book) number) (ap (put_line (function_words (names_of book) (facts_of book) number)) (sym is) ∙ written))
+    (line_long (called_words (names_of book) (graph_of book) number) (ap (put_line (called_words (names_of book) (graph_of book) number)) (sym is) ∙ written))
 line_over book number fault.OutOfMemory page new is written limit = absurd (other limit)
   where
     other : fault.OutOfMemory ≡ fault.Limit → ⊥

@@ -98,7 +98,7 @@ all_printed all (tree_then label children next) = by (nat_eq label.production pr
     joined gives (x ∷ ones) twos = ap (λ ns. gives x ++ ns) (joined gives ones twos) ∙ sym (append_assoc (gives x) (flat_map gives ones) (flat_map gives twos))
 
     by : (t : Bool) → printed_in all children ≡ flat_map (if_printed all) (found_in production.declarator production.declarator children) → printed_in all next ≡ flat_map (if_printed all) (found_in production.declarator production.declarator next)
-        → (if t then if_printed all one else printed_in all children) ++ printed_in all next ≡ flat_map (if_printed all) (if t then one ∷ found_in production.declarator production.declarator next else (if t then found_in production.declarator production.declarator next else found_in production.declarator production.declarator children ++ found_in production.declarator production.declarator next))
+        → (if t then if_printed all one else printed_in all children) ++ printed_in all next ≡ flat_map (if_printed all) ((if t then [] else found_in production.declarator production.declarator children) ++ ((if t then one ∷ [] else []) ++ found_in production.declarator production.declarator next))
     by true inside behind = ap (λ (ts : List CxxTree). if_printed all one ++ ts) behind
     by false inside behind = ap (λ (ts : List CxxTree). ts ++ printed_in all next) inside ∙ ap (λ (ts : List CxxTree). flat_map (if_printed all) (found_in production.declarator production.declarator children) ++ ts) behind ∙ sym (joined (if_printed all) (found_in production.declarator production.declarator children) (found_in production.declarator production.declarator next))
 

@@ -17,7 +17,7 @@ use Rattle.cxx_form.specs.declared.book.Book.{Book}
 use Rattle.cxx_form.specs.Books.{facts_of, names_of}
 use Rattle.cxx_form.specs.Order.{base_by, bases_by, bases_of, class_in, class_of_fact}
 use Rattle.cxx_form.specs.Parts.{base_at, base_row, bases_unless, front_parts, is_none, parent_by, parent_found, parent_words, IsParentThere}
-use Rattle.cxx_form.specs.Text.{base_words, bases_words, class_front, class_key_of, is_mutable_by, is_mutable_of, is_static_by, is_static_of, value_of_again, value_of_again_by}
+use Rattle.cxx_form.specs.Text.{base_words, bases_words, class_front, class_key_of, is_mutable_by, is_mutable_of, is_pure_by, is_pure_of, is_static_by, is_static_of, is_virtual_by, is_virtual_of, value_of_again, value_of_again_by}
 use Rattle.cxx_form.specs.Views.{facts_in}
 use Rattle.cxx_form.proofs.Defining.{found_is}
 
@@ -34,6 +34,18 @@ static_is held number fact is = sym (ap is_static_of (found_is held number (Some
 
 pub none_static : (held : Held) (number : ℕ) → None ≡ slice_get held.graph.facts number → false ≡ is_static_of (slice_get (facts_in held) number)
 none_static held number is = sym (ap is_static_of (found_is held number None is))
+
+pub virtual_is : (held : Held) (number : ℕ) (fact : Fact) → Some fact ≡ slice_get held.graph.facts number → is_virtual_by (declares_at held.types fact.what) ≡ is_virtual_of (slice_get (facts_in held) number)
+virtual_is held number fact is = sym (ap is_virtual_of (found_is held number (Some fact) is))
+
+pub none_virtual : (held : Held) (number : ℕ) → None ≡ slice_get held.graph.facts number → false ≡ is_virtual_of (slice_get (facts_in held) number)
+none_virtual held number is = sym (ap is_virtual_of (found_is held number None is))
+
+pub pure_is : (held : Held) (number : ℕ) (fact : Fact) → Some fact ≡ slice_get held.graph.facts number → is_pure_by (declares_at held.types fact.what) ≡ is_pure_of (slice_get (facts_in held) number)
+pure_is held number fact is = sym (ap is_pure_of (found_is held number (Some fact) is))
+
+pub none_pure : (held : Held) (number : ℕ) → None ≡ slice_get held.graph.facts number → false ≡ is_pure_of (slice_get (facts_in held) number)
+none_pure held number is = sym (ap is_pure_of (found_is held number None is))
 
 pub again_is : (held : Held) (number next : ℕ) (fact : Fact) → Some fact ≡ slice_get held.graph.facts next → value_of_again_by number (declares_at held.types fact.what) ≡ value_of_again number (slice_get (facts_in held) next)
 again_is held number next fact is = sym (ap (value_of_again number) (found_is held next (Some fact) is))

@@ -1,6 +1,6 @@
 -- The trees of a production that are found in others, one part after another.
-use Rattle.std.proofs.Common.{◌≡◌, ℕ, zero, suc, ◌+◌, ◌<◌, Bool, true, false, eqb, List, [], ◌∷◌, ◌++◌, length, drop, get_or, map, refl, ap, sym, subst, ◌∙◌, append-nil, append_assoc, arith}
-use Rattle.std.specs.Prelude.{nat_eq, if◌then◌else◌}
+use Rattle.std.proofs.Common.{◌≡◌, ℕ, zero, suc, ◌+◌, ◌<◌, Bool, true, false, eqb, List, [], ◌∷◌, ◌++◌, length, drop, get_or, map, refl, ap, sym, subst, ◌∙◌, append-nil, append_assoc, arith, eq-eqb}
+use Rattle.std.specs.Prelude.{if◌then◌else◌}
 use Rattle.std.proofs.lemmas.Bool.{eqb-true}
 use Rattle.std.proofs.lemmas.List.{at_drop_more}
 use Rattle.cxx_model.specs.declared.tree.Node.{Node}
@@ -8,43 +8,24 @@ use Rattle.cxx_model.specs.declared.types.TreeId.{TreeId}
 use Rattle.cxx_model.specs.Types.Trees.{CxxType}
 use Rattle.cxx_reading.specs.TextOrder.{part_tree}
 use Rattle.cxx_form.specs.Order.{found_in, found_of}
-use Rattle.cxx_reading.specs.Trees.{CxxTree, CxxTrees, Label, in_turn, no_trees, tree_then}
+use Rattle.cxx_reading.specs.Trees.{CxxTree, in_turn}
 use Rattle.cxx_tree.specs.Arena.{tree_in, tree_over, trees_in, AreTreesBelow}
 use Rattle.cxx_tree.specs.declared.kept.Piece.{Piece}
 use Rattle.cxx_tree.specs.Held.{pieces_at, ArePiecesBelow}
 use Rattle.cxx_tree.proofs.Arenas.{below_append, trees_append}
-use Rattle.cxx_form.specs.Found.{each_found, AddsTrees, AreTrees}
+use Rattle.cxx_form.specs.Found.{each_found, found_inside, if_wanted, AddsTrees, AreTrees}
 
 -- ---- a tree
 
--- what is found in a tree, and what is found behind it
-abbrev by_tests : ℕ → ℕ → Bool → Bool → Label → CxxTrees → List CxxTree → List CxxTree
-by_tests wanted passed true skipped label children rest = record { label = label; children = children } ∷ rest
-by_tests wanted passed false true label children rest = rest
-by_tests wanted passed false false label children rest = found_in wanted passed children ++ rest
-
-by_tests_is : (wanted passed : ℕ) (label : Label) (children rest : CxxTrees) (t u : Bool) → (if t then record { label = label; children = children } ∷ found_in wanted passed rest else (if u then found_in wanted passed rest else found_in wanted passed children ++ found_in wanted passed rest)) ≡ by_tests wanted passed t u label children (found_in wanted passed rest)
-by_tests_is wanted passed label children rest true u = refl
-by_tests_is wanted passed label children rest false true = refl
-by_tests_is wanted passed label children rest false false = refl
-
-by_tests_cut : (wanted passed : ℕ) (label : Label) (children : CxxTrees) (rest : List CxxTree) (t u : Bool) → by_tests wanted passed t u label children rest ≡ by_tests wanted passed t u label children [] ++ rest
-by_tests_cut wanted passed label children rest true u = refl
-by_tests_cut wanted passed label children rest false true = refl
-by_tests_cut wanted passed label children rest false false = ap (λ (ts : List CxxTree). ts ++ rest) (sym (append-nil (found_in wanted passed children)))
-
-tests : (wanted passed : ℕ) (label : Label) (children rest : CxxTrees) → found_in wanted passed (tree_then label children rest) ≡ by_tests wanted passed (nat_eq label.production wanted) (nat_eq label.production passed) label children (found_in wanted passed rest)
-tests wanted passed label children rest = by_tests_is wanted passed label children rest (nat_eq label.production wanted) (nat_eq label.production passed)
-
-of_tests : (wanted passed : ℕ) (tree : CxxTree) → found_of wanted passed tree ≡ by_tests wanted passed (nat_eq tree.label.production wanted) (nat_eq tree.label.production passed) tree.label tree.children []
-of_tests wanted passed tree = tests wanted passed tree.label tree.children no_trees
+-- those in its parts, and then itself
+pub in_turn_found : (wanted passed : ℕ) (tree : CxxTree) → found_inside wanted passed tree ++ if_wanted wanted tree ≡ found_of wanted passed tree
+in_turn_found wanted passed tree = ap (λ (ts : List CxxTree). found_inside wanted passed tree ++ ts) (sym (append-nil (if_wanted wanted tree)))
 
 pub in_each : (wanted passed : ℕ) (trees : List CxxTree) → found_in wanted passed (in_turn trees) ≡ each_found wanted passed trees
 in_each wanted passed [] = refl
 in_each wanted passed (tree ∷ others) =
-    tests wanted passed tree.label tree.children (in_turn others)
-    ∙ by_tests_cut wanted passed tree.label tree.children (found_in wanted passed (in_turn others)) (nat_eq tree.label.production wanted) (nat_eq tree.label.production passed)
-    ∙ ap (λ (ts : List CxxTree). ts ++ found_in wanted passed (in_turn others)) (sym (of_tests wanted passed tree))
+    sym (append_assoc (found_inside wanted passed tree) (if_wanted wanted tree) (found_in wanted passed (in_turn others)))
+    ∙ ap (λ (ts : List CxxTree). ts ++ found_in wanted passed (in_turn others)) (in_turn_found wanted passed tree)
     ∙ ap (λ (ts : List CxxTree). found_of wanted passed tree ++ ts) (in_each wanted passed others)
 
 pub not_it : (n m : ℕ) → (n ≡ m → ⊥) → eqb n m ≡ false
@@ -58,15 +39,23 @@ module _ (types : List CxxType) (trees : List CxxTree) (node : Node) (tree : Cxx
   production_is : tree.label.production ≡ node.production
   production_is = ap (λ (t : CxxTree). t.label.production) is
 
-  -- in another one are those of its parts
-  pub parts_are : (node.production ≡ wanted → ⊥) → (node.production ≡ passed → ⊥) → found_of wanted passed tree ≡ each_found wanted passed (trees_in trees node.children)
-  parts_are other another =
-      of_tests wanted passed tree
-      ∙ ap (λ t. by_tests wanted passed t (nat_eq tree.label.production passed) tree.label tree.children []) (not_it tree.label.production wanted (λ e. other (sym production_is ∙ e)))
-      ∙ ap (λ t. by_tests wanted passed false t tree.label tree.children []) (not_it tree.label.production passed (λ e. another (sym production_is ∙ e)))
-      ∙ append-nil (found_in wanted passed tree.children)
-      ∙ ap (λ (t : CxxTree). found_in wanted passed t.children) is
-      ∙ in_each wanted passed (trees_in trees node.children)
+  parts_is : found_in wanted passed tree.children ≡ each_found wanted passed (trees_in trees node.children)
+  parts_is = ap (λ (t : CxxTree). found_in wanted passed t.children) is ∙ in_each wanted passed (trees_in trees node.children)
+
+  -- those in its parts
+  pub parts_found : (node.production ≡ passed → ⊥) → found_inside wanted passed tree ≡ each_found wanted passed (trees_in trees node.children)
+  parts_found other = ap (λ t. if t then [] else found_in wanted passed tree.children) (not_it tree.label.production passed (λ e. other (sym production_is ∙ e))) ∙ parts_is
+
+  -- none
+  pub parts_passed : node.production ≡ passed → found_inside wanted passed tree ≡ []
+  parts_passed same = ap (λ t. if t then [] else found_in wanted passed tree.children) (eq-eqb tree.label.production passed (production_is ∙ same))
+
+  -- itself
+  pub it_wanted : node.production ≡ wanted → if_wanted wanted tree ≡ tree ∷ []
+  it_wanted same = ap (λ t. if t then tree ∷ [] else []) (eq-eqb tree.label.production wanted (production_is ∙ same))
+
+  pub not_wanted : (node.production ≡ wanted → ⊥) → if_wanted wanted tree ≡ []
+  not_wanted other = ap (λ t. if t then tree ∷ [] else []) (not_it tree.label.production wanted (λ e. other (sym production_is ∙ e)))
 
   pub within_parts : (children numbers : List TreeId) → children ≡ node.children → AreTrees trees numbers (each_found wanted passed (trees_in trees children)) → AreTrees trees numbers (found_in wanted passed tree.children)
   within_parts children numbers same are =
@@ -77,6 +66,18 @@ pub one_added : (trees : List CxxTree) (number : TreeId) (old new : List TreeId)
 one_added trees number old new is within = record {
   is = ap (trees_in trees) is ∙ trees_append trees old (number ∷ []);
   below = λ all. subst (λ (ns : List TreeId). AreTreesBelow (length trees) ns) (sym is) (below_append (length trees) old (number ∷ []) all (within, tt));
+}
+
+pub none_added : (trees : List CxxTree) (old : List TreeId) → AddsTrees trees old old []
+none_added trees old = record {
+  is = sym (append-nil (trees_in trees old));
+  below = λ all. all;
+}
+
+pub both_added : (trees : List CxxTree) (old mid new : List TreeId) (ones twos : List CxxTree) → AddsTrees trees old mid ones → AddsTrees trees mid new twos → AddsTrees trees old new (ones ++ twos)
+both_added trees old mid new ones twos first second = record {
+  is = second.is ∙ ap (λ (ts : List CxxTree). ts ++ twos) first.is ∙ append_assoc (trees_in trees old) ones twos;
+  below = λ all. second.below (first.below all);
 }
 
 -- all that were added to an empty list

@@ -17,6 +17,8 @@ pub mod Membered
 pub mod Numbers
 pub mod Ordered
 pub mod Rowed
+pub mod Sharings
+pub mod Signed
 pub mod Slotted
 pub mod Tagged
 pub mod Typed

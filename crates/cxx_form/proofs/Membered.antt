@@ -17,9 +17,9 @@ use Rattle.cxx_form.specs.Books.{facts_of, names_of, IsBook}
 use Rattle.cxx_form.specs.Giving.{AreParts}
 use Rattle.cxx_form.specs.Lines.{numbers_in}
 use Rattle.cxx_form.specs.Order.{firsts_among, if_first, is_first, is_first_part, members_of}
-use Rattle.cxx_form.specs.Parts.{class_parts, member_at, member_if, members_at, value_next}
+use Rattle.cxx_form.specs.Parts.{class_parts, member_at, member_if, members_at, value_again, value_next}
 use Rattle.cxx_form.specs.Rows.{row_at}
-use Rattle.cxx_form.specs.Text.{class_definition_words, class_end, class_front, member_if_first, member_lines, members_lines, value_after}
+use Rattle.cxx_form.specs.Text.{class_definition_words, class_end, class_front, is_pure_of, member_if_first, member_lines, members_lines, value_after, value_in_class, zero_if}
 use Rattle.cxx_form.specs.Views.{facts_in}
 use Rattle.cxx_form.proofs.Defining.{found_is}
 use Rattle.cxx_form.proofs.Holding.{row_of_scope}
@@ -52,9 +52,12 @@ member_is book number value first is = ap (member_if book number value) is ∙ b
     by true = refl
     by false = refl
 
-value_is : (book : Book) (number : FactId) (row : List FactId) → value_next book number row ≡ value_after (facts_of book) number.0 (numbers_in row)
-value_is book number [] = refl
-value_is book number (next ∷ row) = refl
+again_is : (book : Book) (number : FactId) (row : List FactId) → value_again book number row ≡ value_after (facts_of book) number.0 (numbers_in row)
+again_is book number [] = refl
+again_is book number (next ∷ row) = refl
+
+value_is : (book : Book) (number : FactId) (row : List FactId) → value_next book number row ≡ value_in_class (facts_of book) number.0 (numbers_in row)
+value_is book number row = ap (zero_if (is_pure_of (slice_get (facts_of book) number.0))) (again_is book number row)
 
 each_member : (book : Book) (row : List FactId) → members_at book row ≡ members_lines (names_of book) (facts_of book) (numbers_in row)
 unfolding member_at
@@ -62,7 +65,7 @@ each_member book [] = refl
 each_member book (number ∷ row) =
     let one : Option ℤ → Lines = member_if_first (names_of book) (facts_of book) number.0 in
     ap (λ (value : Option ℤ). one value ++ members_at book row) (value_is book number row)
-    ∙ ap (λ (ls : Lines). one (value_after (facts_of book) number.0 (numbers_in row)) ++ ls) (each_member book row)
+    ∙ ap (λ (ls : Lines). one (value_in_class (facts_of book) number.0 (numbers_in row)) ++ ls) (each_member book row)
 
 -- ---- one after another
 

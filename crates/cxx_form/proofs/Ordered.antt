@@ -1,5 +1,5 @@
 -- What lines declare, one line after another.
-use Rattle.std.proofs.Common.{◌≡◌, ℕ, ◌+◌, ◌<◌, ◌≤◌, List, [], ◌∷◌, ◌++◌, length, drop, take, get_or, refl, ap, sym, subst, ◌∙◌, append-nil, append_assoc}
+use Rattle.std.proofs.Common.{◌≡◌, ℕ, ◌+◌, ◌<◌, ◌≤◌, List, [], ◌∷◌, ◌++◌, length, drop, take, get_or, map, refl, ap, sym, subst, ◌∙◌, append-nil, append_assoc}
 use Rattle.std.specs.Prelude.{flat_map}
 use Rattle.std.proofs.lemmas.List.{at_drop_more, at_drop_all, map-append, take_more}
 use Rattle.cxx_model.specs.declared.types.EnumId.{EnumId}
@@ -13,6 +13,7 @@ use Rattle.cxx_form.specs.declared.lines.Line.{Line}
 use Rattle.cxx_form.specs.Giving.{AreEnumerators}
 use Rattle.cxx_form.specs.Lines.{line_at, lines_at, number_in, numbers_in}
 use Rattle.cxx_form.specs.Numbered.{IsNumbering}
+use Rattle.cxx_form.specs.Shared.{representative}
 use Rattle.cxx_form.specs.Rows.{row_at}
 use Rattle.cxx_form.specs.Views.{facts_in}
 use Rattle.cxx_form.proofs.Enumerated.{enumerators_gathered}
@@ -41,13 +42,21 @@ each_more : (order ones : List ℕ) (n : ℕ) → with_each_new order (ones ++ n
 each_more order [] n = refl
 each_more order (one ∷ ones) n = each_more (with_new order one) ones n
 
-pub numbered_more : (numbers : List FactId) (i : ℕ) (d : FactId) (count : ℕ) (slots : List ℕ) → i < length numbers → IsNumbering (with_new (with_each_new [] (numbers_in (take i numbers))) (get_or numbers i d).0) count slots → IsNumbering (with_each_new [] (numbers_in (take (i + 1) numbers))) count slots
-numbered_more numbers i d count slots within is =
-    let same : with_each_new [] (numbers_in (take (i + 1) numbers)) ≡ with_new (with_each_new [] (numbers_in (take i numbers))) (get_or numbers i d).0 =
-    ap (λ (ns : List FactId). with_each_new [] (numbers_in ns)) (take_more numbers i d within) ∙ ap (with_each_new []) (map-append number_in (take i numbers) (get_or numbers i d ∷ [])) ∙ each_more [] (numbers_in (take i numbers)) (get_or numbers i d).0 in
+one_mapped : (f : ℕ → ℕ) (ones : List FactId) (one : FactId) → map f (numbers_in (ones ++ one ∷ [])) ≡ map f (numbers_in ones) ++ f one.0 ∷ []
+one_mapped f ones one = ap (map f) (map-append number_in ones (one ∷ [])) ∙ map-append f (numbers_in ones) (one.0 ∷ [])
+
+-- those of the first so many declarations, each as the one whose number it has
+abbrev pub numbered_by : List CxxFact → List FactId → List ℕ
+numbered_by all numbers = with_each_new [] (map (representative all) (numbers_in numbers))
+
+pub numbered_more : (all : List CxxFact) (numbers : List FactId) (i : ℕ) (d : FactId) (first count : ℕ) (slots : List ℕ) → i < length numbers → first ≡ representative all (get_or numbers i d).0 → IsNumbering (with_new (numbered_by all (take i numbers)) first) count slots → IsNumbering (numbered_by all (take (i + 1) numbers)) count slots
+numbered_more all numbers i d first count slots within at is =
+    let earlier : List ℕ = map (representative all) (numbers_in (take i numbers)) in
+    let same : numbered_by all (take (i + 1) numbers) ≡ with_new (numbered_by all (take i numbers)) first =
+    ap (numbered_by all) (take_more numbers i d within) ∙ ap (with_each_new []) (one_mapped (representative all) (take i numbers) (get_or numbers i d)) ∙ each_more [] earlier (representative all (get_or numbers i d).0) ∙ ap (with_new (with_each_new [] earlier)) (sym at) in
     subst (λ (order : List ℕ). IsNumbering order count slots) (sym same) is
 
-pub in_order : (held : Held) (found : List Line) (numbers : List FactId) (count : ℕ) (slots : List ℕ) → lines_at (trees held) found ≡ lines (meaning held) → numbers_in numbers ≡ flat_map (declared_on (facts_in held)) (lines_at (trees held) found) → IsNumbering (with_each_new [] (numbers_in numbers)) count slots → IsNumbering (text_order (meaning held)) count slots
+pub in_order : (held : Held) (found : List Line) (numbers : List FactId) (count : ℕ) (slots : List ℕ) → lines_at (trees held) found ≡ lines (meaning held) → numbers_in numbers ≡ flat_map (declared_on (facts_in held)) (lines_at (trees held) found) → IsNumbering (numbered_by (facts_in held) numbers) count slots → IsNumbering (text_order (meaning held)) count slots
 unfolding text_order meaning
 in_order held found numbers count slots are is numbered =
-    subst (λ (order : List ℕ). IsNumbering order count slots) (ap (with_each_new []) (is ∙ ap (flat_map (declared_on (facts_in held))) are)) numbered
+    subst (λ (order : List ℕ). IsNumbering order count slots) (ap (λ (ns : List ℕ). with_each_new [] (map (representative (facts_in held)) ns)) (is ∙ ap (flat_map (declared_on (facts_in held))) are)) numbered

@@ -12,6 +12,7 @@ use Rattle.cxx_reading.specs.Words.{declared, Word}
 use Rattle.cxx_form.specs.declared.book.Book.{Book}
 use Rattle.cxx_form.specs.Books.{names_of, type_for, IsBook}
 use Rattle.cxx_form.specs.Names.{names_in}
+use Rattle.cxx_form.specs.Shared.{representative}
 use Rattle.cxx_form.specs.Views.{facts_in}
 use Rattle.cxx_model.specs.Printing.Names.{printed_name}
 use Rattle.cxx_reading.specs.TextOrder.{number_in, stem_of_fact, text_name}
@@ -44,6 +45,8 @@ behind_scope scope name behind = append_assoc scope (name ∷ []) behind
 pub declared_alone : (book : Book) (of : Option TypeId) → IsBook book → IsTypeNumberBelow (length book.state.now.types) of → declared (names_of book).tags no_cv (type_for book of) [] ≡ front (tags_of book.tags.now) no_cv (type_for book of) ++ back (tags_of book.tags.now) (type_for book of)
 declared_alone book of is below = declared_as book of [] is below
 
-pub name_is : (book : Book) (number place : ℕ) (word : List ℕ) → number ≡ number_in (text_order (meaning book.state.now)) place → word ≡ stem_of_fact (slice_get (facts_in book.state.now) place) → printed_name number word ≡ (names_of book).name_of place
+pub name_is : (book : Book) (number first place : ℕ) (word : List ℕ) → first ≡ representative (facts_in book.state.now) place → number ≡ number_in (text_order (meaning book.state.now)) first → word ≡ stem_of_fact (slice_get (facts_in book.state.now) first) → printed_name number word ≡ (names_of book).name_of place
 unfolding names_in text_name
-name_is book number place word numbered made = ap (λ n. printed_name n word) numbered ∙ ap (printed_name (number_in (text_order (meaning book.state.now)) place)) made
+name_is book number first place word is numbered made =
+    let order : List ℕ = text_order (meaning book.state.now) in
+    ap (λ n. printed_name n word) numbered ∙ ap (printed_name (number_in order first)) made ∙ ap (λ (n : ℕ). printed_name (number_in order n) (stem_of_fact (slice_get (facts_in book.state.now) n))) is

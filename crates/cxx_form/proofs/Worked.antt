@@ -23,8 +23,8 @@ use Rattle.cxx_statement_text.specs.Calls.{statement_calls}
 use Rattle.cxx_statement_text.specs.Statements.{body_lines}
 use Rattle.cxx_form.specs.Called.{function_text, functions_from, targets}
 use Rattle.cxx_form.specs.Definitions.{class_declaring, definition_words}
-use Rattle.cxx_form.specs.Order.{lines, names_of_text, text_order}
-use Rattle.cxx_form.specs.Text.{printed_calls, text_by}
+use Rattle.cxx_form.specs.Order.{definitions_of, lines, names_of_text, text_order}
+use Rattle.cxx_form.specs.Text.{function_named, printed_calls, text_by}
 
 -- ---- declarations
 
@@ -283,8 +283,8 @@ calls_of_functions_of_a_class : text with_calls_of_members
 unfolding pointed_words names_of_text text_order lines text_name printed_name stem definition_words class_declaring body_lines digits
 calls_of_functions_of_a_class = refl
 
-functions_of_a_class_by_their_numbers : functions_from with_calls_of_members (targets with_calls_of_members) ≡ codes "int f__3();\nint f__2(int) const;\nint f__2(int) const;\n"
-unfolding function_text targets printed_calls statement_calls names_of_text text_order lines text_name printed_name stem digits
+functions_of_a_class_by_their_numbers : functions_from with_calls_of_members (targets with_calls_of_members) ≡ codes "int S__1::f__3();\nint S__1::f__2(int) const;\nint S__1::f__2(int) const;\n"
+unfolding function_text targets printed_calls statement_calls names_of_text text_order lines text_name printed_name stem class_declaring digits
 functions_of_a_class_by_their_numbers = refl
 
 -- struct S { int f(int) const; static int g(); }; int S::f(int a) const { return a; } int S::g() { return 0; }
@@ -305,3 +305,56 @@ with_functions_outside =
 functions_outside_of_their_class : text with_functions_outside ≡ codes "struct S__1;\nstruct S__1 {\n  int f__2(int) const;\n  static int g__3();\n};\nint S__1::f__2(int a__4) const {\n  return a__4;\n}\nint S__1::g__3() {\n  return 0;\n}\n"
 unfolding names_of_text text_order lines text_name printed_name stem definition_words class_declaring body_lines digits
 functions_outside_of_their_class = refl
+
+-- struct A { int f(int); virtual void g() const; };
+-- struct B { char f(int); virtual void g() const = 0; int f(int) const; void g(); static int f(int, ...); };
+-- int f(int);
+abbrev virtual_flags : FunctionFlags
+virtual_flags = record flags { is_virtual = true }
+
+abbrev pure_flags : FunctionFlags
+pure_flags = record virtual_flags { is_pure = true }
+
+abbrev with_shared_numbers : CxxState
+with_shared_numbers =
+    let one : ClassId = record { 0 = 0 } in
+    let two : ClassId = record { 0 = 1 } in
+    let f : CxxType = function_type int (type_then int no_types) in
+    let g : CxxType = function_of (fundamental base.Void) no_types false const in
+    let all : List CxxFact =
+    (class_begun one (codes "A") 1
+    ++ list_in 1 ∷ object_in 2 unnamed int ∷ fact 1 (spelled (codes "f")) (facts.function f member.Nonstatic flags 0 None) ∷ list_in 1 ∷ fact 1 (spelled (codes "g")) (facts.function g member.Nonstatic virtual_flags 0 None)
+    ∷ class_ended one 1 ∷ class_begun two (codes "B") 4)
+    ++ list_in 4 ∷ object_in 5 unnamed int ∷ fact 4 (spelled (codes "f")) (facts.function (function_type char (type_then int no_types)) member.Nonstatic flags 0 None)
+    ∷ list_in 4 ∷ fact 4 (spelled (codes "g")) (facts.function g member.Nonstatic pure_flags 0 None)
+    ∷ list_in 4 ∷ object_in 7 unnamed int ∷ fact 4 (spelled (codes "f")) (facts.function (function_of int (type_then int no_types) false const) member.Nonstatic flags 0 None)
+    ∷ list_in 4 ∷ fact 4 (spelled (codes "g")) (facts.function (function_type (fundamental base.Void) no_types) member.Nonstatic flags 0 None)
+    ∷ list_in 4 ∷ object_in 9 unnamed int ∷ fact 4 (spelled (codes "f")) (facts.function (function_of int (type_then int no_types) true no_cv) member.Static flags 0 None)
+    ∷ class_ended two 4 ∷ list_in 0 ∷ object_in 10 unnamed int ∷ function (codes "f") f ∷ [] in
+    let read : CxxState = reading all [] in
+    record read { graph = record { facts = read.graph.facts; classes = None ∷ None ∷ []; patterns = [] } }
+
+functions_of_classes_with_one_number : text with_shared_numbers
+    ≡ codes "struct A__1;\nstruct B__2;\nstruct A__1 {\n  int f__3(int);\n  virtual void g__4() const;\n};\nstruct B__2 {\n  char f__3(int);\n  virtual void g__4() const = 0;\n  int f__5(int) const;\n  void g__6();\n  static int f__7(int, ...);\n};\nint f__8(int);\n"
+unfolding names_of_text text_order lines text_name printed_name stem definition_words body_lines digits
+functions_of_classes_with_one_number = refl
+
+-- each is declared behind its class, and that of no class without one
+functions_told_apart_by_their_classes : functions_from with_shared_numbers (6 ∷ 15 ∷ 17 ∷ 29 ∷ []) ≡ codes "int A__1::f__3(int);\nchar B__2::f__3(int);\nvoid B__2::g__4() const;\nint f__8(int);\n"
+unfolding function_text names_of_text text_order lines text_name printed_name stem class_declaring digits
+functions_told_apart_by_their_classes = refl
+
+name_of_a_called_function : (function_named (names_of_text with_shared_numbers) with_shared_numbers.graph 15).name ≡ codes "B__2::f__3"
+unfolding names_of_text text_order lines text_name printed_name stem class_declaring digits
+name_of_a_called_function = refl
+
+-- struct S { int f() { return 0; } } g() { return g(); }
+abbrev inner_definition : CxxTree
+inner_definition = defined_as 5 (function_type int no_types) 6 (returns literal ∷ [])
+
+abbrev outer_definition : CxxTree
+outer_definition =
+    tree_of (label 15 []) (tree_of (label 53 []) (tree_of (label 10 (codes "struct")) (inner_definition ∷ []) ∷ []) ∷ declarator 9 (function_type (class_type 0) no_types) [] ∷ tree_of (record (label 23 []) { target = Some 10 }) (returns (call 0 9 []) ∷ []) ∷ [])
+
+inner_definitions_first : definitions_of outer_definition ≡ inner_definition ∷ outer_definition ∷ []
+inner_definitions_first = refl

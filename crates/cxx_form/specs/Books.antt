@@ -15,6 +15,7 @@ use Rattle.cxx_form.specs.declared.book.Book.{Book}
 use Rattle.cxx_form.specs.Giving.{AreEnumerators, AreParts}
 use Rattle.cxx_form.specs.Names.{names_in, AreClassTags, AreTags}
 use Rattle.cxx_form.specs.Numbered.{IsNumbering}
+use Rattle.cxx_form.specs.Sharing.{AreShared}
 use Rattle.cxx_form.specs.Views.{facts_in}
 
 abbrev pub names_of : Book → NamesOfText
@@ -44,6 +45,7 @@ type_for book of = type_or_void (type_of_option book.state.now.types of)
 -- The tables are those of the state.
 pub record IsBook (book : Book) : Type 0 where
   pub fitted : Fitted book.state.now.graph book.state.now.types
+  pub shared : AreShared (facts_in book.state.now) book.firsts.now
   pub numbered : IsNumbering (text_order (meaning book.state.now)) book.numbering.now.count book.numbering.now.slots
   pub classes : AreClassTags book.state.now book.tags.now.classes
   pub tagged : AreTags book.state.now book.tags.now.enumerations

@@ -1,12 +1,16 @@
 -- The functions that the calls of a reading name, each as the plain form declares it, in the order of the text.
-use Rattle.std.specs.Prelude.{ℕ, Bool, false, ◌||◌, nat_lt, List, [], ◌∷◌, flat_map, length, map}
+use Rattle.std.specs.Prelude.{ℕ, Bool, false, ◌||◌, nat_lt, List, [], ◌∷◌, ◌++◌, flat_map, length, map}
+use Rattle.std.specs.List.{slice_get}
 use Rattle.cxx_model.specs.declared.limits.TheConstants as limits
+use Rattle.cxx_model.specs.Facts.Declarations.{CxxGraph}
 use Rattle.cxx_phrase_text.specs.declared.calls.ListedCall.{ListedCall}
-use Rattle.cxx_reading.specs.Plain.{function_words}
+use Rattle.cxx_reading.specs.Declarators.{no_cv}
+use Rattle.cxx_reading.specs.Plain.{type_of_function, NamesOfText}
+use Rattle.cxx_form.specs.Definitions.{function_name_words}
 use Rattle.cxx_form.specs.Order.{names_of_text}
 use Rattle.cxx_reading.specs.State.{CxxState}
 use Rattle.cxx_reading.specs.Units.{CxxReading}
-use Rattle.cxx_reading.specs.Words.{line_text}
+use Rattle.cxx_reading.specs.Words.{declared, line_text, semicolon_word, Word}
 use Rattle.cxx_form.specs.Text.{plain_text, printed_calls}
 
 -- the functions that the calls name, by their declarations, in the order of the text
@@ -16,10 +20,15 @@ targets state = map (λ call. call.target) (printed_calls state)
 abbrev pub target_of : ListedCall → ℕ
 target_of call = call.target.0
 
--- The line by which the plain form declares a function: its type, and the name with the number that it has there. In the line
--- of a member of a class spaces, and `static` (9.4), stand before it.
+-- the declaration of a function, whose name stands behind its class (9.3)
+abbrev pub called_words : NamesOfText → CxxGraph → ℕ → List Word
+called_words names graph number = declared names.tags no_cv (type_of_function (slice_get graph.facts number)) (function_name_words names graph number) ++ semicolon_word ∷ []
+
+-- The line by which the plain form declares a function: its type, and the name with the number that it has there. That of a
+-- function of a class has its class before the name, since functions of several classes have one number; the line in its class
+-- has spaces, `static` (9.4) and `virtual` (10.3) in front, and the 0 of a pure function (10.4) at its end.
 unfoldable pub function_text : CxxState → ℕ → List ℕ
-function_text state number = line_text (function_words (names_of_text state) state.graph.facts number)
+function_text state number = line_text (called_words (names_of_text state) state.graph number)
 
 abbrev pub functions_from : CxxState → List ℕ → List ℕ
 functions_from state numbers = flat_map (function_text state) numbers

@@ -5,11 +5,14 @@ pub mod Found
 pub mod Functions
 pub mod Giving
 pub mod Lines
+pub mod Marked
 pub mod Names
 pub mod Numbered
 pub mod Parts
 pub mod Printed
 pub mod Rows
+pub mod Shared
+pub mod Sharing
 pub mod Slots
 pub mod Order
 pub mod Definitions

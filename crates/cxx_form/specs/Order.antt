@@ -21,6 +21,7 @@ use Rattle.cxx_reading.specs.TextOrder.{enumerators_of, part_tree, with_each_new
 use Rattle.cxx_reading.specs.Trees.{CxxTree, CxxTrees, no_trees, tree_then}
 use Rattle.cxx_statement_text.specs.Objects.{first_in, printed_in}
 use Rattle.cxx_statement_text.specs.Productions as statement
+use Rattle.cxx_form.specs.Shared.{representative}
 
 -- Lines of the plain form: of a class, by its first declaration; of an enumeration, by its number and that of its
 -- declaration; those of the definition of a class, by its first declaration and its scope; of a function, by its first
@@ -86,18 +87,19 @@ abbrev pub function_lines : ℕ → List CxxFact → List Line
 function_lines number [] = []
 function_lines number (fact ∷ others) = function_of_fact number fact.what ++ function_lines (suc number) others
 
--- those of a production among trees, in order; none in another one, and none in one of them
+-- Those of a production among trees, in the order of their ends: one that stands in another one is before it. None is looked
+-- for in those of the production that is passed.
 abbrev pub found_in : ℕ → ℕ → CxxTrees → List CxxTree
 found_in wanted passed no_trees = []
 found_in wanted passed (tree_then label children next) =
-    if nat_eq label.production wanted then record { label = label; children = children } ∷ found_in wanted passed next else (
-    if nat_eq label.production passed then found_in wanted passed next else
-    found_in wanted passed children ++ found_in wanted passed next)
+    (if nat_eq label.production passed then [] else found_in wanted passed children) ++
+    ((if nat_eq label.production wanted then record { label = label; children = children } ∷ [] else []) ++
+    found_in wanted passed next)
 
 abbrev pub found_of : ℕ → ℕ → CxxTree → List CxxTree
 found_of wanted passed tree = found_in wanted passed (tree_then tree.label tree.children no_trees)
 
--- all declarators
+-- all declarators, none in another one
 abbrev pub declarators_of : CxxTree → List CxxTree
 declarators_of tree = found_of production.declarator production.declarator tree
 
@@ -151,7 +153,7 @@ abbrev pub object_lines : List CxxFact → List CxxTree → List Line
 object_lines all [] = []
 object_lines all (tree ∷ others) = object_by all tree tree.label.target ++ object_lines all others
 
--- the definitions of functions
+-- the definitions of functions; the specifiers of one may define a class with others (7.1, 9.2), which end before it
 abbrev pub definitions_of : CxxTree → List CxxTree
 definitions_of tree = found_of production.function_definition production.declarator tree
 
@@ -294,14 +296,19 @@ declared_on all (function_line number) = number ∷ []
 declared_on all (object_line tree number) = number ∷ []
 declared_on all (definition_lines tree) = named_among all (parameters_of all tree) ++ locals_in all (body_of tree)
 
--- every declaration whose name stands in the text, in the order of its first appearance there
+-- every declaration whose name stands in the text, in the order of its first appearance there; of those with one number the
+-- first one
 unfoldable pub text_order : CxxState → List ℕ
-text_order state = with_each_new [] (flat_map (declared_on state.graph.facts) (lines state))
+text_order state = with_each_new [] (map (representative state.graph.facts) (flat_map (declared_on state.graph.facts) (lines state)))
 
 -- ---- names
 
+-- the printed name of a declaration
+abbrev pub shared_name : List CxxFact → List ℕ → ℕ → List ℕ
+shared_name all order number = name_by all order (representative all number)
+
 unfoldable pub names_of_text : CxxState → NamesOfText
 names_of_text state = record {
-  name_of = name_by state.graph.facts (text_order state);
+  name_of = shared_name state.graph.facts (text_order state);
   tags = record { class_name = λ n. name_by state.graph.facts (text_order state) (number_of_class n zero state.graph.facts); enumeration_name = λ n. name_by state.graph.facts (text_order state) (number_of_enumeration n zero state.graph.facts) };
 }

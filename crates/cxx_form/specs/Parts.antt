@@ -26,7 +26,7 @@ use Rattle.cxx_form.specs.Books.{facts_of, graph_of, names_of, trees_of, type_fo
 use Rattle.cxx_form.specs.declared.lines.Line.{Line}
 use Rattle.cxx_form.specs.Lines.{line_at}
 use Rattle.cxx_form.specs.Definitions.{ellipsis_words, first_of_declarator, function_name_words, has_ellipsis, inner_lines, parameter_words, result_of, type_of_declarator, words_behind}
-use Rattle.cxx_form.specs.Text.{base_words, class_end, class_front, class_key_of, initializer_words, initializers_in, member_if_first, member_lines, value_of_again, words_on}
+use Rattle.cxx_form.specs.Text.{base_words, class_end, class_front, class_key_of, initializer_words, initializers_in, is_pure_of, member_if_first, member_lines, value_of_again, words_on, zero_if}
 
 abbrev pub is_none : {A : Type 0} → List A → Bool
 is_none [] = true
@@ -115,10 +115,14 @@ abbrev pub member_if : Book → FactId → Option ℤ → Bool → Lines
 member_if book number value true = member_lines (names_of book) (facts_of book) number.0 value
 member_if book number value false = []
 
--- the value of a member, given the declarations behind it
+-- the value of a static constant, given the declarations behind it
+abbrev pub value_again : Book → FactId → List FactId → Option ℤ
+value_again book number [] = None
+value_again book number (next ∷ others) = value_of_again number.0 (slice_get (facts_of book) next.0)
+
+-- the value of a member, given those
 abbrev pub value_next : Book → FactId → List FactId → Option ℤ
-value_next book number [] = None
-value_next book number (next ∷ others) = value_of_again number.0 (slice_get (facts_of book) next.0)
+value_next book number others = zero_if (is_pure_of (slice_get (facts_of book) number.0)) (value_again book number others)
 
 abbrev pub members_at : Book → List FactId → Lines
 members_at book [] = []

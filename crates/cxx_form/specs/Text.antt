@@ -1,12 +1,12 @@
 -- The plain form of a reading with expressions.
-use Rattle.std.specs.Prelude.{ℕ, zero, ℤ, Bool, true, false, nat_eq, if◌then◌else◌, List, [], ◌∷◌, ◌++◌, flat_map, map, codes, Option, Some, None}
+use Rattle.std.specs.Prelude.{ℕ, zero, ℤ, pos, Bool, true, false, nat_eq, if◌then◌else◌, List, [], ◌∷◌, ◌++◌, flat_map, map, codes, Option, Some, None}
 use Rattle.std.specs.List.{slice_get}
 use Rattle.cxx_model.specs.declared.facts.MemberKind.{MemberKind}
 use Rattle.cxx_model.specs.declared.facts.MemberKind.TheVariants as member
 use Rattle.cxx_model.specs.declared.types.FactId.{FactId}
 use Rattle.cxx_model.specs.Facts.Declarations as facts
 use Rattle.cxx_model.specs.Facts.Declarations.{CxxFact, CxxGraph, Declares}
-use Rattle.cxx_model.specs.Types.Trees.{CxxType, enumeration, unqualified}
+use Rattle.cxx_model.specs.Types.Trees.{CxxType, class_type, enumeration, unqualified}
 use Rattle.cxx_reading.specs.Declarators.{no_cv}
 use Rattle.cxx_reading.specs.Plain.{NamesOfText, NamedFunction, named_function, type_or_void, is_empty, enumeration_words, function_words}
 use Rattle.cxx_reading.specs.Productions as production
@@ -19,7 +19,7 @@ use Rattle.cxx_expr.specs.Names.{static_class}
 use Rattle.cxx_phrase_text.specs.Calls.{CallOfText, calls_of}
 use Rattle.cxx_phrase_text.specs.Phrases as phrases
 use Rattle.cxx_statement_text.specs.Statements.{Lines, close_brace, line, open_brace}
-use Rattle.cxx_form.specs.Definitions.{definition_calls, definition_words, object_type}
+use Rattle.cxx_form.specs.Definitions.{class_declaring, definition_calls, definition_words, object_type}
 use Rattle.cxx_form.specs.Order.{Line, class_line, enumeration_line, class_definition, function_line, object_line, definition_lines, bases_at, is_first, lines, names_of_text, parts_in, parts_of_production}
 
 -- the initializers among the parts of a declarator
@@ -96,6 +96,27 @@ abbrev pub static_words : Bool → List Word
 static_words true = keyword_word (codes "static") ∷ []
 static_words false = []
 
+abbrev pub is_virtual_by : Declares → Bool
+is_virtual_by (facts.function of kind flags defaults first) = flags.is_virtual
+is_virtual_by _ = false
+
+abbrev pub is_virtual_of : Option CxxFact → Bool
+is_virtual_of None = false
+is_virtual_of (Some fact) = is_virtual_by fact.what
+
+-- 10.3
+abbrev pub virtual_words : Bool → List Word
+virtual_words true = keyword_word (codes "virtual") ∷ []
+virtual_words false = []
+
+abbrev pub is_pure_by : Declares → Bool
+is_pure_by (facts.function of kind flags defaults first) = flags.is_pure
+is_pure_by _ = false
+
+abbrev pub is_pure_of : Option CxxFact → Bool
+is_pure_of None = false
+is_pure_of (Some fact) = is_pure_by fact.what
+
 -- 7.2: a type, where it is an enumeration
 abbrev pub as_enumeration : CxxType → Option CxxType
 as_enumeration (enumeration n) = Some (enumeration n)
@@ -109,7 +130,7 @@ constant_as names (Some of) value = phrases.cast_words names.tags (codes "static
 abbrev pub constant_words : NamesOfText → CxxType → ℤ → List Word
 constant_words names of value = constant_as names (as_enumeration (unqualified of)) value
 
--- 9.4.2: the value of a static constant, where its class gives it
+-- 9.4.2, 10.4: the value of a static constant, where its class gives it, and the 0 of a pure function
 abbrev pub value_behind : NamesOfText → CxxType → Option ℤ → List Word
 value_behind names of None = []
 value_behind names of (Some value) = keyword_word (codes "=") ∷ constant_words names of value
@@ -119,9 +140,13 @@ abbrev pub typed_words : NamesOfText → List CxxFact → ℕ → Option ℤ →
 typed_words names all number value =
     declared names.tags no_cv (object_type (slice_get all number)) (name_word (names.name_of number) ∷ []) ++ (value_behind names (object_type (slice_get all number)) value ++ semicolon_word ∷ [])
 
+-- what stands behind `virtual`
+abbrev pub plain_words : NamesOfText → List CxxFact → ℕ → Option ℤ → List Word
+plain_words names all number value = mutable_words (is_mutable_of (slice_get all number)) ++ typed_words names all number value
+
 -- what stands behind `static`
 abbrev pub nonstatic_words : NamesOfText → List CxxFact → ℕ → Option ℤ → List Word
-nonstatic_words names all number value = mutable_words (is_mutable_of (slice_get all number)) ++ typed_words names all number value
+nonstatic_words names all number value = virtual_words (is_virtual_of (slice_get all number)) ++ plain_words names all number value
 
 abbrev pub member_words : NamesOfText → List CxxFact → ℕ → Option ℤ → List Word
 member_words names all number value = static_words (is_static_of (slice_get all number)) ++ nonstatic_words names all number value
@@ -143,10 +168,19 @@ abbrev pub value_of_again : ℕ → Option CxxFact → Option ℤ
 value_of_again number None = None
 value_of_again number (Some fact) = value_of_again_by number fact.what
 
--- The value that a class gives to a member: that of the declaration next to it, if that is a further one of it.
+-- The value of a static constant: that of the declaration next to it, if that is a further one of it.
 abbrev pub value_after : List CxxFact → ℕ → List ℕ → Option ℤ
 value_after all number [] = None
 value_after all number (next ∷ others) = value_of_again number (slice_get all next)
+
+-- 10.4: a pure function is written with 0
+abbrev pub zero_if : Bool → Option ℤ → Option ℤ
+zero_if true value = Some (pos zero)
+zero_if false value = value
+
+-- the value that a class gives to a member, by the declarations behind it
+abbrev pub value_in_class : List CxxFact → ℕ → List ℕ → Option ℤ
+value_in_class all number others = zero_if (is_pure_of (slice_get all number)) (value_after all number others)
 
 abbrev pub member_if_first : NamesOfText → List CxxFact → ℕ → Option ℤ → Lines
 member_if_first names all number value = if is_first (slice_get all number) then member_lines names all number value else []
@@ -154,7 +188,7 @@ member_if_first names all number value = if is_first (slice_get all number) then
 -- the members among declarations, by their first ones
 abbrev pub members_lines : NamesOfText → List CxxFact → List ℕ → Lines
 members_lines names all [] = []
-members_lines names all (number ∷ others) = member_if_first names all number (value_after all number others) ++ members_lines names all others
+members_lines names all (number ∷ others) = member_if_first names all number (value_in_class all number others) ++ members_lines names all others
 
 abbrev pub class_definition_words : NamesOfText → List CxxFact → ℕ → ℕ → Lines
 class_definition_words names all number scope = class_front names all number ∷ (members_lines names all (parts_in scope zero all) ++ class_end ∷ [])
@@ -195,6 +229,16 @@ calls_on all _ = []
 unfoldable pub printed_calls : CxxState → List CallOfText
 printed_calls state = flat_map (calls_on state.graph.facts) (lines state)
 
+-- the printed name of a class, with `::` behind it
+abbrev pub class_text : NamesOfText → Option CxxType → List ℕ
+class_text names (Some (class_type n)) = names.tags.class_name n ++ codes "::"
+class_text names _ = []
+
+-- A function by its printed name, which stands behind that of its class (9.3), and the words of its parameters. Functions of
+-- several classes have one number, so the name without the class would not tell which of them it is.
+abbrev pub function_named : NamesOfText → CxxGraph → ℕ → NamedFunction
+function_named names graph number = record (named_function names graph.facts number) { name = class_text names (class_declaring graph number) ++ names.name_of number }
+
 -- the functions that they name
 unfoldable pub functions_of_text : CxxReading → List NamedFunction
-functions_of_text reading = map (λ call. named_function (names_of_text reading.state) reading.state.graph.facts call.target) (printed_calls reading.state)
+functions_of_text reading = map (λ call. function_named (names_of_text reading.state) reading.state.graph call.target) (printed_calls reading.state)

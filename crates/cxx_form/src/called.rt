@@ -2,14 +2,13 @@
 ghost use Rattle.std.specs.Prelude.{◌≡◌, ◌<◌, ◌≤◌, ◌++◌, false, length, map, true, Err, IfOk, OnOk};
 ghost use Rattle.cxx_model.specs.declared.limits.TheConstants.{MOST_OUTPUT};
 ghost use Rattle.cxx_page.specs.Sheets.{Writes, put_line};
-ghost use Rattle.cxx_reading.specs.Plain.{function_words};
 ghost use Rattle.cxx_tree.specs.Held.{meaning};
-ghost use Rattle.cxx_form.specs.Books.{facts_of, names_of, IsBook};
+ghost use Rattle.cxx_form.specs.Books.{graph_of, names_of, IsBook};
 ghost use Rattle.cxx_form.specs.Called as called;
-ghost use Rattle.cxx_form.specs.Called.{any_long, functions_from, is_long, target_of};
+ghost use Rattle.cxx_form.specs.Called.{any_long, called_words, functions_from, is_long, target_of};
 
 use crate::book::Book;
-use crate::text::write_function;
+use crate::text::write_called;
 use cxx_model::FactId;
 use cxx_page::{Page, PlainFault};
 use cxx_phrase_text::ListedCall;
@@ -18,9 +17,9 @@ use std::alloc::Global;
 #[tactic(auto, unfolding(cxx_page::specs::Sheets::put_line))]
 fn write_line_of(book: &Book<'_>, page: &mut Page, number: FactId) -> Result<(), PlainFault>
     requires { IsBook book.now }
-    ensures { Writes result page.new (put_line (function_words (names_of book.now) (facts_of book.now) number.0) page.old) }
+    ensures { Writes result page.new (put_line (called_words (names_of book.now) (graph_of book.now) number.0) page.old) }
 {
-    write_function(book, page, number)?;
+    write_called(book, page, number)?;
     page.end_line()
 }
 

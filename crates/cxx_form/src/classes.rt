@@ -14,7 +14,7 @@ ghost use Rattle.cxx_statement_text.specs.Statements.{indent, open_brace};
 ghost use Rattle.cxx_form.specs.Books.{facts_of, names_of, IsBook};
 ghost use Rattle.cxx_form.specs.Definitions.{object_type as object_type_of};
 ghost use Rattle.cxx_form.specs.Parts.{bases_unless, class_parts, front_parts, is_none, member_at, member_if, members_at};
-ghost use Rattle.cxx_form.specs.Text.{class_definition_words, class_end, class_front, class_key_of, class_words, is_mutable_by, is_mutable_of, is_static_by, is_static_kind, is_static_of, member_lines, member_words, mutable_words, nonstatic_words, static_words, typed_words};
+ghost use Rattle.cxx_form.specs.Text.{class_definition_words, class_end, class_front, class_key_of, class_words, is_mutable_by, is_mutable_of, is_static_by, is_static_kind, is_static_of, is_virtual_by, is_virtual_of, member_lines, member_words, mutable_words, nonstatic_words, plain_words, static_words, typed_words, virtual_words};
 ghost use Rattle.cxx_form.specs.Views.{facts_in};
 
 use crate::bases::{bases, write_bases};
@@ -133,6 +133,51 @@ fn write_type_and_name(
     write_typed(book, page, object_type(book.state, number), number, value)
 }
 
+// Writes what stands behind `virtual`.
+#[tactic(auto, using(cxx_page::proofs::Put::put_append))]
+fn write_plain(
+    book: &Book<'_>,
+    page: &mut Page,
+    number: FactId,
+    value: Option<i128>,
+) -> Result<(), PlainFault>
+    requires { IsBook book.now }
+    ensures { Writes result page.new (put (plain_words (names_of book.now) (facts_of book.now) number.0 value) page.old) }
+{
+    write_mutable(page, is_mutable(book.state, number))?;
+    write_type_and_name(book, page, number, value)
+}
+
+fn is_virtual_in(what: Entity) -> bool
+    ensures { (types : List CxxType) → result ≡ is_virtual_by (declares_at types what) }
+{
+    match what {
+        Entity::Function { flags, .. } => flags.is_virtual,
+        _ => false,
+    }
+}
+
+// Whether a function is virtual (10.3).
+fn is_virtual(state: &State, number: FactId) -> bool
+    ensures { result ≡ is_virtual_of (slice_get (facts_in state.now) number.0) }
+{
+    match find(state, number) {
+        Some(fact) => is_virtual_in(fact.what),
+        None => false,
+    }
+}
+
+// Writes `virtual` where a function is.
+#[tactic(auto, using(cxx_page::proofs::Put::put_none))]
+fn write_virtual(page: &mut Page, is_virtual: bool) -> Result<(), PlainFault>
+    ensures { Writes result page.new (put (virtual_words is_virtual) page.old) }
+{
+    if !is_virtual {
+        return Ok(());
+    }
+    page.word(Role::Alone, b"virtual")
+}
+
 // Writes what stands behind `static`.
 #[tactic(auto, using(cxx_page::proofs::Put::put_append))]
 fn write_nonstatic(
@@ -144,8 +189,8 @@ fn write_nonstatic(
     requires { IsBook book.now }
     ensures { Writes result page.new (put (nonstatic_words (names_of book.now) (facts_of book.now) number.0 value) page.old) }
 {
-    write_mutable(page, is_mutable(book.state, number))?;
-    write_type_and_name(book, page, number, value)
+    write_virtual(page, is_virtual(book.state, number))?;
+    write_plain(book, page, number, value)
 }
 
 fn is_static_kind(member: MemberKind) -> bool

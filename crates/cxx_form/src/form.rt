@@ -19,6 +19,7 @@ use crate::lines::{Line, lines_by};
 use crate::names::{class_tags, tags};
 use crate::order::numbering;
 use crate::scoped::parts;
+use crate::shared::shared;
 use crate::text::write_lines;
 use cxx_page::{Page, PlainFault, Tags};
 use cxx_tree::State;
@@ -30,7 +31,8 @@ pub struct Printed {
     /// Its plain form.
     pub text: Vec<u8>,
     /// For each call of the plain form, in its order, the line by which the plain form declares the function that the
-    /// call names; that of a member of a class without the spaces and without `static` before it.
+    /// call names; that of a member of a class with its class before the name, and without the spaces, without `static`
+    /// and `virtual` before it and without `= 0` behind it.
     pub functions: Vec<u8>,
 }
 
@@ -81,13 +83,16 @@ pub fn print_reading(alloc: Global, state: &State) -> Result<Printed, PlainFault
     let rows = enumerators(state, alloc)?;
     let places = declared(state, alloc)?;
     let scoped = parts(state, alloc)?;
-    let numbers = numbering(state, &rows, &scoped, found.as_slice(), alloc)?;
+    let kept = shared(state, alloc)?;
+    let shares = kept.as_slice();
+    let numbers = numbering(state, shares, &rows, &scoped, found.as_slice(), alloc)?;
     let names = Tags {
         classes: class_tags(state, &firsts, &numbers, alloc)?,
         enumerations: tags(state, &places, &numbers, alloc)?,
     };
     let book = Book {
         state,
+        firsts: shares,
         numbering: &numbers,
         tags: &names,
         enumerators: &rows,

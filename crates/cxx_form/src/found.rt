@@ -1,7 +1,7 @@
 //! The trees of a production that are found in others: declarators (clause 8), and definitions of functions (8.4).
 ghost use Rattle.std.specs.Prelude.{◌≡◌, ◌<◌, [], ◌∷◌, length, map, IfOk, OnOk};
 ghost use Rattle.cxx_reading.specs.TextOrder.{part_tree};
-ghost use Rattle.cxx_form.specs.Found.{each_found, AddsTrees, AreTrees};
+ghost use Rattle.cxx_form.specs.Found.{each_found, found_inside, if_wanted, AddsTrees, AreTrees};
 ghost use Rattle.cxx_form.specs.Order.{declarators_of, definitions_of, found_in, found_of};
 ghost use Rattle.cxx_tree.specs.Arena.{trees_in, AreTreesBelow};
 ghost use Rattle.cxx_tree.specs.Held.{pieces_at, tree, trees};
@@ -22,9 +22,25 @@ fn add(state: &State, number: TreeId, found: &mut Vec<TreeId>) -> Result<(), All
     Ok(())
 }
 
-// Adds those of a production in a tree, in order: itself, or none where it is passed, or those in its parts.
+// Adds a tree where it is of a production.
+fn add_if(
+    state: &State,
+    number: TreeId,
+    wanted: u8,
+    found: &mut Vec<TreeId>,
+) -> Result<(), AllocError>
+    requires { number.0 < length (trees state.now) }
+    ensures { OnOk result (AddsTrees (trees state.now) found.old.items found.new.items (if_wanted wanted (tree state.now number))) }
+{
+    if state.node(number).production == wanted {
+        return add(state, number, found);
+    }
+    Ok(())
+}
+
+// Adds those of a production in the parts of a tree, in order, or none where it is passed.
 #[cycle(found)]
-fn add_in(
+fn add_inside(
     state: &State,
     number: TreeId,
     wanted: u8,
@@ -32,12 +48,9 @@ fn add_in(
     found: &mut Vec<TreeId>,
 ) -> Result<(), AllocError>
     requires { number.0 < length (trees state.now) }
-    ensures { OnOk result (AddsTrees (trees state.now) found.old.items found.new.items (found_of wanted passed (tree state.now number))) }
+    ensures { OnOk result (AddsTrees (trees state.now) found.old.items found.new.items (found_inside wanted passed (tree state.now number))) }
 {
     let node = state.node(number);
-    if node.production == wanted {
-        return add(state, number, found);
-    }
     if node.production == passed {
         return Ok(());
     }
@@ -49,6 +62,23 @@ fn add_in(
         passed,
         found,
     )
+}
+
+// Adds those of a production in a tree, in order: those in its parts, and then itself.
+#[cycle(found)]
+fn add_in(
+    state: &State,
+    number: TreeId,
+    wanted: u8,
+    passed: u8,
+    found: &mut Vec<TreeId>,
+) -> Result<(), AllocError>
+    requires { number.0 < length (trees state.now) }
+    ensures { OnOk result (AddsTrees (trees state.now) found.old.items found.new.items (found_of wanted passed (tree state.now number))) }
+{
+    add_inside(state, number, wanted, passed, found)?;
+    add_if(state, number, wanted, found)?;
+    Ok(())
 }
 
 // Adds those in each of some trees.

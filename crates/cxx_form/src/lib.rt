@@ -2,7 +2,8 @@
 //!
 //! Its lines are listed once: classes, enumerations, then definitions of classes, then functions,
 //! then objects, then definitions of functions. What they declare, in their order, gives each name
-//! its number. Tables hold the number of each declaration, where each enumeration is declared, its
+//! its number; functions of classes with one name and one list of parameters have one number, and
+//! are found by hashing. Tables hold the number of each declaration, where each enumeration is declared, its
 //! enumerators and its printed name, and the objects and the functions of a class in each scope;
 //! each is made in one pass, and the graph keeps the bases of each class, so the time is that of
 //! the declarations, the trees and the text.
@@ -27,6 +28,8 @@ mod heads;
 mod held;
 mod initializers;
 mod lines;
+mod mark;
+mod marked;
 mod members;
 mod names;
 mod numbering;
@@ -37,6 +40,8 @@ mod parts;
 mod production;
 mod rows;
 mod scoped;
+mod shared;
+mod signatures;
 mod slots;
 mod text;
 mod values;

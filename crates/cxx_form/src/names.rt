@@ -24,8 +24,8 @@ use cxx_tree::State;
 use itoa::Buffer;
 use std::alloc::{AllocError, Global};
 
-// What a declared name is made of.
-fn name_stem(name: &Name) -> &[u8]
+/// What a declared name is made of.
+pub(crate) fn name_stem(name: &Name) -> &[u8]
     ensures { (types : List CxxType) → result.now ≡ name_stem_of (name_at types name.now) }
 {
     match name {

@@ -1,11 +1,13 @@
 //! The order in which names stand in the text.
-ghost use Rattle.std.specs.Prelude.{◌≡◌, ◌++◌, [], flat_map, length, IfOk, OnOk};
+ghost use Rattle.std.specs.Prelude.{◌≡◌, ◌++◌, [], flat_map, length, map, IfOk, OnOk};
 ghost use Rattle.cxx_reading.specs.TextOrder.{with_each_new};
 ghost use Rattle.cxx_form.specs.Order.{declared_on, lines as lines_of, text_order};
 ghost use Rattle.cxx_tree.specs.Held.{meaning, trees};
 ghost use Rattle.cxx_form.specs.Giving.{AreEnumerators, AreParts};
 ghost use Rattle.cxx_form.specs.Lines.{line_at, lines_at, numbers_in, AreLinesBelow, IsLineBelow};
 ghost use Rattle.cxx_form.specs.Numbered.{IsNumbering};
+ghost use Rattle.cxx_form.specs.Shared.{representative as representative_of};
+ghost use Rattle.cxx_form.specs.Sharing.{AreShared};
 ghost use Rattle.cxx_form.specs.Views.{facts_in};
 
 use crate::defined::add_defined;
@@ -13,6 +15,7 @@ use crate::lines::Line;
 use crate::members::add_members;
 use crate::numbering::Numbering;
 use crate::rows::Rows;
+use crate::shared::representative;
 use cxx_model::FactId;
 use cxx_tree::State;
 use std::alloc::{AllocError, Global};
@@ -68,13 +71,20 @@ fn declared(
     Ok(found)
 }
 
-// The numbers of declarations in their order, each once.
-fn numbered(numbers: &[FactId], alloc: Global) -> Result<Numbering, AllocError>
-    ensures { IfOk result (λ numbering. IsNumbering (with_each_new [] (numbers_in numbers.now)) numbering.count numbering.slots) }
+// The numbers of declarations in their order, each once; those that have one number stand as one.
+fn numbered(
+    all: &State,
+    firsts: &[FactId],
+    numbers: &[FactId],
+    alloc: Global,
+) -> Result<Numbering, AllocError>
+    requires { AreShared (facts_in all.now) firsts.now }
+    ensures { IfOk result (λ numbering. IsNumbering (with_each_new [] (map (representative_of (facts_in all.now)) (numbers_in numbers.now))) numbering.count numbering.slots) }
 {
+    let _ = all;
     let mut numbering = Numbering::new(alloc);
     for number in numbers {
-        numbering.note(number.0)?;
+        numbering.note(representative(firsts, *number).0)?;
     }
     Ok(numbering)
 }
@@ -82,11 +92,13 @@ fn numbered(numbers: &[FactId], alloc: Global) -> Result<Numbering, AllocError>
 /// The numbers of names in the order in which they stand in the text, given its lines.
 pub(crate) fn numbering(
     state: &State,
+    firsts: &[FactId],
     rows: &Rows,
     parts: &Rows,
     lines: &[Line],
     alloc: Global,
 ) -> Result<Numbering, AllocError>
+    requires firsts { AreShared (facts_in state.now) firsts.now }
     requires rows { AreEnumerators (facts_in state.now) rows.now }
     requires parts { AreParts (facts_in state.now) parts.now }
     requires below { AreLinesBelow (length (trees state.now)) lines.now }
@@ -94,6 +106,6 @@ pub(crate) fn numbering(
     ensures { IfOk result (λ numbering. IsNumbering (text_order (meaning state.now)) numbering.count numbering.slots) }
 {
     let numbers = declared(state, rows, parts, lines, alloc)?;
-    let numbering = numbered(numbers.as_slice(), alloc)?;
+    let numbering = numbered(state, firsts, numbers.as_slice(), alloc)?;
     Ok(numbering)
 }

@@ -73,6 +73,23 @@ pub(crate) fn write_declared_outside(
     write_scoped(book, page, of, class, number)
 }
 
+/// Writes the declaration of a function with a type, behind its class where it is a member (8.3.5, 9.3).
+#[tactic(auto, using(cxx_page::proofs::Put::put_append, crate::proofs::Typed::declared_as), unfolding(cxx_tree::specs::Held::meaning))]
+pub(crate) fn write_declared_function(
+    book: &Book<'_>,
+    page: &mut Page,
+    of: Option<TypeId>,
+    number: FactId,
+) -> Result<(), PlainFault>
+    requires book { IsBook book.now }
+    requires below { IsTypeNumberBelow (length (book.now.state.now).types) of }
+    ensures { Writes result page.new (put (declared (names_of book.now).tags no_cv (type_for book.now of) (function_name_words (names_of book.now) (graph_of book.now) number.0)) page.old) }
+{
+    let declaring = class_declaring(book.state, number);
+    write_front(book, page, of)?;
+    write_scoped(book, page, of, declaring, number)
+}
+
 /// Writes the name of a function, behind its class where it is a member (9.3).
 #[tactic(auto, using(cxx_page::proofs::Put::put_append), unfolding(cxx_tree::specs::Held::meaning))]
 pub(crate) fn write_function_name(

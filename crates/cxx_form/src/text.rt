@@ -6,6 +6,7 @@ ghost use Rattle.cxx_model.specs.Facts.Fitted.{IsEntityBelow, IsTypeNumberBelow}
 ghost use Rattle.cxx_page.specs.Sheets.{Writes, put, put_lines};
 ghost use Rattle.cxx_reading.specs.Plain.{enumeration_words, function_words, type_of_function, type_or_void};
 ghost use Rattle.cxx_form.specs.Books.{facts_of, graph_of, names_of, trees_of, IsBook};
+ghost use Rattle.cxx_form.specs.Called.{called_words};
 ghost use Rattle.cxx_form.specs.Functions.{function_type_by};
 ghost use Rattle.cxx_form.specs.Lines.{AreLinesBelow, IsLineBelow};
 ghost use Rattle.cxx_form.specs.Parts.{lines_written};
@@ -22,6 +23,7 @@ use crate::enumerators::write_enumeration;
 use crate::facts::find;
 use crate::lines::Line;
 use crate::objects::write_object;
+use crate::outside::write_declared_function;
 use crate::words::write_declared;
 use cxx_model::{Entity, EnumId, FactId, TreeId, TypeId};
 use cxx_page::{Page, PlainFault};
@@ -66,16 +68,40 @@ fn write_typed(
     page.word(Role::Follows, b";")
 }
 
-/// Writes the words of a function (8.3.5).
-pub(crate) fn write_function(
+// Writes the words of a function (8.3.5).
+fn write_function(book: &Book<'_>, page: &mut Page, number: FactId) -> Result<(), PlainFault>
+    requires { IsBook book.now }
+    ensures { Writes result page.new (put (function_words (names_of book.now) (facts_of book.now) number.0) page.old) }
+{
+    write_typed(book, page, function_type(book.state, number), number)
+}
+
+#[tactic(auto, using(cxx_page::proofs::Put::put_append))]
+fn write_typed_called(
+    book: &Book<'_>,
+    page: &mut Page,
+    of: Option<TypeId>,
+    number: FactId,
+) -> Result<(), PlainFault>
+    requires book { IsBook book.now }
+    requires below { IsTypeNumberBelow (length (book.now.state.now).types) of }
+    requires is { type_or_void (type_of_option (book.now.state.now).types of) ≡ type_of_function (slice_get (facts_of book.now) number.0) }
+    ensures { Writes result page.new (put (called_words (names_of book.now) (graph_of book.now) number.0) page.old) }
+{
+    write_declared_function(book, page, of, number)?;
+    page.word(Role::Follows, b";")
+}
+
+/// Writes the words of a function that is called, whose name stands behind its class (8.3.5, 9.3).
+pub(crate) fn write_called(
     book: &Book<'_>,
     page: &mut Page,
     number: FactId,
 ) -> Result<(), PlainFault>
     requires { IsBook book.now }
-    ensures { Writes result page.new (put (function_words (names_of book.now) (facts_of book.now) number.0) page.old) }
+    ensures { Writes result page.new (put (called_words (names_of book.now) (graph_of book.now) number.0) page.old) }
 {
-    write_typed(book, page, function_type(book.state, number), number)
+    write_typed_called(book, page, function_type(book.state, number), number)
 }
 
 // Writes the line of an enumeration.

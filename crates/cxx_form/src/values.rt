@@ -1,4 +1,4 @@
-//! The values that classes give to their static constants (9.4.2).
+//! The values that classes give to their static constants (9.4.2), and the 0 of pure functions (10.4).
 ghost use Rattle.std.specs.Prelude.{◌≡◌, ◌<◌, [], ◌∷◌, ◌++◌, codes, length, List};
 ghost use Rattle.std.specs.List.{slice_get};
 ghost use Rattle.cxx_model.specs.Facts.Declarations.{declares_at, type_of_option};
@@ -12,7 +12,7 @@ ghost use Rattle.cxx_reading.specs.Plain.{type_or_void};
 ghost use Rattle.cxx_reading.specs.Words.{close_word, declared, greater_word, keyword_word, less_word, open_word, semicolon_word, value_words};
 ghost use Rattle.cxx_form.specs.Books.{facts_of, names_of, type_for, IsBook};
 ghost use Rattle.cxx_form.specs.Parts as parts;
-ghost use Rattle.cxx_form.specs.Text.{as_enumeration as as_enumeration_of, constant_as, constant_words, value_behind, value_if as value_if_of, value_of_again, value_of_again_by};
+ghost use Rattle.cxx_form.specs.Text.{as_enumeration as as_enumeration_of, constant_as, constant_words, is_pure_by, is_pure_of, value_behind as value_words_behind, value_if as value_if_of, value_of_again, value_of_again_by, zero_if as zero_if_pure};
 ghost use Rattle.cxx_form.specs.Views.{facts_in};
 
 use crate::book::Book;
@@ -54,14 +54,50 @@ fn value_again(state: &State, number: FactId, next: FactId) -> Option<i128>
     }
 }
 
-/// The value that a class gives to a member, by the declarations behind it.
-pub(crate) fn value_next(book: &Book<'_>, number: FactId, others: &[FactId]) -> Option<i128>
-    ensures { result ≡ parts.value_next book.now number others.now }
+// The value of a static constant, by the declarations behind it.
+fn value_behind(book: &Book<'_>, number: FactId, others: &[FactId]) -> Option<i128>
+    ensures { result ≡ parts.value_again book.now number others.now }
 {
     match others {
         [] => None,
         [next, ..] => value_again(book.state, number, *next),
     }
+}
+
+fn is_pure_in(what: Entity) -> bool
+    ensures { (types : List CxxType) → result ≡ is_pure_by (declares_at types what) }
+{
+    match what {
+        Entity::Function { flags, .. } => flags.is_pure,
+        _ => false,
+    }
+}
+
+// Whether a function is pure (10.4).
+fn is_pure(state: &State, number: FactId) -> bool
+    ensures { result ≡ is_pure_of (slice_get (facts_in state.now) number.0) }
+{
+    match find(state, number) {
+        Some(fact) => is_pure_in(fact.what),
+        None => false,
+    }
+}
+
+// The 0 of a pure function, and else a value.
+fn zero_if(is_pure: bool, value: Option<i128>) -> Option<i128>
+    ensures { result ≡ zero_if_pure is_pure value }
+{
+    if is_pure { Some(0) } else { value }
+}
+
+/// The value that a class gives to a member, by the declarations behind it.
+pub(crate) fn value_next(book: &Book<'_>, number: FactId, others: &[FactId]) -> Option<i128>
+    ensures { result ≡ parts.value_next book.now number others.now }
+{
+    zero_if(
+        is_pure(book.state, number),
+        value_behind(book, number, others),
+    )
 }
 
 // ---- enumerations (7.2)
@@ -216,7 +252,7 @@ fn write_value_behind(
 ) -> Result<(), PlainFault>
     requires book { IsBook book.now }
     requires below { IsTypeNumberBelow (length (book.now.state.now).types) of }
-    ensures { Writes result page.new (put (value_behind (names_of book.now) (type_for book.now of) value) page.old) }
+    ensures { Writes result page.new (put (value_words_behind (names_of book.now) (type_for book.now of) value) page.old) }
 {
     let Some(value) = value else {
         return Ok(());
@@ -234,7 +270,7 @@ pub(crate) fn write_value_end(
 ) -> Result<(), PlainFault>
     requires book { IsBook book.now }
     requires below { IsTypeNumberBelow (length (book.now.state.now).types) of }
-    ensures { Writes result page.new (put (value_behind (names_of book.now) (type_for book.now of) value ++ semicolon_word ∷ []) page.old) }
+    ensures { Writes result page.new (put (value_words_behind (names_of book.now) (type_for book.now of) value ++ semicolon_word ∷ []) page.old) }
 {
     write_value_behind(book, page, of, value)?;
     page.word(Role::Follows, b";")

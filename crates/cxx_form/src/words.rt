@@ -11,6 +11,7 @@ ghost use Rattle.cxx_form.specs.Books.{names_of, type_for, IsBook};
 
 use crate::book::Book;
 use crate::names::stem_at;
+use crate::shared::representative;
 use cxx_model::{Cv, FactId, TypeId};
 use cxx_page::{
     Page, PlainFault, write_declaration_back, write_declaration_front, write_name as write_printed,
@@ -45,11 +46,12 @@ pub(crate) fn write_name(book: &Book<'_>, page: &mut Page, number: FactId) -> Re
     requires { IsBook book.now }
     ensures { Writes result page.new (put (name_word ((names_of book.now).name_of number.0) ∷ []) page.old) }
 {
+    let first = representative(book.firsts, number);
     write_printed(
         page,
         Role::Named,
-        stem_at(book.state, number),
-        book.numbering.number(number.0),
+        stem_at(book.state, first),
+        book.numbering.number(first.0),
     )
 }
 

@@ -1,5 +1,5 @@
 -- How a class is defined among the specifiers of a declaration (clause 9): its head, and its members up to its end.
-use Rattle.std.specs.Prelude.{ℕ, zero, suc, Bool, true, false, not, ◌&&◌, ◌||◌, if◌then◌else◌, List, [], ◌∷◌, ◌++◌, length, Option, Some, None}
+use Rattle.std.specs.Prelude.{ℕ, zero, suc, Bool, true, false, not, ◌&&◌, ◌||◌, if◌then◌else◌, List, [], ◌∷◌, ◌++◌, length, codes, Option, Some, None}
 use Rattle.std.specs.Str.{bytes_eq}
 use Rattle.cxx_model.specs.declared.facts.Access.{Access}
 use Rattle.cxx_model.specs.declared.facts.Access.TheVariants as access
@@ -16,7 +16,7 @@ use Rattle.cxx_model.specs.Text.Lexemes.{Lexeme}
 use Rattle.cxx_model.specs.Types.Trees.{CxxType, class_type}
 use Rattle.cxx_reading.specs.declared.specifier.Naming.TheVariants as naming
 use Rattle.cxx_reading.specs.declared.specifier.SpecifierPlace.TheVariants as where_
-use Rattle.cxx_reading.specs.Declarators.{Specifiers, Declarator, has_type, is_function_type, is_reference, member_type, no_cv}
+use Rattle.cxx_reading.specs.Declarators.{Specifiers, Declarator, has_type, is_function_type, is_reference, member_type, no_cv, own_parameters}
 use Rattle.cxx_reading.specs.Labels.{label_from}
 use Rattle.cxx_reading.specs.Productions as production
 use Rattle.cxx_reading.specs.Reads.{Reads, Ahead, Asks, Turn, More, Done, ◌>>=◌, got, give, ask, fault_at, limited, looked, taken, tokens, kind_ahead, place_ahead, word_ahead, count_ahead, behind, repeat}
@@ -24,13 +24,16 @@ use Rattle.cxx_reading.specs.Specifiers.{class_key, path_of_option, place_or, sp
 use Rattle.cxx_reading.specs.State.{CxxState}
 use Rattle.cxx_reading.specs.Syntax.{declarator_at}
 use Rattle.cxx_declare.specs.Outside.{stand_in}
-use Rattle.cxx_reading.specs.Tokens.{begins_name, is_plain_name, is_punct, is_keyword, is_name, not_built, path_taken, punct_taken, refused, token_in}
-use Rattle.cxx_reading.specs.Trees.{CxxPath, CxxTree, last_part, tree_of}
-use Rattle.cxx_reading.specs.Units.{Said, Listed, declarator_ended, declarator_tree, declared_fits, give_trees, is_const_type, is_incomplete, is_unbounded, name_in, no_declarators, nothing_declared, said_by, simple_tree, specifiers_tree}
+use Rattle.cxx_reading.specs.Tokens.{begins_name, is_plain_name, is_punct, is_keyword, is_name, is_number, not_built, path_taken, punct_taken, refused, token_in}
+use Rattle.cxx_reading.specs.Trees.{CxxPath, CxxTree, in_turn, last_part, tree_of}
+use Rattle.cxx_reading.specs.Units.{Said, Listed, declarator_tree, declared_fits, give_trees, is_const_type, is_incomplete, is_unbounded, name_in, no_declarators, nothing_declared, said_by, simple_tree, specifiers_tree}
+use Rattle.cxx_later.specs.Waiting.{waiting_in}
+use Rattle.cxx_declare.specs.declared.class_definitions.MemberWords.{MemberWords}
 use Rattle.cxx_declare.specs.Bases.{BaseOf, declare_base}
 use Rattle.cxx_declare.specs.ClassDefinitions.{begin_class, begin_unnamed, declare_member, end_class}
 use Rattle.cxx_language.specs.Asked.{asked, inner_at}
 use Rattle.cxx_language.specs.Bodies.{standing}
+use Rattle.cxx_language.specs.Later.{Declares, all_read, alone, ended_by, member_body}
 use Rattle.cxx_language.specs.Synonyms.{bare_synonym}
 use Rattle.cxx_language.specs.Values.{member_value}
 
@@ -92,15 +95,12 @@ unfoldable pub whole_member : Bool → Lexeme → CxxType → Reads CxxState (Un
 whole_member is_static name of state ahead =
     if not is_static && (is_unbounded of || is_incomplete state.graph of) then fault_at name.place says.IncompleteClass state ahead else got tt state ahead
 
--- 9.3: the body of a function of a class is not read yet; 15: exceptions are left out
-abbrev pub no_function_body : Reads CxxState (Unit {0})
-no_function_body state ahead =
-    if is_punct punct.LEFT_BRACE (kind_ahead ahead) then not_built state ahead else (
-    if is_keyword keyword.TRY (kind_ahead ahead) then fault_at (place_ahead ahead) (says.LeftOut form.Exception) state ahead else
-    got tt state ahead)
-
-abbrev pub no_body : CxxType → Reads CxxState (Unit {0})
-no_body of state ahead = if is_function_type of then no_function_body state ahead else got tt state ahead
+-- what stands before a member: the label, and whether the word `virtual` does
+pub record Labelled : Type 0 where
+  -- 11.1
+  pub access : Access
+  -- 10.3
+  pub is_virtual : Bool
 
 -- 9.3.1: a static function has no words behind its parameters
 abbrev pub words_of : Said → Declarator → Cv
@@ -114,17 +114,61 @@ type_of_member said declarator = member_type (words_of said declarator) declarat
 abbrev pub is_mutable_member : Said → CxxType → Bool
 is_mutable_member said of = said.is_mutable && not (is_reference of || is_const_type of)
 
+-- 10.3: a function that belongs to an object is virtual where the word stands before it
+abbrev pub is_virtual_member : Bool → Said → CxxType → Bool
+is_virtual_member is_virtual said of = is_virtual && (not said.is_static && is_function_type of)
+
+-- 2.13.1: the literal that is spelled `0`
+abbrev pub is_zero : Ahead → Bool
+is_zero ahead = is_number (kind_ahead ahead) && bytes_eq (word_ahead ahead) (codes "0")
+
+-- 10.4 p2: whether `= 0` stands behind a virtual function
+abbrev pub begins_pure : Bool → Ahead → Bool
+begins_pure is_virtual ahead = is_virtual && (is_punct punct.EQUALS (kind_ahead ahead) && is_zero (behind ahead))
+
+-- nothing is taken yet
+abbrev pub pure_ahead : Bool → Reads CxxState Bool
+pure_ahead is_virtual state ahead = got (begins_pure is_virtual ahead) state ahead
+
+-- what is said of a member with a type
+abbrev pub words_of_member : Labelled → Said → CxxType → Bool → MemberWords
+words_of_member label said of is_pure = record { access = label.access; is_static = said.is_static; is_mutable = is_mutable_member said of; is_virtual = is_virtual_member label.is_virtual said of; is_pure = is_pure }
+
+-- `= 0`, taken
+unfoldable pub pure_taken : Reads CxxState (List CxxTree)
+pure_taken = do
+  equals ← taken
+  nothing ← taken
+  give []
+
+-- 9.4.2, 10.4: behind the declarator of a member
+abbrev pub value_or_pure : Bool → ℕ → Bool → Lexeme → CxxType → ℕ → Reads CxxState (List CxxTree)
+value_or_pure true room is_static name of number = pure_taken
+value_or_pure false room is_static name of number = member_value room is_static name of number
+
+-- 10.4 p2: one that is pure has no body there
+abbrev pub body_unless_pure : Bool → Bool → CxxType → CxxTree → Option ℕ → Reads CxxState (List CxxTree)
+body_unless_pure true is_first of declarator list = give []
+body_unless_pure false is_first of declarator list = member_body is_first of declarator list
+
+-- what a declarator of a member leads to, given its tree
+abbrev pub with_tree : CxxTree → List CxxTree → Declares
+with_tree tree body = record { tree = tree; body = body }
+
+unfoldable pub declared_behind : Bool → Bool → CxxType → Option ℕ → CxxTree → Reads CxxState Declares
+declared_behind is_pure is_first of list tree = body_unless_pure is_pure is_first of tree list >>= λ body. give (with_tree tree body)
+
 -- a data member or a function, given its declarator
-unfoldable pub data_member : ℕ → Access → Said → Declarator → Ahead → Reads CxxState CxxTree
-data_member room label said declarator from = do
+unfoldable pub data_member : ℕ → Labelled → Said → Bool → Declarator → Ahead → Reads CxxState Declares
+data_member room label said is_first declarator from = do
   narrow ← no_bit_field (name_in declarator)
   fits ← declared_fits said declarator
-  number ← ask (declare_member label said.is_static (is_mutable_member said (type_of_member said declarator)) (name_in declarator) (type_of_member said declarator))
+  is_pure ← pure_ahead (is_virtual_member label.is_virtual said (type_of_member said declarator))
+  number ← ask (declare_member (words_of_member label said (type_of_member said declarator) is_pure) (name_in declarator) (type_of_member said declarator))
   whole ← whole_member said.is_static (name_in declarator) (type_of_member said declarator)
-  value ← member_value room said.is_static (name_in declarator) (type_of_member said declarator) number
-  bare ← no_body (type_of_member said declarator)
+  value ← value_or_pure is_pure room said.is_static (name_in declarator) (type_of_member said declarator) number
   to ← looked
-  give (declarator_tree false (name_in declarator) (type_of_member said declarator) number (declarator.parts ++ value) from to)
+  declared_behind is_pure is_first (type_of_member said declarator) (own_parameters declarator.layers) (declarator_tree false (name_in declarator) (type_of_member said declarator) number (declarator.parts ++ value) from to)
 
 -- 7.1.3: a name of a type, given its declarator
 unfoldable pub synonym_member : Said → Declarator → Ahead → Reads CxxState CxxTree
@@ -132,25 +176,25 @@ synonym_member said declarator from = do
   fits ← declared_fits said declarator
   bare_synonym said declarator from
 
-unfoldable pub declared_member : ℕ → Access → Said → Declarator → Ahead → Reads CxxState CxxTree
-declared_member room label said declarator from state ahead =
-    if said.is_typedef then synonym_member said declarator from state ahead else data_member room label said declarator from state ahead
+unfoldable pub declared_member : ℕ → Labelled → Said → Bool → Declarator → Ahead → Reads CxxState Declares
+declared_member room label said is_first declarator from state ahead =
+    if said.is_typedef then (synonym_member said declarator from >>= alone) state ahead else data_member room label said is_first declarator from state ahead
 
-unfoldable pub named_member_at : ℕ → Access → Said → Reads CxxState CxxTree
-named_member_at room label said = do
+unfoldable pub named_member_at : ℕ → Labelled → Said → Bool → Reads CxxState Declares
+named_member_at room label said is_first = do
   from ← looked
   declarator ← declarator_at (asked room).kinds (inner_at room).types naming.Required
-  declared_member room label said declarator from
+  declared_member room label said is_first declarator from
 
 -- 9.6: a bit-field may have no name
-unfoldable pub member_at : ℕ → Access → Said → Reads CxxState CxxTree
-member_at room label said state ahead =
-    if is_punct punct.COLON (kind_ahead ahead) then fault_at (place_ahead ahead) (says.LeftOut form.BitField) state ahead else named_member_at room label said state ahead
+unfoldable pub member_at : ℕ → Labelled → Said → Bool → Reads CxxState Declares
+member_at room label said is_first state ahead =
+    if is_punct punct.COLON (kind_ahead ahead) then fault_at (place_ahead ahead) (says.LeftOut form.BitField) state ahead else named_member_at room label said is_first state ahead
 
-unfoldable pub member_step : ℕ → Access → Said → Listed → Reads CxxState (Turn Listed (List CxxTree))
-member_step room label said so_far = member_at room label said >>= declarator_ended so_far
+unfoldable pub member_step : ℕ → Labelled → Said → Listed → Reads CxxState (Turn Listed (List CxxTree))
+member_step room label said so_far = member_at room label said so_far.is_first >>= ended_by so_far
 
-unfoldable pub members_by : ℕ → Access → Specifiers → Reads CxxState (List CxxTree)
+unfoldable pub members_by : ℕ → Labelled → Specifiers → Reads CxxState (List CxxTree)
 members_by room label specifiers state ahead =
     if is_punct punct.SEMICOLON (kind_ahead ahead) then nothing_declared specifiers state ahead else
     repeat (member_step room label (said_by false specifiers)) give_trees (count_ahead ahead) no_declarators state ahead
@@ -167,12 +211,26 @@ nested_or_not nested room so_far state ahead =
 unfoldable pub member_specifiers_by : (Specifiers → Reads CxxState Specifiers) → ℕ → Reads CxxState Specifiers
 member_specifiers_by nested room = specifiers_at (asked room).kinds (inner_at room).types where_.Member >>= nested_or_not nested room
 
+-- 7.1.2: the word `virtual`, taken where it stands ahead
+abbrev pub begins_virtual : Ahead → Bool
+begins_virtual ahead = is_keyword keyword.VIRTUAL (kind_ahead ahead)
+
+abbrev pub behind_virtual : Ahead → Ahead
+behind_virtual ahead = if begins_virtual ahead then behind ahead else ahead
+
+abbrev pub virtual_or_not : Reads CxxState Bool
+virtual_or_not state ahead = got (begins_virtual ahead) state (behind_virtual ahead)
+
+abbrev pub labelled : Access → Bool → Labelled
+labelled label is_virtual = record { access = label; is_virtual = is_virtual }
+
 unfoldable pub member_declaration_by : (Specifiers → Reads CxxState Specifiers) → ℕ → Access → Reads CxxState CxxTree
 member_declaration_by nested room label = do
   from ← looked
+  is_virtual ← virtual_or_not
   specifiers ← member_specifiers_by nested room
   between ← looked
-  declarators ← members_by room label specifiers
+  declarators ← members_by room (labelled label is_virtual) specifiers
   to ← looked
   give (simple_tree (specifiers_tree specifiers from between) declarators from to)
 
@@ -214,12 +272,16 @@ comes_later name ahead = begins_other (kind_ahead ahead) || begins_constructor n
 abbrev pub behind_inline : Ahead → Ahead
 behind_inline ahead = if is_keyword keyword.INLINE (kind_ahead ahead) then behind ahead else ahead
 
+-- the same behind `virtual`
+abbrev pub behind_words : Ahead → Ahead
+behind_words ahead = behind_inline (behind_virtual ahead)
+
 abbrev pub with_member : CxxTree → Members → Members
 with_member tree so_far = record so_far { trees = so_far.trees ++ tree ∷ [] }
 
 unfoldable pub declared_step : (Specifiers → Reads CxxState Specifiers) → ℕ → Option Lexeme → Members → Reads CxxState (Turn Members (List CxxTree))
 declared_step nested room name so_far state ahead =
-    if comes_later name (behind_inline ahead) then not_built state (behind_inline ahead) else
+    if comes_later name (behind_words ahead) then not_built state (behind_words ahead) else
     (member_declaration_by nested room so_far.access >>= λ tree. give (More (with_member tree so_far))) state ahead
 
 -- a member, a label, `;` alone, or the end of the list
@@ -361,11 +423,23 @@ member_declaration_at room = member_declaration_by (class_at room) room
 abbrev pub member_specifiers : ℕ → Reads CxxState Specifiers
 member_specifiers room = member_specifiers_by (class_at room) room
 
+abbrev pub with_parts : Specifiers → List CxxTree → Specifiers
+with_parts so_far parts = record so_far { parts = so_far.parts ++ parts }
+
+-- 9.2 p2: a class that stands in no other one, with the bodies of the functions in it
+unfoldable pub class_whole : ℕ → Specifiers → Reads CxxState Specifiers
+class_whole room so_far = do
+  from ← looked
+  one ← class_at room so_far
+  to ← looked
+  bodies ← all_read from to (waiting_in room (in_turn one.parts))
+  give (with_parts one bodies)
+
 -- behind those that were read: with a class, where one is defined there
 unfoldable pub class_or_not : ℕ → Specifiers → Reads CxxState Specifiers
 class_or_not room so_far state ahead =
     if has_type so_far then got so_far state ahead else
-    (class_at room so_far >>= specifiers_from (asked room).kinds (inner_at room).types where_.Declaration) state ahead
+    (class_whole room so_far >>= specifiers_from (asked room).kinds (inner_at room).types where_.Declaration) state ahead
 
 -- 7.1.5: the specifiers of a declaration of a namespace
 unfoldable pub declaration_specifiers : ℕ → Reads CxxState Specifiers

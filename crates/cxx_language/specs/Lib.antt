@@ -13,6 +13,7 @@ pub mod Blocks
 pub mod Statements
 pub mod Bodies
 pub mod Values
+pub mod Later
 pub mod Classes
 pub mod Units
 pub mod Views

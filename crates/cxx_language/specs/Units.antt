@@ -22,25 +22,18 @@ use Rattle.cxx_reading.specs.State.{CxxState, first_state}
 use Rattle.cxx_reading.specs.Syntax.{declarator_at}
 use Rattle.cxx_reading.specs.Tokens.{is_punct, is_keyword, is_end, no_declaration, refused}
 use Rattle.cxx_reading.specs.Trees.{CxxTree, tree_of}
-use Rattle.cxx_reading.specs.Units.{CxxReading, Said, Listed, read_as, part_added, specifiers_tree, declarator_tree, name_in, declared_fits, ends_declarator, one_tree, declarator_ended, with_declarator, give_trees, no_declarators, nothing_declared, said_by, empty_tree, another_ahead, linkages_passed, linkage_list, linked_tree, inside_step}
+use Rattle.cxx_reading.specs.Units.{CxxReading, Said, Listed, read_as, part_added, specifiers_tree, declarator_tree, name_in, declared_fits, ends_declarator, one_tree, give_trees, no_declarators, nothing_declared, said_by, empty_tree, another_ahead, linkages_passed, linkage_list, linked_tree, inside_step}
 use Rattle.cxx_declare.specs.Functions.{declare_function}
 use Rattle.cxx_statements.specs.Productions as statement
 use Rattle.cxx_language.specs.Asked.{asked, inner_at}
 use Rattle.cxx_language.specs.Bodies.{function_body, standing}
 use Rattle.cxx_language.specs.Classes.{declaration_specifiers}
+use Rattle.cxx_language.specs.Later.{Declares, alone, ended_by}
 use Rattle.cxx_language.specs.Made.{defined_object, extern_object}
 use Rattle.cxx_language.specs.Spaces.{namespace_at, using_at}
 use Rattle.cxx_language.specs.Synonyms.{bare_synonym}
 
 -- ---- one declarator (8, 8.5)
-
--- what a declarator leads to: its tree, and the body of the function that it defines
-pub record Declares : Type 0 where
-  pub tree : CxxTree
-  pub body : List CxxTree
-
-abbrev pub alone : CxxTree → Reads CxxState Declares
-alone tree = give (record { tree = tree; body = [] })
 
 -- 8.4: behind the first declarator of a declaration, where it has its own list of parameters, a body may stand
 abbrev pub behind_list : ℕ → Lexeme → CxxType → ℕ → Option ℕ → Reads CxxState (List CxxTree)
@@ -111,14 +104,6 @@ init_declarator_at room said is_first = do
   give one
 
 -- ---- simple declarations (clause 7)
-
--- behind a body a declaration has ended
-abbrev pub ended_behind : Listed → CxxTree → List CxxTree → Reads CxxState (Turn Listed (List CxxTree))
-ended_behind so_far tree [] = declarator_ended so_far tree
-ended_behind so_far tree (body ∷ others) = give (Done ((with_declarator tree so_far).trees ++ body ∷ []))
-
-abbrev pub ended_by : Listed → Declares → Reads CxxState (Turn Listed (List CxxTree))
-ended_by so_far one = ended_behind so_far one.tree one.body
 
 unfoldable pub declarator_step : ℕ → Said → Listed → Reads CxxState (Turn Listed (List CxxTree))
 declarator_step room said so_far = init_declarator_at room said so_far.is_first >>= ended_by so_far

@@ -1,5 +1,5 @@
 -- Where the reading of a class stops, and of the specifiers among which it is defined.
-use Rattle.std.proofs.Common.{arith, ◌≡◌, refl}
+use Rattle.std.proofs.Common.{arith, ◌≡◌, refl, subst}
 use Rattle.std.specs.Prelude.{ℕ, zero, suc, Bool, true, false, not, ◌&&◌, ◌||◌, if◌then◌else◌, List, [], Option, Some, None, Ok, Err, ◌++◌}
 use Rattle.cxx_model.specs.declared.facts.Access.{Access}
 use Rattle.cxx_model.specs.declared.fault.FaultText.TheVariants as says
@@ -12,31 +12,34 @@ use Rattle.cxx_model.specs.Text.Lexemes.{Lexeme}
 use Rattle.cxx_model.specs.Types.Trees.{CxxType}
 use Rattle.cxx_reading.specs.declared.specifier.SpecifierPlace.{SpecifierPlace}
 use Rattle.cxx_reading.specs.declared.specifier.SpecifierPlace.TheVariants as where_
-use Rattle.cxx_reading.specs.Declarators.{Declarator, Specifiers, declared_type, has_type, is_function_type, is_void, refused_in, is_refused}
+use Rattle.cxx_reading.specs.Declarators.{Declarator, Specifiers, declared_type, has_type, is_function_type, is_void, own_parameters, refused_in, is_refused}
 use Rattle.cxx_reading.specs.Declaring.{at_scope}
 use Rattle.cxx_declare.specs.Outside.{stand_in}
 use Rattle.cxx_reading.specs.Reads.{Ahead, Got, Reads, More, Done, ◌>>=◌, then_read, answered, ask, taken, looked, give, count_ahead, kind_ahead, place_ahead, behind, fault_at, got}
+use Rattle.cxx_reading.specs.Shapes.{closes, opens}
 use Rattle.cxx_reading.specs.State.{CxxState}
 use Rattle.cxx_reading.specs.Specifiers.{place_or}
-use Rattle.cxx_reading.specs.Tokens.{is_keyword, is_name, is_punct, begins_name, is_plain_name}
+use Rattle.cxx_reading.specs.Tokens.{is_end, is_keyword, is_name, is_punct, begins_name, is_plain_name}
 use Rattle.cxx_reading.specs.Trees.{CxxTree}
 use Rattle.cxx_reading.specs.Units.{Listed, Said, declared_fits, declarator_tree, give_trees, is_incomplete, is_unbounded, name_in, no_declarators, said_by, simple_tree, specifiers_tree}
 use Rattle.cxx_declare.specs.ClassDefinitions.{end_class, declare_member}
-use Rattle.cxx_language.specs.Classes.{BaseList, Head, Members, access_by, access_step, access_word, bases_at, bases_in, bases_or_none, begins_by, behind_bases, behind_name, class_at, class_begins, class_by, class_or_not, class_tree, comes_later, data_member, declaration_specifiers, declared_member, declared_step, give_members, head_at, is_mutable_member, is_none, key_access, list_at, list_step, list_step_by, member_at, member_declaration_at, member_declaration_by, member_step, member_specifiers, member_specifiers_by, members_by, name_ahead, named_member_at, nested_or_not, no_anonymous_union, no_bit_field, synonym_member, whole_member, with_class, with_member, no_body, type_of_member, behind_inline}
-use Rattle.cxx_language_laws.specs.Stopping.{BeginsClass, Gives, NamesBases, a_class, a_member_declaration, a_simple_declaration, begins_class, behind_class, behind_member_class, further_specifiers_of, in_bases, in_class, in_member, in_member_declarator, in_member_specifiers, in_specifiers, names_bases, next_member, next_member_declarator, some_bases, some_further_specifiers, some_member_declarators, some_members, to_class, to_member_class, to_member_declarators, Leads, a_member_value, declarator_of, to_member_value, Part}
+use Rattle.cxx_language.specs.Classes.{BaseList, Head, Members, access_by, access_step, access_word, bases_at, bases_in, bases_or_none, begins_by, behind_bases, behind_name, class_at, class_begins, class_by, class_tree, comes_later, data_member, declared_member, declared_step, give_members, head_at, is_mutable_member, is_none, key_access, list_at, list_step, list_step_by, member_at, member_declaration_at, member_declaration_by, member_step, member_specifiers, member_specifiers_by, members_by, name_ahead, named_member_at, nested_or_not, no_anonymous_union, no_bit_field, synonym_member, whole_member, with_class, with_member, type_of_member, Labelled, begins_pure, begins_virtual, behind_virtual, behind_words, body_unless_pure, declared_behind, is_virtual_member, labelled, pure_ahead, pure_taken, value_or_pure, with_tree, words_of_member}
+use Rattle.cxx_language.specs.Later.{Declares, list_then_body, member_body}
+use Rattle.cxx_later.specs.Passing.{body_later, body_passed, closes_by, innermost, never_closed, passed_tree, passing_step}
+use Rattle.cxx_language_laws.specs.Stopping.{BeginsClass, Gives, NamesBases, a_class, a_member_declaration, begins_class, behind_member_class, further_specifiers_of, in_bases, in_class, in_member, in_member_declarator, in_member_specifiers, names_bases, next_member, next_member_declarator, some_bases, some_further_specifiers, some_member_declarators, some_members, to_member_class, to_member_declarators, Leads, a_member_value, declarator_of, to_member_value, Part}
 use Rattle.cxx_language_laws.specs.Told.{EndsIn}
 use Rattle.cxx_language_laws.proofs.Asked.{kinds_tell}
 use Rattle.cxx_language_laws.proofs.Bases.{bases_stop}
 use Rattle.cxx_language_laws.proofs.Both.{both_tell}
 use Rattle.cxx_language_laws.proofs.ClassBegins.{begin_tells, end_tells, member_tells, unnamed_tells, member_is_there}
-use Rattle.cxx_language_laws.proofs.Declared.{bare_synonym_tells, declarator_ended_tells, give_trees_tells, nothing_tells}
+use Rattle.cxx_language_laws.proofs.Declared.{alone_tells, bare_synonym_tells, ended_by_tells, give_trees_tells, nothing_tells, one_tree_tells}
 use Rattle.cxx_language_laws.proofs.DeclaratorsStop.{declarator_stops, specifiers_stop, fits_stops}
 use Rattle.cxx_language_laws.proofs.Later.{IsLater, grown_later, grown_same, later_is_kept, later_is_quiet, same_calls}
 use Rattle.cxx_language_laws.proofs.Opened.{InSpace, round_grown, stands_in}
 use Rattle.cxx_language_laws.proofs.Reached.{behind_by_later, count_more, later_is_told}
 use Rattle.cxx_language_laws.proofs.Scopes.{scope_is_there, scopes_at}
-use Rattle.cxx_language_laws.proofs.Stopping.{ChainedOf, Inside, InsideBy, Stops, calm, calm_from, innermost_stops, leads_here, leads_in, quiet_told, repeat_stops, then_calm, told_within, which_in, whole_calm, whole_stops, within_part, then_asked}
-use Rattle.cxx_language_laws.proofs.Tells.{Quietly, Tells, ToldBy, ask_from, behind_stands, ends_later, give_in, if_in, looked_in, next_in, past_stands, punct_in, quiet_in, same_in, taken_in, tells_answer, tells_read, tells_refusal, tells_stop, then_from, then_in, tokens_in, unit_is_told, nothing, saying}
+use Rattle.cxx_language_laws.proofs.Stopping.{ChainedOf, Inside, InsideBy, Stops, calm, calm_from, innermost_stops, later_here, leads_here, leads_in, quiet_told, repeat_stops, then_calm, told_within, which_in, whole_calm, whole_stops, within_part, then_asked}
+use Rattle.cxx_language_laws.proofs.Tells.{Quietly, Tells, ToldBy, ask_from, behind_stands, ends_later, give_in, if_in, looked_in, next_in, past_stands, punct_in, quiet_in, same_in, taken_in, tells_answer, tells_read, tells_refusal, tells_stop, then_from, then_in, tokens_in, unit_is_told, nothing, saying, Always, repeat_tells, whole_stands}
 use Rattle.cxx_language_laws.proofs.TellsSpecifiers.{further_tell}
 use Rattle.cxx_language.specs.Values.{constant_part, has_value, member_value}
 use Rattle.cxx_model.specs.declared.fault.FaultText.{FaultText}
@@ -49,8 +52,49 @@ no_bit_field_tells : (name : Lexeme) → Tells IsLater Quietly (no_bit_field nam
 unfolding no_bit_field
 no_bit_field_tells name state ahead = if_in (is_punct punct.COLON (kind_ahead ahead)) (quiet_in later_is_quiet refl) (same_in later_is_quiet tt state ahead)
 
-no_body_tells : (of : CxxType) → Tells IsLater Quietly (no_body of)
-no_body_tells of state ahead = if_in (is_function_type of) (if_in (is_punct punct.LEFT_BRACE (kind_ahead ahead)) (quiet_in later_is_quiet refl) (if_in (is_keyword keyword.TRY (kind_ahead ahead)) (quiet_in later_is_quiet refl) (same_in later_is_quiet tt state ahead))) (same_in later_is_quiet tt state ahead)
+passing_tells : (closers : List ℕ) → Tells Always Quietly (passing_step closers)
+unfolding passing_step
+passing_tells closers state ahead =
+    if_in (is_end (kind_ahead ahead)) (quiet_in unit_is_told refl) (
+    if_in (opens (kind_ahead ahead)) (next_in unit_is_told _ state ahead) (
+    if_in (not (closes (kind_ahead ahead))) (next_in unit_is_told _ state ahead) (
+    if_in (closes_by (innermost closers) (kind_ahead ahead)) (next_in unit_is_told _ state ahead) (quiet_in unit_is_told refl))))
+
+passed_tells : Tells Always Quietly body_passed
+unfolding body_passed
+passed_tells state ahead = repeat_tells unit_is_told passing_step never_closed passing_tells (λ closers state ahead. quiet_in unit_is_told refl) _ _ state _
+
+body_later_tells : (list : ℕ) (declarator : CxxTree) → Tells IsLater Quietly (body_later list declarator)
+unfolding body_later
+body_later_tells list declarator state ahead =
+    then_in later_is_quiet (looked_in later_is_quiet state ahead) (λ from state ahead.
+    then_in later_is_quiet (tokens_in later_is_quiet passed_tells state ahead) (λ passed state ahead.
+    then_in later_is_quiet (looked_in later_is_quiet state ahead) (λ to. give_in later_is_quiet (passed_tree list declarator from to))))
+
+list_then_body_tells : (declarator : CxxTree) (list : Option ℕ) → Tells IsLater Quietly (list_then_body declarator list)
+list_then_body_tells declarator None state ahead = quiet_in later_is_quiet refl
+list_then_body_tells declarator (Some list) state ahead = then_in later_is_quiet (body_later_tells list declarator state ahead) one_tree_tells
+
+member_body_tells : (is_first : Bool) (of : CxxType) (declarator : CxxTree) (list : Option ℕ) → Tells IsLater Quietly (member_body is_first of declarator list)
+unfolding member_body
+member_body_tells is_first of declarator list state ahead =
+    if_in (not (is_function_type of)) (same_in later_is_quiet [] state ahead) (
+    if_in (is_punct punct.LEFT_BRACE (kind_ahead ahead)) (if_in is_first (list_then_body_tells declarator list state ahead) (quiet_in later_is_quiet refl)) (
+    if_in (is_keyword keyword.TRY (kind_ahead ahead)) (quiet_in later_is_quiet refl) (same_in later_is_quiet [] state ahead)))
+
+unless_pure_tells : (is_pure is_first : Bool) (of : CxxType) (declarator : CxxTree) (list : Option ℕ) → Tells IsLater Quietly (body_unless_pure is_pure is_first of declarator list)
+unless_pure_tells true is_first of declarator list = give_in later_is_quiet []
+unless_pure_tells false is_first of declarator list = member_body_tells is_first of declarator list
+
+behind_tells : (is_pure is_first : Bool) (of : CxxType) (list : Option ℕ) (tree : CxxTree) → Tells IsLater Quietly (declared_behind is_pure is_first of list tree)
+unfolding declared_behind
+behind_tells is_pure is_first of list tree state ahead = then_in later_is_quiet (unless_pure_tells is_pure is_first of tree list state ahead) (λ body. give_in later_is_quiet (with_tree tree body))
+
+pure_tells : Tells IsLater Quietly pure_taken
+unfolding pure_taken
+pure_tells state ahead =
+    then_in later_is_quiet (taken_in later_is_quiet state ahead) (λ equals state ahead.
+    then_in later_is_quiet (taken_in later_is_quiet state ahead) (λ nothing. give_in later_is_quiet []))
 
 whole_member_tells : (is_static : Bool) (name : Lexeme) (of : CxxType) → Tells IsLater Quietly (whole_member is_static name of)
 unfolding whole_member
@@ -80,63 +124,89 @@ unless_stops {part = part} {state = state} {ahead = ahead} true place text quiet
 unless_stops false place text quiet go after rest stops = stops
 
 -- behind what is declared
-abbrev behind_member : ℕ → Bool → Lexeme → CxxType → List CxxTree → Ahead → ℕ → Reads CxxState CxxTree
-behind_member room is_static name of parts from number = whole_member is_static name of >>= λ whole. member_value room is_static name of number >>= λ value. no_body of >>= λ bare. looked >>= λ to. give (declarator_tree false name of number (parts ++ value) from to)
+abbrev behind_member : Bool → Bool → Option ℕ → ℕ → Bool → Lexeme → CxxType → List CxxTree → Ahead → ℕ → Reads CxxState Declares
+behind_member is_pure is_first list room is_static name of parts from number =
+    whole_member is_static name of >>= λ whole. value_or_pure is_pure room is_static name of number >>= λ value. looked >>= λ to. declared_behind is_pure is_first of list (declarator_tree false name of number (parts ++ value) from to)
 
-data_member_stops : (room : ℕ) (label : Access) (said : Said) (so_far : Listed) (state : CxxState) (ahead : Ahead) (declarator : Declarator) (after : CxxState) (rest : Ahead) → declarator_of room naming.Required state ahead ≡ Ok (record { value = declarator; state = after; rest = rest }) → said.is_typedef ≡ false → IsLater state after → EndsIn ahead.tokens rest.tokens
-    → Inside (some_member_declarators room label said so_far) state ahead (data_member room label said declarator ahead after rest)
-unfolding data_member no_bit_field whole_member
+-- the value of a member in its class, or `= 0`
+value_or_pure_stops : {part : Part} {state : CxxState} {ahead : Ahead} (after : CxxState) (rest : Ahead) (is_pure : Bool) (room : ℕ) (is_static : Bool) (name : Lexeme) (of : CxxType) (number : ℕ) → HasNumber number after
+    → (is_pure ≡ false → has_value is_static of (kind_ahead rest) ≡ true → Leads part state ahead (a_member_value room name of number) after rest) → IsLater state after → EndsIn ahead.tokens rest.tokens
+    → Inside part state ahead (value_or_pure is_pure room is_static name of number after rest)
+value_or_pure_stops after rest true room is_static name of number there leads later stands = calm_from later stands (pure_tells after rest)
+value_or_pure_stops after rest false room is_static name of number there leads later stands = member_value_stops after rest room is_static name of number there (leads refl) later stands
+
+-- where it is known whether it is pure
+member_with_stops : (room : ℕ) (label : Labelled) (said : Said) (so_far : Listed) (state : CxxState) (ahead : Ahead) (declarator : Declarator) (after : CxxState) (rest : Ahead) (is_pure : Bool) → declarator_of room naming.Required state ahead ≡ Ok (record { value = declarator; state = after; rest = rest }) → said.is_typedef ≡ false → IsLater state after → EndsIn ahead.tokens rest.tokens
+    → Inside (some_member_declarators room label said so_far) state ahead ((ask (declare_member (words_of_member label said (type_of_member said declarator) is_pure) (name_in declarator) (type_of_member said declarator)) >>= behind_member is_pure so_far.is_first (own_parameters declarator.layers) room said.is_static (name_in declarator) (type_of_member said declarator) declarator.parts ahead) after rest)
+unfolding whole_member
+member_with_stops room label said so_far state ahead declarator after rest is_pure gives plain later stands =
+    let name = name_in declarator in
+    let of = type_of_member said declarator in
+    let words = words_of_member label said of is_pure in
+    let question = declare_member words name of in
+    let behind = behind_member is_pure so_far.is_first (own_parameters declarator.layers) room said.is_static name of declarator.parts ahead in
+    then_asked behind question (member_tells words name of after rest) later stands (λ answer is more.
+    unless_stops (not said.is_static && (is_unbounded of || is_incomplete answer.1.graph of)) name.place says.IncompleteClass refl _ answer.1 rest (
+    then_calm (value_or_pure_stops answer.1 rest is_pure room said.is_static name of answer.0 (member_is_there words name of after answer is) (λ impure begins. to_member_value gives plain (subst (λ b. declare_member (words_of_member label said of b) name of after ≡ Ok answer) impure is) begins) more stands) (λ value state middle.
+    then_in later_is_quiet (looked_in later_is_quiet state middle) (λ to. behind_tells is_pure so_far.is_first of (own_parameters declarator.layers) (declarator_tree false name of answer.0 (declarator.parts ++ value) ahead to)))))
+
+data_member_stops : (room : ℕ) (label : Labelled) (said : Said) (so_far : Listed) (state : CxxState) (ahead : Ahead) (declarator : Declarator) (after : CxxState) (rest : Ahead) → declarator_of room naming.Required state ahead ≡ Ok (record { value = declarator; state = after; rest = rest }) → said.is_typedef ≡ false → IsLater state after → EndsIn ahead.tokens rest.tokens
+    → Inside (some_member_declarators room label said so_far) state ahead (data_member room label said so_far.is_first declarator ahead after rest)
+unfolding data_member no_bit_field
 data_member_stops room label said so_far state ahead declarator after rest gives plain later stands =
     let name = name_in declarator in
     let of = type_of_member said declarator in
-    let question = declare_member label said.is_static (is_mutable_member said of) name of in
-    let behind = behind_member room said.is_static name of declarator.parts ahead in
+    let is_pure = begins_pure (is_virtual_member label.is_virtual said of) rest in
     unless_stops (is_punct punct.COLON (kind_ahead rest)) name.place (says.LeftOut form.BitField) refl _ after rest (
-    fits_stops said declarator (λ fits. ask question >>= behind) after rest (
-    then_asked behind question (member_tells label said.is_static (is_mutable_member said of) name of after rest) later stands (λ answer is more.
-    unless_stops (not said.is_static && (is_unbounded of || is_incomplete answer.1.graph of)) name.place says.IncompleteClass refl _ answer.1 rest (
-    then_calm (member_value_stops answer.1 rest room said.is_static name of answer.0 (member_is_there label said.is_static (is_mutable_member said of) name of after answer is) (λ begins. to_member_value gives plain is begins) more stands) (λ value state middle.
-    then_in later_is_quiet (no_body_tells of state middle) (λ bare state middle.
-    then_in later_is_quiet (looked_in later_is_quiet state middle) (λ to. give_in later_is_quiet (declarator_tree false name of answer.0 (declarator.parts ++ value) ahead to))))))))
+    fits_stops said declarator (λ fits. pure_ahead (is_virtual_member label.is_virtual said of) >>= λ b. ask (declare_member (words_of_member label said of b) name of) >>= behind_member b so_far.is_first (own_parameters declarator.layers) room said.is_static name of declarator.parts ahead) after rest (
+    member_with_stops room label said so_far state ahead declarator after rest is_pure gives plain later stands))
 
-declared_member_stops : (room : ℕ) (label : Access) (said : Said) (so_far : Listed) (state : CxxState) (ahead : Ahead) (declarator : Declarator) (after : CxxState) (rest : Ahead) → declarator_of room naming.Required state ahead ≡ Ok (record { value = declarator; state = after; rest = rest }) → IsLater state after → EndsIn ahead.tokens rest.tokens
-    → Inside (some_member_declarators room label said so_far) state ahead (declared_member room label said declarator ahead after rest)
+declared_member_stops : (room : ℕ) (label : Labelled) (said : Said) (so_far : Listed) (state : CxxState) (ahead : Ahead) (declarator : Declarator) (after : CxxState) (rest : Ahead) → declarator_of room naming.Required state ahead ≡ Ok (record { value = declarator; state = after; rest = rest }) → IsLater state after → EndsIn ahead.tokens rest.tokens
+    → Inside (some_member_declarators room label said so_far) state ahead (declared_member room label said so_far.is_first declarator ahead after rest)
 unfolding declared_member
 declared_member_stops room label said so_far state ahead declarator after rest gives later stands =
-    which_in said.is_typedef (λ synonym. calm_from later stands (synonym_member_tells said declarator ahead after rest)) (λ plain. data_member_stops room label said so_far state ahead declarator after rest gives plain later stands)
+    which_in said.is_typedef (λ synonym. calm_from later stands (then_in later_is_quiet (synonym_member_tells said declarator ahead after rest) alone_tells)) (λ plain. data_member_stops room label said so_far state ahead declarator after rest gives plain later stands)
 
-named_member_stops : (room : ℕ) (label : Access) (said : Said) (so_far : Listed) (state : CxxState) (ahead : Ahead) → Inside (some_member_declarators room label said so_far) state ahead (named_member_at room label said state ahead)
+named_member_stops : (room : ℕ) (label : Labelled) (said : Said) (so_far : Listed) (state : CxxState) (ahead : Ahead) → Inside (some_member_declarators room label said so_far) state ahead (named_member_at room label said so_far.is_first state ahead)
 unfolding named_member_at
 named_member_stops room label said so_far state ahead =
-    then_from (λ declarator. declared_member room label said declarator ahead) (leads_here in_member_declarator (declarator_stops room state ahead)) (λ one is later stands.
+    then_from (λ declarator. declared_member room label said so_far.is_first declarator ahead) (leads_here in_member_declarator (declarator_stops room state ahead)) (λ one is later stands.
     declared_member_stops room label said so_far state ahead one.value one.state one.rest is later stands)
 
-member_at_stops : (room : ℕ) (label : Access) (said : Said) (so_far : Listed) (state : CxxState) (ahead : Ahead) → Inside (some_member_declarators room label said so_far) state ahead (member_at room label said state ahead)
+member_at_stops : (room : ℕ) (label : Labelled) (said : Said) (so_far : Listed) (state : CxxState) (ahead : Ahead) → Inside (some_member_declarators room label said so_far) state ahead (member_at room label said so_far.is_first state ahead)
 unfolding member_at
 member_at_stops room label said so_far state ahead =
     if_in (is_punct punct.COLON (kind_ahead ahead)) (calm (quiet_in later_is_quiet refl)) (named_member_stops room label said so_far state ahead)
 
-member_step_stops : (room : ℕ) (label : Access) (said : Said) (so_far : Listed) (state : CxxState) (ahead : Ahead) → Inside (some_member_declarators room label said so_far) state ahead (member_step room label said so_far state ahead)
+member_step_stops : (room : ℕ) (label : Labelled) (said : Said) (so_far : Listed) (state : CxxState) (ahead : Ahead) → Inside (some_member_declarators room label said so_far) state ahead (member_step room label said so_far state ahead)
 unfolding member_step
-member_step_stops room label said so_far state ahead = then_calm (member_at_stops room label said so_far state ahead) (declarator_ended_tells so_far)
+member_step_stops room label said so_far state ahead = then_calm (member_at_stops room label said so_far state ahead) (ended_by_tells so_far)
 
-members_by_stop : (room : ℕ) (label : Access) (specifiers : Specifiers) (state : CxxState) (ahead : Ahead) → Stops (some_member_declarators room label (said_by false specifiers) no_declarators) state ahead (members_by room label specifiers state ahead)
+members_by_stop : (room : ℕ) (label : Labelled) (specifiers : Specifiers) (state : CxxState) (ahead : Ahead) → Stops (some_member_declarators room label (said_by false specifiers) no_declarators) state ahead (members_by room label specifiers state ahead)
 unfolding members_by
 members_by_stop room label specifiers state ahead =
     if_in (is_punct punct.SEMICOLON (kind_ahead ahead)) (whole_calm (nothing_tells specifiers state ahead))
     (repeat_stops (some_member_declarators room label (said_by false specifiers)) (member_step room label (said_by false specifiers)) give_trees (λ so_far s ahead fault is. is) (λ so_far more s t ahead rest is. next_member_declarator is) (member_step_stops room label (said_by false specifiers)) give_trees_tells (count_ahead ahead) no_declarators state ahead)
 
 -- where the reading of a class that is defined stops, with room for so many more braces
-abbrev ClassStops : ℕ → Type 0
+abbrev pub ClassStops : ℕ → Type 0
 ClassStops room = (so_far : Specifiers) (state : CxxState) (ahead : Ahead) → Stops (a_class room so_far) state ahead (class_at room so_far state ahead)
 
-further_stop : (room : ℕ) (place : SpecifierPlace) (so_far : Specifiers) (state : CxxState) (ahead : Ahead) → Stops (some_further_specifiers room place so_far) state ahead (further_specifiers_of room place so_far state ahead)
+pub further_stop : (room : ℕ) (place : SpecifierPlace) (so_far : Specifiers) (state : CxxState) (ahead : Ahead) → Stops (some_further_specifiers room place so_far) state ahead (further_specifiers_of room place so_far state ahead)
 further_stop room place so_far state ahead = innermost_stops tt (λ fault is. is) (further_tell later_is_told (kinds_tell room) (both_tell room).types place so_far state ahead)
 
-member_specifiers_stop : (room : ℕ) → ClassStops room → (label : Access) (state : CxxState) (ahead : Ahead) → Inside (a_member_declaration room label) state ahead (member_specifiers room state ahead)
+-- the tokens behind `virtual`, where it stands
+virtual_stands : (ahead : Ahead) → EndsIn ahead.tokens (behind_virtual ahead).tokens
+virtual_stands ahead = by (begins_virtual ahead)
+  where
+    by : (b : Bool) → EndsIn ahead.tokens (if b then behind ahead else ahead).tokens
+    by true = behind_stands ahead
+    by false = whole_stands ahead.tokens
+
+member_specifiers_stop : (room : ℕ) → ClassStops room → (label : Access) (state : CxxState) (ahead : Ahead) → Inside (a_member_declaration room label) state ahead (member_specifiers room state (behind_virtual ahead))
 unfolding member_specifiers_by nested_or_not
 member_specifiers_stop room nested label state ahead =
-    then_from (nested_or_not (class_at room) room) (leads_here in_member_specifiers (specifiers_stop room where_.Member state ahead)) (λ one is later stands.
+    then_from (nested_or_not (class_at room) room) (leads_in in_member_specifiers (later_here state) (virtual_stands ahead) (specifiers_stop room where_.Member state (behind_virtual ahead))) (λ one is later stands.
     which_in (has_type one.value) (λ typed. calm_from later stands (same_in later_is_quiet one.value one.state one.rest)) (λ untyped.
     then_from (further_specifiers_of room where_.Member) (leads_in (to_member_class is untyped) later stands (nested one.value one.state one.rest)) (λ more is_class further ends.
     leads_in (behind_member_class is untyped is_class) further ends (further_stop room where_.Member more.value more.state more.rest))))
@@ -145,7 +215,7 @@ member_declaration_stops : (room : ℕ) → ClassStops room → (label : Access)
 unfolding member_declaration_by
 member_declaration_stops room nested label state ahead =
     whole_stops (λ fault is. is) (then_from _ (member_specifiers_stop room nested label state ahead) (λ one is later stands.
-    then_calm (leads_in (to_member_declarators is) later stands (members_by_stop room label one.value one.state one.rest)) (λ declarators state rest.
+    then_calm (leads_in (to_member_declarators is) later stands (members_by_stop room (labelled label (begins_virtual ahead)) one.value one.state one.rest)) (λ declarators state rest.
     then_in later_is_quiet (looked_in later_is_quiet state rest) (λ to. give_in later_is_quiet (simple_tree (specifiers_tree one.value ahead one.rest) declarators ahead to)))))
 
 -- ---- the list of members
@@ -163,7 +233,7 @@ list_step_stops room nested name so_far state ahead =
     if_in (is_punct punct.RIGHT_BRACE (kind_ahead ahead)) (calm (next_in later_is_quiet (Done so_far.trees) state ahead)) (
     if_in (is_punct punct.SEMICOLON (kind_ahead ahead)) (calm (next_in later_is_quiet (More so_far) state ahead)) (
     if_in (access_word (kind_ahead ahead)) (calm (access_tells so_far state ahead)) (
-    if_in (comes_later name (behind_inline ahead)) (calm (quiet_in later_is_quiet refl))
+    if_in (comes_later name (behind_words ahead)) (calm (quiet_in later_is_quiet refl))
     (then_calm (leads_here in_member (member_declaration_stops room nested so_far.access state ahead)) (λ tree. give_in later_is_quiet (More (with_member tree so_far)))))))
 
 members_stop : (room : ℕ) → ClassStops room → (head : Head) (bases : List CxxTree) (state : CxxState) (ahead : Ahead) → Stops (some_members room head.name (behind_bases bases head.access)) state ahead (list_at (suc room) head bases state ahead)
@@ -280,16 +350,6 @@ class_stops_by room inside so_far state ahead = whole_stops (λ fault is. is) (
     head : Head
     head = record { is_union = is_keyword keyword.UNION (kind_ahead ahead); access = key_access (kind_ahead ahead); name = name_ahead (behind ahead); place = place_or (place_ahead ahead) (name_ahead (behind ahead)) }
 
-class_stops : (room : ℕ) → ClassStops room
+pub class_stops : (room : ℕ) → ClassStops room
 class_stops zero = class_stops_by zero inside_none
 class_stops (suc room) = class_stops_by (suc room) (inside_class room (class_stops room))
-
--- ---- the specifiers of a declaration of a namespace
-
-pub all_specifiers_stop : (room : ℕ) (as_extern : Bool) (state : CxxState) (ahead : Ahead) → Inside (a_simple_declaration room as_extern) state ahead (declaration_specifiers room state ahead)
-unfolding declaration_specifiers class_or_not
-all_specifiers_stop room as_extern state ahead =
-    then_from (class_or_not room) (leads_here in_specifiers (specifiers_stop room where_.Declaration state ahead)) (λ one is later stands.
-    which_in (has_type one.value) (λ typed. calm_from later stands (same_in later_is_quiet one.value one.state one.rest)) (λ untyped.
-    then_from (further_specifiers_of room where_.Declaration) (leads_in (to_class is untyped) later stands (class_stops room one.value one.state one.rest)) (λ more is_class further ends.
-    leads_in (behind_class is untyped is_class) further ends (further_stop room where_.Declaration more.value more.state more.rest))))

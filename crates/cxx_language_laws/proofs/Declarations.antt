@@ -1,7 +1,6 @@
 -- Where the reading of a declaration stops.
 use Rattle.std.proofs.Common.{arith, ◌≡◌, ◌<◌, refl, sym, subst}
 use Rattle.std.specs.Prelude.{ℕ, zero, suc, Bool, true, false, if◌then◌else◌, List, [], ◌∷◌, ◌++◌, Option, Some, None, length, Ok, Err}
-use Rattle.cxx_model.specs.declared.fault.FaultText.TheVariants as says
 use Rattle.cxx_model.specs.declared.keyword.TheConstants as keyword
 use Rattle.cxx_model.specs.declared.place.Place.{Place}
 use Rattle.cxx_model.specs.declared.punct.TheConstants as punct
@@ -21,19 +20,20 @@ use Rattle.cxx_reading.specs.Tokens.{is_keyword, is_name, is_punct, token_in}
 use Rattle.cxx_reading.specs.Labels.{label_from}
 use Rattle.cxx_reading.specs.Trees.{CxxTree, tree_of}
 use Rattle.cxx_reading.specs.Units.{specifiers_tree, declarator_tree, name_in as name_of_declarator, declared_fits, ends_declarator, is_incomplete, give_trees, no_declarators, said_by, empty_tree, another_ahead, linkages_passed, linkage_list, inside_step, Said, Listed}
-use Rattle.cxx_statements.specs.Productions as production
 use Rattle.cxx_statements.specs.Statements.{body_at}
 use Rattle.cxx_language.specs.Bodies.{complete_head, function_body, incomplete_among, result_of, whole_by, statements_within}
 use Rattle.cxx_language.specs.Made.{defined_object, extern_object}
 use Rattle.cxx_language.specs.Objects.{begins_initializer}
 use Rattle.cxx_language.specs.Spaces.{behind_namespace, give_part, namespace_at, part_tree, space_opened, space_or_alias}
 use Rattle.cxx_language.specs.Statements.{parts_at}
-use Rattle.cxx_language.specs.Units.{Declares, alone, behind_list, declaration_at, declaration_by, declaration_tree, declarator_step, declarators_at, declarators_of, declared_by, declared_function, ended_behind, ended_by, function_declared, function_ended, init_declarator_at, linkage_by, member_agrees, linkage_opened, linked_by, linked_one, not_ended, plain_declaration_at, simple_declaration_at}
+use Rattle.cxx_language.specs.Later.{Declares, alone, ended_behind, ended_by}
+use Rattle.cxx_language.specs.Units.{behind_list, declaration_at, declaration_by, declaration_tree, declarator_step, declarators_at, declarators_of, declared_by, declared_function, function_declared, function_ended, init_declarator_at, linkage_by, member_agrees, linkage_opened, linked_by, linked_one, not_ended, plain_declaration_at, simple_declaration_at}
 use Rattle.cxx_language_laws.specs.Stopping.{BeginsBody, Gives, Initializes, IsLinked, IsNoSpace, Leads, OpensSpace, Part, a_body, a_declaration, a_namespace, a_simple_declaration, alias_name, an_initializer, begins_body, by_definition, by_extern, declarator_of, in_alias, in_declaration, in_declarator, in_space, next_declaration, opens_named, opens_unnamed, some_declarations, to_using, to_linked_using, to_linked_namespace, to_namespace, next_declarator, some_declarators, to_body, to_braces, to_declarators, to_initializer, to_linked, to_unlinked}
 use Rattle.cxx_language_laws.specs.Told.{EndsIn}
 use Rattle.cxx_language_laws.proofs.Begun.{Begun, Brings, HaveBegun, brings, brings_none, declarator_has_begun, own_has_begun}
-use Rattle.cxx_language_laws.proofs.ClassStops.{all_specifiers_stop}
-use Rattle.cxx_language_laws.proofs.Declared.{bare_synonym_tells, declarator_ended_tells, function_declared_tells, give_trees_tells, linkages_tell, linked_tree_tells, no_declaration_tells, nothing_tells, one_tree_tells}
+use Rattle.cxx_language_laws.proofs.BodiesStop.{LeadsToBody, function_body_stops}
+use Rattle.cxx_language_laws.proofs.LaterBodies.{all_specifiers_stop}
+use Rattle.cxx_language_laws.proofs.Declared.{alone_tells, bare_synonym_tells, ended_by_tells, function_declared_tells, give_trees_tells, linkages_tell, linked_tree_tells, no_declaration_tells, nothing_tells, one_tree_tells}
 use Rattle.cxx_language_laws.proofs.DeclaratorsStop.{agrees_stops, defined_part_stops, extern_part_stops, fits_stops, member_stops, which_reads}
 use Rattle.cxx_language_laws.proofs.Later.{IsLater, declared_is_there, defined_is_there, define_later_tells, define_tells, grown_later, grown_same, later_is_kept, same_calls, later_is_quiet, object_tells}
 use Rattle.cxx_language_laws.proofs.Opened.{InSpace, open_space_tells, open_unnamed_tells, space_closed}
@@ -47,58 +47,6 @@ use Rattle.cxx_language_laws.proofs.Tells.{Quietly, Tells, ToldBy, tells_answer,
 use Rattle.cxx_language_laws.proofs.TellsBodies.{IsInBlock, begun_body, body_later, body_reached, ended_body, enter_tells, in_list}
 
 -- ---- bodies (8.4)
-
--- behind a body
-abbrev behind_body : ℕ → List CxxTree → Reads CxxState (List CxxTree)
-behind_body outside statements = ask (end_body outside) >>= λ ended. give statements
-
-body_ends : {kept : CxxState → CxxState → Type 0} → IsHeld kept → {part : Part} {state : CxxState} {ahead : Ahead} (room list number : ℕ) (result : CxxType) (between t : CxxState) (rest : Ahead) → list < scope_count between.graph → kept state between → EndsIn ahead.tokens rest.tokens
-    → IsLater (begun_body list number result between) t → Leads part state ahead (a_body room) t (behind rest) → {r : Answer (Got CxxState (List CxxTree))} → Stops (a_body room) t (behind rest) r → InsideBy kept part state ahead (then_read r (behind_body between.here.scope))
-unfolding end_body
-body_ends held {state = state} {ahead = ahead} room list number result between t rest there first stands begun leads (tells_read one later ends) =
-    let all = later_is_kept.later (begun_body list number result between) t one.state begun later in
-    tells_read (record { value = one.value; state = ended_body between.here.scope one.state; rest = one.rest }) (held.further state between (ended_body between.here.scope one.state) first (body_later list number result between one.state there all)) (ends_later ahead.tokens (behind rest).tokens one.rest.tokens (past_stands ahead rest stands) ends)
-body_ends held {part = part} {state = state} {ahead = ahead} room list number result between t rest there first stands begun leads (tells_stop why true_of) =
-    let reached = behind_later state between (begun_body list number result between) (held.behind state between first) (behind_by between (begun_body list number result between) (body_reached list number result between there)) in
-    tells_stop why (told_within part (a_body room) state t ahead (behind rest) why leads (behind_later state (begun_body list number result between) t reached (behind_by_later (begun_body list number result between) t begun)) (past_stands ahead rest stands) true_of)
-
-begun_stops : {kept : CxxState → CxxState → Type 0} → IsHeld kept → {part : Part} {state : CxxState} {ahead : Ahead} (room list number : ℕ) (result : CxxType) (between : CxxState) (rest : Ahead) → list < scope_count between.graph → kept state between → EndsIn ahead.tokens rest.tokens
-    → {r : Answer (Unit {0} × CxxState)} → ToldBy (IsInBlock (Some (number_id number))) Quietly (in_list list result between) rest r → ((begun : Unit {0} × CxxState) → r ≡ Ok begun → Leads part state ahead (a_body room) begun.1 (behind rest))
-    → InsideBy kept part state ahead (then_read (answered r rest) (λ begun. taken >>= λ opened. body_at parts_at room >>= behind_body between.here.scope))
-begun_stops held room list number result between rest there later stands (tells_answer one begun) leads = body_ends held room list number result between one.1 rest there later stands begun (leads one refl) (body_stops room one.1 (behind rest))
-begun_stops held room list number result between rest there later stands (tells_refusal why quiet) leads = quiet_held quiet
-
-statements_stop : {kept : CxxState → CxxState → Type 0} → IsHeld kept → {part : Part} {state : CxxState} {ahead : Ahead} (room list number : ℕ) (result : CxxType) (between : CxxState) (rest : Ahead) → list < scope_count between.graph → kept state between → EndsIn ahead.tokens rest.tokens
-    → ((less : ℕ) (begun : Unit {0} × CxxState) → room ≡ suc less → begin_body list number result between ≡ Ok begun → Leads part state ahead (a_body less) begun.1 (behind rest))
-    → InsideBy kept part state ahead (statements_within room list number result between rest)
-unfolding statements_within begin_body
-statements_stop held zero list number result between rest there later stands leads = quiet_held refl
-statements_stop held (suc room) list number result between rest there later stands leads = begun_stops held room list number result between rest there later stands (enter_tells (Some (number_id number)) (in_list list result between) rest) (λ begun is. leads room begun refl is)
-
--- of the function with a number
-abbrev LeadsToBody : Part → CxxState → Ahead → ℕ → Lexeme → CxxType → ℕ → ℕ → CxxState → Ahead → Type 0
-LeadsToBody part state ahead room name of number list between rest = (less : ℕ) (defined begun : Unit {0} × CxxState) → room ≡ suc less → define_declared name number between ≡ Ok defined → begin_body list number (result_of of) defined.1 ≡ Ok begun → Leads part state ahead (a_body less) begun.1 (behind rest)
-
--- 8.3.5: behind the test that the types of its head are complete
-head_held : {kept : CxxState → CxxState → Type 0} → IsHeld kept → {B : Type 0} {part : Part} {state : CxxState} {ahead : Ahead} (name : Lexeme) (of : CxxType) (list : ℕ) (between : CxxState) (rest : Ahead) (go : Unit {0} → Reads CxxState B)
-    → InsideBy kept part state ahead (go tt between rest) → InsideBy kept part state ahead (then_read (complete_head name of list between rest) go)
-unfolding complete_head
-head_held {kept = kept} held {part = part} {state = state} {ahead = ahead} name of list between rest go next = by (is_incomplete between.graph (result_of of)) (incomplete_among between.graph list between.graph.facts)
-  where
-    by : (b : Bool) (o : Option Place) → InsideBy kept part state ahead (then_read (if b then fault_at name.place says.IncompleteClass between rest else whole_by o between rest) go)
-    by true o = quiet_held refl
-    by false None = next
-    by false (Some place) = quiet_held refl
-
-function_body_stops : {kept : CxxState → CxxState → Type 0} → IsHeld kept → {part : Part} {state : CxxState} {ahead : Ahead} (room : ℕ) (name : Lexeme) (of : CxxType) (number list : ℕ) (between : CxxState) (rest : Ahead) → list < scope_count between.graph → kept state between → EndsIn ahead.tokens rest.tokens
-    → LeadsToBody part state ahead room name of number list between rest → InsideBy kept part state ahead (function_body room name of number list between rest)
-unfolding function_body
-function_body_stops held room name of number list between rest there later stands leads =
-    asked_held held _ (define_declared name number) (define_later_tells name number between rest) later (λ defined is keeps later.
-    let more = count_more between defined.1 keeps.grown in
-    head_held held name of list defined.1 rest _ (
-    then_held held (statements_stop held room list number (result_of of) defined.1 rest (omega (arith, there, more)) later stands (λ less begun is_more begins. leads less defined begun is_more is begins)) (λ statements state ahead.
-    then_in later_is_quiet (looked_in later_is_quiet state ahead) (λ to. give_in later_is_quiet (tree_of (record (label_from production.block [] rest to) { target = Some (length defined.1.graph.facts) }) statements)))))
 
 behind_list_stops : {kept : CxxState → CxxState → Type 0} → IsHeld kept → {part : Part} {state : CxxState} {ahead : Ahead} (room : ℕ) (name : Lexeme) (of : CxxType) (number list : ℕ) (between : CxxState) (rest : Ahead) → list < scope_count between.graph → kept state between → EndsIn ahead.tokens rest.tokens
     → (is_punct punct.LEFT_BRACE (kind_ahead rest) ≡ true → LeadsToBody part state ahead room name of number list between rest) → InsideBy kept part state ahead (behind_list room name of number (Some list) between rest)
@@ -140,9 +88,6 @@ declared_function_stops held room said so_far declarator from state between ahea
     (λ body. give_in later_is_quiet _))
 
 -- ---- one declarator
-
-alone_tells : (tree : CxxTree) → Tells IsLater Quietly (alone tree)
-alone_tells tree = give_in later_is_quiet _
 
 -- from an initializer of this declarator
 abbrev LeadsOn : ℕ → Said → Listed → Declarator → CxxState → Ahead → CxxState → Ahead → Type 0
@@ -231,13 +176,6 @@ unfolding init_declarator_at
 init_declarator_stops room said so_far state ahead =
     subst (Inside (some_declarators room said so_far) state ahead) (sym (behind_both (declarator_of room naming.Qualified state ahead) (declared_fits said) (member_agrees said) (declared_by room said so_far.is_first ahead) (back state)))
     (returns_stops state ahead (member_declared_stops room said so_far state ahead))
-
-ended_behind_tells : (so_far : Listed) (tree : CxxTree) (body : List CxxTree) → Tells IsLater Quietly (ended_behind so_far tree body)
-ended_behind_tells so_far tree [] = declarator_ended_tells so_far tree
-ended_behind_tells so_far tree (body ∷ others) = give_in later_is_quiet _
-
-ended_by_tells : (so_far : Listed) (one : Declares) → Tells IsLater Quietly (ended_by so_far one)
-ended_by_tells so_far one = ended_behind_tells so_far one.tree one.body
 
 declarator_step_stops : (room : ℕ) (said : Said) (so_far : Listed) (state : CxxState) (ahead : Ahead) → Inside (some_declarators room said so_far) state ahead (declarator_step room said so_far state ahead)
 unfolding declarator_step

@@ -9,6 +9,7 @@ use Rattle.cxx_model.specs.declared.token.TokenKind.TheVariants.{Keyword}
 use Rattle.cxx_model.specs.Stops.{Stopped}
 use Rattle.cxx_model.specs.Text.Lexemes.{Lexeme}
 use Rattle.cxx_model.specs.Types.Trees.{CxxType}
+use Rattle.cxx_language.specs.Later.{Declares, alone, ended_behind, ended_by}
 use Rattle.cxx_reading.specs.Declarators.{Declarator, declared_type, Specifiers, is_reference, own_parameters}
 use Rattle.cxx_reading.specs.Reads.{Ahead, More, Done, give, count_ahead, kind_ahead, word_ahead, behind}
 use Rattle.cxx_reading.specs.State.{CxxState}
@@ -87,3 +88,15 @@ linkages_tell state ahead = repeat_tells later_is_quiet linkage_step give linkag
 
 pub linked_tree_tells : (from : Ahead) (trees : List CxxTree) → Tells IsLater Quietly (linked_tree from trees)
 linked_tree_tells from trees state ahead = then_in later_is_quiet (looked_in later_is_quiet state ahead) (λ to. give_in later_is_quiet (linkage_tree trees from to))
+
+-- ---- what a declarator leads to
+
+pub alone_tells : (tree : CxxTree) → Tells IsLater Quietly (alone tree)
+alone_tells tree = give_in later_is_quiet _
+
+ended_behind_tells : (so_far : Listed) (tree : CxxTree) (body : List CxxTree) → Tells IsLater Quietly (ended_behind so_far tree body)
+ended_behind_tells so_far tree [] = declarator_ended_tells so_far tree
+ended_behind_tells so_far tree (body ∷ others) = give_in later_is_quiet _
+
+pub ended_by_tells : (so_far : Listed) (one : Declares) → Tells IsLater Quietly (ended_by so_far one)
+ended_by_tells so_far one = ended_behind_tells so_far one.tree one.body

@@ -45,6 +45,8 @@ pub mod StatementsStop
 pub mod Bases
 pub mod ClassBegins
 pub mod ClassStops
+pub mod BodiesStop
+pub mod LaterBodies
 pub mod Declarations
 pub mod Whole
 mod Rows

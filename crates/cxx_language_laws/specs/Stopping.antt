@@ -1,7 +1,7 @@
 -- Where the reading of a declaration stops: in which of its parts, and of the statements in its body, in which state, and
 -- with which tokens ahead. What stands before is read whole, and the reading of each part round that place stops with the
 -- same fault.
-use Rattle.std.specs.Prelude.{◌≡◌, ℕ, suc, Bool, true, false, ◌||◌, List, [], Option, Some, None, Ok, Err}
+use Rattle.std.specs.Prelude.{◌≡◌, ℕ, suc, Bool, true, false, ◌||◌, List, [], ◌∷◌, ◌++◌, Option, Some, None, Ok, Err}
 use Rattle.cxx_model.specs.declared.facts.Access.{Access}
 use Rattle.cxx_model.specs.declared.keyword.TheConstants as keyword
 use Rattle.cxx_model.specs.declared.punct.TheConstants as punct
@@ -23,11 +23,14 @@ use Rattle.cxx_reading.specs.Specifiers.{specifiers_at, specifiers_from}
 use Rattle.cxx_reading.specs.State.{CxxState}
 use Rattle.cxx_reading.specs.Syntax.{declarator_at}
 use Rattle.cxx_reading.specs.Tokens.{is_keyword, is_name, is_punct, token_in}
-use Rattle.cxx_reading.specs.Trees.{CxxTree}
+use Rattle.cxx_reading.specs.Trees.{CxxTree, in_turn}
 use Rattle.cxx_reading.specs.Units.{Said, Listed, give_trees, inside_step, linkages_passed, name_in, no_declarators, said_by}
 use Rattle.cxx_language.specs.Blocks.{condition_part, declared_condition_at, local_declaration_at, local_step}
 use Rattle.cxx_language.specs.Bodies.{result_of}
-use Rattle.cxx_language.specs.Classes.{BaseList, Head as ClassHead, Members, base_list, bases_in, bases_or_none, behind_bases, class_at, class_begins, declaration_specifiers, give_members, head_at, list_step, member_declaration_at, member_specifiers, member_step, is_mutable_member, type_of_member}
+use Rattle.cxx_language.specs.Classes.{BaseList, Head as ClassHead, Labelled, Members, base_list, bases_in, bases_or_none, begins_virtual, behind_bases, behind_virtual, class_at, class_begins, class_whole, declaration_specifiers, give_members, head_at, labelled, list_step, member_declaration_at, member_specifiers, member_step, type_of_member, words_of_member}
+use Rattle.cxx_language.specs.Later.{each_read, waiting_read}
+use Rattle.cxx_later.specs.Passing.{forward_to}
+use Rattle.cxx_later.specs.Waiting.{Waiting, name_declared, waiting_in}
 use Rattle.cxx_language.specs.Objects.{begins_initializer, initialized_part}
 use Rattle.cxx_heads.specs.Heads.{is_declared_condition}
 use Rattle.cxx_statements.specs.declared.parts.Head.{Head}
@@ -119,9 +122,11 @@ pub data Part : Type 0 where
   some_members : ℕ → Option Lexeme → Members → Part
   -- 9.2: a declaration of members with an access (11)
   a_member_declaration : ℕ → Access → Part
-  some_member_declarators : ℕ → Access → Said → Listed → Part
+  some_member_declarators : ℕ → Labelled → Said → Listed → Part
   -- 9.4.2: the value of a static constant in its class, from its `=` on
   a_member_value : ℕ → Lexeme → CxxType → ℕ → Part
+  -- 9.2: the bodies of the functions in a class, where it has ended
+  some_bodies : List Waiting → List CxxTree → Part
   -- 7.1: the specifiers behind a class that is defined among them
   some_further_specifiers : ℕ → SpecifierPlace → Specifiers → Part
   -- 8.3: a declarator, with bounds and parameters
@@ -186,6 +191,7 @@ IsStopped (some_bases of) state ahead fault = base_list of state ahead ≡ Err (
 IsStopped (some_members room name so_far) state ahead fault = IsStoppedIn (list_step room name) give_members so_far state ahead fault
 IsStopped (a_member_declaration room access) state ahead fault = member_declaration_at room access state ahead ≡ Err (Faulty fault)
 IsStopped (some_member_declarators room access said so_far) state ahead fault = IsStoppedIn (member_step room access said) give_trees so_far state ahead fault
+IsStopped (some_bodies waiting so_far) state ahead fault = each_read waiting so_far state ahead ≡ Err (Faulty fault)
 IsStopped (some_further_specifiers room place so_far) state ahead fault = further_specifiers_of room place so_far state ahead ≡ Err (Faulty fault)
 IsStopped (a_declarator room naming) state ahead fault = declarator_of room naming state ahead ≡ Err (Faulty fault)
 IsStopped (a_member_value room name of number) state ahead fault = constant_part room name of number state ahead ≡ Err (Faulty fault)
@@ -323,7 +329,14 @@ pub data Leads : Part → CxxState → Ahead → Part → CxxState → Ahead →
   to_class : {room : ℕ} {as_extern : Bool} {specifiers : Specifiers} {state after : CxxState} {ahead rest : Ahead} → Gives (specifiers_of room where_.Declaration) state ahead specifiers after rest → has_type specifiers ≡ false
       → Leads (a_simple_declaration room as_extern) state ahead (a_class room specifiers) after rest
   behind_class : {room : ℕ} {as_extern : Bool} {specifiers more : Specifiers} {state between after : CxxState} {ahead middle rest : Ahead} → Gives (specifiers_of room where_.Declaration) state ahead specifiers between middle → has_type specifiers ≡ false
-      → Gives (class_at room specifiers) between middle more after rest → Leads (a_simple_declaration room as_extern) state ahead (some_further_specifiers room where_.Declaration more) after rest
+      → Gives (class_whole room specifiers) between middle more after rest → Leads (a_simple_declaration room as_extern) state ahead (some_further_specifiers room where_.Declaration more) after rest
+  -- 9.2: behind it the bodies of the functions in it are read, from where it began, one after another
+  to_bodies : {room : ℕ} {as_extern : Bool} {specifiers one : Specifiers} {state between after : CxxState} {ahead middle rest : Ahead} → Gives (specifiers_of room where_.Declaration) state ahead specifiers between middle → has_type specifiers ≡ false
+      → Gives (class_at room specifiers) between middle one after rest → Leads (a_simple_declaration room as_extern) state ahead (some_bodies (waiting_in room (in_turn one.parts)) []) after middle
+  next_body : {one : Waiting} {others : List Waiting} {so_far : List CxxTree} {tree : CxxTree} {state after : CxxState} {ahead rest : Ahead} → Gives (waiting_read one) state ahead tree after rest
+      → Leads (some_bodies (one ∷ others) so_far) state ahead (some_bodies others (so_far ++ tree ∷ [])) after rest
+  to_later_body : {room : ℕ} {one : Waiting} {others : List Waiting} {so_far : List CxxTree} {state between : CxxState} {defined begun : Unit {0} × CxxState} {ahead rest : Ahead} → one.room ≡ suc room → Gives (forward_to one.first) state ahead tt between rest
+      → define_declared (name_declared one.declarator) one.number between ≡ Ok defined → begin_body one.list one.number (result_of one.of) defined.1 ≡ Ok begun → Leads (some_bodies (one ∷ others) so_far) state ahead (a_body room) begun.1 (behind rest)
   -- 10: its bases
   in_bases : {room : ℕ} {so_far : Specifiers} {of : BaseList} {state after : CxxState} {ahead rest : Ahead} → NamesBases state ahead of after rest → Leads (a_class room so_far) state ahead (some_bases of) after rest
   -- 9.2: its members, one declaration after another, each of specifiers and declarators
@@ -331,21 +344,21 @@ pub data Leads : Part → CxxState → Ahead → Part → CxxState → Ahead →
       → Leads (a_class (suc room) so_far) state ahead (some_members room head.name (behind_bases bases head.access)) after rest
   next_member : {room : ℕ} {name : Option Lexeme} {so_far more : Members} {state after : CxxState} {ahead rest : Ahead} → Gives (list_step room name so_far) state ahead (More more) after rest → Leads (some_members room name so_far) state ahead (some_members room name more) after rest
   in_member : {room : ℕ} {name : Option Lexeme} {so_far : Members} {state : CxxState} {ahead : Ahead} → Leads (some_members room name so_far) state ahead (a_member_declaration room so_far.access) state ahead
-  in_member_specifiers : {room : ℕ} {access : Access} {state : CxxState} {ahead : Ahead} → Leads (a_member_declaration room access) state ahead (some_specifiers room where_.Member) state ahead
+  in_member_specifiers : {room : ℕ} {access : Access} {state : CxxState} {ahead : Ahead} → Leads (a_member_declaration room access) state ahead (some_specifiers room where_.Member) state (behind_virtual ahead)
   -- clause 9: a class that is defined there, and further specifiers behind it
-  to_member_class : {room : ℕ} {access : Access} {specifiers : Specifiers} {state after : CxxState} {ahead rest : Ahead} → Gives (specifiers_of room where_.Member) state ahead specifiers after rest → has_type specifiers ≡ false
+  to_member_class : {room : ℕ} {access : Access} {specifiers : Specifiers} {state after : CxxState} {ahead rest : Ahead} → Gives (specifiers_of room where_.Member) state (behind_virtual ahead) specifiers after rest → has_type specifiers ≡ false
       → Leads (a_member_declaration room access) state ahead (a_class room specifiers) after rest
-  behind_member_class : {room : ℕ} {access : Access} {specifiers more : Specifiers} {state between after : CxxState} {ahead middle rest : Ahead} → Gives (specifiers_of room where_.Member) state ahead specifiers between middle → has_type specifiers ≡ false
+  behind_member_class : {room : ℕ} {access : Access} {specifiers more : Specifiers} {state between after : CxxState} {ahead middle rest : Ahead} → Gives (specifiers_of room where_.Member) state (behind_virtual ahead) specifiers between middle → has_type specifiers ≡ false
       → Gives (class_at room specifiers) between middle more after rest → Leads (a_member_declaration room access) state ahead (some_further_specifiers room where_.Member more) after rest
-  to_member_declarators : {room : ℕ} {access : Access} {specifiers : Specifiers} {state after : CxxState} {ahead rest : Ahead} → Gives (member_specifiers room) state ahead specifiers after rest
-      → Leads (a_member_declaration room access) state ahead (some_member_declarators room access (said_by false specifiers) no_declarators) after rest
-  next_member_declarator : {room : ℕ} {access : Access} {said : Said} {so_far more : Listed} {state after : CxxState} {ahead rest : Ahead} → Gives (member_step room access said so_far) state ahead (More more) after rest
-      → Leads (some_member_declarators room access said so_far) state ahead (some_member_declarators room access said more) after rest
-  in_member_declarator : {room : ℕ} {access : Access} {said : Said} {so_far : Listed} {state : CxxState} {ahead : Ahead} → Leads (some_member_declarators room access said so_far) state ahead (a_declarator room naming.Required) state ahead
+  to_member_declarators : {room : ℕ} {access : Access} {specifiers : Specifiers} {state after : CxxState} {ahead rest : Ahead} → Gives (member_specifiers room) state (behind_virtual ahead) specifiers after rest
+      → Leads (a_member_declaration room access) state ahead (some_member_declarators room (labelled access (begins_virtual ahead)) (said_by false specifiers) no_declarators) after rest
+  next_member_declarator : {room : ℕ} {label : Labelled} {said : Said} {so_far more : Listed} {state after : CxxState} {ahead rest : Ahead} → Gives (member_step room label said so_far) state ahead (More more) after rest
+      → Leads (some_member_declarators room label said so_far) state ahead (some_member_declarators room label said more) after rest
+  in_member_declarator : {room : ℕ} {label : Labelled} {said : Said} {so_far : Listed} {state : CxxState} {ahead : Ahead} → Leads (some_member_declarators room label said so_far) state ahead (a_declarator room naming.Required) state ahead
   -- 9.4.2: the member of a whole declarator is declared, and its value is ahead
-  to_member_value : {room : ℕ} {access : Access} {said : Said} {so_far : Listed} {declarator : Declarator} {state between : CxxState} {answer : ℕ × CxxState} {ahead rest : Ahead} → Gives (declarator_of room naming.Required) state ahead declarator between rest
-      → said.is_typedef ≡ false → declare_member access said.is_static (is_mutable_member said (type_of_member said declarator)) (name_in declarator) (type_of_member said declarator) between ≡ Ok answer → has_value said.is_static (type_of_member said declarator) (kind_ahead rest) ≡ true
-      → Leads (some_member_declarators room access said so_far) state ahead (a_member_value room (name_in declarator) (type_of_member said declarator) answer.0) answer.1 rest
+  to_member_value : {room : ℕ} {label : Labelled} {said : Said} {so_far : Listed} {declarator : Declarator} {state between : CxxState} {answer : ℕ × CxxState} {ahead rest : Ahead} → Gives (declarator_of room naming.Required) state ahead declarator between rest
+      → said.is_typedef ≡ false → declare_member (words_of_member label said (type_of_member said declarator) false) (name_in declarator) (type_of_member said declarator) between ≡ Ok answer → has_value said.is_static (type_of_member said declarator) (kind_ahead rest) ≡ true
+      → Leads (some_member_declarators room label said so_far) state ahead (a_member_value room (name_in declarator) (type_of_member said declarator) answer.0) answer.1 rest
   -- 8.5: the object of a whole declarator is declared, and its initializer is ahead
   to_initializer : {room number : ℕ} {said : Said} {so_far : Listed} {declarator : Declarator} {state between after : CxxState} {ahead rest : Ahead} → Gives (declarator_of room naming.Qualified) state ahead declarator between rest
       → said.is_typedef ≡ false → is_function_type (declared_type declarator.layers said.of) ≡ false → Initializes said declarator between number after → begins_initializer rest ≡ true

@@ -1,5 +1,6 @@
 mod Apart
 mod Based
+mod EachRead
 mod Kept
 mod Listing
 mod Opened

@@ -1,32 +1,34 @@
 -- The definitions of classes, in the code: what their values stand for, given the trees and types of a state, and what is left
 -- of a definition behind its beginning.
-use Rattle.std.specs.Prelude.{ℕ, ◌≡◌, ◌<◌, ◌++◌, Bool, false, length, List, option_map}
-use Rattle.cxx_model.specs.declared.facts.Access.{Access}
+use Rattle.std.specs.Prelude.{ℕ, ◌≡◌, ◌<◌, ◌++◌, Bool, false, length, List, Option, option_map}
 use Rattle.cxx_model.specs.declared.types.TreeId.{TreeId}
 use Rattle.cxx_model.specs.declared.types.TypeId.{TypeId}
 use Rattle.cxx_model.specs.Text.Lexemes.{Lexeme}
 use Rattle.cxx_model.specs.Types.Numbers.{type_at}
 use Rattle.cxx_model.specs.Types.Trees.{CxxType, class_type}
-use Rattle.cxx_reading.specs.declared.specifier.SpecifierPlace.{SpecifierPlace}
+use Rattle.cxx_reading.specs.declared.specifier.SpecifierPlace.TheVariants as where_
 use Rattle.cxx_reading.specs.Declarators as declarators
-use Rattle.cxx_reading.specs.Declarators.{Declarator}
+use Rattle.cxx_reading.specs.Declarators.{Declarator, own_parameters}
 use Rattle.cxx_reading.specs.Reads as reads
 use Rattle.cxx_reading.specs.Reads.{Reads, Ahead, ◌>>=◌, give, ask, looked, taken, count_ahead, repeat}
 use Rattle.cxx_reading.specs.Specifiers.{specifiers_from}
 use Rattle.cxx_reading.specs.State.{CxxState}
-use Rattle.cxx_reading.specs.Trees.{CxxTree}
+use Rattle.cxx_reading.specs.Trees.{CxxTree, in_turn}
 use Rattle.cxx_reading.specs.Units.{Said, declarator_tree, give_trees, name_in, no_declarators}
 use Rattle.cxx_cursor.specs.declared.declarator.Declarator as declarator
 use Rattle.cxx_cursor.specs.declared.turn.Turn.{Turn}
 use Rattle.cxx_cursor.specs.Views.{AreTreesHeld, IsDeclarator, IsTurn, declarator_of, lexeme_at, trees_held, turn_at}
+use Rattle.cxx_declare.specs.declared.class_definitions.MemberWords.{MemberWords}
 use Rattle.cxx_declare.specs.ClassDefinitions.{declare_member, end_class}
 use Rattle.cxx_language.specs.Asked.{asked, inner_at}
 use Rattle.cxx_language.specs.Classes as definition
-use Rattle.cxx_language.specs.Classes.{class_at, class_tree, is_mutable_member, list_at, member_step, no_anonymous_union, no_body, type_of_member, whole_member, with_class}
-use Rattle.cxx_language.specs.Values.{member_value}
+use Rattle.cxx_language.specs.Classes.{class_at, class_tree, class_whole, declared_behind, is_virtual_member, list_at, member_step, no_anonymous_union, pure_ahead, type_of_member, value_or_pure, whole_member, with_class, with_parts, words_of_member}
+use Rattle.cxx_language.specs.Later.{Declares, all_read}
+use Rattle.cxx_later.specs.Waiting.{waiting_in}
 use Rattle.cxx_space.specs.declared.classes.Begun.{Begun}
 use Rattle.cxx_space.specs.declared.classes.Head.{Head}
 use Rattle.cxx_space.specs.declared.classes.Members.{Members}
+use Rattle.cxx_space.specs.declared.members.Labelled.{Labelled}
 use Rattle.cxx_tree.specs.Held.{Held, type_of}
 use Rattle.cxx_units.specs.declared.said.Said as said
 use Rattle.cxx_units.specs.Said.{said_of}
@@ -64,24 +66,30 @@ pub record IsMemberDeclared (held : Held) (said : said.Said) (declarator : decla
   pub known : of.0 < length held.types
   pub is : type_of held of ≡ type_of_member (said_of held said) (declarator_of held declarator)
 
+abbrev pub labelled_of : Labelled → definition.Labelled
+labelled_of label = record { access = label.access; is_virtual = label.is_virtual }
+
 -- once its value was read
-abbrev pub member_ended : Lexeme → CxxType → ℕ → List CxxTree → Ahead → Reads CxxState CxxTree
-member_ended name of number parts from = no_body of >>= λ bare. looked >>= λ to. give (declarator_tree false name of number parts from to)
+abbrev pub member_ended : Bool → Bool → Option ℕ → Lexeme → CxxType → ℕ → List CxxTree → Ahead → Reads CxxState Declares
+member_ended is_pure is_first list name of number parts from = looked >>= λ to. declared_behind is_pure is_first of list (declarator_tree false name of number parts from to)
 
 -- once it is declared
-abbrev pub member_kept : ℕ → Bool → Lexeme → CxxType → ℕ → List CxxTree → Ahead → Reads CxxState CxxTree
-member_kept room is_static name of number parts from = whole_member is_static name of >>= λ whole. member_value room is_static name of number >>= λ value. member_ended name of number (parts ++ value) from
+abbrev pub member_kept : Bool → Bool → Option ℕ → ℕ → Bool → Lexeme → CxxType → ℕ → List CxxTree → Ahead → Reads CxxState Declares
+member_kept is_pure is_first list room is_static name of number parts from =
+    whole_member is_static name of >>= λ whole. value_or_pure is_pure room is_static name of number >>= λ value. member_ended is_pure is_first list name of number (parts ++ value) from
 
--- once it is no bit-field and its declarator fits
-abbrev pub member_of : ℕ → Access → Bool → Bool → Lexeme → CxxType → List CxxTree → Ahead → Reads CxxState CxxTree
-member_of room access is_static is_mutable name of parts from = ask (declare_member access is_static is_mutable name of) >>= λ number. member_kept room is_static name of number parts from
+-- once it is no bit-field and its declarator fits, and it is known whether it is pure
+abbrev pub member_of : ℕ → MemberWords → Bool → Option ℕ → Lexeme → CxxType → List CxxTree → Ahead → Reads CxxState Declares
+member_of room words is_first list name of parts from = ask (declare_member words name of) >>= λ number. member_kept words.is_pure is_first list room words.is_static name of number parts from
 
-abbrev pub fitting_member : ℕ → Access → Said → Declarator → Ahead → Reads CxxState CxxTree
-fitting_member room access said declarator from = member_of room access said.is_static (is_mutable_member said (type_of_member said declarator)) (name_in declarator) (type_of_member said declarator) declarator.parts from
+abbrev pub fitting_member : ℕ → definition.Labelled → Said → Bool → Declarator → Ahead → Reads CxxState Declares
+fitting_member room label said is_first declarator from =
+    pure_ahead (is_virtual_member label.is_virtual said (type_of_member said declarator)) >>= λ is_pure.
+    member_of room (words_of_member label said (type_of_member said declarator) is_pure) is_first (own_parameters declarator.layers) (name_in declarator) (type_of_member said declarator) declarator.parts from
 
 -- behind specifiers
-abbrev pub members_at : ℕ → Access → Said → Reads CxxState (List CxxTree)
-members_at room access said state ahead = repeat (member_step room access said) give_trees (count_ahead ahead) no_declarators state ahead
+abbrev pub members_at : ℕ → definition.Labelled → Said → Reads CxxState (List CxxTree)
+members_at room label said state ahead = repeat (member_step room label said) give_trees (count_ahead ahead) no_declarators state ahead
 
 -- ---- the whole
 
@@ -93,6 +101,14 @@ class_ended head n members so_far from = ask (end_class n head.place) >>= λ end
 abbrev pub class_opened : ℕ → definition.Head → ℕ → List CxxTree → declarators.Specifiers → Ahead → Reads CxxState declarators.Specifiers
 class_opened room head n bases so_far from = taken >>= λ opened. list_at room head bases >>= λ members. class_ended head n members so_far from
 
--- a class, and the specifiers behind it, of a declaration or a member
-abbrev pub class_then : ℕ → SpecifierPlace → declarators.Specifiers → Reads CxxState declarators.Specifiers
-class_then room place so_far = class_at room so_far >>= specifiers_from (asked room).kinds (inner_at room).types place
+-- a class, and the specifiers behind it, of a member
+abbrev pub class_then : ℕ → declarators.Specifiers → Reads CxxState declarators.Specifiers
+class_then room so_far = class_at room so_far >>= specifiers_from (asked room).kinds (inner_at room).types where_.Member
+
+-- the same of a declaration, with the bodies in the class
+abbrev pub whole_then : ℕ → declarators.Specifiers → Reads CxxState declarators.Specifiers
+whole_then room so_far = class_whole room so_far >>= specifiers_from (asked room).kinds (inner_at room).types where_.Declaration
+
+-- behind a class that stands from one place up to another: the bodies in it
+abbrev pub bodies_then : ℕ → Ahead → declarators.Specifiers → Reads CxxState declarators.Specifiers
+bodies_then room from one = looked >>= λ to. all_read from to (waiting_in room (in_turn one.parts)) >>= λ bodies. give (with_parts one bodies)

@@ -22,8 +22,9 @@ use Rattle.cxx_declare.specs.Functions.{declare_function}
 use Rattle.cxx_declare.specs.Outside.{agree_here, declare_again, stand_in}
 use Rattle.cxx_language.specs.Asked.{asked, inner_at}
 use Rattle.cxx_language.specs.Bodies.{function_body, standing}
+use Rattle.cxx_language.specs.Later.{Declares}
 use Rattle.cxx_language.specs.Spaces.{give_part}
-use Rattle.cxx_language.specs.Units.{Declares, declared_by, linkage_by, member_agrees, not_ended, stands_in_class}
+use Rattle.cxx_language.specs.Units.{declared_by, linkage_by, member_agrees, not_ended, stands_in_class}
 
 -- 8.4: behind the declarator of the function with a declaration, which has a list of parameters with a scope
 abbrev pub body_or_not : ℕ → Lexeme → CxxType → ℕ → ℕ → Reads CxxState (List CxxTree)

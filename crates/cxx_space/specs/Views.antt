@@ -2,7 +2,7 @@
 use Rattle.std.specs.Prelude.{◌<◌, length, List, [], ◌∷◌, Option, Some, None}
 use Rattle.cxx_model.specs.declared.types.TreeId.{TreeId}
 use Rattle.cxx_space.specs.declared.bodies.Declared.{Declared}
-use Rattle.cxx_language.specs.Units.{Declares}
+use Rattle.cxx_language.specs.Later.{Declares}
 use Rattle.cxx_reading.specs.Trees.{CxxTree}
 use Rattle.cxx_tree.specs.Held.{Held, tree, trees}
 

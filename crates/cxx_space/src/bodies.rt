@@ -1,7 +1,8 @@
 //! What stands behind the declarator of a function (8.4).
 
-ghost use Rattle.std.specs.Prelude.{◌≡◌, ◌<◌, length};
+ghost use Rattle.std.specs.Prelude.{◌≡◌, ◌<◌, None, length};
 ghost use Rattle.cxx_space.specs.Parts.{body_or_not, function_end};
+ghost use Rattle.cxx_language.specs.Later as later;
 ghost use Rattle.cxx_language.specs.Units as units;
 ghost use Rattle.cxx_space.specs.Views.{IsBodyKnown, IsDeclaredKnown, body_of, declares_of};
 ghost use Rattle.cxx_cursor.specs.Reading.{IsRead};
@@ -26,6 +27,16 @@ use cxx_units::trees::with_tree;
 pub(crate) struct Declared {
     pub tree: TreeId,
     pub body: Option<TreeId>,
+}
+
+/// What a declarator declares that defines no function.
+pub(crate) fn alone(number: TreeId) -> Declared
+    ensures { result ≡ record { tree = number; body = None } }
+{
+    Declared {
+        tree: number,
+        body: None,
+    }
 }
 
 impl<D: Defines> Space<'_, D> {
@@ -111,7 +122,7 @@ pub(crate) fn ended_by(
 ) -> Result<Turn<ListedTrees, TreeIdList>, Stop>
     requires listed { IsListed state.now so_far }
     requires known { IsDeclaredKnown state.now one }
-    ensures { IsRead listed_turn IsListedTurn state.now state.now cursor.new result (units.ended_by (listed_of state.now so_far) (declares_of state.now one) (meaning state.now) cursor.old) }
+    ensures { IsRead listed_turn IsListedTurn state.now state.now cursor.new result (later.ended_by (listed_of state.now so_far) (declares_of state.now one) (meaning state.now) cursor.old) }
 {
     match one.body {
         None => declarator_ended(state, cursor, so_far, one.tree),

@@ -6,7 +6,7 @@ ghost use Rattle.cxx_model.specs.declared.keyword.TheConstants as key;
 ghost use Rattle.cxx_reading.specs.Reads.{behind, kind_ahead, place_ahead};
 ghost use Rattle.cxx_reading.specs.Specifiers.{path_of, path_of_option, place_or as place_or_of};
 ghost use Rattle.cxx_reading.specs.Tokens as token;
-ghost use Rattle.cxx_space.specs.Classes.{AreMembers, IsBegun, IsMembersTurn, begun_number, class_ended, class_opened, class_then, head_of, members_of, members_turn};
+ghost use Rattle.cxx_space.specs.Classes.{AreMembers, IsBegun, IsMembersTurn, begun_number, class_ended, class_opened, class_then, head_of, members_of, members_turn, whole_then};
 ghost use Rattle.cxx_cursor.specs.Asking.{AnyKnown, IsAsked, itself};
 ghost use Rattle.cxx_cursor.specs.Making.{GrowsTree};
 ghost use Rattle.cxx_cursor.specs.Reading.{IsRead};
@@ -223,6 +223,17 @@ fn behind_inline<'a>(cursor: &Cursor<'a>) -> Cursor<'a>
     ahead
 }
 
+// The same behind `virtual`.
+fn behind_words<'a>(cursor: &Cursor<'a>) -> Cursor<'a>
+    ensures { result ≡ definition.behind_words cursor.now }
+{
+    let mut ahead = cursor.mark();
+    if is_keyword(keyword::VIRTUAL, cursor.kind()) {
+        ahead.advance();
+    }
+    behind_inline(&ahead)
+}
+
 fn with_member(so_far: Members, number: TreeId) -> Result<Members, AllocError>
     ensures { IfOk result (λ all. all ≡ record { trees = so_far.trees ++ number ∷ []; access = so_far.access }) }
 {
@@ -317,7 +328,7 @@ impl<D: Defines> Space<'_, D> {
         requires { AreMembers state.old so_far }
         ensures { IsRead members_turn IsMembersTurn state.old state.new cursor.new result (definition.declared_step (definition.class_at self.now.room) self.now.room (option_map lexeme_at head.now.name) (members_of state.old so_far) (meaning state.old) cursor.old) }
     {
-        let ahead = behind_inline(cursor);
+        let ahead = behind_words(cursor);
         if comes_later(head, &ahead) {
             return Err(Stop::Fault(ahead.not_built()?));
         }
@@ -473,22 +484,21 @@ impl<D: Defines> Space<'_, D> {
         self.class_opened(state, cursor, so_far, &head, begun, bases, &from)
     }
 
-    // A class, and the specifiers behind it.
+    // A class, and the specifiers behind it, of a member.
     #[cycle(nested)]
     #[tactic(auto, using(cxx_cursor::proofs::Kept::later_refl, cxx_cursor::proofs::Kept::later_trans))]
     fn class_then(
         &self,
         state: &mut State,
         cursor: &mut Cursor<'_>,
-        place: SpecifierPlace,
         so_far: Specifiers,
     ) -> Result<Specifiers, Stop>
         requires { AreSpecifiers state.old so_far }
-        ensures { IsRead specifiers_of AreSpecifiers state.old state.new cursor.new result (class_then self.now.room place (specifiers_of state.old so_far) (meaning state.old) cursor.old) }
+        ensures { IsRead specifiers_of AreSpecifiers state.old state.new cursor.new result (class_then self.now.room (specifiers_of state.old so_far) (meaning state.old) cursor.old) }
     {
         let with = self.class_at(state, cursor, so_far)?;
         self.declares
-            .specifiers(state, cursor, place, with, self.room)
+            .specifiers(state, cursor, SpecifierPlace::Member, with, self.room)
     }
 
     // Behind specifiers of a member that were read: with a class, where one is defined there.
@@ -506,7 +516,7 @@ impl<D: Defines> Space<'_, D> {
         if has_type(state, &so_far) {
             return Ok(so_far);
         }
-        self.class_then(state, cursor, SpecifierPlace::Member, so_far)
+        self.class_then(state, cursor, so_far)
     }
 
     /// The specifiers of a member, with a class that is defined among them (7.1.5, 9.2).
@@ -526,6 +536,37 @@ impl<D: Defines> Space<'_, D> {
         self.nested_or_not(state, cursor, first)
     }
 
+    // A class that stands in no other one, with the bodies of the functions in it (9.2 p2).
+    #[tactic(auto, using(cxx_cursor::proofs::Kept::later_refl, cxx_cursor::proofs::Kept::later_trans), unfolding(cxx_language::specs::Classes::class_whole))]
+    fn class_whole(
+        &self,
+        state: &mut State,
+        cursor: &mut Cursor<'_>,
+        so_far: Specifiers,
+    ) -> Result<Specifiers, Stop>
+        requires { AreSpecifiers state.old so_far }
+        ensures { IsRead specifiers_of AreSpecifiers state.old state.new cursor.new result (definition.class_whole self.now.room (specifiers_of state.old so_far) (meaning state.old) cursor.old) }
+    {
+        let from = cursor.mark();
+        let one = self.class_at(state, cursor, so_far)?;
+        self.bodies_then(state, cursor, one, &from)
+    }
+
+    // The same with the specifiers behind it.
+    #[tactic(auto, using(cxx_cursor::proofs::Kept::later_refl, cxx_cursor::proofs::Kept::later_trans))]
+    fn whole_then(
+        &self,
+        state: &mut State,
+        cursor: &mut Cursor<'_>,
+        so_far: Specifiers,
+    ) -> Result<Specifiers, Stop>
+        requires { AreSpecifiers state.old so_far }
+        ensures { IsRead specifiers_of AreSpecifiers state.old state.new cursor.new result (whole_then self.now.room (specifiers_of state.old so_far) (meaning state.old) cursor.old) }
+    {
+        let whole = self.class_whole(state, cursor, so_far)?;
+        self.declares.specifiers(state, cursor, SpecifierPlace::Declaration, whole, self.room)
+    }
+
     // Behind specifiers that were read: with a class, where one is defined there.
     #[tactic(auto, using(cxx_cursor::proofs::Kept::later_refl), unfolding(cxx_language::specs::Classes::class_or_not))]
     fn class_or_not(
@@ -540,7 +581,7 @@ impl<D: Defines> Space<'_, D> {
         if has_type(state, &so_far) {
             return Ok(so_far);
         }
-        self.class_then(state, cursor, SpecifierPlace::Declaration, so_far)
+        self.whole_then(state, cursor, so_far)
     }
 
     /// The specifiers of a declaration of a namespace, with a class that is defined among them (7.1.5).

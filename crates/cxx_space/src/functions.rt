@@ -1,6 +1,6 @@
 //! Functions (8.3.5), and the choice among declared entities.
 
-ghost use Rattle.std.specs.Prelude.{◌≡◌, ◌<◌, None, length};
+ghost use Rattle.std.specs.Prelude.{◌≡◌, ◌<◌, length};
 ghost use Rattle.cxx_language.specs.Units as units;
 ghost use Rattle.cxx_space.specs.Parts.{function_by};
 ghost use Rattle.cxx_space.specs.Views.{IsDeclaredKnown, declares_of};
@@ -11,7 +11,7 @@ ghost use Rattle.cxx_tree.specs.Answered.{fact_number, scope_of_option};
 ghost use Rattle.cxx_tree.specs.Held.{meaning, type_of};
 ghost use Rattle.cxx_units.specs.Said.{IsDeclared, said_of};
 
-use crate::bodies::Declared;
+use crate::bodies::{Declared, alone};
 use crate::declarators::is_in_class;
 use crate::space::{Defines, Space};
 use cxx_cursor::{Cursor, Declarator, NameToken};
@@ -22,16 +22,6 @@ use cxx_units::ends::own_parameters;
 use cxx_units::said::Said;
 use cxx_units::trees::{declarator_tree, token_or};
 use cxx_units::types::is_function_type;
-
-// What a declarator declares that defines no function.
-fn alone(number: TreeId) -> Declared
-    ensures { result ≡ record { tree = number; body = None } }
-{
-    Declared {
-        tree: number,
-        body: None,
-    }
-}
 
 impl<D: Defines> Space<'_, D> {
     // Where the reader stands in a class, the function is one of the class (9.3).

@@ -8,6 +8,7 @@ mod classes;
 mod declarations;
 mod declarators;
 mod functions;
+mod later;
 mod members;
 mod namespaces;
 mod space;

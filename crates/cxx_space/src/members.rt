@@ -2,32 +2,47 @@
 
 ghost use Rattle.std.specs.Prelude.{◌≡◌, ◌<◌, length};
 ghost use Rattle.cxx_language.specs.Classes as definition;
+ghost use Rattle.cxx_language.specs.Later as later;
 ghost use Rattle.cxx_language.specs.Synonyms.{bare_synonym};
+ghost use Rattle.cxx_reading.specs.Tokens as token;
 ghost use Rattle.cxx_reading.specs.Units.{name_in};
 ghost use Rattle.cxx_language.specs.Values.{member_value};
 ghost use Rattle.cxx_reading.specs.Declarators.{no_cv};
-ghost use Rattle.cxx_space.specs.Classes.{IsMemberDeclared, fitting_member, member_ended, member_kept, members_at};
+ghost use Rattle.cxx_space.specs.Classes.{IsMemberDeclared, fitting_member, labelled_of, member_ended, member_kept, member_of, members_at};
+ghost use Rattle.cxx_space.specs.Views.{IsBodyKnown, IsDeclaredKnown, body_of, declares_of};
 ghost use Rattle.cxx_cursor.specs.Asking.{AnyKnown, IsTreeKnown, itself};
 ghost use Rattle.cxx_cursor.specs.Reading.{IsRead};
 ghost use Rattle.cxx_cursor.specs.Views.{AreSpecifiers, AreTreesHeld, IsDeclarator, declarator_of, name_at, specifiers_of, trees_held};
-ghost use Rattle.cxx_tree.specs.Held.{meaning, tree, type_of};
+ghost use Rattle.cxx_tree.specs.Answered.{scope_of_option};
+ghost use Rattle.cxx_tree.specs.Held.{meaning, tree, trees, type_of};
 ghost use Rattle.cxx_units.specs.Said.{IsListed, IsListedTurn, IsSaid, listed_of, listed_turn, said_of};
 
+use crate::bodies::{Declared, alone, ended_by};
 use crate::space::{Defines, Space};
 use cxx_cursor::{Cursor, Declarator, NameToken, Specifiers, Turn, is_keyword, is_punct, joined};
+use cxx_declare::MemberWords;
 use cxx_language::Reader;
+use cxx_later::body_later;
 use cxx_model::{
-    Access, Cv, FactId, FaultText, LeftOut, Stop, TreeId, TreeIdList, TypeId, keyword, punct,
+    Access, Cv, FactId, FaultText, LeftOut, Listed, ScopeId, Stop, TokenKind, TreeId, TreeIdList,
+    TypeId, keyword, punct,
 };
 use cxx_names::is_incomplete;
 use cxx_reading::Naming;
 use cxx_syntax::{declared, declared_member};
 use cxx_tree::State;
-use cxx_units::ends::nothing_declared;
+use cxx_units::ends::{nothing_declared, own_parameters};
 use cxx_units::said::{Listed as ListedTrees, Said, said_by};
 use cxx_units::trees::{declaration_tree, declarator_tree, faulty, token_or};
 use cxx_units::types::{is_const_type, is_function_type, is_reference, is_unbounded};
-use cxx_units::{declarator_ended, declared_fits, no_declarators, place_of_name};
+use cxx_units::{declared_fits, no_declarators, place_of_name};
+
+/// What stands before a member: the label (11.1), and whether the word `virtual` does (10.3).
+#[derive(Clone, Copy)]
+pub(crate) struct Labelled {
+    pub access: Access,
+    pub is_virtual: bool,
+}
 
 // Bit-fields are left out (9.6).
 #[tactic(auto, using(cxx_cursor::proofs::Kept::later_refl), unfolding(cxx_language::specs::Classes::no_bit_field))]
@@ -41,33 +56,6 @@ fn no_bit_field(state: &State, cursor: &Cursor<'_>, declarator: &Declarator) -> 
         return Err(Stop::Fault(faulty(cursor.alloc(), place, text)?));
     }
     Ok(())
-}
-
-// The body of a function of a class is not read yet (9.3), and exceptions are left out (15).
-#[tactic(auto, using(cxx_cursor::proofs::Kept::later_refl))]
-fn no_function_body(state: &State, cursor: &Cursor<'_>) -> Result<(), Stop>
-    ensures { IsRead itself AnyKnown state.now state.now cursor.now result (definition.no_function_body (meaning state.now) cursor.now) }
-{
-    let _ = state;
-    if is_punct(punct::LEFT_BRACE, cursor.kind()) {
-        return Err(Stop::Fault(cursor.not_built()?));
-    }
-    if is_keyword(keyword::TRY, cursor.kind()) {
-        let form = FaultText::LeftOut(LeftOut::Exception);
-        return Err(Stop::Fault(cursor.faulty(form)?));
-    }
-    Ok(())
-}
-
-#[tactic(auto, using(cxx_cursor::proofs::Kept::later_refl))]
-fn no_body(state: &State, cursor: &Cursor<'_>, of: TypeId) -> Result<(), Stop>
-    requires { of.0 < length (state.now).types }
-    ensures { IsRead itself AnyKnown state.now state.now cursor.now result (definition.no_body (type_of state.now of) (meaning state.now) cursor.now) }
-{
-    if !is_function_type(state.types(), of) {
-        return Ok(());
-    }
-    no_function_body(state, cursor)
 }
 
 // A member that is not static is of a complete type; that of its own class is none yet (9.2, 9.4.2).
@@ -88,25 +76,6 @@ fn whole_member(
         return Err(Stop::Fault(fault));
     }
     Ok(())
-}
-
-// A member whose value was read, if it has one.
-#[tactic(auto, using(cxx_cursor::proofs::Kept::later_refl, cxx_cursor::proofs::Kept::later_trans))]
-fn member_ended(
-    state: &mut State,
-    cursor: &Cursor<'_>,
-    name: &NameToken,
-    of: TypeId,
-    number: FactId,
-    parts: TreeIdList,
-    from: &Cursor<'_>,
-) -> Result<TreeId, Stop>
-    requires of { of.0 < length (state.old).types }
-    requires parts { AreTreesHeld state.old parts }
-    ensures { IsRead tree IsTreeKnown state.old state.new cursor.now result (member_ended (name_at name.now) (type_of state.old of) number.0 (trees_held state.old parts) from.now (meaning state.old) cursor.now) }
-{
-    no_body(state, cursor, of)?;
-    declarator_tree(state, false, name, of, number, parts, from, cursor)
 }
 
 fn no_words() -> Cv
@@ -139,6 +108,212 @@ fn is_mutable_member(state: &State, said: Said, of: TypeId) -> bool
     said.is_mutable && !(is_reference(types, of) || is_const_type(types, of))
 }
 
+// A function that belongs to an object is virtual where the word stands before it (10.3).
+fn is_virtual_member(state: &State, is_virtual: bool, said: Said, of: TypeId) -> bool
+    requires { of.0 < length (state.now).types }
+    ensures { result ≡ definition.is_virtual_member is_virtual (said_of state.now said) (type_of state.now of) }
+{
+    is_virtual && (!said.is_static && is_function_type(state.types(), of))
+}
+
+// The literals of numbers and characters (2.13.1, 2.13.2).
+#[tactic(auto, unfolding(cxx_reading::specs::Tokens::is_number))]
+fn is_number(kind: TokenKind) -> bool
+    ensures { result ≡ token.is_number kind }
+{
+    match kind {
+        TokenKind::Integer => true,
+        TokenKind::Character => true,
+        _ => false,
+    }
+}
+
+// The literal that is spelled `0` (2.13.1).
+fn is_zero(cursor: &Cursor<'_>) -> bool
+    ensures { result ≡ definition.is_zero cursor.now }
+{
+    is_number(cursor.kind()) && cursor.spelling() == b"0".as_slice()
+}
+
+// Whether `= 0` stands behind a virtual function (10.4 p2).
+fn begins_pure(is_virtual: bool, cursor: &Cursor<'_>) -> bool
+    ensures { result ≡ definition.begins_pure is_virtual cursor.now }
+{
+    let mut behind = cursor.mark();
+    behind.advance();
+    is_virtual && (is_punct(punct::EQUALS, cursor.kind()) && is_zero(&behind))
+}
+
+// The word `virtual`, taken where it stands ahead (7.1.2).
+fn virtual_or_not(cursor: &mut Cursor<'_>) -> bool
+    ensures is { result ≡ definition.begins_virtual cursor.old }
+    ensures taken { cursor.new ≡ definition.behind_virtual cursor.old }
+{
+    let is_virtual = is_keyword(keyword::VIRTUAL, cursor.kind());
+    if is_virtual {
+        cursor.advance();
+    }
+    is_virtual
+}
+
+// What is said of a member with a type.
+fn words_of_member(
+    state: &State,
+    label: Labelled,
+    said: Said,
+    of: TypeId,
+    is_pure: bool,
+) -> MemberWords
+    requires { of.0 < length (state.now).types }
+    ensures { result ≡ definition.words_of_member (labelled_of label) (said_of state.now said) (type_of state.now of) is_pure }
+{
+    MemberWords {
+        access: label.access,
+        is_static: said.is_static,
+        is_mutable: is_mutable_member(state, said, of),
+        is_virtual: is_virtual_member(state, label.is_virtual, said, of),
+        is_pure,
+    }
+}
+
+// `= 0`, taken.
+#[tactic(auto, using(cxx_cursor::proofs::Kept::later_refl), unfolding(cxx_language::specs::Classes::pure_taken))]
+fn pure_taken(state: &State, cursor: &mut Cursor<'_>) -> Result<TreeIdList, Stop>
+    ensures { IsRead trees_held AreTreesHeld state.now state.now cursor.new result (definition.pure_taken (meaning state.now) cursor.old) }
+{
+    let _ = state;
+    cursor.advance();
+    cursor.advance();
+    Ok(Listed::new(cursor.alloc()))
+}
+
+// A function that is defined has its own list of parameters (8.4).
+#[tactic(auto, using(cxx_cursor::proofs::Kept::later_refl, cxx_cursor::proofs::Kept::later_trans))]
+fn list_then_body(
+    state: &mut State,
+    cursor: &mut Cursor<'_>,
+    declarator: TreeId,
+    list: Option<ScopeId>,
+) -> Result<Option<TreeId>, Stop>
+    requires { declarator.0 < length (trees state.old) }
+    ensures { IsRead body_of IsBodyKnown state.old state.new cursor.new result (later.list_then_body (tree state.old declarator) (scope_of_option list) (meaning state.old) cursor.old) }
+{
+    match list {
+        None => Err(Stop::Fault(cursor.refused()?)),
+        Some(list) => Ok(Some(body_later(state, cursor, list, declarator)?)),
+    }
+}
+
+// It is defined by the first declarator of its declaration.
+#[tactic(auto, using(cxx_cursor::proofs::Kept::later_refl))]
+fn first_then_body(
+    state: &mut State,
+    cursor: &mut Cursor<'_>,
+    is_first: bool,
+    declarator: TreeId,
+    list: Option<ScopeId>,
+) -> Result<Option<TreeId>, Stop>
+    requires { declarator.0 < length (trees state.old) }
+    ensures { IsRead body_of IsBodyKnown state.old state.new cursor.new result (later.first_then_body is_first (tree state.old declarator) (scope_of_option list) (meaning state.old) cursor.old) }
+{
+    if !is_first {
+        return Err(Stop::Fault(cursor.refused()?));
+    }
+    list_then_body(state, cursor, declarator, list)
+}
+
+// Behind the declarator of a function in a class a body may stand (9.3); exceptions are left out (15).
+#[tactic(auto, using(cxx_cursor::proofs::Kept::later_refl), unfolding(cxx_language::specs::Later::member_body))]
+fn member_body(
+    state: &mut State,
+    cursor: &mut Cursor<'_>,
+    is_first: bool,
+    of: TypeId,
+    declarator: TreeId,
+    list: Option<ScopeId>,
+) -> Result<Option<TreeId>, Stop>
+    requires of { of.0 < length (state.old).types }
+    requires declarator { declarator.0 < length (trees state.old) }
+    ensures { IsRead body_of IsBodyKnown state.old state.new cursor.new result (later.member_body is_first (type_of state.old of) (tree state.old declarator) (scope_of_option list) (meaning state.old) cursor.old) }
+{
+    if !is_function_type(state.types(), of) {
+        return Ok(None);
+    }
+    if is_punct(punct::LEFT_BRACE, cursor.kind()) {
+        return first_then_body(state, cursor, is_first, declarator, list);
+    }
+    if is_keyword(keyword::TRY, cursor.kind()) {
+        let form = FaultText::LeftOut(LeftOut::Exception);
+        return Err(Stop::Fault(cursor.faulty(form)?));
+    }
+    Ok(None)
+}
+
+// One that is pure has no body there (10.4 p2).
+#[tactic(auto, using(cxx_cursor::proofs::Kept::later_refl))]
+fn body_unless_pure(
+    state: &mut State,
+    cursor: &mut Cursor<'_>,
+    is_pure: bool,
+    is_first: bool,
+    of: TypeId,
+    declarator: TreeId,
+    list: Option<ScopeId>,
+) -> Result<Option<TreeId>, Stop>
+    requires of { of.0 < length (state.old).types }
+    requires declarator { declarator.0 < length (trees state.old) }
+    ensures { IsRead body_of IsBodyKnown state.old state.new cursor.new result (definition.body_unless_pure is_pure is_first (type_of state.old of) (tree state.old declarator) (scope_of_option list) (meaning state.old) cursor.old) }
+{
+    if is_pure {
+        return Ok(None);
+    }
+    member_body(state, cursor, is_first, of, declarator, list)
+}
+
+// What stands behind the declarator of a member, given its tree.
+#[tactic(auto, using(cxx_cursor::proofs::Kept::trees_kept, cxx_cursor::proofs::Kept::trees_later, cxx_expr::proofs::Kept::tree_kept, cxx_expr::proofs::Kept::tree_later, cxx_cursor::proofs::Kept::later_refl, cxx_cursor::proofs::Kept::later_trans), unfolding(cxx_language::specs::Classes::declared_behind))]
+fn declared_behind(
+    state: &mut State,
+    cursor: &mut Cursor<'_>,
+    is_pure: bool,
+    is_first: bool,
+    of: TypeId,
+    list: Option<ScopeId>,
+    declarator: TreeId,
+) -> Result<Declared, Stop>
+    requires of { of.0 < length (state.old).types }
+    requires declarator { declarator.0 < length (trees state.old) }
+    ensures { IsRead declares_of IsDeclaredKnown state.old state.new cursor.new result (definition.declared_behind is_pure is_first (type_of state.old of) (scope_of_option list) (tree state.old declarator) (meaning state.old) cursor.old) }
+{
+    let body = body_unless_pure(state, cursor, is_pure, is_first, of, declarator, list)?;
+    Ok(Declared {
+        tree: declarator,
+        body,
+    })
+}
+
+// A member whose value was read, if it has one.
+#[tactic(auto, using(cxx_cursor::proofs::Kept::type_kept, cxx_cursor::proofs::Kept::type_later, cxx_cursor::proofs::Kept::later_refl, cxx_cursor::proofs::Kept::later_trans))]
+fn member_ended(
+    state: &mut State,
+    cursor: &mut Cursor<'_>,
+    is_pure: bool,
+    is_first: bool,
+    list: Option<ScopeId>,
+    name: &NameToken,
+    of: TypeId,
+    number: FactId,
+    parts: TreeIdList,
+    from: &Cursor<'_>,
+) -> Result<Declared, Stop>
+    requires of { of.0 < length (state.old).types }
+    requires parts { AreTreesHeld state.old parts }
+    ensures { IsRead declares_of IsDeclaredKnown state.old state.new cursor.new result (member_ended is_pure is_first (scope_of_option list) (name_at name.now) (type_of state.old of) number.0 (trees_held state.old parts) from.now (meaning state.old) cursor.old) }
+{
+    let tree = declarator_tree(state, false, name, of, number, parts, from, cursor)?;
+    declared_behind(state, cursor, is_pure, is_first, of, list, tree)
+}
+
 impl<D: Defines> Space<'_, D> {
     // The value of a member in its class, where one stands there (9.4.2).
     fn member_value(
@@ -160,57 +335,124 @@ impl<D: Defines> Space<'_, D> {
         reader.member_value(state, cursor, is_static, name, of, number)
     }
 
+    // The same, or `= 0` (10.4).
+    fn value_or_pure(
+        &self,
+        state: &mut State,
+        cursor: &mut Cursor<'_>,
+        is_pure: bool,
+        is_static: bool,
+        name: &NameToken,
+        of: TypeId,
+        number: FactId,
+    ) -> Result<TreeIdList, Stop>
+        requires { of.0 < length (state.old).types }
+        ensures { IsRead trees_held AreTreesHeld state.old state.new cursor.new result (definition.value_or_pure is_pure self.now.room is_static (name_at name.now) (type_of state.old of) number.0 (meaning state.old) cursor.old) }
+    {
+        if is_pure {
+            return pure_taken(state, cursor);
+        }
+        self.member_value(state, cursor, is_static, name, of, number)
+    }
+
     // A member that is declared.
     #[tactic(auto, using(cxx_cursor::proofs::Kept::trees_kept, cxx_cursor::proofs::Kept::trees_later, cxx_cursor::proofs::Kept::trees_append, cxx_cursor::proofs::Kept::trees_below_append, cxx_cursor::proofs::Kept::type_kept, cxx_cursor::proofs::Kept::type_later, cxx_cursor::proofs::Kept::later_refl, cxx_cursor::proofs::Kept::later_trans))]
     fn member_kept(
         &self,
         state: &mut State,
         cursor: &mut Cursor<'_>,
-        is_static: bool,
+        words: MemberWords,
+        is_first: bool,
+        list: Option<ScopeId>,
         name: &NameToken,
         of: TypeId,
         number: FactId,
         parts: TreeIdList,
         from: &Cursor<'_>,
-    ) -> Result<TreeId, Stop>
+    ) -> Result<Declared, Stop>
         requires of { of.0 < length (state.old).types }
         requires parts { AreTreesHeld state.old parts }
-        ensures { IsRead tree IsTreeKnown state.old state.new cursor.new result (member_kept self.now.room is_static (name_at name.now) (type_of state.old of) number.0 (trees_held state.old parts) from.now (meaning state.old) cursor.old) }
+        ensures { IsRead declares_of IsDeclaredKnown state.old state.new cursor.new result (member_kept words.is_pure is_first (scope_of_option list) self.now.room words.is_static (name_at name.now) (type_of state.old of) number.0 (trees_held state.old parts) from.now (meaning state.old) cursor.old) }
     {
-        whole_member(state, cursor, is_static, name, of)?;
-        let value = self.member_value(state, cursor, is_static, name, of, number)?;
+        whole_member(state, cursor, words.is_static, name, of)?;
+        let value = self.value_or_pure(
+            state,
+            cursor,
+            words.is_pure,
+            words.is_static,
+            name,
+            of,
+            number,
+        )?;
         let parts = joined(parts, value)?;
-        member_ended(state, cursor, name, of, number, parts, from)
+        member_ended(
+            state,
+            cursor,
+            words.is_pure,
+            is_first,
+            list,
+            name,
+            of,
+            number,
+            parts,
+            from,
+        )
+    }
+
+    // A member, with what is said of it.
+    #[tactic(auto, using(cxx_cursor::proofs::Kept::trees_kept, cxx_cursor::proofs::Kept::trees_later, cxx_cursor::proofs::Kept::type_kept, cxx_cursor::proofs::Kept::type_later, cxx_cursor::proofs::Kept::later_refl, cxx_cursor::proofs::Kept::later_trans))]
+    fn member_with(
+        &self,
+        state: &mut State,
+        cursor: &mut Cursor<'_>,
+        words: MemberWords,
+        is_first: bool,
+        list: Option<ScopeId>,
+        name: &NameToken,
+        of: TypeId,
+        parts: TreeIdList,
+        from: &Cursor<'_>,
+    ) -> Result<Declared, Stop>
+        requires of { of.0 < length (state.old).types }
+        requires parts { AreTreesHeld state.old parts }
+        ensures { IsRead declares_of IsDeclaredKnown state.old state.new cursor.new result (member_of self.now.room words is_first (scope_of_option list) (name_at name.now) (type_of state.old of) (trees_held state.old parts) from.now (meaning state.old) cursor.old) }
+    {
+        let number = self.declares.declare_member(state, words, name, of)?;
+        self.member_kept(
+            state, cursor, words, is_first, list, name, of, number, parts, from,
+        )
     }
 
     // A member whose declarator fits, given its type.
-    #[tactic(auto, using(cxx_cursor::proofs::Kept::trees_kept, cxx_cursor::proofs::Kept::trees_later, cxx_cursor::proofs::Kept::type_kept, cxx_cursor::proofs::Kept::type_later, cxx_cursor::proofs::Kept::later_refl, cxx_cursor::proofs::Kept::later_trans))]
+    #[tactic(auto, using(cxx_cursor::proofs::Kept::trees_kept, cxx_cursor::proofs::Kept::trees_later, cxx_cursor::proofs::Kept::layers_kept, cxx_cursor::proofs::Kept::type_kept, cxx_cursor::proofs::Kept::type_later, cxx_cursor::proofs::Kept::later_refl, cxx_cursor::proofs::Kept::later_trans))]
     fn member_of(
         &self,
         state: &mut State,
         cursor: &mut Cursor<'_>,
-        access: Access,
+        label: Labelled,
         said: Said,
+        is_first: bool,
         declarator: Declarator,
         of: TypeId,
         from: &Cursor<'_>,
-    ) -> Result<TreeId, Stop>
+    ) -> Result<Declared, Stop>
         requires said { IsSaid state.old said }
         requires declared { IsMemberDeclared state.old said declarator of }
-        ensures { IsRead tree IsTreeKnown state.old state.new cursor.new result (fitting_member self.now.room access (said_of state.old said) (declarator_of state.old declarator) from.now (meaning state.old) cursor.old) }
+        ensures { IsRead declares_of IsDeclaredKnown state.old state.new cursor.new result (fitting_member self.now.room (labelled_of label) (said_of state.old said) is_first (declarator_of state.old declarator) from.now (meaning state.old) cursor.old) }
     {
+        let is_virtual = is_virtual_member(state, label.is_virtual, said, of);
+        let is_pure = begins_pure(is_virtual, cursor);
+        let words = words_of_member(state, label, said, of, is_pure);
+        let list = own_parameters(state, &declarator.layers);
         let name = token_or(cursor.alloc(), declarator.name);
-        let is_mutable = is_mutable_member(state, said, of);
-        let number = self
-            .declares
-            .declare_member(state, access, said.is_static, is_mutable, &name, of)?;
-        self.member_kept(
+        self.member_with(
             state,
             cursor,
-            said.is_static,
+            words,
+            is_first,
+            list,
             &name,
             of,
-            number,
             declarator.parts,
             from,
         )
@@ -222,18 +464,19 @@ impl<D: Defines> Space<'_, D> {
         &self,
         state: &mut State,
         cursor: &mut Cursor<'_>,
-        access: Access,
+        label: Labelled,
         said: Said,
+        is_first: bool,
         declarator: Declarator,
         from: &Cursor<'_>,
-    ) -> Result<TreeId, Stop>
+    ) -> Result<Declared, Stop>
         requires said { IsSaid state.old said }
         requires declarator { IsDeclarator state.old declarator }
-        ensures { IsRead tree IsTreeKnown state.old state.new cursor.new result (fitting_member self.now.room access (said_of state.old said) (declarator_of state.old declarator) from.now (meaning state.old) cursor.old) }
+        ensures { IsRead declares_of IsDeclaredKnown state.old state.new cursor.new result (fitting_member self.now.room (labelled_of label) (said_of state.old said) is_first (declarator_of state.old declarator) from.now (meaning state.old) cursor.old) }
     {
         let words = words_of(state, said, &declarator);
         match declared_member(state, declarator.layers.as_slice(), words, said.of) {
-            Ok(of) => self.member_of(state, cursor, access, said, declarator, of, from),
+            Ok(of) => self.member_of(state, cursor, label, said, is_first, declarator, of, from),
             Err(_) => Err(Stop::OutOfMemory),
         }
     }
@@ -244,18 +487,19 @@ impl<D: Defines> Space<'_, D> {
         &self,
         state: &mut State,
         cursor: &mut Cursor<'_>,
-        access: Access,
+        label: Labelled,
         said: Said,
+        is_first: bool,
         declarator: Declarator,
         from: &Cursor<'_>,
-    ) -> Result<TreeId, Stop>
+    ) -> Result<Declared, Stop>
         requires said { IsSaid state.old said }
         requires declarator { IsDeclarator state.old declarator }
-        ensures { IsRead tree IsTreeKnown state.old state.new cursor.new result (definition.data_member self.now.room access (said_of state.old said) (declarator_of state.old declarator) from.now (meaning state.old) cursor.old) }
+        ensures { IsRead declares_of IsDeclaredKnown state.old state.new cursor.new result (definition.data_member self.now.room (labelled_of label) (said_of state.old said) is_first (declarator_of state.old declarator) from.now (meaning state.old) cursor.old) }
     {
         no_bit_field(state, cursor, &declarator)?;
         declared_fits(state, cursor, said, &declarator)?;
-        self.member_as(state, cursor, access, said, declarator, from)
+        self.member_as(state, cursor, label, said, is_first, declarator, from)
     }
 
     // A name of a type that fits, with the type that the declarator declares.
@@ -306,19 +550,21 @@ impl<D: Defines> Space<'_, D> {
         &self,
         state: &mut State,
         cursor: &mut Cursor<'_>,
-        access: Access,
+        label: Labelled,
         said: Said,
+        is_first: bool,
         declarator: Declarator,
         from: &Cursor<'_>,
-    ) -> Result<TreeId, Stop>
+    ) -> Result<Declared, Stop>
         requires said { IsSaid state.old said }
         requires declarator { IsDeclarator state.old declarator }
-        ensures { IsRead tree IsTreeKnown state.old state.new cursor.new result (definition.declared_member self.now.room access (said_of state.old said) (declarator_of state.old declarator) from.now (meaning state.old) cursor.old) }
+        ensures { IsRead declares_of IsDeclaredKnown state.old state.new cursor.new result (definition.declared_member self.now.room (labelled_of label) (said_of state.old said) is_first (declarator_of state.old declarator) from.now (meaning state.old) cursor.old) }
     {
         if said.is_typedef {
-            return self.synonym_member(state, cursor, said, declarator, from);
+            let tree = self.synonym_member(state, cursor, said, declarator, from)?;
+            return Ok(alone(tree));
         }
-        self.data_member(state, cursor, access, said, declarator, from)
+        self.data_member(state, cursor, label, said, is_first, declarator, from)
     }
 
     #[tactic(auto, using(cxx_cursor::proofs::Kept::type_kept, cxx_cursor::proofs::Kept::type_later, cxx_cursor::proofs::Kept::later_refl, cxx_cursor::proofs::Kept::later_trans), unfolding(cxx_language::specs::Classes::named_member_at))]
@@ -326,17 +572,18 @@ impl<D: Defines> Space<'_, D> {
         &self,
         state: &mut State,
         cursor: &mut Cursor<'_>,
-        access: Access,
+        label: Labelled,
         said: Said,
-    ) -> Result<TreeId, Stop>
+        is_first: bool,
+    ) -> Result<Declared, Stop>
         requires { IsSaid state.old said }
-        ensures { IsRead tree IsTreeKnown state.old state.new cursor.new result (definition.named_member_at self.now.room access (said_of state.old said) (meaning state.old) cursor.old) }
+        ensures { IsRead declares_of IsDeclaredKnown state.old state.new cursor.new result (definition.named_member_at self.now.room (labelled_of label) (said_of state.old said) is_first (meaning state.old) cursor.old) }
     {
         let from = cursor.mark();
         let declarator = self
             .declares
             .declarator(state, cursor, Naming::Required, self.room)?;
-        self.declared_member(state, cursor, access, said, declarator, &from)
+        self.declared_member(state, cursor, label, said, is_first, declarator, &from)
     }
 
     // A member; a bit-field may have no name (9.6).
@@ -345,17 +592,18 @@ impl<D: Defines> Space<'_, D> {
         &self,
         state: &mut State,
         cursor: &mut Cursor<'_>,
-        access: Access,
+        label: Labelled,
         said: Said,
-    ) -> Result<TreeId, Stop>
+        is_first: bool,
+    ) -> Result<Declared, Stop>
         requires { IsSaid state.old said }
-        ensures { IsRead tree IsTreeKnown state.old state.new cursor.new result (definition.member_at self.now.room access (said_of state.old said) (meaning state.old) cursor.old) }
+        ensures { IsRead declares_of IsDeclaredKnown state.old state.new cursor.new result (definition.member_at self.now.room (labelled_of label) (said_of state.old said) is_first (meaning state.old) cursor.old) }
     {
         if is_punct(punct::COLON, cursor.kind()) {
             let form = FaultText::LeftOut(LeftOut::BitField);
             return Err(Stop::Fault(cursor.faulty(form)?));
         }
-        self.named_member_at(state, cursor, access, said)
+        self.named_member_at(state, cursor, label, said, is_first)
     }
 
     // A member, and what separates it from the next.
@@ -364,16 +612,16 @@ impl<D: Defines> Space<'_, D> {
         &self,
         state: &mut State,
         cursor: &mut Cursor<'_>,
-        access: Access,
+        label: Labelled,
         said: Said,
         so_far: ListedTrees,
     ) -> Result<Turn<ListedTrees, TreeIdList>, Stop>
         requires said { IsSaid state.old said }
         requires listed { IsListed state.old so_far }
-        ensures { IsRead listed_turn IsListedTurn state.old state.new cursor.new result (definition.member_step self.now.room access (said_of state.old said) (listed_of state.old so_far) (meaning state.old) cursor.old) }
+        ensures { IsRead listed_turn IsListedTurn state.old state.new cursor.new result (definition.member_step self.now.room (labelled_of label) (said_of state.old said) (listed_of state.old so_far) (meaning state.old) cursor.old) }
     {
-        let number = self.member_at(state, cursor, access, said)?;
-        declarator_ended(state, cursor, so_far, number)
+        let one = self.member_at(state, cursor, label, said, so_far.is_first)?;
+        ended_by(state, cursor, so_far, one)
     }
 
     // All members that one declaration declares, with its end.
@@ -382,15 +630,15 @@ impl<D: Defines> Space<'_, D> {
         &self,
         state: &mut State,
         cursor: &mut Cursor<'_>,
-        access: Access,
+        label: Labelled,
         said: Said,
     ) -> Result<TreeIdList, Stop>
         requires { IsSaid state.old said }
-        ensures { IsRead trees_held AreTreesHeld state.old state.new cursor.new result (members_at self.now.room access (said_of state.old said) (meaning state.old) cursor.old) }
+        ensures { IsRead trees_held AreTreesHeld state.old state.new cursor.new result (members_at self.now.room (labelled_of label) (said_of state.old said) (meaning state.old) cursor.old) }
     {
         let mut so_far = no_declarators(cursor.alloc());
         for _turn in 0..cursor.count() {
-            match self.member_step(state, cursor, access, said, so_far)? {
+            match self.member_step(state, cursor, label, said, so_far)? {
                 Turn::More(next) => so_far = next,
                 Turn::Done(all) => return Ok(all),
             }
@@ -403,17 +651,17 @@ impl<D: Defines> Space<'_, D> {
         &self,
         state: &mut State,
         cursor: &mut Cursor<'_>,
-        access: Access,
+        label: Labelled,
         specifiers: &Specifiers,
     ) -> Result<TreeIdList, Stop>
         requires { AreSpecifiers state.old specifiers.now }
-        ensures { IsRead trees_held AreTreesHeld state.old state.new cursor.new result (definition.members_by self.now.room access (specifiers_of state.old specifiers.now) (meaning state.old) cursor.old) }
+        ensures { IsRead trees_held AreTreesHeld state.old state.new cursor.new result (definition.members_by self.now.room (labelled_of label) (specifiers_of state.old specifiers.now) (meaning state.old) cursor.old) }
     {
         if is_punct(punct::SEMICOLON, cursor.kind()) {
             return nothing_declared(state, cursor, specifiers);
         }
         let said = said_by(state, false, specifiers)?;
-        self.members_at(state, cursor, access, said)
+        self.members_at(state, cursor, label, said)
     }
 
     /// A declaration of members, with the access of the label before it (9.2, 11.1).
@@ -428,9 +676,11 @@ impl<D: Defines> Space<'_, D> {
         ensures { IsRead tree IsTreeKnown state.old state.new cursor.new result (definition.member_declaration_at self.now.room access (meaning state.old) cursor.old) }
     {
         let from = cursor.mark();
+        let is_virtual = virtual_or_not(cursor);
         let specifiers = self.member_specifiers(state, cursor)?;
         let between = cursor.mark();
-        let declarators = self.members_by(state, cursor, access, &specifiers)?;
+        let label = Labelled { access, is_virtual };
+        let declarators = self.members_by(state, cursor, label, &specifiers)?;
         declaration_tree(state, specifiers, declarators, &from, &between, cursor)
     }
 }

@@ -14,9 +14,9 @@ ghost use Rattle.cxx_tree.specs.Arena.{path_at};
 ghost use Rattle.cxx_tree.specs.Held.{meaning, tree, type_of};
 
 use cxx_cursor::{Cursor, NameToken, Spelled};
-use cxx_declare::BaseOf;
+use cxx_declare::{BaseOf, MemberWords};
 use cxx_language::Declares;
-use cxx_model::{Access, ClassId, FactId, Path, Place, ScopeId, Stop, TreeId, TypeId};
+use cxx_model::{ClassId, FactId, Path, Place, ScopeId, Stop, TreeId, TypeId};
 use cxx_tree::State;
 
 /// Who reads the bodies of functions, opens namespaces and defines classes too.
@@ -69,19 +69,16 @@ pub trait Defines: Declares {
     fn declare_base(&self, state: &mut State, of: BaseOf, path: &Path) -> Result<(), Stop>
         ensures { IsAsked itself AnyKnown state.old state.new result (bases.declare_base (base_of of) (path_at path.now) (meaning state.old)) };
 
-    /// A member (9.2), with the access of the label before it (11.1), whether it is static (9.4), and, where it is an object,
-    /// whether it is mutable (7.1.1).
+    /// A member (9.2), with what is said of it besides its name and its type.
     fn declare_member(
         &self,
         state: &mut State,
-        access: Access,
-        is_static: bool,
-        is_mutable: bool,
+        words: MemberWords,
         name: &NameToken,
         of: TypeId,
     ) -> Result<FactId, Stop>
         requires { of.0 < length (state.old).types }
-        ensures { IsAsked fact_number AnyKnown state.old state.new result (classes.declare_member access is_static is_mutable (name_at name.now) (type_of state.old of) (meaning state.old)) };
+        ensures { IsAsked fact_number AnyKnown state.old state.new result (classes.declare_member words (name_at name.now) (type_of state.old of) (meaning state.old)) };
 
     /// The definition of a class ends, at the place of its name (9.2, 12.1).
     fn end_class(&self, state: &mut State, class: ClassId, place: Place) -> Result<(), Stop>

@@ -2,4 +2,4 @@ use Rattle.cxx_declare.proofs.Begun.{member_declared}
 use Rattle.cxx_declare.proofs.class_definitions.declare_member.Goals as goal
 
 pub returns-in-Ok : goal.returns-in-Ok
-returns-in-Ok c = λ kind. member_declared c.args.state.now c.declare.new.state kind c.args.access c.args.is_static c.args.is_mutable c.args.place c.args.word.now _ c.in-Ok.fact c.declare.result (c.in-Ok.ensures.is kind) c.in-Ok.ensures.named c.declare.ensures.answered
+returns-in-Ok c = λ kind. member_declared c.args.state.now c.declare.new.state kind c.args.words c.args.place c.args.word.now _ c.in-Ok.fact c.declare.result (c.in-Ok.ensures.is kind) c.in-Ok.ensures.named c.declare.ensures.answered

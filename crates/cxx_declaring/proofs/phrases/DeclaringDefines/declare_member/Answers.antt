@@ -6,4 +6,4 @@ use Rattle.cxx_declaring.proofs.Answering.{named_asked}
 use Rattle.cxx_declaring.proofs.phrases.DeclaringDefines.declare_member.Goals as goal
 
 pub returns : goal.returns
-returns c = named_asked fact_number IsFactKnown c.args.state.now c.declare_member.new.state c.declare_member.result (λ name. definition.declare_member c.args.access c.args.is_static c.args.is_mutable name (type_of c.args.state.now c.args.of) (meaning c.args.state.now)) (name_at c.args.name.now) c.as_slice-word.result.now c.as_slice-word.ensures c.declare_member.ensures
+returns c = named_asked fact_number IsFactKnown c.args.state.now c.declare_member.new.state c.declare_member.result (λ name. definition.declare_member c.args.words name (type_of c.args.state.now c.args.of) (meaning c.args.state.now)) (name_at c.args.name.now) c.as_slice-word.result.now c.as_slice-word.ensures c.declare_member.ensures

@@ -3,7 +3,7 @@ use Rattle.cxx_reading.specs.Reads.{repeat}
 use Rattle.cxx_reading.specs.Units.{give_trees}
 use Rattle.cxx_language.specs.Classes.{member_step}
 use Rattle.cxx_cursor.specs.Looping.{IsTurning}
-use Rattle.cxx_space.specs.Classes.{members_at}
+use Rattle.cxx_space.specs.Classes.{labelled_of, members_at}
 use Rattle.cxx_tree.specs.Held.{meaning}
 use Rattle.cxx_units.specs.Said.{IsListed, listed_of, said_of}
 use Rattle.cxx_space.proofs.space.Space.members_at.Given as goal
@@ -11,4 +11,4 @@ use Rattle.cxx_space.proofs.space.Space.members_at.Given as goal
 abbrev pub invariant-loop-turn : goal.invariant-loop-turn
 invariant-loop-turn g l =
     let said = said_of l.fn.state l.fn.said in
-    IsTurning (repeat (member_step l.fn.self.room l.fn.access said) give_trees (l._turn-end - l._turn) (listed_of l.state l.so_far) (meaning l.state) l.cursor) (members_at l.fn.self.room l.fn.access said (meaning l.fn.state) l.fn.cursor) (IsListed l.state l.so_far) l.fn.state l.state
+    IsTurning (repeat (member_step l.fn.self.room (labelled_of l.fn.label) said) give_trees (l._turn-end - l._turn) (listed_of l.state l.so_far) (meaning l.state) l.cursor) (members_at l.fn.self.room (labelled_of l.fn.label) said (meaning l.fn.state) l.fn.cursor) (IsListed l.state l.so_far) l.fn.state l.state

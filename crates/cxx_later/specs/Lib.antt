@@ -1,0 +1,5 @@
+-- What of a class is read where the outermost class has ended.
+pub mod Passing
+pub mod Waiting
+pub mod Views
+pub mod Found
